@@ -1,0 +1,45 @@
+-- What `pgo step` promises of a specification and a list of turns: the bundle that it writes, and what is true of it.
+use Rattle.std.specs.Prelude.{◌≡◌, ◌↔◌, ◌⊎◌, ℕ, false, List, [], map, Some}
+use Rattle.pgo_base.specs.Data.{Data, string}
+use Rattle.pgo_base.specs.Lookup.{Vars}
+use Rattle.pgo_model.specs.Spec.{Spec}
+use Rattle.pgo_model.specs.Bound.{Bound, Instance, bound_of}
+use Rattle.pgo_model.specs.Declares.{Sound, place_of}
+use Rattle.pgo_model.specs.Machine.{nth, last_state, finished_of}
+use Rattle.pgo_model.specs.Accounts.{Accounts}
+use Rattle.pgo_model.specs.Core.{Core, rules_of, Reaches, status_of}
+use Rattle.pgo_model.specs.Translate.{module_of}
+use Rattle.pgo_model.specs.Agrees.{Agrees}
+use Rattle.pgo_model.specs.IsRun.{IsRun}
+use Rattle.pgo_model.specs.Bundle.{Bundle}
+use Rattle.pgo_model.specs.Written.{done}
+use Rattle.pgo_front.specs.CounterRuns.{settings}
+
+-- every instance is at Done in this state
+abbrev pub AllDone : Bound → Vars → Type 0
+AllDone b s = (n : ℕ) (i : Instance) → nth b.instances n ≡ Some i → place_of i.id s ≡ Some (string done)
+
+-- the identifiers of the instances, by number
+abbrev pub ids_of : Bound → List Data
+ids_of b = map (λ i. i.id) b.instances
+
+-- these bytes, with this status, are what a run of the specification under these turns gives
+pub record Ran (spec : Spec) (turns : List ℕ) (status : ℕ) (written : List ℕ) : Type 0 where
+  pub bound : Bound
+  -- the specification's bound system, which is sound
+  pub bound_is : bound_of spec [] ≡ Some bound
+  pub sound : Sound bound
+  -- the bytes are the bundle of the core machine after these turns, stopped, with the module that the specification
+  -- means
+  pub bundle : written ≡ Bundle (module_of spec) [] bound settings (finished_of (Core bound settings turns)) status
+  -- the module's actions are TRUE of exactly the pairs of states that the sections allow, and Init of the declared starts
+  pub agrees : Agrees (module_of spec) [] bound
+  -- the entries, in order, are steps of the module from its initial state
+  pub run : IsRun (module_of spec) [] (ids_of bound) bound.start (Core bound settings turns).entries
+  -- the records number each instance's attempts, and each is one entry, one note true at its place, or one refusal by
+  -- what the attempt's instance is bound to
+  pub accounts : Accounts (rules_of bound settings) (Reaches bound) false (finished_of (Core bound settings turns))
+  -- the status is that of the accounts: 0 exactly where every instance is at Done, else 21
+  pub status_is : status ≡ status_of bound settings (finished_of (Core bound settings turns))
+  pub either : (status ≡ 0) ⊎ (status ≡ 21)
+  pub fine : (status ≡ 0) ↔ AllDone bound (last_state (rules_of bound settings) (Core bound settings turns))

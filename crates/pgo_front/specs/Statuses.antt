@@ -1,0 +1,24 @@
+-- The numbers of the statuses, and the lines that go to the error output.
+use Rattle.std.specs.Prelude.{ℕ, List, codes, Option, Some, None}
+use Rattle.pgo_front.specs.declared.status.Status.{Status}
+use Rattle.pgo_front.specs.declared.status.Status.TheVariants as status
+
+abbrev pub number_of : Status → ℕ
+number_of status.Fine = 0
+number_of status.Usage = 10
+number_of status.SpecRefused = 11
+number_of status.ReadFault = 12
+number_of status.WriteFault = 13
+number_of status.TooLong = 14
+number_of status.Spent = 21
+number_of status.NoMemory = 40
+
+abbrev pub line_of : Status → Option (List ℕ)
+line_of status.Fine = None
+line_of status.Usage = Some (codes "pgo: usage\n")
+line_of status.SpecRefused = Some (codes "pgo: not built\n")
+line_of status.ReadFault = Some (codes "pgo: read fault\n")
+line_of status.WriteFault = Some (codes "pgo: write fault\n")
+line_of status.TooLong = Some (codes "pgo: too long\n")
+line_of status.Spent = None
+line_of status.NoMemory = Some (codes "pgo: no memory\n")

@@ -1,0 +1,160 @@
+// The words of a command.
+ghost use Rattle.std.specs.Prelude.{◌≡◌, ◌<◌, ◌≤◌, ◌^◌, ◌+◌, ◌++◌, ℕ, List, Some, None, IfSome, IfOk, MatchOption, IsTrue, decimal, length, replicate};
+ghost use Rattle.pgo_front.specs.Turns.{Item, TurnList, AsksStep, most_turns};
+ghost use Rattle.pgo_front.specs.Cuts.{Cuts};
+ghost use Rattle.pgo_front.specs.Items.{ReadsItem, ReadsSingle, ReadsRepeated, turns_of};
+ghost use Rattle.pgo_front.specs.Asked.{SpelledOnly, AsksOnly, AddsItem};
+
+use itoa::Buffer;
+use pgo_base::word::Word;
+use std::alloc::{AllocError, Global};
+use std::marker::Model;
+
+/// The most turns of a list.
+const MOST_TURNS: usize = 1_000_000;
+
+/// A number in decimal digits, without sign or leading zeros.
+fn number(text: &str) -> Option<u32>
+    ensures some { IfSome result (λ n. (text.now ≡ decimal n) × (n < 2 ^ 32)) }
+    ensures found { (n : ℕ) → n < 2 ^ 32 → text.now ≡ decimal n → result ≡ Some n }
+{
+    let parsed = text.parse::<u32>();
+    match parsed {
+        Ok(n) => {
+            let mut buffer = Buffer::new();
+            if buffer.format(n) == text {
+                Some(n)
+            } else {
+                None
+            }
+        }
+        Err(_) => None,
+    }
+}
+
+/// The parts of a text before and behind the first place of a byte below 128.
+fn cut(text: &str, at: char) -> Option<(&str, &str)>
+    requires { at < 128 }
+    ensures { Cuts at text.now result }
+{
+    text.split_once(at)
+}
+
+/// So many turns of one instance.
+#[derive(Clone, Copy, Debug, PartialEq, Eq)]
+struct Item {
+    instance: u32,
+    count: u32,
+}
+
+/// `instance*count`, with a count of at least 1.
+fn read_repeated(instance: &str, count: &str) -> Option<Item>
+    ensures { ReadsRepeated instance.now count.now result }
+{
+    let instance = number(instance)?;
+    let count = number(count)?;
+    if count == 0 {
+        None
+    } else {
+        Some(Item { instance, count })
+    }
+}
+
+/// `instance`, once.
+fn read_single(instance: &str) -> Option<Item>
+    ensures { ReadsSingle instance.now result }
+{
+    match number(instance) {
+        Some(instance) => Some(Item { instance, count: 1 }),
+        None => None,
+    }
+}
+
+/// `k`, or `k*n` with n of at least 1.
+fn read_item(text: &str) -> Option<Item>
+    ensures { ReadsItem text.now result }
+{
+    match cut(text, '*') {
+        None => read_single(text),
+        Some((instance, count)) => read_repeated(instance, count),
+    }
+}
+
+/// The item's turns behind the others, where there are at most 1,000,000 then.
+fn add_item(turns: &mut Vec<u32>, text: &str) -> Result<bool, AllocError>
+    requires { length turns.old.items ≤ most_turns }
+    ensures { IfOk result (λ b. AddsItem turns.old.items text.now b turns.new.items) }
+{
+    match read_item(text) {
+        Some(item) => {
+            if item.count as usize > MOST_TURNS - turns.len() {
+                return Ok(false);
+            }
+            repeat(turns, item)?;
+            Ok(true)
+        }
+        None => Ok(false),
+    }
+}
+
+/// So many turns of the instance behind the others.
+fn repeat(turns: &mut Vec<u32>, item: Item) -> Result<(), AllocError>
+    ensures { IfOk result (λ _. turns.new.items ≡ turns.old.items ++ turns_of item) }
+{
+    for _ in 0..item.count {
+        turns.push(item.instance)?;
+    }
+    Ok(())
+}
+
+/// The turns of a list, where it is one of at most 1,000,000 turns.
+fn read_list(alloc: Global, text: &str) -> Result<Option<Turns>, AllocError>
+    ensures { IfOk result (λ o. SpelledOnly text.now o) }
+{
+    let mut turns = Vec::new(alloc);
+    let mut rest = text;
+    while let Some((first, later)) = cut(rest, ',') {
+        if !add_item(&mut turns, first)? {
+            return Ok(None);
+        }
+        rest = later;
+    }
+    if add_item(&mut turns, rest)? {
+        Ok(Some(Turns { list: turns }))
+    } else {
+        Ok(None)
+    }
+}
+
+/// The turns that the words `step --turns LIST` ask for; none where the words are others.
+pub fn read_step(alloc: Global, words: &[Word]) -> Result<Option<Turns>, AllocError>
+    ensures { IfOk result (λ o. AsksOnly words.now o) }
+{
+    if words.len() != 3 || words[0].as_str() != "step" || words[1].as_str() != "--turns" {
+        return Ok(None);
+    }
+    read_list(alloc, words[2].as_str())
+}
+
+/// The turns of a list, in order: the number of an instance each.
+#[derive(Drop)]
+pub struct Turns {
+    list: Vec<u32>,
+}
+
+impl Model for Turns {
+    ghost use Rattle.std.specs.Prelude.{List, ℕ};
+
+    ghost Value = { List ℕ };
+
+    ghost view = { λ t. t.list.items };
+}
+
+impl Turns {
+    /// The turns as a slice.
+    pub fn as_slice(&self) -> &[u32]
+        ensures { result.now ≡ self.now }
+    {
+        self.list.as_slice()
+    }
+}

@@ -1,0 +1,24 @@
+use std::alloc::{AllocError, AllocFailed};
+use thiserror::Error;
+
+/// A read or a write failed. The source or the sink counted it. This project's choice.
+#[derive(Clone, Copy, Debug, PartialEq, Eq, Error)]
+#[error("reading or writing failed")]
+pub struct Failed;
+
+/// There was no memory for what a call had to store. This project's choice.
+#[derive(Clone, Copy, Debug, PartialEq, Eq, Error)]
+#[error("out of memory")]
+pub struct NoMemory;
+
+impl From<AllocError> for NoMemory {
+    fn from(_error: AllocError) -> NoMemory {
+        NoMemory
+    }
+}
+
+impl<T: Drop> From<AllocFailed<T>> for NoMemory {
+    fn from(_error: AllocFailed<T>) -> NoMemory {
+        NoMemory
+    }
+}

@@ -1,0 +1,13 @@
+// Where bytes come from and where they go.
+#![tactic(auto)]
+
+pub mod errors;
+pub mod read_all;
+pub mod sink;
+pub mod source;
+pub mod standard;
+pub mod sure_sink;
+pub mod sure_source;
+#[cfg(test)]
+mod tests;
+pub mod write_all;

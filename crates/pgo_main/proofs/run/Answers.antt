@@ -1,0 +1,16 @@
+-- The words that `pgo` is given are those of the arguments.
+use Rattle.std.proofs.Common.{subst, ◌∙◌}
+use Rattle.pgo_front.specs.Answers.{AsksNothing, OrNoMemory, Stops, IsRefusal}
+use Rattle.pgo_front.specs.declared.status.Status.TheVariants as status
+use Rattle.pgo_main.proofs.run.Goals as goal
+
+pub returns-in-Ok-clause-stopped : goal.returns-in-Ok-clause-stopped
+returns-in-Ok-clause-stopped g c =
+    subst
+    (λ ws. IsRefusal c.pgo.result → Stops ws (g.S.Source.left c.args.input.now) (g.S.Source.faults c.args.input.now) (g.S.Source.faults c.pgo.new.input) c.pgo.result)
+    (c.as_slice.ensures.value ∙ c.in-Ok.ensures.words) c.pgo.ensures.stopped
+
+pub returns-in-Ok-clause-usage : goal.returns-in-Ok-clause-usage
+returns-in-Ok-clause-usage g c =
+    subst (λ ws. AsksNothing ws → OrNoMemory c.pgo.result status.Usage)
+    (c.as_slice.ensures.value ∙ c.in-Ok.ensures.words) c.pgo.ensures.usage

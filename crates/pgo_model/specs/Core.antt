@@ -1,0 +1,129 @@
+-- The core machine of a bound specification under settings and a list of turns; how the instances of a run ended, and its status.
+use Rattle.std.specs.Prelude.{◌≡◌, ℕ, suc, Bool, true, false, ◌||◌, ◌&&◌, if◌then◌else◌, nat_eq, List, [], ◌∷◌, length, Option, Some, None, unwrap_or}
+use Rattle.pgo_base.specs.Data.{Data, string}
+use Rattle.pgo_base.specs.Lookup.{Name, Vars, same_name}
+use Rattle.pgo_model.specs.Operators.{same_data}
+use Rattle.pgo_model.specs.Outcome.{Blocked, NoValue, AssertFails, Section}
+use Rattle.pgo_model.specs.Bound.{Bound, Instance, Resource}
+use Rattle.pgo_model.specs.Declares.{place_of}
+use Rattle.pgo_model.specs.Section.{Touched, Sect}
+use Rattle.pgo_model.specs.Options.{on}
+use Rattle.pgo_model.specs.Choice.{Seeded, words_of}
+use Rattle.pgo_model.specs.Machine.{Rules, Record, Step, Noted, Held, Down, Full, Machine, Finished, nth, state_at, run_turns}
+use Rattle.pgo_model.specs.Log.{Effect, After, effect_between}
+use Rattle.pgo_model.specs.Written.{done}
+
+-- what a run is told: the seed of its choices, how many attempts an instance makes, at how many entries the journal
+-- is full, and the pairs of a resource and the number of its pre-commit that fails
+pub record Settings : Type 0 where
+  pub seed : ℕ
+  pub attempts : ℕ
+  pub steps : ℕ
+  pub down : List (ℕ × ℕ)
+
+abbrev pub is_listed : List (ℕ × ℕ) → ℕ → ℕ → Bool
+is_listed [] r o = false
+is_listed (p ∷ ps) r o = (nat_eq p.0 r && nat_eq p.1 o) || is_listed ps r o
+
+abbrev pub same_index : Option Data → Option Data → Bool
+same_index None None = true
+same_index None (Some w) = false
+same_index (Some v) None = false
+same_index (Some v) (Some w) = same_data v w
+
+-- the numbers of the resources that were touched
+abbrev pub number_among : List Resource → Touched → Option ℕ
+number_among [] c = None
+number_among (r ∷ rs) c = if same_name r.global c.0 && same_index r.index c.1 then Some r.number else number_among rs c
+
+abbrev pub numbers_of : List Resource → List Touched → List ℕ
+numbers_of rs [] = []
+numbers_of rs (c ∷ cs) = on (numbers_of rs cs) (number_among rs c) (λ n. n ∷ numbers_of rs cs)
+
+abbrev pub numbered : Bound → Section Touched Vars → Section ℕ Vars
+numbered b x = record { trace = numbers_of b.resources x.trace; end = x.end }
+
+abbrev pub is_place : Name → Option Data → Bool
+is_place l (Some (string m)) = same_name l m
+is_place l _ = false
+
+abbrev pub is_at_done : Bound → ℕ → Vars → Bool
+is_at_done b k s = on false (nth b.instances k) (λ i. is_place done (place_of i.id s))
+
+abbrev pub rules_of : Bound → Settings → Rules Vars Effect
+rules_of b settings = record {
+  start = b.start;
+  instances = length b.instances;
+  sect = λ k a s. numbered b (Sect b k s (words_of (Seeded settings.seed k a)));
+  at_done = is_at_done b;
+  between = effect_between b;
+  patched = λ s e. unwrap_or (After s e) s;
+  printed = λ e. e.prints;
+  steps = settings.steps;
+  attempts = settings.attempts;
+  fails = is_listed settings.down;
+}
+
+-- the machine of a list of turns, stopped
+abbrev pub Core : Bound → Settings → List ℕ → Machine Effect
+Core b settings turns = run_turns (rules_of b settings) turns
+
+-- instance k has a parameter bound to this global
+abbrev pub IsBoundTo : Instance → Name → Type 0
+IsBoundTo i g = (n : ℕ) × (x : Name) × (nth i.bindings n ≡ Some (x, g))
+
+-- instance k is bound to the global of resource r
+abbrev pub Reaches : Bound → (k r : ℕ) → Type 0
+Reaches b k r = (i : Instance) × (q : Resource) × (nth b.instances k ≡ Some i) × (nth b.resources r ≡ Some q) × IsBoundTo i q.global
+
+pub data End : Type 0 where
+  Done Stopped JournalFull Spent : End
+
+-- the end that the last record shows
+abbrev pub end_by : List Record → Option End
+end_by [] = None
+end_by (Step n ∷ []) = None
+end_by (Noted Blocked p ∷ []) = None
+end_by (Noted NoValue p ∷ []) = Some Stopped
+end_by (Noted AssertFails p ∷ []) = Some Stopped
+end_by (Held r h ∷ []) = None
+end_by (Down r o ∷ []) = None
+end_by (Full n ∷ []) = Some JournalFull
+end_by (r ∷ (s ∷ rs)) = end_by (s ∷ rs)
+
+abbrev pub end_or_spent : Option End → Bool → Option End
+end_or_spent (Some e) spent = Some e
+end_or_spent None true = Some Spent
+end_or_spent None false = None
+
+-- how an instance ended; none where it hasn't. Where several ends hold the order is Done, Stopped, Full, Spent
+abbrev pub end_of : Bound → Settings → Finished Effect → ℕ → Option End
+end_of b settings f k =
+    if is_at_done b k (state_at (rules_of b settings) b.start f.entries (length f.entries)) then Some Done
+    else end_or_spent (end_by (f.records k)) (nat_eq (length (f.records k)) settings.attempts)
+
+abbrev pub ends_from : Bound → Settings → Finished Effect → ℕ → List Instance → List (Option End)
+ends_from b settings f k [] = []
+ends_from b settings f k (i ∷ is) = end_of b settings f k ∷ ends_from b settings f (suc k) is
+
+abbrev pub has_stopped : List (Option End) → Bool
+has_stopped [] = false
+has_stopped (Some Stopped ∷ es) = true
+has_stopped (e ∷ es) = has_stopped es
+
+abbrev pub has_full : List (Option End) → Bool
+has_full [] = false
+has_full (Some JournalFull ∷ es) = true
+has_full (e ∷ es) = has_full es
+
+abbrev pub all_done : List (Option End) → Bool
+all_done [] = true
+all_done (Some Done ∷ es) = all_done es
+all_done (e ∷ es) = false
+
+-- 20: some instance's last record is a note NoValue or AssertFails; else 23: one was refused Full;
+-- else 21: some instance isn't at Done; else 0
+abbrev pub status_of : Bound → Settings → Finished Effect → ℕ
+status_of b settings f =
+    let ends = ends_from b settings f 0 b.instances in
+    if has_stopped ends then 20 else if has_full ends then 23 else if all_done ends then 0 else 21

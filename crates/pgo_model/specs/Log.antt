@@ -1,0 +1,102 @@
+-- Components, what an entry records, and the states along a journal.
+use Rattle.std.specs.Prelude.{ℕ, zero, suc, Bool, true, false, not, if◌then◌else◌, List, [], ◌∷◌, ◌++◌, Option, Some, None, option_and_then, option_map}
+use Rattle.pgo_base.specs.Data.{Data, string, function, pairs, graph}
+use Rattle.pgo_base.specs.Lookup.{Name, Vars, find}
+use Rattle.pgo_model.specs.Operators.{same_data, apply, lookup, replace_at}
+use Rattle.pgo_model.specs.Bound.{Bound, Instance, Resource}
+use Rattle.pgo_model.specs.Section.{store}
+use Rattle.pgo_model.specs.Options.{on}
+use Rattle.pgo_model.specs.Declares.{place_of}
+use Rattle.pgo_model.specs.Machine.{Entry, nth}
+use Rattle.pgo_model.specs.Written.{pc}
+
+-- whose a component is
+pub data Owner : Type 0 where
+  OfResource : (number : ℕ) → Owner
+  OfInstance : (number : ℕ) → Owner
+  Unowned : Owner
+
+-- a variable, or its value at one index
+pub record Component : Type 0 where
+  pub variable : Name
+  pub index : Option Data
+  pub owner : Owner
+
+pub record Change : Type 0 where
+  pub component : Component
+  pub value : Data
+
+-- what an entry records of a step: the labels, the components that changed with their new values, and what was printed
+pub record Effect : Type 0 where
+  pub label : Name
+  pub next : Name
+  pub changes : List Change
+  pub prints : List Data
+
+-- what a component has in a state
+abbrev pub content : Component → Vars → Option Data
+content c s = option_and_then (λ v. on (Some v) c.index (λ i. apply v i)) (find c.variable s)
+
+abbrev pub differs : Option Data → Option Data → Bool
+differs None None = false
+differs None (Some v) = true
+differs (Some v) None = true
+differs (Some v) (Some w) = not (same_data v w)
+
+-- the components of a bound system, in the order of the variables and of the index
+abbrev pub resource_components : List Resource → List Component
+resource_components [] = []
+resource_components (r ∷ rs) = record { variable = r.global; index = r.index; owner = OfResource r.number } ∷ resource_components rs
+
+abbrev pub place_components : List Instance → List Component
+place_components [] = []
+place_components (i ∷ is) = record { variable = pc; index = Some i.id; owner = OfInstance i.number } ∷ place_components is
+
+abbrev pub components_of : Bound → List Component
+components_of b = resource_components b.resources ++ place_components b.instances
+
+-- the components that differ, with their values in t
+abbrev pub changes_between : List Component → Vars → Vars → List Change
+changes_between [] s t = []
+changes_between (c ∷ cs) s t =
+    on (changes_between cs s t) (content c t) (λ v.
+    if differs (content c s) (content c t) then record { component = c; value = v } ∷ changes_between cs s t else changes_between cs s t)
+
+-- the written label at which an instance stands
+abbrev pub label_in : Option Data → Name
+label_in (Some (string l)) = l
+label_in _ = []
+
+abbrev pub label_of : Bound → ℕ → Vars → Name
+label_of b k s = on [] (nth b.instances k) (λ i. label_in (place_of i.id s))
+
+abbrev pub effect_between : Bound → ℕ → Vars → Vars → List Data → Effect
+effect_between b k s t ps =
+    record { label = label_of b k s; next = label_of b k t; changes = changes_between (components_of b) s t; prints = ps }
+
+-- a function with another value at an index in its domain
+abbrev pub with_part : Data → Data → Data → Option Data
+with_part (function ps) i v = option_map (λ old. function (pairs (replace_at i v (graph ps)))) (lookup i (graph ps))
+with_part f i v = None
+
+-- the state with one component changed, where the component is in it
+abbrev pub changed : Change → Vars → Option Vars
+changed c s =
+    option_and_then (λ old.
+    on (Some (store c.component.variable c.value s)) c.component.index (λ i.
+    option_map (λ f. store c.component.variable f s) (with_part old i c.value)))
+    (find c.component.variable s)
+
+-- the state after an entry's changes; none where a changed component isn't in it
+abbrev pub after_changes : List Change → Vars → Option Vars
+after_changes [] s = Some s
+after_changes (c ∷ cs) s = option_and_then (after_changes cs) (changed c s)
+
+abbrev pub After : Vars → Effect → Option Vars
+After s e = after_changes e.changes s
+
+-- the state after the first n entries
+abbrev pub StateAt : Vars → List (Entry Effect) → ℕ → Option Vars
+StateAt s l zero = Some s
+StateAt s [] (suc n) = None
+StateAt s (e ∷ l) (suc n) = option_and_then (λ t. StateAt t l n) (After s e.change)

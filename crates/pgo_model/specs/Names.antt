@@ -1,0 +1,51 @@
+-- When two names are one.
+use Rattle.std.specs.Prelude.{◌≡◌, ℕ, Bool, true, false, ◌&&◌, nat_eq, [], ◌∷◌, refl}
+use Rattle.std.proofs.Common.{ap, arith}
+use Rattle.std.specs.declared.cmp.Ordering.{Ordering}
+use Rattle.std.specs.declared.cmp.Ordering.TheVariants.{Less, Equal, Greater}
+use Rattle.std.specs.Ordering.{nat_cmp, is_eq}
+use Rattle.std.specs.Cmp.Lexicographic.{slice_cmp}
+use Rattle.pgo_base.specs.Data.{string}
+use Rattle.pgo_base.specs.Exact.{data_exact, data_itself}
+use Rattle.pgo_base.specs.Lookup.{Name, same_name}
+use Rattle.pgo_model.specs.ValueText.{same_bytes}
+
+pub same_name-self : (x : Name) → same_name x x ≡ true
+same_name-self x = ap is_eq (data_itself (string x))
+
+equal_is : (o : Ordering) → is_eq o ≡ true → o ≡ Equal
+equal_is Less h = absurd (grind (arith, h))
+equal_is Equal h = refl
+equal_is Greater h = absurd (grind (arith, h))
+
+string_is : (x y : Name) → string x ≡ string y → x ≡ y
+string_is x y h = cc
+
+pub same_name-is : (x y : Name) → same_name x y ≡ true → x ≡ y
+same_name-is x y h = string_is x y (data_exact (string x) (string y) (equal_is (slice_cmp nat_cmp x y) h))
+
+pub same_name-not : (x y : Name) → (x ≡ y → ⊥) → same_name x y ≡ false
+same_name-not x y h = go (same_name x y) refl
+  where
+    go : (b : Bool) → same_name x y ≡ b → b ≡ false
+    go true e = absurd (h (same_name-is x y e))
+    go false e = refl
+
+pub same_bytes-self : (x : Name) → same_bytes x x ≡ true
+same_bytes-self [] = refl
+same_bytes-self (b ∷ bs) = let r = same_bytes-self bs in grind (arith, r)
+
+both_true : (a b : Bool) → a && b ≡ true → (a ≡ true) × (b ≡ true)
+both_true true b h = (refl, h)
+both_true false b h = absurd (grind (arith, h))
+
+number_is : (m n : ℕ) → nat_eq m n ≡ true → m ≡ n
+number_is m n h = grind arith
+
+pub same_bytes-is : (x y : Name) → same_bytes x y ≡ true → x ≡ y
+same_bytes-is [] [] h = refl
+same_bytes-is [] (y ∷ ys) h = absurd (grind (arith, h))
+same_bytes-is (x ∷ xs) [] h = absurd (grind (arith, h))
+same_bytes-is (x ∷ xs) (y ∷ ys) h =
+    let p = both_true (nat_eq x y) (same_bytes xs ys) h in
+    let e = number_is x y p.0 in let f = same_bytes-is xs ys p.1 in λ i. e i ∷ f i

@@ -1,0 +1,28 @@
+// Laws of the core machine.
+#![tactic(auto)]
+
+ghost use Rattle.std.specs.Prelude.{false, ℕ, List};
+ghost use Rattle.pgo_model.specs.Bound.{Bound};
+ghost use Rattle.pgo_model.specs.State.{IsState};
+ghost use Rattle.pgo_model.specs.Machine.{finished_of};
+ghost use Rattle.pgo_model.specs.Core.{Settings, Core, rules_of, Reaches};
+ghost use Rattle.pgo_model.specs.Accounts.{Fits, StepsAreSections, EntriesMade, Accounts};
+
+/// The law of the core machine, for every bound specification, settings and list of turns.
+///
+/// Its premise: the run starts in a state, and a section leads from a state to a state; there what an entry records of
+/// a step leads to the end of the step's section, with its prints, and a section reaches only resources that its
+/// instance is bound to.
+///
+/// - `runs`: each entry of the journal is what its instance's section does on the state after the entries before it.
+/// - `entries`: each entry records the difference between the states before and after it.
+/// - `accounts`: the records of an instance number its attempts from 1, and each says what became of its attempt;
+///   entries and notes are exactly those that the records name, in order; no attempt has two notes; no failing
+///   pre-commit is answered twice; `Full` is a last record.
+///
+/// Source: this project's choice.
+pub fn core_accounts()
+    ensures runs { (b : Bound) (s : Settings) (turns : List ℕ) → Fits (rules_of b s) (Reaches b) (IsState b) → StepsAreSections (rules_of b s) (finished_of (Core b s turns)) }
+    ensures entries { (b : Bound) (s : Settings) (turns : List ℕ) → Fits (rules_of b s) (Reaches b) (IsState b) → EntriesMade (rules_of b s) (finished_of (Core b s turns)) }
+    ensures accounts { (b : Bound) (s : Settings) (turns : List ℕ) → Fits (rules_of b s) (Reaches b) (IsState b) → Accounts (rules_of b s) (Reaches b) false (finished_of (Core b s turns)) }
+{}
