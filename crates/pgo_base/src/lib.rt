@@ -2,7 +2,10 @@
 #![tactic(auto)]
 
 pub mod compare;
+pub mod depth;
 pub mod expr;
+pub mod log;
+pub mod module;
 mod order;
 pub mod scope;
 pub mod text;

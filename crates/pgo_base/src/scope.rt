@@ -1,10 +1,11 @@
-ghost use Rattle.std.specs.Prelude.{◌≡◌, ℕ, List, [], ◌∷◌, Option, Some, None, option_map, map};
+ghost use Rattle.std.specs.Prelude.{◌≡◌, ℕ, List, [], ◌∷◌, Option, Some, None, option_map, map, IfOk};
 ghost use Rattle.pgo_base.specs.View.{data_of, named_data};
 ghost use Rattle.pgo_base.specs.Lookup.{find};
 
 use crate::expr::{Names, Sub};
 use crate::text::Text;
 use crate::value::Value;
+use std::alloc::{AllocError, Global};
 use std::marker::Model;
 
 /// A definition: its name, its parameters and its body.
@@ -117,5 +118,34 @@ impl State {
         ensures { result ≡ map named_data list.items }
     {
         State { list }
+    }
+}
+
+impl State {
+    /// Each variable with its value, in order.
+    pub fn as_slice(&self) -> &[(Text, Value)]
+        ensures { map named_data result.now ≡ self.now }
+    {
+        self.list.as_slice()
+    }
+
+    /// The same state once more.
+    pub fn copy(&self, alloc: Global) -> Result<State, AllocError>
+        ensures { IfOk result (λ s. s ≡ self.now) }
+    {
+        let mut list = Vec::with_capacity(alloc, self.list.len())?;
+        for p in &self.list {
+            list.push((p.0.copy(alloc)?, p.1.copy(alloc)?))?;
+        }
+        Ok(State { list })
+    }
+}
+
+impl State {
+    /// Each variable with its value, in order.
+    pub fn into_vec(self) -> Vec<(Text, Value)>
+        ensures { map named_data result.items ≡ self }
+    {
+        self.list
     }
 }

@@ -187,3 +187,23 @@ impl Set {
         self.members.len()
     }
 }
+
+impl Set {
+    /// The members, which are in order, each once.
+    pub fn in_order(&self) -> &[Value]
+        ensures members { map data_of result.now ≡ self.now }
+        ensures sorted { IsStrictlySortedBy data_cmp self.now }
+    {
+        self.members.as_slice()
+    }
+}
+
+impl Fun {
+    /// The pairs, which are in the order of the keys, each key once.
+    pub fn in_order(&self) -> &[(Value, Value)]
+        ensures pairs { map pair_of result.now ≡ self.now }
+        ensures sorted { IsStrictlySortedBy data_cmp (keys self.now) }
+    {
+        self.pairs.as_slice()
+    }
+}

@@ -1,13 +1,14 @@
 -- Which status each cause gives: by exclusion of the others, from what each status says.
-use Rattle.std.proofs.Common.{◌≡◌, ◌≤◌, ◌<◌, ◌⊎◌, inl, inr, ℕ, List, length, Option, Some, None, IfSome, refl, sym, subst, arith}
+use Rattle.std.proofs.Common.{◌≡◌, ◌≤◌, ◌<◌, ◌⊎◌, inl, inr, ℕ, List, length, Option, Some, None, IfSome, refl, sym, ap, subst, arith}
 use Rattle.pgo_io.specs.Faults.{Rose}
-use Rattle.pgo_io.specs.Sink.{GrowsByPrefix}
+use Rattle.pgo_io.specs.Sink.{Grows, GrowsByPrefix}
 use Rattle.pgo_model.specs.Spec.{Spec}
 use Rattle.pgo_model.specs.ModuleText.{flatten}
 use Rattle.pgo_front.specs.declared.command.Made.{Made}
 use Rattle.pgo_front.specs.declared.status.Status.{Status}
 use Rattle.pgo_front.specs.declared.status.Status.TheVariants as status
 use Rattle.pgo_front.specs.Turns.{AsksStep}
+use Rattle.pgo_front.specs.Asked.{AsksOnly}
 use Rattle.pgo_front.specs.Spells.{Spells, most_bytes}
 use Rattle.pgo_front.specs.Statuses.{number_of}
 use Rattle.pgo_front.specs.Answers.{AsksNothing, AsksSome, SpellsNothing, Asked, RanTo, RanIntoFault, Stops, IsRefusal, OrNoMemory, IsTold}
@@ -47,6 +48,17 @@ pub ran_into_fault : (words : List (List ℕ)) (input old new : Option (List ℕ
     → AsksSome words → IfSome input (λ bs. MakesAsked words bs m) → GrowsByPrefix old new (flatten m.lines) → RanIntoFault words input old new
 ran_into_fault words None old new m asks h g = (asks, tt)
 ran_into_fault words (Some text) old new m asks h g = (asks, (number_of m.status, flatten m.lines, h, g))
+
+-- all of what was made came to the output
+pub ran_to : (words : List (List ℕ)) (input old new : Option (List ℕ)) (m : Made) (s : Status)
+    → m.status ≡ s → AsksSome words → IfSome input (λ bs. MakesAsked words bs m) → Grows old new (flatten m.lines) → RanTo words input (number_of s) old new
+ran_to words None old new m s e asks h g = (asks, tt)
+ran_to words (Some text) old new m s e asks h g =
+    (asks, (flatten m.lines, subst (λ n. Asked words text n (flatten m.lines)) (ap number_of e) h, g))
+
+-- words that ask for turns don't ask for nothing
+pub not_nothing : {P : Type 0} (words : List (List ℕ)) (o : Option (List ℕ)) (turns : List ℕ) → AsksOnly words o → o ≡ Some turns → AsksNothing words → P
+not_nothing words o turns only is_some nothing = absurd (nothing turns (subst (AsksOnly words) is_some only).0)
 
 module _ (words : List (List ℕ)) (input : Option (List ℕ)) (before now : ℕ) (out_before out_now : ℕ) (old new : Option (List ℕ)) where
   -- what the statuses say of a call

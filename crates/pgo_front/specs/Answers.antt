@@ -85,7 +85,7 @@ OrNoMemory s expected = (s ≡ expected) ⊎ (s ≡ status.NoMemory)
 abbrev pub SaysLine : Status → (old new : Option (List ℕ)) → Type 0
 SaysLine s old new = IfSome (line_of s) (λ l. Grows old new l)
 
--- the words and the input of a call, where no count rose: what they ask for is what must come
+-- the words ask for these turns, and the input tells this text
 pub record IsTold (words : List (List ℕ)) (input : Option (List ℕ)) (turns : List ℕ) (text : List ℕ) : Type 0 where
   pub asks : AsksStep words turns
   pub told : input ≡ Some text

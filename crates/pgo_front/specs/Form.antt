@@ -42,7 +42,7 @@ all_letters_or_digits (b ∷ bs) = (is_letter b || is_digit b) && all_letters_or
 abbrev pub is_name : Name → Bool
 is_name x = begins_with_letter x && all_letters_or_digits x && nat_le (length x) 128 && not (is_one_of x reserved_words)
 
--- names that a written module has already, and the operators of the modules that it extends
+-- names that a written module has already, and the operators of the standard modules that expressions have here
 abbrev pub taken_names : List Name
 taken_names =
     codes "Done" ∷ codes "pc" ∷ codes "vars" ∷ codes "ProcSet" ∷ codes "Init" ∷ codes "Next" ∷ codes "Spec" ∷ codes "Terminating"

@@ -36,8 +36,8 @@ pub record Ran (spec : Spec) (turns : List ℕ) (status : ℕ) (written : List �
   pub agrees : Agrees (module_of spec) [] bound
   -- the entries, in order, are steps of the module from its initial state
   pub run : IsRun (module_of spec) [] (ids_of bound) bound.start (Core bound settings turns).entries
-  -- the records number each instance's attempts, and each is one entry, one note true at its place, or one refusal by
-  -- what the attempt's instance is bound to
+  -- the records number each instance's attempts, and each is one entry, one note true at its place, or one refusal: by
+  -- another instance that is bound to the resource, by a pre-commit that is set to fail, or by a full journal
   pub accounts : Accounts (rules_of bound settings) (Reaches bound) false (finished_of (Core bound settings turns))
   -- the status is that of the accounts: 0 exactly where every instance is at Done, else 21
   pub status_is : status ≡ status_of bound settings (finished_of (Core bound settings turns))

@@ -69,7 +69,7 @@ pub fn pgo<S: Source, O: Sink, E: Sink>(
 
     // A refusal writes nothing but its line.
     ensures kept { IsRefusal result → out.new ≡ out.old }
-    ensures unread { result ≡ Status.Usage → input.new ≡ input.old }
+    ensures unread { AsksNothing words.now → input.new ≡ input.old }
     ensures ended { ReadsAll result → IsAtEnd (S.left input.old) (S.left input.new) }
     ensures says { ¬ Rose (E.faults err.old) (E.faults err.new) → SaysLine result (E.held err.old) (E.held err.new) }
     ensures silent { line_of result ≡ None → err.new ≡ err.old }
@@ -97,7 +97,7 @@ fn run<S: Source, O: Sink>(alloc: Global, words: &[Word], input: &mut S, out: &m
     ensures write_fault { result ≡ Status.WriteFault → Rose (O.faults out.old) (O.faults out.new) }
     ensures prefix { result ≡ Status.WriteFault → RanIntoFault words.now (S.left input.old) (O.held out.old) (O.held out.new) }
     ensures kept { IsRefusal result → out.new ≡ out.old }
-    ensures unread { result ≡ Status.Usage → input.new ≡ input.old }
+    ensures unread { AsksNothing words.now → input.new ≡ input.old }
     ensures ended { ReadsAll result → IsAtEnd (S.left input.old) (S.left input.new) }
 {
     match make(alloc, words, input) {
@@ -129,7 +129,7 @@ fn make<S: Source>(alloc: Global, words: &[Word], input: &mut S) -> Result<Made,
     ensures either { IfOk result IsRunStatus }
     ensures err { IfErr result (λ s. Stops words.now (S.left input.old) (S.faults input.old) (S.faults input.new) s) }
     ensures refusal { IfErr result IsRefusal }
-    ensures unread { result ≡ Err Status.Usage → input.new ≡ input.old }
+    ensures unread { AsksNothing words.now → input.new ≡ input.old }
     ensures ended { OnOk result (IsAtEnd (S.left input.old) (S.left input.new)) }
     ensures ended_refused { IfErr result (λ s. ReadsAll s → IsAtEnd (S.left input.old) (S.left input.new)) }
 {

@@ -57,7 +57,7 @@ const RESERVED: [&[u8]; 45] = [
     b"yield",
 ];
 
-/// The names that a written module has already, and the operators of the modules that it extends.
+/// The names that a written module has already, and the operators of the standard modules that expressions have here.
 const TAKEN: [&[u8]; 18] = [
     b"Done",
     b"pc",

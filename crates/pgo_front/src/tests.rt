@@ -82,7 +82,7 @@ const SIXTEEN: &str = "a: v := v + 1; b: v := v + 1; c: v := v + 1; d: v := v + 
     m: v := v + 1; n: v := v + 1; o: v := v + 1; p: v := v + 1;";
 
 /// A body, its process, the turns, the status, and how the bundle ends.
-const RUNS: [(&str, &str, &str, Status, &str); 7] = [
+const RUNS: [(&str, &str, &str, Status, &str); 9] = [
     (
         "l: v := v + 1; m: v := v + v;",
         "P = 1",
@@ -139,6 +139,25 @@ const RUNS: [(&str, &str, &str, Status, &str); 7] = [
         Status::Spent,
         "init 2\nx = 0\npc = <<\"P_l\">>\ninst 0 0 paused 1\nend 0 21\n",
     ),
+    (
+        "l: v := v + 1; m: v := v + 1; n: v := v + 1;",
+        "P = 1",
+        "4294967295",
+        Status::Spent,
+        "P(self) == (P_l(self) \\/ P_m(self)) \\/ P_n(self)\n\
+            Terminating ==\n  /\\ \\A self \\in ProcSet : (pc[self] = \"Done\")\n  \
+            /\\ UNCHANGED <<x, pc>>\n\
+            Next == (\\E self \\in {1} : P(self)) \\/ Terminating\nSpec == Init /\\ [][Next]_vars\n====\n\
+            init 2\nx = 0\npc = <<\"P_l\">>\ninst 0 0 paused 1\nend 0 21\n",
+    ),
+    (
+        "l:\r\n\tv := v + 001;",
+        "P = 1",
+        "0*5,0",
+        Status::Fine,
+        "pc = <<\"P_l\">>\nstep 1 0 1 P_l Done 2\nset x = 1\nset pc[1] = \"Done\"\n\
+            inst 0 1 done 1\n1 step 1\nend 1 0\n",
+    ),
 ];
 
 #[test]
@@ -159,13 +178,19 @@ fn runs_to_its_end(rt: HostRuntime) -> Result<(), Fail> {
 }
 
 /// Words that ask for nothing that there is.
-const NO_COMMANDS: [&[&str]; 8] = [
+const NO_COMMANDS: [&[&str]; 14] = [
     &[],
     &["step"],
     &["step", "--turns"],
     &["step", "--turns", "0*0"],
     &["step", "--turns", "00"],
     &["step", "--turns", "+1"],
+    &["step", "--turns", ""],
+    &["step", "--turns", ",0"],
+    &["step", "--turns", "0*1,"],
+    &["step", "--turns", "4294967296"],
+    &["step", "--turns", "0*1000001"],
+    &["step", "--turns", "0*1000000,0"],
     &["step", "--turns", "0*6", "0"],
     &["check", "--turns", "0*6"],
 ];
@@ -192,10 +217,11 @@ fn refuses_words_unread(rt: HostRuntime) -> Result<(), Fail> {
 }
 
 /// Bodies that are not built.
-const NOT_BUILT: [&str; 4] = [
+const NOT_BUILT: [&str; 5] = [
     "(* one more *) l: v := v + 1;",
     "l: v := v * 1;",
     "l: v := v + 1; l: v := v + 1;",
+    "v: v := v + 1;",
     "",
 ];
 
@@ -234,42 +260,91 @@ fn refuses_what_is_too_long(rt: HostRuntime) -> Result<(), Fail> {
     Ok(())
 }
 
-/// The first read gives all bytes, and the second fails.
+/// The first read gives all bytes. The second fails, or it finds the end and is the last.
 #[test]
-fn a_failed_read_writes_nothing(rt: HostRuntime) -> Result<(), Fail> {
+fn reads_to_the_end_alone(rt: HostRuntime) -> Result<(), Fail> {
     let alloc = rt.alloc();
-    let words = words_of(alloc, &["step", "--turns", "0*6"])?;
-    let mut input = FailingSource {
-        inner: SureSource::new(counter(alloc, "l: v := v + 1;", "P = 1")?),
-        good_calls: 1,
-        faults: 0,
-    };
-    let mut out = SureSink::with_room(alloc, 65_536)?;
-    let mut err = SureSink::with_room(alloc, 256)?;
-    let status = pgo(alloc, words.as_slice(), &mut input, &mut out, &mut err);
-    assert_eq!(rt; status, Status::ReadFault);
-    assert_eq!(rt; input.faults, 1);
-    assert_eq!(rt; out.content().len(), 0);
-    assert_eq!(rt; err.content(), b"pgo: read fault\n".as_slice());
+    let rows = [
+        (1u64, Status::ReadFault, 1u64, 0usize, "pgo: read fault\n"),
+        (2, Status::Fine, 0, 683, ""),
+    ];
+    for (good_calls, status, faults, length, line) in rows {
+        let words = words_of(alloc, &["step", "--turns", "0*6"])?;
+        let mut input = FailingSource {
+            inner: SureSource::new(counter(alloc, "l: v := v + 1;", "P = 1")?),
+            good_calls,
+            faults: 0,
+        };
+        let mut out = SureSink::with_room(alloc, 65_536)?;
+        let mut err = SureSink::with_room(alloc, 256)?;
+        assert_eq!(rt;
+            pgo(alloc, words.as_slice(), &mut input, &mut out, &mut err),
+            status,
+            "{good_calls}"
+        );
+        assert_eq!(rt; input.faults, faults, "{good_calls}");
+        assert_eq!(rt; out.content().len(), length, "{good_calls}");
+        assert_eq!(rt; err.content(), line.as_bytes(), "{good_calls}");
+    }
     Ok(())
 }
 
-/// The third write fails.
+/// Each of the 31 lines is one write: the third fails, the last fails, or none does.
 #[test]
-fn a_failed_write_keeps_two_lines(rt: HostRuntime) -> Result<(), Fail> {
+fn writes_line_by_line(rt: HostRuntime) -> Result<(), Fail> {
     let alloc = rt.alloc();
-    let words = words_of(alloc, &["step", "--turns", "0*6"])?;
-    let mut input = SureSource::new(counter(alloc, "l: v := v + 1;", "P = 1")?);
-    let mut out = FailingSink {
-        inner: SureSink::with_room(alloc, 65_536)?,
-        good_calls: 2,
-        faults: 0,
-    };
-    let mut err = SureSink::with_room(alloc, 256)?;
-    let status = pgo(alloc, words.as_slice(), &mut input, &mut out, &mut err);
-    assert_eq!(rt; status, Status::WriteFault);
-    assert_eq!(rt; out.faults, 1);
-    assert_eq!(rt; out.inner.content(), b"pgo 1\nconsts 0\n".as_slice());
-    assert_eq!(rt; err.content(), b"pgo: write fault\n".as_slice());
+    let rows = [
+        (2u64, Status::WriteFault, 15usize, "pgo: write fault\n"),
+        (30, Status::WriteFault, 675, "pgo: write fault\n"),
+        (31, Status::Fine, 683, ""),
+    ];
+    for (good_calls, status, length, line) in rows {
+        let words = words_of(alloc, &["step", "--turns", "0*6"])?;
+        let mut input = SureSource::new(counter(alloc, "l: v := v + 1;", "P = 1")?);
+        let mut out = FailingSink {
+            inner: SureSink::with_room(alloc, 65_536)?,
+            good_calls,
+            faults: 0,
+        };
+        let mut err = SureSink::with_room(alloc, 256)?;
+        assert_eq!(rt;
+            pgo(alloc, words.as_slice(), &mut input, &mut out, &mut err),
+            status,
+            "{good_calls}"
+        );
+        assert_eq!(rt; out.inner.content().len(), length, "{good_calls}");
+        assert!(rt;
+            BUNDLE.as_bytes().starts_with(out.inner.content()),
+            "{good_calls}"
+        );
+        assert_eq!(rt; err.content(), line.as_bytes(), "{good_calls}");
+    }
+    Ok(())
+}
+
+#[test]
+fn a_failed_error_output_changes_no_status(rt: HostRuntime) -> Result<(), Fail> {
+    let alloc = rt.alloc();
+    let rows: [(&[&str], &str, Status); 3] = [
+        (&["step"], "l: v := v + 1;", Status::Usage),
+        (
+            &["step", "--turns", "0*6"],
+            "l: v := v * 1;",
+            Status::SpecRefused,
+        ),
+        (&["step", "--turns", "0*6"], "l: v := v + 1;", Status::Fine),
+    ];
+    for (words, body, expected) in rows {
+        let asked = words_of(alloc, words)?;
+        let mut input = SureSource::new(counter(alloc, body, "P = 1")?);
+        let mut out = SureSink::with_room(alloc, 65_536)?;
+        let mut err = FailingSink {
+            inner: SureSink::with_room(alloc, 256)?,
+            good_calls: 0,
+            faults: 0,
+        };
+        let status = pgo(alloc, asked.as_slice(), &mut input, &mut out, &mut err);
+        assert_eq!(rt; status, expected, "{words:?}");
+    }
     Ok(())
 }

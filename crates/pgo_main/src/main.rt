@@ -53,7 +53,8 @@ fn run<S: Source, O: Sink, E: Sink>(
 
     // A refusal writes nothing but its line.
     ensures kept { IsRefusal result → out.new ≡ out.old }
-    ensures unread { result ≡ Status.Usage → input.new ≡ input.old }
+    ensures unread { AsksNothing (words_of arguments) → input.new ≡ input.old }
+    ensures no_memory { LacksMemory arguments → result ≡ Status.NoMemory }
     ensures says { ¬ Rose (E.faults err.old) (E.faults err.new) → SaysLine result (E.held err.old) (E.held err.new) }
     ensures silent { line_of result ≡ None → err.new ≡ err.old }
 {

@@ -4,7 +4,7 @@ use Rattle.pgo_base.specs.Data.{Data, boolean}
 use Rattle.pgo_base.specs.Tree.{Tree}
 use Rattle.pgo_base.specs.Lookup.{Name, Names, Vars, find}
 use Rattle.pgo_model.specs.Val.{meanings, val}
-use Rattle.pgo_model.specs.Module.{Module, actions_of, defs_of, next_body}
+use Rattle.pgo_model.specs.Module.{Module, actions_of, defs_of}
 use Rattle.pgo_model.specs.Written.{self_name}
 
 -- the expression is TRUE where these names are bound, on a state and, where there is one, the next
@@ -20,7 +20,3 @@ Begins m consts s = IsTrueOn m consts [] s None m.init
 abbrev pub Acts : Module → List (Name × Data) → Name → Data → Vars → Vars → Type 0
 Acts m consts a id s t =
     (body : Tree) × (find a (actions_of m) ≡ Some body) × IsTrueOn m consts ((self_name, Some id) ∷ []) s (Some t) body
-
--- Next is TRUE of the pair
-abbrev pub Nexts : Module → List (Name × Data) → Vars → Vars → Type 0
-Nexts m consts s t = IsTrueOn m consts [] s (Some t) (next_body m)

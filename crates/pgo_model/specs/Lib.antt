@@ -35,3 +35,9 @@ pub mod ExprText
 pub mod ModuleText
 pub mod Bundle
 pub mod Names
+pub mod ModuleView
+pub mod LogView
+pub mod Plain
+pub mod ScopeView
+pub mod Over
+pub mod Steps

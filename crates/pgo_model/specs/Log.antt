@@ -43,7 +43,7 @@ differs None (Some v) = true
 differs (Some v) None = true
 differs (Some v) (Some w) = not (same_data v w)
 
--- the components of a bound system, in the order of the variables and of the index
+-- the components of a bound system: the resources by number, then the places of the instances by number
 abbrev pub resource_components : List Resource → List Component
 resource_components [] = []
 resource_components (r ∷ rs) = record { variable = r.global; index = r.index; owner = OfResource r.number } ∷ resource_components rs

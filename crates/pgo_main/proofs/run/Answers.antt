@@ -1,5 +1,5 @@
 -- The words that `pgo` is given are those of the arguments.
-use Rattle.std.proofs.Common.{subst, ◌∙◌}
+use Rattle.std.proofs.Common.{◌≡◌, subst, ◌∙◌}
 use Rattle.pgo_front.specs.Answers.{AsksNothing, OrNoMemory, Stops, IsRefusal}
 use Rattle.pgo_front.specs.declared.status.Status.TheVariants as status
 use Rattle.pgo_main.proofs.run.Goals as goal
@@ -14,3 +14,7 @@ pub returns-in-Ok-clause-usage : goal.returns-in-Ok-clause-usage
 returns-in-Ok-clause-usage g c =
     subst (λ ws. AsksNothing ws → OrNoMemory c.pgo.result status.Usage)
     (c.as_slice.ensures.value ∙ c.in-Ok.ensures.words) c.pgo.ensures.usage
+
+pub returns-in-Ok-clause-unread : goal.returns-in-Ok-clause-unread
+returns-in-Ok-clause-unread g c =
+    subst (λ ws. AsksNothing ws → c.pgo.new.input ≡ c.args.input.now) (c.as_slice.ensures.value ∙ c.in-Ok.ensures.words) c.pgo.ensures.unread

@@ -1,0 +1,211 @@
+// The states along a log, and whether a log is a run of a module.
+ghost use Rattle.std.specs.Prelude.{◌≡◌, ◌<◌, ◌↔◌, ◌∷◌, [], ℕ, length, IsTrue, map, Option, Some, None, option_map, IfOk};
+ghost use Rattle.pgo_base.specs.Lookup.{find};
+ghost use Rattle.pgo_base.specs.View.{data_of, named_data};
+ghost use Rattle.pgo_base.specs.Data.{string};
+ghost use Rattle.pgo_model.specs.Acts.{Acts};
+ghost use Rattle.pgo_model.specs.Declares.{place_of};
+ghost use Rattle.pgo_model.specs.IsRun.{IsRun};
+ghost use Rattle.pgo_model.specs.Log.{after_changes, changed, with_part};
+ghost use Rattle.pgo_model.specs.LogView.{change_view, entry_view};
+ghost use Rattle.pgo_model.specs.Machine.{nth};
+ghost use Rattle.pgo_model.specs.ModuleView.{module_view};
+ghost use Rattle.pgo_model.specs.Options.{on};
+ghost use Rattle.pgo_model.specs.Plain.{IsPlainModule};
+ghost use Rattle.pgo_model.specs.Section.{store};
+ghost use Rattle.pgo_model.specs.Steps.{place_in, LeadsTo, IsPlaced, Runs};
+
+use crate::plain::module::{acts, begins};
+use crate::plain::operators::{replaced, value_at};
+use pgo_base::log::{Change, Entry};
+use pgo_base::module::Module;
+use pgo_base::scope::State;
+use pgo_base::text::Text;
+use pgo_base::value::{Fun, Value};
+use std::alloc::{AllocError, Global};
+
+/// A function with another value at an index in its domain.
+fn with_part(
+    alloc: Global,
+    old: &Value,
+    index: &Value,
+    value: &Value,
+) -> Result<Option<Value>, AllocError>
+    ensures { IfOk result (λ o. option_map data_of o ≡ with_part (data_of old.now) (data_of index.now) (data_of value.now)) }
+{
+    match old {
+        Value::Fun(f) => {
+            if value_at(f.pairs(), index).is_none() {
+                return Ok(None);
+            }
+            let pairs = replaced(alloc, f, index, value)?;
+            Ok(Some(Value::Fun(Fun::from_sorted(pairs))))
+        }
+        _ => Ok(None),
+    }
+}
+
+/// What a variable becomes where it, or its value at an index, becomes this value.
+fn new_value(
+    alloc: Global,
+    old: &Value,
+    index: &Option<Value>,
+    value: &Value,
+) -> Result<Option<Value>, AllocError>
+    ensures { IfOk result (λ o. option_map data_of o ≡ on (Some (data_of value.now)) (option_map data_of index.now) (λ i. with_part (data_of old.now) i (data_of value.now))) }
+{
+    match index {
+        None => Ok(Some(value.copy(alloc)?)),
+        Some(index) => with_part(alloc, old, index, value),
+    }
+}
+
+/// The place of the first variable of the name.
+fn place_in(name: &Text, list: &[(Text, Value)]) -> Option<usize>
+    ensures place { result ≡ place_in name.now (map named_data list.now) }
+    ensures within { IsPlaced result (length list.now) }
+{
+    for (i, p) in list.iter().enumerate() {
+        if name.is(&p.0) {
+            return Some(i);
+        }
+    }
+    None
+}
+
+/// The state with one component changed, where the component is in it.
+fn changed(alloc: Global, state: State, change: &Change) -> Result<Option<State>, AllocError>
+    ensures { IfOk result (λ o. o ≡ changed (change_view change.now) state) }
+{
+    let mut list = state.into_vec();
+    let Some(i) = place_in(&change.component.variable, &list) else {
+        return Ok(None);
+    };
+    let Some(v) = new_value(alloc, &list[i].1, &change.component.index, &change.value)? else {
+        return Ok(None);
+    };
+    list[i].1 = v;
+    Ok(Some(State::from_vec(list)))
+}
+
+/// The state after these changes, where each changed component is in it.
+pub fn after(alloc: Global, s: &State, changes: &[Change]) -> Result<Option<State>, AllocError>
+    ensures { IfOk result (λ o. o ≡ after_changes (map change_view changes.now) s.now) }
+{
+    let mut state = s.copy(alloc)?;
+    for c in changes {
+        match changed(alloc, state, c)? {
+            None => return Ok(None),
+            Some(next) => state = next,
+        }
+    }
+    Ok(Some(state))
+}
+
+/// Where the instance with this identifier stands.
+fn place_of<'a>(alloc: Global, id: &Value, s: &'a State) -> Result<Option<&'a Value>, AllocError>
+    ensures { IfOk result (λ o. option_map (λ r. data_of r.now) o ≡ place_of (data_of id.now) s.now) }
+{
+    let pc = Text::from_slice(alloc, b"pc")?;
+    let Some(f) = s.find(&pc) else {
+        return Ok(None);
+    };
+    match f {
+        Value::Fun(f) => Ok(value_at(f.pairs(), id)),
+        _ => Ok(None),
+    }
+}
+
+/// Whether a value is this string.
+fn is_string(v: Option<&Value>, text: &Text) -> bool
+    ensures { IsTrue result ↔ option_map (λ r. data_of r.now) v.entry ≡ Some (string text.now) }
+{
+    let Some(v) = v else {
+        return false;
+    };
+    match v {
+        Value::Str(t) => t.is(text),
+        _ => false,
+    }
+}
+
+/// Whether an entry's action is TRUE of a pair of states, and its instance stands at the entry's next label then.
+fn is_step<'a>(
+    alloc: Global,
+    m: &'a Module,
+    id: &Value,
+    s: &'a State,
+    e: &Entry,
+    t: &'a State,
+) -> Result<bool, AllocError>
+    requires { IsPlainModule (module_view m.now) }
+    ensures { IfOk result (λ b. IsTrue b ↔ (Acts (module_view m.now) [] e.now.label (data_of id.now) s.now t.now × place_of (data_of id.now) t.now ≡ Some (string e.now.next))) }
+{
+    if !acts(alloc, m, &e.label, id, s, t)? {
+        return Ok(false);
+    }
+    let place = place_of(alloc, id, t)?;
+    Ok(is_string(place, &e.next))
+}
+
+/// The state that an entry leads to, where the entry is a step from this state.
+pub fn step(
+    alloc: Global,
+    m: &Module,
+    ids: &[Value],
+    s: &State,
+    e: &Entry,
+) -> Result<Option<State>, AllocError>
+    requires { IsPlainModule (module_view m.now) }
+    ensures { IfOk result (λ o. LeadsTo (module_view m.now) (map data_of ids.now) s.now (entry_view e.now) o) }
+{
+    let Some(id) = ids.get(e.instance as usize) else {
+        return Ok(None);
+    };
+    let Some(t) = after(alloc, s, e.changes.as_slice())? else {
+        return Ok(None);
+    };
+    if is_step(alloc, &*m, id, &*s, e, &t)? {
+        Ok(Some(t))
+    } else {
+        Ok(None)
+    }
+}
+
+/// Whether each entry is a step from where those before it lead.
+fn runs(
+    alloc: Global,
+    m: &Module,
+    ids: &[Value],
+    start: &State,
+    entries: &[Entry],
+) -> Result<bool, AllocError>
+    requires { IsPlainModule (module_view m.now) }
+    ensures { IfOk result (λ b. IsTrue b ↔ Runs (module_view m.now) (map data_of ids.now) start.now (map entry_view entries.now)) }
+{
+    let mut before = start.copy(alloc)?;
+    for e in entries {
+        match step(alloc, m, ids, &before, e)? {
+            None => return Ok(false),
+            Some(next) => before = next,
+        }
+    }
+    Ok(true)
+}
+
+/// Whether a log is a run of a module: Init is TRUE of the start, and each entry is a step of its instance.
+pub fn is_run<'a>(
+    alloc: Global,
+    m: &'a Module,
+    ids: &[Value],
+    start: &'a State,
+    entries: &[Entry],
+) -> Result<bool, AllocError>
+    requires { IsPlainModule (module_view m.now) }
+    ensures { IfOk result (λ b. IsTrue b ↔ IsRun (module_view m.now) [] (map data_of ids.now) start.now (map entry_view entries.now)) }
+{
+    if !begins(alloc, m, start)? {
+        return Ok(false);
+    }
+    runs(alloc, m, ids, start, entries)
+}
