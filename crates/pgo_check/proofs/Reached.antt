@@ -1,0 +1,79 @@
+-- The states that a log reaches, and its first entry that is no step.
+use Rattle.std.proofs.Common.{◌≡◌, ℕ, zero, suc, ◌<◌, ◌+◌, List, [], ◌∷◌, length, map, get_or, refl, ap, sym, ◌∙◌, add-one, subst, arith, below_more}
+use Rattle.std.specs.Prelude.{Option, Some, None, option_and_then}
+use Rattle.pgo_base.specs.Data.{Data}
+use Rattle.pgo_base.specs.Lookup.{Vars}
+use Rattle.pgo_base.specs.declared.log.Entry as base_entry
+use Rattle.pgo_model.specs.Acts.{Acts}
+use Rattle.pgo_model.specs.IsRun.{IsStep}
+use Rattle.pgo_model.specs.Log.{Effect, After, StateAt}
+use Rattle.pgo_model.specs.LogView.{entry_view}
+use Rattle.pgo_model.specs.Machine.{Entry, nth}
+use Rattle.pgo_model.specs.Module.{Module}
+use Rattle.pgo_model.specs.Steps.{Leads}
+use Rattle.pgo_check.specs.Verdict.{IsFirstBad, Finds}
+
+-- the first n entries are steps, and t is the state after them
+pub record IsReached (m : Module) (ids : List Data) (s : Vars) (l : List (Entry Effect)) (n : ℕ) (t : Vars) : Type 0 where
+  pub state : StateAt s l n ≡ Some t
+  pub steps : (q : ℕ) → q < n → (e : Entry Effect) → nth l q ≡ Some e → IsStep m [] ids s l q e
+
+-- the state after an entry is made from the state before it
+pub state_after : (s b : Vars) (l : List (Entry Effect)) (i : ℕ) (e : Entry Effect) → StateAt s l i ≡ Some b → nth l i ≡ Some e → StateAt s l (suc i) ≡ After b e.change
+state_after s b [] i e h g = absurd (cc)
+state_after s b (d ∷ l) zero e h g =
+    let same : s ≡ b = cc in
+    let that : d ≡ e = cc in
+    behind (After s d.change) ∙ ap (λ x. After x d.change) same ∙ ap (λ (x : Entry Effect). After b x.change) that
+  where
+    behind : (o : Option Vars) → option_and_then (λ t. StateAt t l 0) o ≡ o
+    behind None = refl
+    behind (Some t) = refl
+state_after s b (d ∷ l) (suc i) e h g = go (After s d.change) h (λ t k. state_after t b l i e k g)
+  where
+    go : (o : Option Vars) → option_and_then (λ t. StateAt t l i) o ≡ Some b → ((t : Vars) → StateAt t l i ≡ Some b → StateAt t l (suc i) ≡ After b e.change) → option_and_then (λ t. StateAt t l (suc i)) o ≡ After b e.change
+    go None k ih = absurd (cc)
+    go (Some t) k ih = ih t k
+
+-- the start is reached by no entry
+pub start_reached : (m : Module) (ids : List Data) (s : Vars) (l : List (Entry Effect)) → IsReached m ids s l 0 s
+start_reached m ids s l = record { state = refl; steps = λ q h e g. absurd (omega (arith, h)) }
+
+-- an entry that leads on from the state before it is a step
+leads_step : (m : Module) (ids : List Data) (s b t : Vars) (l : List (Entry Effect)) (i : ℕ) (e : Entry Effect) → StateAt s l i ≡ Some b → nth l i ≡ Some e → Leads m ids b e t → IsStep m [] ids s l i e
+leads_step m ids s b t l i e h g k =
+    record { id = k.id; before = b; after = t; identifier = k.identifier; from = h; to = state_after s b l i e h g ∙ k.to; acts = k.acts; next = k.next }
+
+-- a step leads on from the state before it
+step_leads : (m : Module) (ids : List Data) (s b : Vars) (l : List (Entry Effect)) (i : ℕ) (e : Entry Effect) → StateAt s l i ≡ Some b → nth l i ≡ Some e → IsStep m [] ids s l i e → (t : Vars) × Leads m ids b e t
+step_leads m ids s b l i e h g k =
+    let same : k.before ≡ b = cc (k.from, h) in
+    (k.after, record { id = k.id; identifier = k.identifier; to = sym (state_after s b l i e h g) ∙ k.to; acts = subst (λ x. Acts m [] e.change.label k.id x k.after) same k.acts; next = k.next })
+
+-- one entry more is a step
+pub reached_more : (m : Module) (ids : List Data) (s b t : Vars) (l : List (Entry Effect)) (i : ℕ) (e : Entry Effect) → IsReached m ids s l i b → nth l i ≡ Some e → Leads m ids b e t → IsReached m ids s l (i + 1) t
+reached_more m ids s b t l i e r g k = record {
+  state = subst (λ n. StateAt s l n ≡ Some t) (sym (add-one i)) (state_after s b l i e r.state g ∙ k.to);
+  steps = below_more (λ q. (d : Entry Effect) → nth l q ≡ Some d → IsStep m [] ids s l q d) i r.steps (λ d f. let same : e ≡ d = cc (g, f) in subst (λ x. IsStep m [] ids s l i x) same (leads_step m ids s b t l i e r.state g k));
+}
+
+-- an entry that leads nowhere is the first that is no step
+pub first_bad_is : (m : Module) (ids : List Data) (s b : Vars) (l : List (Entry Effect)) (i : ℕ) (e : Entry Effect) → IsReached m ids s l i b → nth l i ≡ Some e → ((t : Vars) → Leads m ids b e t → ⊥) → IsFirstBad m [] ids s l i
+first_bad_is m ids s b l i e r g k =
+    record { entry = e; found = g; bad = λ h. (let w = step_leads m ids s b l i e r.state g h in k w.0 w.1); earlier = r.steps }
+
+-- what stands at an index of a log in memory
+pub entry_at : (es : List base_entry.Entry) (i : ℕ) (e : base_entry.Entry) → i < length es → e ≡ get_or es i e → nth (map entry_view es) i ≡ Some (entry_view e)
+entry_at [] i e h g = absurd (omega (arith, h))
+entry_at (d ∷ es) zero e h g = ap (λ x. Some (entry_view x)) (sym g)
+entry_at (d ∷ es) (suc i) e h g = entry_at es i e (omega (arith, h)) g
+
+-- an entry stands below the number of entries
+pub entry_below : (l : List (Entry Effect)) (p : ℕ) (e : Entry Effect) → nth l p ≡ Some e → p < length l
+entry_below [] p e h = absurd (cc)
+entry_below (d ∷ l) zero e h = omega arith
+entry_below (d ∷ l) (suc p) e h = let k = entry_below l p e h in omega (arith, k)
+
+-- where all entries are behind, each is a step
+pub all_steps : (m : Module) (ids : List Data) (s t : Vars) (l : List (Entry Effect)) (n : ℕ) → IsReached m ids s l n t → n ≡ length l → Finds m ids s l None
+all_steps m ids s t l n r h p e g = let k = entry_below l p e g in r.steps p (omega (arith, k, h)) e g

@@ -1,0 +1,252 @@
+// The module of a counter with a second variable that stays as it is, its states and its entries, built by hand.
+ghost use Rattle.std.specs.Prelude.{IsTrue, IfOk};
+ghost use Rattle.pgo_base.specs.Tree.{bound};
+ghost use Rattle.pgo_model.specs.ModuleView.{module_view};
+ghost use Rattle.pgo_model.specs.Plain.{IsPlain, IsPlainName, IsPlainBinder, IsPlainModule, is_plain_operator};
+
+use pgo_base::expr::{Arms, Binders, Expr, Exprs, Infix, Names, Quantifier, Sub, Update, Updates};
+use pgo_base::log::{Change, Changes, Component, Entry, Owner};
+use pgo_base::module::{Action, Actions, Definitions, Module, Processes, WrittenProcess};
+use pgo_base::scope::State;
+use pgo_base::text::Text;
+use pgo_base::value::{Fun, Value};
+use std::alloc::{AllocError, Global};
+
+fn named(alloc: Global, x: &[u8]) -> Result<Sub, AllocError>
+    requires { IsPlainName x.now }
+    ensures { IfOk result (λ e. IsPlain e) }
+{
+    Sub::new(alloc, Expr::Name(Text::from_slice(alloc, x)?))
+}
+
+fn primed(alloc: Global, x: &[u8]) -> Result<Sub, AllocError>
+    ensures { IfOk result (λ e. IsPlain e) }
+{
+    Sub::new(alloc, Expr::Primed(Text::from_slice(alloc, x)?))
+}
+
+fn string(alloc: Global, x: &[u8]) -> Result<Sub, AllocError>
+    ensures { IfOk result (λ e. IsPlain e) }
+{
+    Sub::new(alloc, Expr::Text(Text::from_slice(alloc, x)?))
+}
+
+fn number(alloc: Global, n: i64) -> Result<Sub, AllocError>
+    ensures { IfOk result (λ e. IsPlain e) }
+{
+    Sub::new(alloc, Expr::Number(n))
+}
+
+fn infix(alloc: Global, op: Infix, a: Sub, b: Sub) -> Result<Sub, AllocError>
+    requires operator { IsTrue (is_plain_operator op) }
+    requires left { IsPlain a }
+    requires right { IsPlain b }
+    ensures { IfOk result (λ e. IsPlain e) }
+{
+    Sub::new(alloc, Expr::Infix(op, a, b))
+}
+
+/// {e}
+fn set_of(alloc: Global, e: Sub) -> Result<Sub, AllocError>
+    requires { IsPlain e }
+    ensures { IfOk result (λ e. IsPlain e) }
+{
+    Sub::new(
+        alloc,
+        Expr::SetOf(Exprs::from_vec(vec![in alloc; e.into_expr()]?)),
+    )
+}
+
+/// f[i]
+fn index(alloc: Global, f: Sub, i: Sub) -> Result<Sub, AllocError>
+    requires function { IsPlain f }
+    requires index { IsPlain i }
+    ensures { IfOk result (λ e. IsPlain e) }
+{
+    Sub::new(
+        alloc,
+        Expr::Index(f, Exprs::from_vec(vec![in alloc; i.into_expr()]?)),
+    )
+}
+
+/// x \in r, as a binder
+fn over(alloc: Global, x: &[u8], r: Sub) -> Result<Binders, AllocError>
+    requires { IsPlain r }
+    ensures { IfOk result (λ bs. IsPlainBinder (bound bs)) }
+{
+    let names = Names::from_vec(vec![in alloc; Text::from_slice(alloc, x)?]?);
+    Ok(Binders::from_vec(vec![in alloc; (names, r.into_expr())]?))
+}
+
+/// [pc EXCEPT ![self] = "Done"]
+fn moved(alloc: Global) -> Result<Sub, AllocError>
+    ensures { IfOk result (λ e. IsPlain e) }
+{
+    let self_name = named(alloc, b"self")?;
+    let update = Update {
+        path: Exprs::from_vec(vec![in alloc; self_name.into_expr()]?),
+        value: Expr::Text(Text::from_slice(alloc, b"Done")?),
+    };
+    Sub::new(
+        alloc,
+        Expr::Except(
+            named(alloc, b"pc")?,
+            Updates::from_vec(vec![in alloc; update]?),
+        ),
+    )
+}
+
+/// UNCHANGED <<y>>
+fn rest(alloc: Global) -> Result<Sub, AllocError>
+    ensures { IfOk result (λ e. IsPlain e) }
+{
+    let names = Names::from_vec(vec![in alloc; Text::from_slice(alloc, b"y")?]?);
+    Sub::new(alloc, Expr::Unchanged(names))
+}
+
+/// pc[self] = "P_l" /\ \E v \in {x + 1} : x' = v /\ pc' = [pc EXCEPT ![self] = "Done"] /\ UNCHANGED <<y>>
+fn action(alloc: Global) -> Result<Sub, AllocError>
+    ensures { IfOk result (λ e. IsPlain e) }
+{
+    let place = index(alloc, named(alloc, b"pc")?, named(alloc, b"self")?)?;
+    let stands = infix(alloc, Infix::Equal, place, string(alloc, b"P_l")?)?;
+    let sum = infix(alloc, Infix::Add, named(alloc, b"x")?, number(alloc, 1)?)?;
+    let becomes = infix(
+        alloc,
+        Infix::Equal,
+        primed(alloc, b"x")?,
+        named(alloc, b"v")?,
+    )?;
+    let moves = infix(alloc, Infix::Equal, primed(alloc, b"pc")?, moved(alloc)?)?;
+    let both = infix(alloc, Infix::And, becomes, moves)?;
+    let all = infix(alloc, Infix::And, both, rest(alloc)?)?;
+    let chosen = exists(alloc, b"v", set_of(alloc, sum)?, all)?;
+    infix(alloc, Infix::And, stands, chosen)
+}
+
+/// \E x \in r : p
+fn exists(alloc: Global, x: &[u8], r: Sub, p: Sub) -> Result<Sub, AllocError>
+    requires set { IsPlain r }
+    requires body { IsPlain p }
+    ensures { IfOk result (λ e. IsPlain e) }
+{
+    Sub::new(
+        alloc,
+        Expr::Quantified(Quantifier::Exists, over(alloc, x, r)?, p),
+    )
+}
+
+/// x = 0 /\ y = 0 /\ pc = [self \in ProcSet |-> CASE self \in {1} -> "P_l"]
+fn init(alloc: Global) -> Result<Sub, AllocError>
+    ensures { IfOk result (λ e. IsPlain e) }
+{
+    let starts = infix(
+        alloc,
+        Infix::And,
+        infix(alloc, Infix::Equal, named(alloc, b"x")?, number(alloc, 0)?)?,
+        infix(alloc, Infix::Equal, named(alloc, b"y")?, number(alloc, 0)?)?,
+    )?;
+    let ours = infix(
+        alloc,
+        Infix::In,
+        named(alloc, b"self")?,
+        set_of(alloc, number(alloc, 1)?)?,
+    )?;
+    let label = Expr::Text(Text::from_slice(alloc, b"P_l")?);
+    let first = Sub::new(
+        alloc,
+        Expr::Case(Arms::from_vec(vec![in alloc; (ours.into_expr(), label)]?)),
+    )?;
+    let places = Sub::new(
+        alloc,
+        Expr::FunOf(over(alloc, b"self", named(alloc, b"ProcSet")?)?, first),
+    )?;
+    let placed = infix(alloc, Infix::Equal, named(alloc, b"pc")?, places)?;
+    infix(alloc, Infix::And, starts, placed)
+}
+
+/// The module.
+pub fn counter(alloc: Global) -> Result<Module, AllocError>
+    ensures { IfOk result (λ m. IsPlainModule (module_view m)) }
+{
+    let action = Action {
+        name: Text::from_slice(alloc, b"P_l")?,
+        body: action(alloc)?,
+    };
+    let process = WrittenProcess {
+        name: Text::from_slice(alloc, b"P")?,
+        ids: set_of(alloc, number(alloc, 1)?)?,
+        actions: Actions::from_vec(vec![in alloc; action]?),
+    };
+    Ok(Module {
+        name: Text::from_slice(alloc, b"Counter")?,
+        constants: Names::from_vec(Vec::new(alloc)),
+        definitions: Definitions::new(alloc),
+        variables: Names::from_vec(Vec::new(alloc)),
+        init: init(alloc)?,
+        processes: Processes::from_vec(vec![in alloc; process]?),
+    })
+}
+
+/// The state in which x is this, y is 0, and the one instance stands at P_l.
+pub fn start(alloc: Global, x: i64) -> Result<State, AllocError> {
+    let label = Value::Str(Text::from_slice(alloc, b"P_l")?);
+    let place = Fun::from_sorted(vec![in alloc; (Value::Int(1), label)]?);
+    let counter = (Text::from_slice(alloc, b"x")?, Value::Int(x));
+    let other = (Text::from_slice(alloc, b"y")?, Value::Int(0));
+    let places = (Text::from_slice(alloc, b"pc")?, Value::Fun(place));
+    Ok(State::from_vec(vec![in alloc; counter, other, places]?))
+}
+
+/// The entry of an instance at this label, after which this variable is n and the instance of identifier 1 stands at
+/// Done. It says that the next label is `next`.
+pub fn entry(
+    alloc: Global,
+    instance: u32,
+    label: &[u8],
+    variable: &[u8],
+    n: i64,
+    next: &[u8],
+) -> Result<Entry, AllocError> {
+    let counter = Component {
+        variable: Text::from_slice(alloc, variable)?,
+        index: None,
+        owner: Owner::Unowned,
+    };
+    let place = Component {
+        variable: Text::from_slice(alloc, b"pc")?,
+        index: Some(Value::Int(1)),
+        owner: Owner::Unowned,
+    };
+    let mut changes = Changes::new(alloc);
+    changes.push(Change {
+        component: counter,
+        value: Value::Int(n),
+    })?;
+    changes.push(Change {
+        component: place,
+        value: Value::Str(Text::from_slice(alloc, b"Done")?),
+    })?;
+    Ok(Entry {
+        instance,
+        attempt: 1,
+        label: Text::from_slice(alloc, label)?,
+        next: Text::from_slice(alloc, next)?,
+        changes,
+    })
+}
+
+/// An entry that leaves x as the action says, and y at n.
+pub fn entry_with_other(alloc: Global, n: i64) -> Result<Entry, AllocError> {
+    let mut e = entry(alloc, 0, b"P_l", b"x", 1, b"Done")?;
+    let other = Component {
+        variable: Text::from_slice(alloc, b"y")?,
+        index: None,
+        owner: Owner::Unowned,
+    };
+    e.changes.push(Change {
+        component: other,
+        value: Value::Int(n),
+    })?;
+    Ok(e)
+}
