@@ -9,12 +9,12 @@ use Rattle.pgo_model.specs.Log.{Effect}
 use Rattle.pgo_model.specs.ModuleText.{Line, line, flatten, module_lines}
 use Rattle.pgo_model.specs.Core.{Done, end_of, status_of}
 use Rattle.pgo_model.specs.Bundle.{fields, value_line, change_line, entry_lines, entries_lines, record_lines, end_text, accounts_lines, bundle_lines}
-use Rattle.pgo_front.specs.declared.counter.Sum.{Sum}
-use Rattle.pgo_front.specs.declared.counter.Counter.{Counter}
-use Rattle.pgo_front.specs.Form.{IsWellNamed, most_statements}
-use Rattle.pgo_front.specs.Counters.{label_name, next_name, counter_state, counter_bound, counter_module}
+use Rattle.pgo_counter.specs.declared.counter.Sum.{Sum}
+use Rattle.pgo_counter.specs.declared.counter.Counter.{Counter}
+use Rattle.pgo_counter.specs.WellNamed.{IsWellNamed, most_statements}
+use Rattle.pgo_counter.specs.Counters.{label_name, next_name, counter_state, counter_bound, counter_module}
 use Rattle.pgo_front.specs.CounterRuns.{IsAt, settings, global_change, place_change, counter_changes, counter_entry, counter_entries, steps_from}
-use Rattle.pgo_front.proofs.ModuleLines.{flat-three}
+use Rattle.pgo_module_write.specs.FlatLines.{flat-three}
 use Rattle.pgo_front.proofs.CounterEnds.{length-steps, length-entries, end_is, status_is}
 
 -- the digit 0

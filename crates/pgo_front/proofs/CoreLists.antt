@@ -5,14 +5,13 @@ use Rattle.std.proofs.lemmas.Nat.{pow_pos}
 use Rattle.std.proofs.Math.Nat.{pow-suc}
 use Rattle.std.proofs.Math.Pow.{pow_mono}
 use Rattle.pgo_model.specs.Machine.{Step, last_ends}
-use Rattle.pgo_front.specs.declared.counter.Term.{Term}
-use Rattle.pgo_front.specs.declared.counter.Term.TheVariants.{Parameter, Number}
-use Rattle.pgo_front.specs.declared.counter.Sum.{Sum}
-use Rattle.pgo_front.specs.declared.counter.Counter.{Counter}
-use Rattle.pgo_front.specs.Form.{most}
-use Rattle.pgo_front.specs.Counters.{next_name, term_value, sum_value}
+use Rattle.pgo_counter.specs.declared.counter.Term.{Term}
+use Rattle.pgo_counter.specs.declared.counter.Term.TheVariants.{Parameter, Number}
+use Rattle.pgo_counter.specs.declared.counter.Sum.{Sum}
+use Rattle.pgo_counter.specs.declared.counter.Counter.{Counter}
+use Rattle.pgo_counter.specs.WellNamed.{most, IsSmallTerm, HasSmallNumbers}
+use Rattle.pgo_counter.specs.Counters.{next_name, term_value, sum_value}
 use Rattle.pgo_front.specs.CounterRuns.{counter_entry, counter_entries, steps_from, last_value, sum_fits}
-use Rattle.pgo_front.specs.CoreAt.{IsSmallTerm, HasSmallNumbers}
 
 nothing_left : {P : Type 0} (n : ℕ) (s : Sum) (after : List Sum) → drop n [] ≡ s ∷ after → P
 nothing_left zero s after h = cc

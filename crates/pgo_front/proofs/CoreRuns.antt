@@ -4,18 +4,18 @@ use Rattle.std.specs.Prelude.{if◌then◌else◌, unwrap_or, vec_capacity, slic
 use Rattle.std.proofs.lemmas.List.{take_more}
 use Rattle.pgo_model.specs.Machine.{Rules, Machine, step, after_turns, opened}
 use Rattle.pgo_model.specs.Core.{Core}
-use Rattle.pgo_front.specs.declared.counter.Sum.{Sum}
-use Rattle.pgo_front.specs.declared.counter.Counter.{Counter}
+use Rattle.pgo_counter.specs.declared.counter.Sum.{Sum}
+use Rattle.pgo_counter.specs.declared.counter.Counter.{Counter}
 use Rattle.pgo_front.specs.declared.instance.Instance.{Instance}
 use Rattle.pgo_front.specs.declared.instance.Place.{Place}
 use Rattle.pgo_front.specs.declared.instance.Place.TheVariants.{Start, Taken, Read, Written, PreCommitted, Committed}
-use Rattle.pgo_front.specs.Form.{most, IsWellNamed}
-use Rattle.pgo_front.specs.Counters.{counter_bound, label_name, next_name, counter_state, sum_value}
-use Rattle.pgo_front.specs.CounterRuns.{IsAt, settings, sum_reads, counter_entries, steps_from, last_value}
+use Rattle.pgo_counter.specs.WellNamed.{most, IsWellNamed}
+use Rattle.pgo_counter.specs.Counters.{counter_bound, label_name, next_name, counter_state, sum_value, sum_reads}
+use Rattle.pgo_front.specs.CounterRuns.{IsAt, settings, counter_entries, steps_from, last_value}
 use Rattle.pgo_front.specs.CoreAt.{IsInForm, counter_rules, rest_of, is_start, is_committed, done_at, done_on, Works, WorksOn, IsSound, Tracks, MakesTurn, Commits}
 use Rattle.pgo_front.proofs.CoreLists.{last_value-push, small_sum, sum_value-small, value_fits}
 use Rattle.pgo_front.proofs.CoreSteps.{CounterRules}
-use Rattle.pgo_front.proofs.CounterNames.{names, label_of_body, next_apart}
+use Rattle.pgo_counter.specs.CounterNames.{names, label_of_body, next_apart}
 use Rattle.pgo_front.proofs.CounterLaws.{section_is, at_done_is, effect_is, after_is}
 
 -- the machine of a counter that is well named stands on what a run asks

@@ -7,13 +7,13 @@ use Rattle.pgo_model.specs.Written.{done}
 use Rattle.pgo_model.specs.Outcome.{Next, Stuck, NoValue, Section}
 use Rattle.pgo_model.specs.Machine.{Rules, Machine, Entry, Step, Event, Take, Operate, PreCommit, Commit, events, nth, put, last_ends, is_under_way, is_empty, attempt_of, state_at, last_state, section, has_ended, does, step, takes, taking, goes_on, counted, pre_committing, committing, gives}
 use Rattle.pgo_model.specs.Log.{Effect}
-use Rattle.pgo_front.specs.declared.counter.Sum.{Sum}
-use Rattle.pgo_front.specs.declared.counter.Counter.{Counter}
+use Rattle.pgo_counter.specs.declared.counter.Sum.{Sum}
+use Rattle.pgo_counter.specs.declared.counter.Counter.{Counter}
 use Rattle.pgo_front.specs.declared.instance.Instance.{Instance}
 use Rattle.pgo_front.specs.declared.instance.Place.{Place}
 use Rattle.pgo_front.specs.declared.instance.Place.TheVariants.{Start, Taken, Read, Written, PreCommitted, Committed}
-use Rattle.pgo_front.specs.Counters.{label_name, next_name, counter_state, sum_value}
-use Rattle.pgo_front.specs.CounterRuns.{sum_reads, sum_fits, sum_trace, counter_section, counter_entry, counter_entries, steps_from}
+use Rattle.pgo_counter.specs.Counters.{label_name, next_name, counter_state, sum_value, sum_reads}
+use Rattle.pgo_front.specs.CounterRuns.{sum_fits, sum_trace, counter_section, counter_entry, counter_entries, steps_from}
 use Rattle.pgo_front.specs.CoreAt.{IsInForm, rest_of, is_start, is_committed, done_at, done_on, Works, WorksOn, IsSound, Tracks, Commits}
 use Rattle.pgo_front.proofs.CoreLists.{drop_more, split_at, counter_entries-push, length-counter_entries, steps_from-push, length-steps_from, steps_go_on, small_sum, sum_fits-small}
 

@@ -21,14 +21,14 @@ use Rattle.pgo_model.specs.Acts.{Acts, Begins}
 use Rattle.pgo_model.specs.Agrees.{Agrees}
 use Rattle.pgo_model.specs.Module.{stands_at, actions_of, defs_of, action_definition, proc_set_of}
 use Rattle.pgo_model.specs.Translate.{moves_to}
-use Rattle.pgo_front.specs.declared.counter.Term.{Term}
-use Rattle.pgo_front.specs.declared.counter.Term.TheVariants.{Parameter, Number}
-use Rattle.pgo_front.specs.declared.counter.Sum.{Sum}
-use Rattle.pgo_front.specs.declared.counter.Counter.{Counter}
-use Rattle.pgo_front.specs.Form.{IsWellNamed}
-use Rattle.pgo_front.specs.Counters.{spec_of, labeled, label_name, counter_bound, counter_instance, counter_module, archetype_of, sum_code, sum_action, sum_items, counter_sections, counter_actions, counter_init, id_set, next_name, sum_tree, term_tree}
-use Rattle.pgo_front.proofs.CounterNames.{IsLabelOf, Names, Written, names}
-use Rattle.pgo_front.proofs.CounterCodes.{sections_are, first_label_is}
+use Rattle.pgo_counter.specs.declared.counter.Term.{Term}
+use Rattle.pgo_counter.specs.declared.counter.Term.TheVariants.{Parameter, Number}
+use Rattle.pgo_counter.specs.declared.counter.Sum.{Sum}
+use Rattle.pgo_counter.specs.declared.counter.Counter.{Counter}
+use Rattle.pgo_counter.specs.WellNamed.{IsWellNamed}
+use Rattle.pgo_counter.specs.Counters.{spec_of, labeled, label_name, counter_bound, counter_instance, counter_module, archetype_of, sum_code, sum_action, sum_items, counter_sections, counter_actions, counter_init, id_set, next_name, sum_tree, term_tree}
+use Rattle.pgo_counter.specs.CounterNames.{IsLabelOf, Names, Written, names}
+use Rattle.pgo_counter.specs.CounterCodes.{sections_are, first_label_is}
 use Rattle.pgo_front.proofs.States.{some_is, same_data-self}
 use Rattle.pgo_front.proofs.Truths.{and-yes, equal_values-yes, choice-yes, case-one}
 use Rattle.pgo_front.proofs.CounterStates.{id_of, places_at, state_at, find_pc, find_global, apply_places, put_place, store_global, store_places, place_of-state, state_is}

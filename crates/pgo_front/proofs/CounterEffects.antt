@@ -13,11 +13,11 @@ use Rattle.pgo_model.specs.Declares.{place_of}
 use Rattle.pgo_model.specs.Core.{is_at_done}
 use Rattle.pgo_model.specs.Log.{Component, OfResource, OfInstance, Change, content, differs, changes_between, components_of, after_changes, After, effect_between, label_of}
 use Rattle.pgo_model.specs.Written.{pc, done}
-use Rattle.pgo_front.specs.declared.counter.Counter.{Counter}
-use Rattle.pgo_front.specs.Counters.{counter_bound, counter_state}
+use Rattle.pgo_counter.specs.declared.counter.Counter.{Counter}
+use Rattle.pgo_counter.specs.Counters.{counter_bound, counter_state}
 use Rattle.pgo_front.specs.CounterRuns.{counter_changes, place_change, global_change}
-use Rattle.pgo_front.proofs.NameBytes.{Apart, apart-swap}
-use Rattle.pgo_front.proofs.CounterNames.{Names}
+use Rattle.pgo_counter.specs.NameBytes.{Apart, apart-swap}
+use Rattle.pgo_counter.specs.CounterNames.{Names}
 use Rattle.pgo_front.proofs.States.{same_data-self, same_data-is, pairs-graph, find-store, find-store_other, store-missing, store-same, lookup-replace, replace-same}
 
 -- the identifiers' places once this one stands at l

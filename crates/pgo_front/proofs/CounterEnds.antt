@@ -6,13 +6,13 @@ use Rattle.pgo_model.specs.Machine.{Machine, is_empty, last_state, finished_of}
 use Rattle.pgo_model.specs.Log.{Effect}
 use Rattle.pgo_model.specs.Written.{done}
 use Rattle.pgo_model.specs.Core.{End, Done, rules_of, is_at_done, end_by, end_or_spent, end_of, has_stopped, has_full, all_done, status_of}
-use Rattle.pgo_front.specs.declared.counter.Sum.{Sum}
-use Rattle.pgo_front.specs.declared.counter.Counter.{Counter}
-use Rattle.pgo_front.specs.Form.{IsWellNamed, most_statements}
-use Rattle.pgo_front.specs.Counters.{next_name, counter_bound}
+use Rattle.pgo_counter.specs.declared.counter.Sum.{Sum}
+use Rattle.pgo_counter.specs.declared.counter.Counter.{Counter}
+use Rattle.pgo_counter.specs.WellNamed.{IsWellNamed, most_statements}
+use Rattle.pgo_counter.specs.Counters.{next_name, counter_bound}
 use Rattle.pgo_front.specs.CounterRuns.{IsAt, settings, steps_from, last_value, counter_entries}
-use Rattle.pgo_front.proofs.NameBytes.{fewer-apart, written-some}
-use Rattle.pgo_front.proofs.CounterNames.{names}
+use Rattle.pgo_counter.specs.NameBytes.{fewer-apart, written-some}
+use Rattle.pgo_counter.specs.CounterNames.{names}
 use Rattle.pgo_front.proofs.CounterLaws.{at_done_is}
 
 -- the next label is Done where no statement is left

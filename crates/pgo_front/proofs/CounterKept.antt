@@ -8,11 +8,11 @@ use Rattle.pgo_model.specs.Core.{rules_of}
 use Rattle.pgo_model.specs.Section.{store_value}
 use Rattle.pgo_model.specs.State.{IsState}
 use Rattle.pgo_model.specs.Written.{pc}
-use Rattle.pgo_front.specs.declared.counter.Counter.{Counter}
-use Rattle.pgo_front.specs.Counters.{counter_bound}
+use Rattle.pgo_counter.specs.declared.counter.Counter.{Counter}
+use Rattle.pgo_counter.specs.Counters.{counter_bound}
 use Rattle.pgo_front.specs.CounterRuns.{settings}
 use Rattle.pgo_front.proofs.States.{some_is, same_data-self}
-use Rattle.pgo_front.proofs.CounterNames.{Names}
+use Rattle.pgo_counter.specs.CounterNames.{Names}
 use Rattle.pgo_front.proofs.CounterEffects.{stepped, moved_value}
 use Rattle.pgo_front.proofs.CounterSections.{Steps, steps}
 use Rattle.pgo_front.proofs.CounterSound.{fits_is, one_key}

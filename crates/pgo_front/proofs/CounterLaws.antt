@@ -1,5 +1,5 @@
 -- The laws of a counter, in one place: its sections, its bound system, its module, its states, and what its sections do.
-pub use Rattle.pgo_front.proofs.CounterCodes.{sections_are, first_label_is, bound_is, module_is}
+pub use Rattle.pgo_counter.specs.CounterCodes.{sections_are, first_label_is, bound_is, module_is}
 pub use Rattle.pgo_front.proofs.CounterEffects.{place_is, at_done_is, effect_is, after_is}
 pub use Rattle.pgo_front.proofs.CounterSound.{is_state, declares, sound}
 use Rattle.std.proofs.Common.{◌≡◌, ◌≤◌, ℕ, zero, suc, List, [], ◌∷◌, ◌++◌, refl, ap, sym, ◌∙◌, arith, unwrap_or}
@@ -11,13 +11,13 @@ use Rattle.pgo_model.specs.Core.{rules_of, Reaches}
 use Rattle.pgo_model.specs.State.{IsState}
 use Rattle.pgo_model.specs.Log.{After, effect_between, after_changes, changes_between, components_of}
 use Rattle.pgo_model.specs.Written.{pc, done}
-use Rattle.pgo_front.specs.declared.counter.Sum.{Sum}
-use Rattle.pgo_front.specs.declared.counter.Counter.{Counter}
-use Rattle.pgo_front.specs.Form.{IsWellNamed}
-use Rattle.pgo_front.specs.Counters.{counter_bound, counter_state, label_name, next_name}
+use Rattle.pgo_counter.specs.declared.counter.Sum.{Sum}
+use Rattle.pgo_counter.specs.declared.counter.Counter.{Counter}
+use Rattle.pgo_counter.specs.WellNamed.{IsWellNamed}
+use Rattle.pgo_counter.specs.Counters.{counter_bound, counter_state, label_name, next_name}
 use Rattle.pgo_front.specs.CounterRuns.{settings, counter_section}
-use Rattle.pgo_front.proofs.NameBytes.{Apart}
-use Rattle.pgo_front.proofs.CounterNames.{names, section_found, no_section_at_done}
+use Rattle.pgo_counter.specs.NameBytes.{Apart}
+use Rattle.pgo_counter.specs.CounterNames.{names, section_found, no_section_at_done}
 use Rattle.pgo_front.proofs.CounterEffects.{changes_lead}
 use Rattle.pgo_front.proofs.CounterSections.{Steps, steps, section_on, at_none, trace_reaches}
 use Rattle.pgo_front.proofs.CounterKept.{section_kept, start_is_state}

@@ -16,13 +16,12 @@ use Rattle.pgo_model.specs.IsRun.{IsRun}
 use Rattle.pgo_model.specs.Translate.{module_of}
 use Rattle.pgo_model.specs.Core.{Core, rules_of, Reaches, status_of}
 use Rattle.pgo_model.specs.Bundle.{bundle_lines, Bundle}
-use Rattle.pgo_front.specs.declared.counter.Counter.{Counter}
-use Rattle.pgo_front.specs.Form.{IsWellNamed, most_statements}
-use Rattle.pgo_front.specs.Counters.{spec_of, next_name, counter_bound, counter_instance, counter_module}
+use Rattle.pgo_counter.specs.declared.counter.Counter.{Counter}
+use Rattle.pgo_counter.specs.WellNamed.{IsWellNamed, most_statements, IsCounter}
+use Rattle.pgo_counter.specs.Counters.{spec_of, next_name, counter_bound, counter_instance, counter_module}
 use Rattle.pgo_front.specs.CounterRuns.{IsAt, settings, last_value}
 use Rattle.pgo_front.specs.Headline.{AllDone, Ran, ids_of}
-use Rattle.pgo_front.specs.Makes.{IsCounter}
-use Rattle.pgo_front.proofs.CounterNames.{names}
+use Rattle.pgo_counter.specs.CounterNames.{names}
 use Rattle.pgo_front.proofs.CounterLaws.{bound_is, module_is, place_is, sound, fits}
 use Rattle.pgo_front.proofs.CounterAgrees.{agrees}
 use Rattle.pgo_front.proofs.CounterRun.{is_run}

@@ -17,12 +17,12 @@ use Rattle.pgo_model.specs.Core.{Core, rules_of, Reaches}
 use Rattle.pgo_model.specs.State.{IsState}
 use Rattle.pgo_model.specs.Acts.{Acts}
 use Rattle.pgo_model.specs.IsRun.{IsStep, IsRun}
-use Rattle.pgo_front.specs.declared.counter.Sum.{Sum}
-use Rattle.pgo_front.specs.declared.counter.Counter.{Counter}
-use Rattle.pgo_front.specs.Form.{IsWellNamed}
-use Rattle.pgo_front.specs.Counters.{counter_bound, counter_instance, counter_module, counter_state, counter_sections, labeled, label_name, next_name, sum_value, sum_code}
+use Rattle.pgo_counter.specs.declared.counter.Sum.{Sum}
+use Rattle.pgo_counter.specs.declared.counter.Counter.{Counter}
+use Rattle.pgo_counter.specs.WellNamed.{IsWellNamed}
+use Rattle.pgo_counter.specs.Counters.{counter_bound, counter_instance, counter_module, counter_state, counter_sections, labeled, label_name, next_name, sum_value, sum_code}
 use Rattle.pgo_front.specs.CounterRuns.{settings, sum_fits, sum_end, counter_changes}
-use Rattle.pgo_front.proofs.CounterNames.{names, section_found, next_apart}
+use Rattle.pgo_counter.specs.CounterNames.{names, section_found, next_apart}
 use Rattle.pgo_front.proofs.CounterSections.{end_is, end_at, sum_data}
 use Rattle.pgo_front.proofs.CounterLaws.{sections_are, section_is, section_at_done, fits, effect_is, after_is, place_is, is_state, declares}
 use Rattle.pgo_front.proofs.CounterAgrees.{agrees}

@@ -15,16 +15,16 @@ use Rattle.pgo_model.specs.Choice.{Seeded, words_of}
 use Rattle.pgo_model.specs.Accounts.{AllIn}
 use Rattle.pgo_model.specs.Core.{rules_of, numbered, numbers_of, same_index, Reaches}
 use Rattle.pgo_model.specs.Written.{pc}
-use Rattle.pgo_front.specs.declared.counter.Term.{Term}
-use Rattle.pgo_front.specs.declared.counter.Term.TheVariants.{Parameter, Number}
-use Rattle.pgo_front.specs.declared.counter.Sum.{Sum}
-use Rattle.pgo_front.specs.declared.counter.Counter.{Counter}
-use Rattle.pgo_front.specs.Counters.{label_name, next_name, sum_tree, sum_code, sum_value, counter_sections, counter_instance, counter_bound, counter_state}
-use Rattle.pgo_front.specs.CounterRuns.{settings, is_parameter, sum_reads, sum_fits, sum_trace, counter_section}
-use Rattle.pgo_front.proofs.NameBytes.{Apart, apart-swap}
+use Rattle.pgo_counter.specs.declared.counter.Term.{Term}
+use Rattle.pgo_counter.specs.declared.counter.Term.TheVariants.{Parameter, Number}
+use Rattle.pgo_counter.specs.declared.counter.Sum.{Sum}
+use Rattle.pgo_counter.specs.declared.counter.Counter.{Counter}
+use Rattle.pgo_counter.specs.Counters.{label_name, next_name, sum_tree, sum_code, sum_value, counter_sections, counter_instance, counter_bound, counter_state, is_parameter, sum_reads}
+use Rattle.pgo_front.specs.CounterRuns.{settings, sum_fits, sum_trace, counter_section}
+use Rattle.pgo_counter.specs.NameBytes.{Apart, apart-swap}
 use Rattle.pgo_front.proofs.States.{some_is, find-store_other, same_data-self}
 use Rattle.pgo_front.proofs.CounterEffects.{stepped, arrived_is, place_is}
-use Rattle.pgo_front.proofs.CounterCodes.{sections_are}
+use Rattle.pgo_counter.specs.CounterCodes.{sections_are}
 
 -- where a counter's sections run
 abbrev pub context : Counter → Context

@@ -14,13 +14,13 @@ use Rattle.pgo_model.specs.Bound.{Instance, Resource, first_label}
 use Rattle.pgo_model.specs.State.{IsState}
 use Rattle.pgo_model.specs.Machine.{nth}
 use Rattle.pgo_model.specs.Declares.{Declares, Sound, StartsAs, HasDomain, IsGlobal, IsAtLabel, place_of}
-use Rattle.pgo_front.specs.declared.counter.Sum.{Sum}
-use Rattle.pgo_front.specs.declared.counter.Counter.{Counter}
-use Rattle.pgo_front.specs.Form.{IsWellNamed}
-use Rattle.pgo_front.specs.Counters.{spec_of, labeled, counter_bound, counter_instance, counter_state, next_name}
+use Rattle.pgo_counter.specs.declared.counter.Sum.{Sum}
+use Rattle.pgo_counter.specs.declared.counter.Counter.{Counter}
+use Rattle.pgo_counter.specs.WellNamed.{IsWellNamed}
+use Rattle.pgo_counter.specs.Counters.{spec_of, labeled, counter_bound, counter_instance, counter_state, next_name}
 use Rattle.pgo_front.proofs.States.{some_is}
-use Rattle.pgo_front.proofs.CounterNames.{Names, names}
-use Rattle.pgo_front.proofs.CounterCodes.{first_label_is}
+use Rattle.pgo_counter.specs.CounterNames.{Names, names}
+use Rattle.pgo_counter.specs.CounterCodes.{first_label_is}
 use Rattle.pgo_front.proofs.CounterEffects.{place_is}
 
 pub one_key : (x : Data) → IsSorted (x ∷ [])

@@ -8,8 +8,8 @@ use Rattle.pgo_model.specs.Written.{pc}
 use Rattle.pgo_model.specs.State.{IsState}
 use Rattle.pgo_model.specs.Declares.{place_of}
 use Rattle.pgo_model.specs.Section.{store}
-use Rattle.pgo_front.specs.declared.counter.Counter.{Counter}
-use Rattle.pgo_front.specs.Counters.{counter_bound}
+use Rattle.pgo_counter.specs.declared.counter.Counter.{Counter}
+use Rattle.pgo_counter.specs.Counters.{counter_bound}
 use Rattle.pgo_front.proofs.States.{some_is, same_data-self}
 
 -- the one identifier

@@ -1,10 +1,6 @@
-pub mod ModuleLines
 pub mod CounterEnds
 pub mod BundleLines
-pub mod NameBytes
-pub mod CounterNames
 pub mod States
-pub mod CounterCodes
 pub mod CounterEffects
 pub mod CounterSections
 pub mod CounterSound
@@ -21,16 +17,6 @@ pub mod StepWords
 pub mod CoreLists
 pub mod CoreSteps
 pub mod CoreRuns
-pub mod Turns
-pub mod LexRuns
-pub mod LexSound
-pub mod LexComplete
-pub mod ReadParts
-pub mod ReadSound
-pub mod ReadTail
-pub mod ReadComplete
-pub mod ReadExact
-pub mod CounterForm
 pub mod CounterRan
 pub mod Caused
 pub mod LinesWritten

@@ -11,7 +11,7 @@ use Rattle.std.specs.Ordering.{is_eq}
 use Rattle.pgo_model.specs.Names.{same_name-is}
 use Rattle.pgo_model.specs.Operators.{same_data, lookup, replace_at}
 use Rattle.pgo_model.specs.Section.{store}
-use Rattle.pgo_front.proofs.NameBytes.{Apart}
+use Rattle.pgo_counter.specs.NameBytes.{Apart}
 
 -- a value is itself
 pub same_data-self : (x : Data) → same_data x x ≡ true

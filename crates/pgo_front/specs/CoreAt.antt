@@ -4,25 +4,14 @@ use Rattle.pgo_base.specs.Lookup.{Vars}
 use Rattle.pgo_model.specs.Machine.{Rules, Machine, last_state, step}
 use Rattle.pgo_model.specs.Log.{Effect}
 use Rattle.pgo_model.specs.Core.{rules_of}
-use Rattle.pgo_front.specs.declared.counter.Term.{Term}
-use Rattle.pgo_front.specs.declared.counter.Term.TheVariants.{Parameter, Number}
-use Rattle.pgo_front.specs.declared.counter.Sum.{Sum}
-use Rattle.pgo_front.specs.declared.counter.Counter.{Counter}
+use Rattle.pgo_counter.specs.declared.counter.Sum.{Sum}
+use Rattle.pgo_counter.specs.declared.counter.Counter.{Counter}
 use Rattle.pgo_front.specs.declared.instance.Instance.{Instance}
 use Rattle.pgo_front.specs.declared.instance.Place.{Place}
 use Rattle.pgo_front.specs.declared.instance.Place.TheVariants.{Start, Taken, Read, Written, PreCommitted, Committed}
-use Rattle.pgo_front.specs.Form.{IsWellNamed, most, most_statements}
-use Rattle.pgo_front.specs.Counters.{counter_bound, counter_state, next_name, sum_value}
-use Rattle.pgo_front.specs.CounterRuns.{settings, sum_reads, counter_entries, steps_from, last_value}
-
-abbrev pub IsSmallTerm : Term → Type 0
-IsSmallTerm Parameter = Unit {0}
-IsSmallTerm (Number n) = n ≤ most
-
--- every number in these statements is one of the form
-abbrev pub HasSmallNumbers : List Sum → Type 0
-HasSmallNumbers [] = Unit {0}
-HasSmallNumbers (s ∷ ss) = IsSmallTerm s.left × IsSmallTerm s.right × HasSmallNumbers ss
+use Rattle.pgo_counter.specs.WellNamed.{IsWellNamed, most, most_statements, HasSmallNumbers}
+use Rattle.pgo_counter.specs.Counters.{counter_bound, counter_state, next_name, sum_value, sum_reads}
+use Rattle.pgo_front.specs.CounterRuns.{settings, counter_entries, steps_from, last_value}
 
 -- a counter whose names, numbers and length are those of the form
 pub record IsInForm (c : Counter) : Type 0 where

@@ -1,5 +1,5 @@
 -- What a run of a counter is in full: its sections, its entries and its records.
-use Rattle.std.specs.Prelude.{◌≡◌, ◌≤◌, ◌^◌, ℕ, zero, suc, pos, Bool, true, false, ◌||◌, nat_eq, nat_lt, if◌then◌else◌, List, [], ◌∷◌, length, drop, Some, None}
+use Rattle.std.specs.Prelude.{◌≡◌, ◌≤◌, ◌^◌, ℕ, zero, suc, pos, Bool, true, false, nat_eq, nat_lt, if◌then◌else◌, List, [], ◌∷◌, length, drop, Some, None}
 use Rattle.pgo_base.specs.Data.{integer, string}
 use Rattle.pgo_base.specs.Lookup.{Name, Vars}
 use Rattle.pgo_model.specs.Outcome.{NoValue, Outcome, Next, Stuck, Section}
@@ -7,23 +7,13 @@ use Rattle.pgo_model.specs.Machine.{Entry, Record, Step, Machine, last_state}
 use Rattle.pgo_model.specs.Log.{OfResource, OfInstance, Change, Effect}
 use Rattle.pgo_model.specs.Core.{Settings, rules_of}
 use Rattle.pgo_model.specs.Written.{pc}
-use Rattle.pgo_front.specs.declared.counter.Term.{Term}
-use Rattle.pgo_front.specs.declared.counter.Term.TheVariants.{Parameter, Number}
-use Rattle.pgo_front.specs.declared.counter.Sum.{Sum}
-use Rattle.pgo_front.specs.declared.counter.Counter.{Counter}
-use Rattle.pgo_front.specs.Counters.{label_name, next_name, counter_state, counter_bound, sum_value}
+use Rattle.pgo_counter.specs.declared.counter.Sum.{Sum}
+use Rattle.pgo_counter.specs.declared.counter.Counter.{Counter}
+use Rattle.pgo_counter.specs.Counters.{label_name, next_name, counter_state, counter_bound, sum_value, sum_reads}
 
 -- the seed is 0, and attempts and steps are 10,000
 abbrev pub settings : Settings
 settings = record { seed = 0; attempts = 10000; steps = 10000; down = [] }
-
-abbrev pub is_parameter : Term → Bool
-is_parameter Parameter = true
-is_parameter (Number n) = false
-
--- whether the right side reads the global
-abbrev pub sum_reads : Sum → Bool
-sum_reads s = is_parameter s.left || is_parameter s.right
 
 -- whether the right side is an integer of 64 bits
 abbrev pub sum_fits : ℕ → Sum → Bool

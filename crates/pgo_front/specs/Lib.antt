@@ -1,9 +1,5 @@
-pub mod Tokens
-pub mod Form
-pub mod Counters
 pub mod CounterRuns
 pub mod Turns
-pub mod Pieces
 pub mod Asked
 pub mod Items
 pub mod Cuts
@@ -11,7 +7,5 @@ pub mod CoreAt
 pub mod Statuses
 pub mod Spells
 pub mod Headline
-pub mod Lexing
-pub mod Reading
 pub mod Answers
 pub mod Makes

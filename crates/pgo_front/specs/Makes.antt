@@ -1,26 +1,14 @@
 -- What the parts of a command make of a text and of a counter.
-use Rattle.std.specs.Prelude.{◌≡◌, ◌≤◌, ◌⊎◌, ℕ, List, length}
+use Rattle.std.specs.Prelude.{◌≡◌, ◌⊎◌, ℕ, List}
 use Rattle.pgo_model.specs.Spec.{Spec}
 use Rattle.pgo_model.specs.ModuleText.{flatten}
-use Rattle.pgo_front.specs.declared.counter.Counter.{Counter}
 use Rattle.pgo_front.specs.declared.command.Made.{Made}
 use Rattle.pgo_front.specs.declared.status.Status.{Status}
 use Rattle.pgo_front.specs.declared.status.Status.TheVariants as status
-use Rattle.pgo_front.specs.Form.{IsWellNamed, most, most_statements}
-use Rattle.pgo_front.specs.CoreAt.{HasSmallNumbers}
 use Rattle.pgo_front.specs.Spells.{Spells}
 use Rattle.pgo_front.specs.Statuses.{number_of}
 use Rattle.pgo_front.specs.Headline.{Ran}
 use Rattle.pgo_front.specs.Answers.{Asked, SpellsNothing}
-
--- a counter whose names, numbers and length are those of the form
-pub record IsCounter (c : Counter) : Type 0 where
-  pub named : IsWellNamed c
-  pub least : 1 ≤ length c.body
-  pub few : length c.body ≤ most_statements
-  pub start : c.start ≤ most
-  pub id : c.id ≤ most
-  pub numbers : HasSmallNumbers c.body
 
 -- the command did its work
 abbrev pub IsRunStatus : Made → Type 0

@@ -1,9 +1,9 @@
 -- Which texts spell a specification today.
 use Rattle.std.specs.Prelude.{◌≡◌, ℕ, List}
 use Rattle.pgo_model.specs.Spec.{Spec}
-use Rattle.pgo_front.specs.declared.counter.Counter.{Counter}
-use Rattle.pgo_front.specs.Form.{SpellsCounter}
-use Rattle.pgo_front.specs.Counters.{spec_of}
+use Rattle.pgo_counter.specs.declared.counter.Counter.{Counter}
+use Rattle.pgo_mpcal_read.specs.Form.{SpellsCounter}
+use Rattle.pgo_counter.specs.Counters.{spec_of}
 
 -- the text spells this specification, which is of the counter form
 abbrev pub Spells : List ℕ → Spec → Type 0

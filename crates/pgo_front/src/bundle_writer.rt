@@ -6,15 +6,15 @@ ghost use Rattle.pgo_model.specs.Bound.{Resource};
 ghost use Rattle.pgo_model.specs.Log.{Effect};
 ghost use Rattle.pgo_model.specs.Core.{Done, status_of};
 ghost use Rattle.pgo_model.specs.Bundle.{fields, value_line, entry_lines, entries_lines, end_text, record_lines, change_line, accounts_lines, bundle_lines};
-ghost use Rattle.pgo_front.specs.Form.{IsWellNamed, most_statements};
-ghost use Rattle.pgo_front.specs.Counters.{next_name, counter_state, counter_bound, counter_module};
+ghost use Rattle.pgo_counter.specs.WellNamed.{IsWellNamed, most_statements};
+ghost use Rattle.pgo_counter.specs.Counters.{next_name, counter_state, counter_bound, counter_module};
 ghost use Rattle.pgo_front.specs.CounterRuns.{IsAt, settings, counter_changes, counter_entry, counter_entries, steps_from};
 
-use crate::counter::{Counter, Sum};
-use crate::line::Lines;
-use crate::line::Piece::{Bytes, Name, Number, Quoted};
-use crate::module_writer::{label, module_lines, next_label};
 use pgo_base::text::Text;
+use pgo_counter::counter::{Counter, Sum};
+use pgo_module_write::line::Lines;
+use pgo_module_write::line::Piece::{Bytes, Name, Number, Quoted};
+use pgo_module_write::module_writer::{label, module_lines, next_label};
 use std::alloc::{AllocError, Global};
 
 /// Whether the run has come to the end of the body.
@@ -303,7 +303,7 @@ pub fn bundle(alloc: Global, counter: &Counter, values: &[u64]) -> Result<Lines,
 #[cfg(test)]
 mod tests {
     use super::*;
-    use crate::counter::{Sums, Term};
+    use pgo_counter::counter::{Sums, Term};
     use std::test::Fail;
 
     #[test]

@@ -8,23 +8,24 @@ ghost use Rattle.pgo_front.specs.Turns.{AsksStep};
 ghost use Rattle.pgo_front.specs.Spells.{Spells, most_bytes};
 ghost use Rattle.pgo_front.specs.Statuses.{number_of, line_of};
 ghost use Rattle.pgo_front.specs.Headline.{Ran};
-ghost use Rattle.pgo_front.specs.Counters.{spec_of};
+ghost use Rattle.pgo_counter.specs.Counters.{spec_of};
 ghost use Rattle.pgo_front.specs.Answers.{AsksNothing, AsksSome, SpellsNothing, RanTo, RanIntoFault, Stops, IsRefusal, ReadsAll, IsAtEnd, OrNoMemory, SaysLine, IsTold};
-ghost use Rattle.pgo_front.specs.Makes.{IsCounter, IsRunStatus, MakesOf, MakesAsked, StopsAt};
+ghost use Rattle.pgo_front.specs.Makes.{IsRunStatus, MakesOf, MakesAsked, StopsAt};
+ghost use Rattle.pgo_counter.specs.WellNamed.{IsCounter};
 
 use crate::bundle_writer::{bundle, is_done};
-use crate::counter::Counter;
 use crate::instance::run_turns;
-use crate::line::Lines;
-use crate::reader::read_counter;
 use crate::status::Status;
 use crate::words::read_step;
 use pgo_base::word::Word;
+use pgo_counter::counter::Counter;
 use pgo_io::errors::Failed;
 use pgo_io::read_all::read_all;
 use pgo_io::sink::Sink;
 use pgo_io::source::Source;
 use pgo_io::write_all::write_all;
+use pgo_module_write::line::Lines;
+use pgo_mpcal_read::reader::read_counter;
 use std::alloc::{AllocError, Global};
 
 /// The most bytes of a specification.
@@ -157,8 +158,8 @@ fn make_from(alloc: Global, turns: &[u32], text: &[u8]) -> Result<Made, Status>
             Ok(made) => Ok(made),
             Err(_) => Err(Status::NoMemory),
         },
-        Err(crate::reader::ReadStop::NotCounter) => Err(Status::SpecRefused),
-        Err(crate::reader::ReadStop::NoMemory) => Err(Status::NoMemory),
+        Err(pgo_mpcal_read::reader::ReadStop::NotCounter) => Err(Status::SpecRefused),
+        Err(pgo_mpcal_read::reader::ReadStop::NoMemory) => Err(Status::NoMemory),
     }
 }
 

@@ -3,12 +3,12 @@ ghost use Rattle.std.specs.Prelude.{◌≡◌, ◌<◌, ◌≤◌, ◌^◌, ◌�
 ghost use Rattle.pgo_model.specs.Core.{Core};
 ghost use Rattle.pgo_model.specs.Machine.{opened};
 ghost use Rattle.pgo_front.specs.declared.instance.Place.TheVariants.{Written};
-ghost use Rattle.pgo_front.specs.Form.{IsWellNamed, most, most_statements};
-ghost use Rattle.pgo_front.specs.Counters.{counter_bound, term_value, sum_value};
-ghost use Rattle.pgo_front.specs.CounterRuns.{IsAt, settings, is_parameter, sum_reads};
-ghost use Rattle.pgo_front.specs.CoreAt.{HasSmallNumbers, IsInForm, IsSound, Tracks, MakesTurn, Commits, counter_rules, rest_of};
+ghost use Rattle.pgo_counter.specs.WellNamed.{IsWellNamed, most, most_statements, HasSmallNumbers};
+ghost use Rattle.pgo_counter.specs.Counters.{counter_bound, term_value, sum_value, is_parameter, sum_reads};
+ghost use Rattle.pgo_front.specs.CounterRuns.{IsAt, settings};
+ghost use Rattle.pgo_front.specs.CoreAt.{IsInForm, IsSound, Tracks, MakesTurn, Commits, counter_rules, rest_of};
 
-use crate::counter::{Counter, Sum, Term};
+use pgo_counter::counter::{Counter, Sum, Term};
 use std::alloc::{AllocError, Global};
 use std::marker::Model;
 
@@ -55,45 +55,6 @@ struct Instance {
     base: u64,
     working: u64,
     place: Place,
-}
-
-impl Term {
-    /// Its value where the global is `global`.
-    fn value(self, global: u64) -> u64
-        ensures { result ≡ term_value global self }
-    {
-        match self {
-            Term::Parameter => global,
-            Term::Number(n) => u64::from(n),
-        }
-    }
-
-    /// Whether it is the global.
-    fn is_parameter(self) -> bool
-        ensures { result ≡ is_parameter self }
-    {
-        match self {
-            Term::Parameter => true,
-            Term::Number(_) => false,
-        }
-    }
-}
-
-impl Sum {
-    /// Its value where the global is `global`.
-    fn value(&self, global: u64) -> u64
-        requires { sum_value global self.now < 2 ^ 64 }
-        ensures { result ≡ sum_value global self.now }
-    {
-        self.left.value(global) + self.right.value(global)
-    }
-
-    /// Whether it reads the global.
-    fn reads(&self) -> bool
-        ensures { result ≡ sum_reads self.now }
-    {
-        self.left.is_parameter() || self.right.is_parameter()
-    }
 }
 
 impl Instance {

@@ -3,19 +3,10 @@
 
 mod bundle_writer;
 mod command;
-mod counter;
-mod cursor;
 mod instance;
-mod lexer;
-mod line;
-mod module_writer;
-mod names;
-mod numeral;
-mod reader;
 mod status;
 #[cfg(test)]
 mod tests;
-mod token;
 mod words;
 
 pub use command::pgo;

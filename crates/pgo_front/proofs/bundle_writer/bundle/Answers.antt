@@ -1,5 +1,5 @@
 use Rattle.std.proofs.Common.{◌∙◌, ap}
-use Rattle.pgo_front.specs.Counters.{next_name}
+use Rattle.pgo_counter.specs.Counters.{next_name}
 use Rattle.pgo_front.proofs.BundleLines.{bundle_is}
 use Rattle.pgo_front.proofs.bundle_writer.bundle.Goals as goal
 

@@ -1,6 +1,6 @@
 use Rattle.std.proofs.Common.{length}
 use Rattle.std.proofs.lemmas.Result.{IfOk-weaker}
-use Rattle.pgo_front.specs.Counters.{counter_bound}
+use Rattle.pgo_counter.specs.Counters.{counter_bound}
 use Rattle.pgo_front.proofs.CounterEnds.{test_is}
 use Rattle.pgo_front.proofs.BundleLines.{account_is}
 use Rattle.pgo_front.proofs.bundle_writer.push_account.Goals as goal

@@ -1,6 +1,6 @@
 use Rattle.std.proofs.Common.{◌≡◌, ap, sym, subst, ◌∙◌, length, nat_eq, if◌then◌else◌}
 use Rattle.pgo_model.specs.Core.{Core}
-use Rattle.pgo_front.specs.Counters.{counter_bound}
+use Rattle.pgo_counter.specs.Counters.{counter_bound}
 use Rattle.pgo_front.specs.CounterRuns.{IsAt, settings}
 use Rattle.pgo_front.specs.Statuses.{number_of}
 use Rattle.pgo_front.proofs.CounterEnds.{test_is}

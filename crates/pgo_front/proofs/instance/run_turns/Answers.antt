@@ -3,7 +3,7 @@ use Rattle.std.proofs.Common.{◌≡◌, take, sym, subst}
 use Rattle.std.proofs.lemmas.List.{take_all}
 use Rattle.pgo_model.specs.Machine.{opened, after_turns}
 use Rattle.pgo_model.specs.Core.{Core}
-use Rattle.pgo_front.specs.Counters.{counter_bound}
+use Rattle.pgo_counter.specs.Counters.{counter_bound}
 use Rattle.pgo_front.specs.CounterRuns.{IsAt, settings}
 use Rattle.pgo_front.specs.CoreAt.{Tracks, counter_rules}
 use Rattle.pgo_front.proofs.CoreRuns.{turned, ran}
