@@ -2,6 +2,7 @@
 #![tactic(auto)]
 
 pub mod compare;
+pub mod consts;
 pub mod depth;
 pub mod expr;
 pub mod log;

@@ -1,6 +1,8 @@
-// A log: which components each step changed.
-ghost use Rattle.std.specs.Prelude.{◌≡◌, List, [], ◌∷◌, ◌++◌, IfOk};
+// A log: the instances, the state at the start, and which components each step changed.
+ghost use Rattle.std.specs.Prelude.{◌≡◌, List, [], ◌∷◌, ◌++◌, map, IfOk};
+ghost use Rattle.pgo_base.specs.View.{data_of};
 
+use crate::scope::State;
 use crate::text::Text;
 use crate::value::Value;
 use std::alloc::{AllocError, Global};
@@ -139,4 +141,48 @@ impl Entries {
     {
         Entries { list }
     }
+}
+
+/// The identifiers of instances, by their numbers.
+#[derive(Drop)]
+pub struct Ids {
+    list: Vec<Value>,
+}
+
+impl Model for Ids {
+    ghost use Rattle.std.specs.Prelude.{List, map};
+    ghost use Rattle.pgo_base.specs.Data.{Data};
+    ghost use Rattle.pgo_base.specs.Code.{coded_members};
+
+    ghost Value = { List Data };
+
+    ghost coded = { coded_members };
+
+    ghost use Rattle.pgo_base.specs.View.{data_of};
+
+    ghost view = { λ i. map data_of i.list.items };
+}
+
+impl Ids {
+    /// The identifiers as a slice.
+    pub fn as_slice(&self) -> &[Value]
+        ensures { map data_of result.now ≡ self.now }
+    {
+        self.list.as_slice()
+    }
+
+    /// These identifiers.
+    pub fn from_vec(list: Vec<Value>) -> Ids
+        ensures { result ≡ map data_of list.items }
+    {
+        Ids { list }
+    }
+}
+
+/// A log: the identifiers of the instances, the state before the first entry, and the entries.
+#[derive(Drop)]
+pub struct Log {
+    pub ids: Ids,
+    pub start: State,
+    pub entries: Entries,
 }

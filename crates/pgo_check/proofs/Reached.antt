@@ -2,7 +2,7 @@
 use Rattle.std.proofs.Common.{◌≡◌, ℕ, zero, suc, ◌<◌, ◌+◌, List, [], ◌∷◌, length, map, get_or, refl, ap, sym, ◌∙◌, add-one, subst, arith, below_more}
 use Rattle.std.specs.Prelude.{Option, Some, None, option_and_then}
 use Rattle.pgo_base.specs.Data.{Data}
-use Rattle.pgo_base.specs.Lookup.{Vars}
+use Rattle.pgo_base.specs.Lookup.{Name, Vars}
 use Rattle.pgo_base.specs.declared.log.Entry as base_entry
 use Rattle.pgo_model.specs.Acts.{Acts}
 use Rattle.pgo_model.specs.IsRun.{IsStep}
@@ -14,9 +14,9 @@ use Rattle.pgo_model.specs.Steps.{Leads}
 use Rattle.pgo_check.specs.Verdict.{IsFirstBad, Finds}
 
 -- the first n entries are steps, and t is the state after them
-pub record IsReached (m : Module) (ids : List Data) (s : Vars) (l : List (Entry Effect)) (n : ℕ) (t : Vars) : Type 0 where
+pub record IsReached (m : Module) (consts : List (Name × Data)) (ids : List Data) (s : Vars) (l : List (Entry Effect)) (n : ℕ) (t : Vars) : Type 0 where
   pub state : StateAt s l n ≡ Some t
-  pub steps : (q : ℕ) → q < n → (e : Entry Effect) → nth l q ≡ Some e → IsStep m [] ids s l q e
+  pub steps : (q : ℕ) → q < n → (e : Entry Effect) → nth l q ≡ Some e → IsStep m consts ids s l q e
 
 -- the state after an entry is made from the state before it
 pub state_after : (s b : Vars) (l : List (Entry Effect)) (i : ℕ) (e : Entry Effect) → StateAt s l i ≡ Some b → nth l i ≡ Some e → StateAt s l (suc i) ≡ After b e.change
@@ -36,31 +36,31 @@ state_after s b (d ∷ l) (suc i) e h g = go (After s d.change) h (λ t k. state
     go (Some t) k ih = ih t k
 
 -- the start is reached by no entry
-pub start_reached : (m : Module) (ids : List Data) (s : Vars) (l : List (Entry Effect)) → IsReached m ids s l 0 s
-start_reached m ids s l = record { state = refl; steps = λ q h e g. absurd (omega (arith, h)) }
+pub start_reached : (m : Module) (consts : List (Name × Data)) (ids : List Data) (s : Vars) (l : List (Entry Effect)) → IsReached m consts ids s l 0 s
+start_reached m consts ids s l = record { state = refl; steps = λ q h e g. absurd (omega (arith, h)) }
 
 -- an entry that leads on from the state before it is a step
-leads_step : (m : Module) (ids : List Data) (s b t : Vars) (l : List (Entry Effect)) (i : ℕ) (e : Entry Effect) → StateAt s l i ≡ Some b → nth l i ≡ Some e → Leads m ids b e t → IsStep m [] ids s l i e
-leads_step m ids s b t l i e h g k =
+leads_step : (m : Module) (consts : List (Name × Data)) (ids : List Data) (s b t : Vars) (l : List (Entry Effect)) (i : ℕ) (e : Entry Effect) → StateAt s l i ≡ Some b → nth l i ≡ Some e → Leads m consts ids b e t → IsStep m consts ids s l i e
+leads_step m consts ids s b t l i e h g k =
     record { id = k.id; before = b; after = t; identifier = k.identifier; from = h; to = state_after s b l i e h g ∙ k.to; acts = k.acts; next = k.next }
 
 -- a step leads on from the state before it
-step_leads : (m : Module) (ids : List Data) (s b : Vars) (l : List (Entry Effect)) (i : ℕ) (e : Entry Effect) → StateAt s l i ≡ Some b → nth l i ≡ Some e → IsStep m [] ids s l i e → (t : Vars) × Leads m ids b e t
-step_leads m ids s b l i e h g k =
+step_leads : (m : Module) (consts : List (Name × Data)) (ids : List Data) (s b : Vars) (l : List (Entry Effect)) (i : ℕ) (e : Entry Effect) → StateAt s l i ≡ Some b → nth l i ≡ Some e → IsStep m consts ids s l i e → (t : Vars) × Leads m consts ids b e t
+step_leads m consts ids s b l i e h g k =
     let same : k.before ≡ b = cc (k.from, h) in
-    (k.after, record { id = k.id; identifier = k.identifier; to = sym (state_after s b l i e h g) ∙ k.to; acts = subst (λ x. Acts m [] e.change.label k.id x k.after) same k.acts; next = k.next })
+    (k.after, record { id = k.id; identifier = k.identifier; to = sym (state_after s b l i e h g) ∙ k.to; acts = subst (λ x. Acts m consts e.change.label k.id x k.after) same k.acts; next = k.next })
 
 -- one entry more is a step
-pub reached_more : (m : Module) (ids : List Data) (s b t : Vars) (l : List (Entry Effect)) (i : ℕ) (e : Entry Effect) → IsReached m ids s l i b → nth l i ≡ Some e → Leads m ids b e t → IsReached m ids s l (i + 1) t
-reached_more m ids s b t l i e r g k = record {
+pub reached_more : (m : Module) (consts : List (Name × Data)) (ids : List Data) (s b t : Vars) (l : List (Entry Effect)) (i : ℕ) (e : Entry Effect) → IsReached m consts ids s l i b → nth l i ≡ Some e → Leads m consts ids b e t → IsReached m consts ids s l (i + 1) t
+reached_more m consts ids s b t l i e r g k = record {
   state = subst (λ n. StateAt s l n ≡ Some t) (sym (add-one i)) (state_after s b l i e r.state g ∙ k.to);
-  steps = below_more (λ q. (d : Entry Effect) → nth l q ≡ Some d → IsStep m [] ids s l q d) i r.steps (λ d f. let same : e ≡ d = cc (g, f) in subst (λ x. IsStep m [] ids s l i x) same (leads_step m ids s b t l i e r.state g k));
+  steps = below_more (λ q. (d : Entry Effect) → nth l q ≡ Some d → IsStep m consts ids s l q d) i r.steps (λ d f. let same : e ≡ d = cc (g, f) in subst (λ x. IsStep m consts ids s l i x) same (leads_step m consts ids s b t l i e r.state g k));
 }
 
 -- an entry that leads nowhere is the first that is no step
-pub first_bad_is : (m : Module) (ids : List Data) (s b : Vars) (l : List (Entry Effect)) (i : ℕ) (e : Entry Effect) → IsReached m ids s l i b → nth l i ≡ Some e → ((t : Vars) → Leads m ids b e t → ⊥) → IsFirstBad m [] ids s l i
-first_bad_is m ids s b l i e r g k =
-    record { entry = e; found = g; bad = λ h. (let w = step_leads m ids s b l i e r.state g h in k w.0 w.1); earlier = r.steps }
+pub first_bad_is : (m : Module) (consts : List (Name × Data)) (ids : List Data) (s b : Vars) (l : List (Entry Effect)) (i : ℕ) (e : Entry Effect) → IsReached m consts ids s l i b → nth l i ≡ Some e → ((t : Vars) → Leads m consts ids b e t → ⊥) → IsFirstBad m consts ids s l i
+first_bad_is m consts ids s b l i e r g k =
+    record { entry = e; found = g; bad = λ h. (let w = step_leads m consts ids s b l i e r.state g h in k w.0 w.1); earlier = r.steps }
 
 -- what stands at an index of a log in memory
 pub entry_at : (es : List base_entry.Entry) (i : ℕ) (e : base_entry.Entry) → i < length es → e ≡ get_or es i e → nth (map entry_view es) i ≡ Some (entry_view e)
@@ -75,5 +75,5 @@ entry_below (d ∷ l) zero e h = omega arith
 entry_below (d ∷ l) (suc p) e h = let k = entry_below l p e h in omega (arith, k)
 
 -- where all entries are behind, each is a step
-pub all_steps : (m : Module) (ids : List Data) (s t : Vars) (l : List (Entry Effect)) (n : ℕ) → IsReached m ids s l n t → n ≡ length l → Finds m ids s l None
-all_steps m ids s t l n r h p e g = let k = entry_below l p e g in r.steps p (omega (arith, k, h)) e g
+pub all_steps : (m : Module) (consts : List (Name × Data)) (ids : List Data) (s t : Vars) (l : List (Entry Effect)) (n : ℕ) → IsReached m consts ids s l n t → n ≡ length l → Finds m consts ids s l None
+all_steps m consts ids s t l n r h p e g = let k = entry_below l p e g in r.steps p (omega (arith, k, h)) e g

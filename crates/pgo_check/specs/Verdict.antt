@@ -1,5 +1,5 @@
 -- What a verdict on a log says.
-use Rattle.std.specs.Prelude.{◌≡◌, ◌<◌, ℕ, suc, List, [], Option, Some, None, length}
+use Rattle.std.specs.Prelude.{◌≡◌, ◌<◌, ℕ, suc, List, Option, Some, None, length}
 use Rattle.pgo_base.specs.Data.{Data}
 use Rattle.pgo_base.specs.Lookup.{Name, Vars}
 use Rattle.pgo_model.specs.Acts.{Begins}
@@ -18,14 +18,14 @@ pub record IsFirstBad (m : Module) (consts : List (Name × Data)) (ids : List Da
   pub bad : IsStep m consts ids start entries p entry → ⊥
   pub earlier : (q : ℕ) → q < p → (e : Entry Effect) → nth entries q ≡ Some e → IsStep m consts ids start entries q e
 
--- what a verdict says: the log is a run and this is its number of entries; Init isn't TRUE of its start; or Init is,
--- and this is the number, counted from 1, of the first entry that is no step
+-- what a verdict says: the log is a run and this is its number of entries; Init isn't TRUE of its start; or Init is TRUE
+-- of it, and this is the number, counted from 1, of the first entry that is no step
 abbrev pub Decides : Module → List (Name × Data) → List Data → Vars → List (Entry Effect) → Verdict → Type 0
 Decides m consts ids s l (Run n) = (n ≡ length l) × IsRun m consts ids s l
 Decides m consts ids s l (Bad n NoInit) = (n ≡ 0) × (Begins m consts s → ⊥)
 Decides m consts ids s l (Bad n NoStep) = (p : ℕ) × (n ≡ suc p) × Begins m consts s × IsFirstBad m consts ids s l p
 
 -- the place, from 0, of the first entry that is no step; none where each is one
-abbrev pub Finds : Module → List Data → Vars → List (Entry Effect) → Option ℕ → Type 0
-Finds m ids s l None = (p : ℕ) (e : Entry Effect) → nth l p ≡ Some e → IsStep m [] ids s l p e
-Finds m ids s l (Some p) = IsFirstBad m [] ids s l p
+abbrev pub Finds : Module → List (Name × Data) → List Data → Vars → List (Entry Effect) → Option ℕ → Type 0
+Finds m consts ids s l None = (p : ℕ) (e : Entry Effect) → nth l p ≡ Some e → IsStep m consts ids s l p e
+Finds m consts ids s l (Some p) = IsFirstBad m consts ids s l p

@@ -1,8 +1,8 @@
 // A log is checked against a module, from its start on.
-ghost use Rattle.std.specs.Prelude.{◌≡◌, ◌↔◌, [], length, map, IfOk};
+ghost use Rattle.std.specs.Prelude.{◌≡◌, ◌↔◌, length, map, IfOk};
 ghost use Rattle.pgo_base.specs.View.{data_of};
 ghost use Rattle.pgo_model.specs.IsRun.{IsRun};
-ghost use Rattle.pgo_model.specs.LogView.{entry_view};
+ghost use Rattle.pgo_model.specs.LogView.{entry_view, log_view};
 ghost use Rattle.pgo_model.specs.ModuleView.{module_view};
 ghost use Rattle.pgo_model.specs.Plain.{IsPlainModule};
 ghost use Rattle.pgo_model.specs.Steps.{IsPlaced};
@@ -10,7 +10,8 @@ ghost use Rattle.pgo_check.specs.Verdict.{Decides, Finds};
 
 use crate::errors::NoMemory;
 use crate::verdict::{Verdict, Why};
-use pgo_base::log::Entry;
+use pgo_base::consts::Consts;
+use pgo_base::log::{Entry, Log};
 use pgo_base::module::Module;
 use pgo_base::scope::State;
 use pgo_base::value::Value;
@@ -22,17 +23,18 @@ use std::alloc::{AllocError, Global};
 fn first_bad(
     alloc: Global,
     m: &Module,
+    consts: &Consts,
     ids: &[Value],
     start: &State,
     entries: &[Entry],
 ) -> Result<Option<usize>, AllocError>
     requires { IsPlainModule (module_view m.now) }
-    ensures found { IfOk result (λ o. Finds (module_view m.now) (map data_of ids.now) start.now (map entry_view entries.now) o) }
+    ensures found { IfOk result (λ o. Finds (module_view m.now) consts.now (map data_of ids.now) start.now (map entry_view entries.now) o) }
     ensures within { IfOk result (λ o. IsPlaced o (length entries.now)) }
 {
     let mut before = start.copy(alloc)?;
     for (i, e) in entries.iter().enumerate() {
-        match step(alloc, m, ids, &before, e)? {
+        match step(alloc, m, consts, ids, &before, e)? {
             None => return Ok(Some(i)),
             Some(next) => before = next,
         }
@@ -40,10 +42,9 @@ fn first_bad(
     Ok(None)
 }
 
-/// Whether a log is a run of a module, and if not, where it first isn't.
+/// Whether a log is a run of a module under these constants, and if not, where it first isn't.
 ///
-/// `ids` has the identifiers by the instances' numbers, `start` the state before the first entry. The state before an
-/// entry is made from the one before it, and each entry is looked at once.
+/// The state before an entry is made from the one before it, and each entry is looked at once.
 ///
 /// - `decides`: `Run` comes where the log is a run, and `Bad` with the first place that is no start or no step.
 /// - `exact`: `Run` with the number of the entries comes exactly where the log is a run.
@@ -51,24 +52,19 @@ fn first_bad(
 /// `NoMemory` comes where there is no memory, and leaves all as it was.
 ///
 /// Source: Specifying Systems, for what a behavior of a module is; the places are this project's choice.
-pub fn check(
-    alloc: Global,
-    m: &Module,
-    ids: &[Value],
-    start: &State,
-    entries: &[Entry],
-) -> Result<Verdict, NoMemory>
+pub fn check(alloc: Global, m: &Module, consts: &Consts, log: &Log) -> Result<Verdict, NoMemory>
     requires { IsPlainModule (module_view m.now) }
-    ensures decides { IfOk result (λ v. Decides (module_view m.now) [] (map data_of ids.now) start.now (map entry_view entries.now) v) }
-    ensures exact { IfOk result (λ v. IsRun (module_view m.now) [] (map data_of ids.now) start.now (map entry_view entries.now) ↔ v ≡ Verdict.Run (length entries.now)) }
+    ensures decides { let l = log_view log.now in IfOk result (λ v. Decides (module_view m.now) consts.now l.ids l.start l.entries v) }
+    ensures exact { let l = log_view log.now in IfOk result (λ v. IsRun (module_view m.now) consts.now l.ids l.start l.entries ↔ v ≡ Verdict.Run (length l.entries)) }
 {
-    if !begins(alloc, m, start)? {
+    if !begins(alloc, m, consts, &log.start)? {
         return Ok(Verdict::Bad {
             at: 0,
             why: Why::NoInit,
         });
     }
-    match first_bad(alloc, m, ids, start, entries)? {
+    let entries = log.entries.as_slice();
+    match first_bad(alloc, m, consts, log.ids.as_slice(), &log.start, entries)? {
         None => Ok(Verdict::Run {
             steps: entries.len() as u64,
         }),

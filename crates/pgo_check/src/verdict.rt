@@ -5,8 +5,9 @@
 pub enum Why {
     /// Init isn't TRUE of the start.
     NoInit,
-    /// The entry is no step: its instance has no identifier, a component that it changes isn't in the state, its
-    /// action isn't TRUE of the states before and after it, or its instance doesn't stand at its next label then.
+    /// The entry is no step: its instance has no identifier, there is no state before or after it (a component that it
+    /// or an earlier entry changes isn't in the state), the module has no action of its label, the action isn't TRUE of
+    /// the states before and after it, or its instance doesn't stand at its next label then.
     NoStep,
 }
 

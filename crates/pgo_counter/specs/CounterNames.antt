@@ -62,7 +62,7 @@ pub record Names (c : Counter) : Type 0 where
   pub labels : are_different (labels_of c.body) ≡ true
 
 -- a name that is not in a list is apart from each that is
-listed : (x y : Name) (n : ℕ) (xs : List Name) → is_one_of x xs ≡ false → nth xs n ≡ Some y → Apart x y
+pub listed : (x y : Name) (n : ℕ) (xs : List Name) → is_one_of x xs ≡ false → nth xs n ≡ Some y → Apart x y
 listed x y n [] h e = absurd (grind (arith, e))
 listed x y zero (z ∷ zs) h e = let f : z ≡ y = cc in subst (λ k. Apart x k) f (not_first x z zs h).0
 listed x y (suc n) (z ∷ zs) h e = listed x y n zs (not_first x z zs h).1 e

@@ -3,3 +3,6 @@ pub mod WellNamed
 pub mod NameBytes
 pub mod CounterNames
 pub mod CounterCodes
+pub mod CounterModules
+pub mod PlainCounters
+pub mod FreshNames

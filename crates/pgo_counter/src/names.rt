@@ -2,6 +2,7 @@
 ghost use Rattle.std.specs.Prelude.{◌≡◌, map, IfOk};
 ghost use Rattle.pgo_model.specs.ValueText as text;
 ghost use Rattle.pgo_counter.specs.WellNamed as spec;
+ghost use Rattle.pgo_counter.specs.CounterModules.{module_names, has_module_names};
 
 use crate::counter::Counter;
 use std::alloc::{AllocError, Global};
@@ -99,7 +100,8 @@ fn is_one_of(word: &[u8], words: &[&[u8]]) -> bool
     false
 }
 
-fn is_reserved(word: &[u8]) -> bool
+/// Whether the word is no name because the language has it.
+pub fn is_reserved(word: &[u8]) -> bool
     ensures { result ≡ text.is_one_of word.now text.reserved_words }
 {
     is_one_of(word, &RESERVED)
@@ -111,7 +113,7 @@ fn is_taken(word: &[u8]) -> bool
     is_one_of(word, &TAKEN)
 }
 
-fn is_letter(b: u8) -> bool
+pub fn is_letter(b: u8) -> bool
     ensures { result ≡ text.is_letter b }
 {
     b.is_ascii_alphabetic()
@@ -211,4 +213,28 @@ pub fn is_well_named(alloc: Global, counter: &Counter) -> Result<bool, AllocErro
         && is_name(counter.algorithm.as_bytes())
         && all_names(&own);
     Ok(names && are_different(&own) && none_taken(&own))
+}
+
+/// The names of its module that must differ.
+fn module_names<'a>(alloc: Global, counter: &'a Counter) -> Result<Vec<&'a [u8]>, AllocError>
+    ensures { IfOk result (λ v. map (λ w. w.now) v.items ≡ module_names counter.entry.now) }
+{
+    let mut names = Vec::new(alloc);
+    names.push(counter.global.as_bytes())?;
+    names.push(counter.process.as_bytes())?;
+    for sum in counter.body.as_slice() {
+        names.push(sum.label.as_bytes())?;
+    }
+    Ok(names)
+}
+
+/// Whether the names that stand in its module are names, differ where they must, and are free. Those of the
+/// algorithm, of the archetype and of its parameter don't stand there.
+#[tactic(auto, unfolding(crate::specs::CounterModules::has_module_names))]
+pub fn has_module_names(alloc: Global, counter: &Counter) -> Result<bool, AllocError>
+    ensures { IfOk result (λ b. b ≡ has_module_names counter.now) }
+{
+    let written = module_names(alloc, counter)?;
+    let names = is_name(counter.name.as_bytes()) && all_names(&written);
+    Ok(names && are_different(&written) && none_taken(&written))
 }

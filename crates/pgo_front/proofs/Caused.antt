@@ -1,18 +1,21 @@
 -- Which status each cause gives: by exclusion of the others, from what each status says.
-use Rattle.std.proofs.Common.{◌≡◌, ◌≤◌, ◌<◌, ◌⊎◌, inl, inr, ℕ, List, length, Option, Some, None, IfSome, refl, sym, ap, subst, arith}
+use Rattle.std.proofs.Common.{◌≡◌, ◌≤◌, ◌<◌, ◌⊎◌, inl, inr, ℕ, List, length, Option, Some, IfSome, refl, sym, ◌∙◌, ap, subst, arith}
 use Rattle.pgo_io.specs.Faults.{Rose}
-use Rattle.pgo_io.specs.Sink.{Grows, GrowsByPrefix}
+use Rattle.pgo_base.specs.Data.{Data}
+use Rattle.pgo_base.specs.Lookup.{Name}
 use Rattle.pgo_model.specs.Spec.{Spec}
-use Rattle.pgo_model.specs.ModuleText.{flatten}
-use Rattle.pgo_front.specs.declared.command.Made.{Made}
+use Rattle.pgo_model.specs.Module.{Module}
+use Rattle.pgo_model.specs.Log.{Log}
+use Rattle.pgo_model.specs.IsRun.{IsRun}
+use Rattle.pgo_check.specs.declared.verdict.Verdict.{Verdict}
+use Rattle.pgo_log_text.specs.ReadBundle.{IsReadBundle, IsNoBundle}
 use Rattle.pgo_front.specs.declared.status.Status.{Status}
 use Rattle.pgo_front.specs.declared.status.Status.TheVariants as status
-use Rattle.pgo_front.specs.Turns.{AsksStep}
-use Rattle.pgo_front.specs.Asked.{AsksOnly}
+use Rattle.pgo_front.specs.Turns.{AsksCheck}
 use Rattle.pgo_front.specs.Spells.{Spells, most_bytes}
-use Rattle.pgo_front.specs.Statuses.{number_of}
-use Rattle.pgo_front.specs.Answers.{AsksNothing, AsksSome, SpellsNothing, Asked, RanTo, RanIntoFault, Stops, IsRefusal, OrNoMemory, IsTold}
-use Rattle.pgo_front.specs.Makes.{MakesOf, MakesAsked, StopsAt}
+use Rattle.pgo_front.specs.Verdicts.{most_bundle_bytes, IsRunVerdict, IsBadVerdict}
+use Rattle.pgo_front.specs.Answers.{AsksNothing, AsksSomeStep, SpellsNothing, Asked, WritesBundle, Checked, WritesVerdict, EndsWell, WritesPrefix, Stops, IsRefusal, OrNoMemory, IsToldToStep, IsToldToCheck}
+use Rattle.pgo_front.proofs.Judging.{run_is_not_bad, no_run_is_not_run}
 
 -- what an input told is what holds of its text
 at_told : (input : Option (List ℕ)) (text : List ℕ) (P : List ℕ → Type 0) → input ≡ Some text → IfSome input P → P text
@@ -21,104 +24,108 @@ at_told input text P told h = subst (λ o. IfSome o P) told h
 not_short : {n : ℕ} → most_bytes < n → n ≤ most_bytes → ⊥
 not_short long short = omega (arith, long, short)
 
+not_short_bundle : {n : ℕ} → most_bundle_bytes < n → n ≤ most_bundle_bytes → ⊥
+not_short_bundle long short = omega (arith, long, short)
+
 spells_none : {words : List (List ℕ)} {text : List ℕ} {n : ℕ} {written : List ℕ} → SpellsNothing text → Asked words text n written → ⊥
 spells_none nothing asked = nothing asked.spec asked.spells
 
--- why a text stopped the command, of the input that it came from
-pub stops_at : (words : List (List ℕ)) (input : Option (List ℕ)) (before now : ℕ) (turns text : List ℕ) (s : Status)
-    → AsksStep words turns → IfSome input (λ bs. text ≡ bs) → length text ≤ most_bytes → StopsAt text s → Stops words input before now s
-stops_at words input before now turns text s asks told short (inl (e, nothing)) =
-    subst (Stops words input before now) (sym e) ((turns, asks), go input told)
-  where
-    go : (o : Option (List ℕ)) → IfSome o (λ bs. text ≡ bs) → IfSome o (λ bs. (length bs ≤ most_bytes) × SpellsNothing bs)
-    go None h = tt
-    go (Some bs) h = subst (λ bs. (length bs ≤ most_bytes) × SpellsNothing bs) h (short, nothing)
-stops_at words input before now turns text s asks told short (inr e) = subst (Stops words input before now) (sym e) tt
+-- words that ask for turns ask for no check
+not_both : {words : List (List ℕ)} → AsksSomeStep words → AsksCheck words → ⊥
+not_both step check = let e : 3 ≡ 1 = ap length (sym step.1.words_are ∙ check) in omega (arith, e)
 
--- what is made of a text, of the input that it came from
-pub makes_asked : (words : List (List ℕ)) (input : Option (List ℕ)) (turns text : List ℕ) (m : Made)
-    → AsksStep words turns → IfSome input (λ bs. text ≡ bs) → length text ≤ most_bytes → MakesOf text turns m → IfSome input (λ bs. MakesAsked words bs m)
-makes_asked words None turns text m asks told short h = tt
-makes_asked words (Some bs) turns text m asks told short h =
-    subst (λ bs. MakesAsked words bs m) told
-    (record { turns = turns; spec = h.0; asks = asks; short = short; spells = h.1; ran = h.2 })
-
--- a prefix of what was made came to the output
-pub ran_into_fault : (words : List (List ℕ)) (input old new : Option (List ℕ)) (m : Made)
-    → AsksSome words → IfSome input (λ bs. MakesAsked words bs m) → GrowsByPrefix old new (flatten m.lines) → RanIntoFault words input old new
-ran_into_fault words None old new m asks h g = (asks, tt)
-ran_into_fault words (Some text) old new m asks h g = (asks, (number_of m.status, flatten m.lines, h, g))
-
--- all of what was made came to the output
-pub ran_to : (words : List (List ℕ)) (input old new : Option (List ℕ)) (m : Made) (s : Status)
-    → m.status ≡ s → AsksSome words → IfSome input (λ bs. MakesAsked words bs m) → Grows old new (flatten m.lines) → RanTo words input (number_of s) old new
-ran_to words None old new m s e asks h g = (asks, tt)
-ran_to words (Some text) old new m s e asks h g =
-    (asks, (flatten m.lines, subst (λ n. Asked words text n (flatten m.lines)) (ap number_of e) h, g))
-
--- words that ask for turns don't ask for nothing
-pub not_nothing : {P : Type 0} (words : List (List ℕ)) (o : Option (List ℕ)) (turns : List ℕ) → AsksOnly words o → o ≡ Some turns → AsksNothing words → P
-not_nothing words o turns only is_some nothing = absurd (nothing turns (subst (AsksOnly words) is_some only).0)
+-- words that ask for something don't ask for nothing
+pub some_or_check : {words : List (List ℕ)} → AsksSomeStep words ⊎ AsksCheck words → AsksNothing words → ⊥
+some_or_check (inl a) nothing = nothing.0 a.0 a.1
+some_or_check (inr a) nothing = nothing.1 a
 
 module _ (words : List (List ℕ)) (input : Option (List ℕ)) (before now : ℕ) (out_before out_now : ℕ) (old new : Option (List ℕ)) where
   -- what the statuses say of a call
   pub record Says (s : Status) : Type 0 where
-    pub fine : s ≡ status.Fine → RanTo words input 0 old new
-    pub spent : s ≡ status.Spent → RanTo words input 21 old new
+    pub fine : s ≡ status.Fine → EndsWell words input old new
+    pub spent : s ≡ status.Spent → WritesBundle words input 21 old new
+    pub not_a_run : s ≡ status.NotARun → WritesVerdict words input IsBadVerdict old new
     pub stopped : IsRefusal s → Stops words input before now s
     pub write_fault : s ≡ status.WriteFault → Rose out_before out_now
-    pub prefix : s ≡ status.WriteFault → RanIntoFault words input old new
+    pub prefix : s ≡ status.WriteFault → WritesPrefix words input old new
+
+  fine_asks : EndsWell words input old new → AsksSomeStep words ⊎ AsksCheck words
+  fine_asks (inl h) = inl h.0
+  fine_asks (inr h) = inr h.0
+
+  fault_asks : WritesPrefix words input old new → AsksSomeStep words ⊎ AsksCheck words
+  fault_asks (inl h) = inl h.0
+  fault_asks (inr h) = inr h.0
 
   -- words that ask for nothing
   pub usage_comes : (s : Status) → Says s → AsksNothing words → OrNoMemory s status.Usage
-  usage_comes status.Fine h nothing = let a = (h.fine refl).0 in absurd (nothing a.0 a.1)
+  usage_comes status.Fine h nothing = absurd (some_or_check (fine_asks (h.fine refl)) nothing)
   usage_comes status.Usage h nothing = inl refl
-  usage_comes status.SpecRefused h nothing = let a = (h.stopped tt).0 in absurd (nothing a.0 a.1)
-  usage_comes status.ReadFault h nothing = let a = (h.stopped tt).0 in absurd (nothing a.0 a.1)
-  usage_comes status.WriteFault h nothing = let a = (h.prefix refl).0 in absurd (nothing a.0 a.1)
-  usage_comes status.TooLong h nothing = let a = (h.stopped tt).0 in absurd (nothing a.0 a.1)
-  usage_comes status.Spent h nothing = let a = (h.spent refl).0 in absurd (nothing a.0 a.1)
+  usage_comes status.SpecRefused h nothing = absurd (some_or_check (inl (h.stopped tt).0) nothing)
+  usage_comes status.ReadFault h nothing = absurd (some_or_check (h.stopped tt).0 nothing)
+  usage_comes status.WriteFault h nothing = absurd (some_or_check (fault_asks (h.prefix refl)) nothing)
+  usage_comes status.TooLong h nothing = absurd (some_or_check (long_asks (h.stopped tt)) nothing)
+    where
+      long_asks : Stops words input before now status.TooLong → AsksSomeStep words ⊎ AsksCheck words
+      long_asks (inl h) = inl h.0
+      long_asks (inr h) = inr h.0
+  usage_comes status.Spent h nothing = absurd (some_or_check (inl (h.spent refl).0) nothing)
+  usage_comes status.NotARun h nothing = absurd (some_or_check (inr (h.not_a_run refl).0) nothing)
+  usage_comes status.BadBundle h nothing = absurd (some_or_check (inr (h.stopped tt).0) nothing)
   usage_comes status.NoMemory h nothing = inr refl
 
-  module _ (turns text : List ℕ) (told : IsTold words input turns text) (read : Rose before now → ⊥) where
+  module _ (turns text : List ℕ) (told : IsToldToStep words input turns text) (read : Rose before now → ⊥) where
     abbrev Run : Type 0
     Run = (n : ℕ) × (written : List ℕ) × Asked words text n written
 
-    ran_asked : (n : ℕ) → RanTo words input n old new → Run
+    ran_asked : (n : ℕ) → WritesBundle words input n old new → Run
     ran_asked n h = let g = at_told input text _ told.told h.1 in (n, g.0, g.1)
 
-    fault_asked : RanIntoFault words input old new → Run
-    fault_asked h = let g = at_told input text _ told.told h.1 in (g.0, g.1, g.2)
+    no_check : {A : Type 0} → AsksCheck words → A
+    no_check check = absurd (not_both (turns, told.asks) check)
 
-    refused_text : AsksSome words × IfSome input (λ t. (length t ≤ most_bytes) × SpellsNothing t) → (length text ≤ most_bytes) × SpellsNothing text
+    fine_asked : EndsWell words input old new → Run
+    fine_asked (inl h) = ran_asked 0 h
+    fine_asked (inr h) = no_check h.0
+
+    fault_asked : WritesPrefix words input old new → Run
+    fault_asked (inl h) = let g = at_told input text _ told.told h.1 in (g.0, g.1, g.2)
+    fault_asked (inr h) = no_check h.0
+
+    refused_text : AsksSomeStep words × IfSome input (λ t. (length t ≤ most_bytes) × SpellsNothing t) → (length text ≤ most_bytes) × SpellsNothing text
     refused_text h = at_told input text (λ t. (length t ≤ most_bytes) × SpellsNothing t) told.told h.1
 
-    long_text : AsksSome words × IfSome input (λ t. most_bytes < length t) → most_bytes < length text
-    long_text h = at_told input text (λ t. most_bytes < length t) told.told h.1
+    long_text : Stops words input before now status.TooLong → most_bytes < length text
+    long_text (inl h) = at_told input text (λ t. most_bytes < length t) told.told h.1
+    long_text (inr h) = no_check h.0
 
     not_usage : AsksNothing words → ⊥
-    not_usage nothing = nothing turns told.asks
+    not_usage nothing = nothing.0 turns told.asks
 
     -- a text that is too long
     pub too_long_comes : (s : Status) → Says s → most_bytes < length text → OrNoMemory s status.TooLong
-    too_long_comes status.Fine h long = absurd (not_short long (ran_asked 0 (h.fine refl)).2.short)
+    too_long_comes status.Fine h long = absurd (not_short long (fine_asked (h.fine refl)).2.short)
     too_long_comes status.Usage h long = absurd (not_usage (h.stopped tt))
     too_long_comes status.SpecRefused h long = absurd (not_short long (refused_text (h.stopped tt)).0)
     too_long_comes status.ReadFault h long = absurd (read (h.stopped tt).1)
     too_long_comes status.WriteFault h long = absurd (not_short long (fault_asked (h.prefix refl)).2.short)
     too_long_comes status.TooLong h long = inl refl
     too_long_comes status.Spent h long = absurd (not_short long (ran_asked 21 (h.spent refl)).2.short)
+    too_long_comes status.NotARun h long = no_check (h.not_a_run refl).0
+    too_long_comes status.BadBundle h long = no_check (h.stopped tt).0
     too_long_comes status.NoMemory h long = inr refl
 
     -- a text that spells nothing
     pub refused_comes : (s : Status) → Says s → length text ≤ most_bytes → SpellsNothing text → OrNoMemory s status.SpecRefused
-    refused_comes status.Fine h short nothing = absurd (spells_none nothing (ran_asked 0 (h.fine refl)).2)
+    refused_comes status.Fine h short nothing = absurd (spells_none nothing (fine_asked (h.fine refl)).2)
     refused_comes status.Usage h short nothing = absurd (not_usage (h.stopped tt))
     refused_comes status.SpecRefused h short nothing = inl refl
     refused_comes status.ReadFault h short nothing = absurd (read (h.stopped tt).1)
     refused_comes status.WriteFault h short nothing = absurd (spells_none nothing (fault_asked (h.prefix refl)).2)
     refused_comes status.TooLong h short nothing = absurd (not_short (long_text (h.stopped tt)) short)
     refused_comes status.Spent h short nothing = absurd (spells_none nothing (ran_asked 21 (h.spent refl)).2)
+    refused_comes status.NotARun h short nothing = no_check (h.not_a_run refl).0
+    refused_comes status.BadBundle h short nothing = no_check (h.stopped tt).0
     refused_comes status.NoMemory h short nothing = inr refl
 
     -- a text that spells a specification
@@ -131,4 +138,87 @@ module _ (words : List (List ℕ)) (input : Option (List ℕ)) (before now : ℕ
     run_comes status.WriteFault h wrote short spec spells = absurd (wrote (h.write_fault refl))
     run_comes status.TooLong h wrote short spec spells = absurd (not_short (long_text (h.stopped tt)) short)
     run_comes status.Spent h wrote short spec spells = inr (inl refl)
+    run_comes status.NotARun h wrote short spec spells = no_check (h.not_a_run refl).0
+    run_comes status.BadBundle h wrote short spec spells = no_check (h.stopped tt).0
     run_comes status.NoMemory h wrote short spec spells = inr (inr refl)
+
+  module _ (text : List ℕ) (told : IsToldToCheck words input text) (read : Rose before now → ⊥) where
+    no_step : {A : Type 0} → AsksSomeStep words → A
+    no_step step = absurd (not_both step told.asks)
+
+    found : (Wanted : Verdict → Type 0) → WritesVerdict words input Wanted old new → (v : Verdict) × Wanted v × Checked text v
+    found Wanted h = let g = at_told input text _ told.told h.1 in (g.0, g.1, g.2)
+
+    fine_found : EndsWell words input old new → (v : Verdict) × IsRunVerdict v × Checked text v
+    fine_found (inl h) = no_step h.0
+    fine_found (inr h) = found IsRunVerdict h
+
+    fault_found : WritesPrefix words input old new → (v : Verdict) × Checked text v
+    fault_found (inl h) = no_step h.0
+    fault_found (inr h) = let g = at_told input text _ told.told h.1 in (g.0, g.1)
+
+    refused_bundle : Stops words input before now status.BadBundle → (length text ≤ most_bundle_bytes) × IsNoBundle text
+    refused_bundle h = at_told input text (λ t. (length t ≤ most_bundle_bytes) × IsNoBundle t) told.told h.1
+
+    long_bundle : Stops words input before now status.TooLong → most_bundle_bytes < length text
+    long_bundle (inl h) = no_step h.0
+    long_bundle (inr h) = at_told input text (λ t. most_bundle_bytes < length t) told.told h.1
+
+    asks_something : AsksNothing words → ⊥
+    asks_something nothing = nothing.1 told.asks
+
+    is_some_bundle : {v : Verdict} → Checked text v → IsNoBundle text → ⊥
+    is_some_bundle h nothing = nothing h.1.written_module h.1.consts h.1.log h.1.bundle
+
+    -- a text that is too long
+    pub too_long_bundle_comes : (s : Status) → Says s → most_bundle_bytes < length text → OrNoMemory s status.TooLong
+    too_long_bundle_comes status.Fine h long = absurd (not_short_bundle long (fine_found (h.fine refl)).2.0)
+    too_long_bundle_comes status.Usage h long = absurd (asks_something (h.stopped tt))
+    too_long_bundle_comes status.SpecRefused h long = no_step (h.stopped tt).0
+    too_long_bundle_comes status.ReadFault h long = absurd (read (h.stopped tt).1)
+    too_long_bundle_comes status.WriteFault h long = absurd (not_short_bundle long (fault_found (h.prefix refl)).1.0)
+    too_long_bundle_comes status.TooLong h long = inl refl
+    too_long_bundle_comes status.Spent h long = no_step (h.spent refl).0
+    too_long_bundle_comes status.NotARun h long = absurd (not_short_bundle long (found IsBadVerdict (h.not_a_run refl)).2.0)
+    too_long_bundle_comes status.BadBundle h long = absurd (not_short_bundle long (refused_bundle (h.stopped tt)).0)
+    too_long_bundle_comes status.NoMemory h long = inr refl
+
+    -- a text that is no bundle
+    pub no_bundle_comes : (s : Status) → Says s → length text ≤ most_bundle_bytes → IsNoBundle text → OrNoMemory s status.BadBundle
+    no_bundle_comes status.Fine h short nothing = absurd (is_some_bundle (fine_found (h.fine refl)).2 nothing)
+    no_bundle_comes status.Usage h short nothing = absurd (asks_something (h.stopped tt))
+    no_bundle_comes status.SpecRefused h short nothing = no_step (h.stopped tt).0
+    no_bundle_comes status.ReadFault h short nothing = absurd (read (h.stopped tt).1)
+    no_bundle_comes status.WriteFault h short nothing = absurd (is_some_bundle (fault_found (h.prefix refl)).1 nothing)
+    no_bundle_comes status.TooLong h short nothing = absurd (not_short_bundle (long_bundle (h.stopped tt)) short)
+    no_bundle_comes status.Spent h short nothing = no_step (h.spent refl).0
+    no_bundle_comes status.NotARun h short nothing = absurd (is_some_bundle (found IsBadVerdict (h.not_a_run refl)).2 nothing)
+    no_bundle_comes status.BadBundle h short nothing = inl refl
+    no_bundle_comes status.NoMemory h short nothing = inr refl
+
+    module _ (m : Module) (consts : List (Name × Data)) (l : Log) (bundle : IsReadBundle text m consts l) (wrote : Rose out_before out_now → ⊥) (short : length text ≤ most_bundle_bytes) where
+      -- a bundle whose log is a run
+      pub is_run_comes : (s : Status) → Says s → IsRun m consts l.ids l.start l.entries → OrNoMemory s status.Fine
+      is_run_comes status.Fine h run = inl refl
+      is_run_comes status.Usage h run = absurd (asks_something (h.stopped tt))
+      is_run_comes status.SpecRefused h run = no_step (h.stopped tt).0
+      is_run_comes status.ReadFault h run = absurd (read (h.stopped tt).1)
+      is_run_comes status.WriteFault h run = absurd (wrote (h.write_fault refl))
+      is_run_comes status.TooLong h run = absurd (not_short_bundle (long_bundle (h.stopped tt)) short)
+      is_run_comes status.Spent h run = no_step (h.spent refl).0
+      is_run_comes status.NotARun h run = let f = found IsBadVerdict (h.not_a_run refl) in absurd (run_is_not_bad text m consts l bundle run f.0 f.2.1 f.1)
+      is_run_comes status.BadBundle h run = absurd ((refused_bundle (h.stopped tt)).1 m consts l bundle)
+      is_run_comes status.NoMemory h run = inr refl
+
+      -- a bundle whose log is none
+      pub is_no_run_comes : (s : Status) → Says s → (IsRun m consts l.ids l.start l.entries → ⊥) → OrNoMemory s status.NotARun
+      is_no_run_comes status.Fine h none = let f = fine_found (h.fine refl) in absurd (no_run_is_not_run text m consts l bundle none f.0 f.2.1 f.1)
+      is_no_run_comes status.Usage h none = absurd (asks_something (h.stopped tt))
+      is_no_run_comes status.SpecRefused h none = no_step (h.stopped tt).0
+      is_no_run_comes status.ReadFault h none = absurd (read (h.stopped tt).1)
+      is_no_run_comes status.WriteFault h none = absurd (wrote (h.write_fault refl))
+      is_no_run_comes status.TooLong h none = absurd (not_short_bundle (long_bundle (h.stopped tt)) short)
+      is_no_run_comes status.Spent h none = no_step (h.spent refl).0
+      is_no_run_comes status.NotARun h none = inl refl
+      is_no_run_comes status.BadBundle h none = absurd ((refused_bundle (h.stopped tt)).1 m consts l bundle)
+      is_no_run_comes status.NoMemory h none = inr refl

@@ -1,6 +1,6 @@
 -- The entry of a counter's step: what it records, and that it leads to the step's state.
 use Rattle.std.proofs.Common.{◌≡◌, ℕ, pos, Bool, true, false, not, List, [], ◌∷◌, Option, Some, None, refl, ap, sym, ◌∙◌, ◌⊎◌, inl, inr, length, subst, arith}
-use Rattle.std.specs.Prelude.{if◌then◌else◌, nat_eq, nat_lt}
+use Rattle.std.specs.Prelude.{if◌then◌else◌, ◌&&◌, is_some, nat_eq, nat_lt}
 use Rattle.std.proofs.lemmas.Bool.Decides.{nat_tests}
 use Rattle.pgo_base.specs.Data.{Data, integer, string, function, Pairs, no_pairs, pair, pairs, graph, graph-pairs}
 use Rattle.pgo_base.specs.Lookup.{Name, Vars, same_name, find}
@@ -11,7 +11,7 @@ use Rattle.pgo_model.specs.Options.{on}
 use Rattle.pgo_model.specs.Section.{Context, store, store_value, arrived}
 use Rattle.pgo_model.specs.Declares.{place_of}
 use Rattle.pgo_model.specs.Core.{is_at_done}
-use Rattle.pgo_model.specs.Log.{Component, OfResource, OfInstance, Change, content, differs, changes_between, components_of, after_changes, After, effect_between, label_of}
+use Rattle.pgo_model.specs.Log.{Component, OfResource, OfInstance, Change, content, differs, changes_between, components_of, after_changes, is_in, are_in, After, effect_between, label_of}
 use Rattle.pgo_model.specs.Written.{pc, done}
 use Rattle.pgo_counter.specs.declared.counter.Counter.{Counter}
 use Rattle.pgo_counter.specs.Counters.{counter_bound, counter_state}
@@ -101,11 +101,45 @@ global_step c s w v rest e = go (same_data w v) refl
 abbrev pub stepped : Counter → Vars → Data → Pairs → Name → Vars
 stepped c s v ps l = store_value pc (moved_value (integer (pos c.id)) ps l) (store c.global v s)
 
+place_is_in : (c : Counter) (s : Vars) (p q : Option Data) → is_in (place_component c) s ≡ true → are_in (place_changes c p q) s ≡ true
+place_is_in c s p None e = refl
+place_is_in c s p (Some v) e = go (differs p (Some v))
+  where
+    go : (b : Bool) → are_in (if b then record { component = place_component c; value = v } ∷ [] else []) s ≡ true
+    go true = ap (λ b. b && true) e
+    go false = refl
+
+both_are_in : (c : Counter) (s : Vars) (g h p q : Option Data) → is_in (global_component c) s ≡ true → is_in (place_component c) s ≡ true
+    → are_in (changes_of c g h p q) s ≡ true
+both_are_in c s g None p q a e = place_is_in c s p q e
+both_are_in c s g (Some v) p q a e = go (differs g (Some v))
+  where
+    go : (b : Bool) → are_in (if b then record { component = global_component c; value = v } ∷ place_changes c p q else place_changes c p q) s ≡ true
+    go true = ap (λ b. b && are_in (place_changes c p q) s) a ∙ place_is_in c s p q e
+    go false = place_is_in c s p q e
+
+-- each component that differs is in the state where the place is, and the global becomes v where it is there
+all_are_in : (c : Counter) (s t : Vars) (v : Data) → find c.global t ≡ find c.global (store c.global v s) → is_in (place_component c) s ≡ true
+    → are_in (changes_between (components_of (counter_bound c)) s t) s ≡ true
+all_are_in c s t v global_t e = go (find c.global s) refl
+  where
+    go : (o : Option Data) → find c.global s ≡ o → are_in (changes_between (components_of (counter_bound c)) s t) s ≡ true
+    go None h =
+        let same = store-missing c.global v s h in
+        let none : content (global_component c) t ≡ None = content_global c t None (global_t ∙ ap (find c.global) same ∙ h) in
+        ap (λ o. are_in (changes_of c (content (global_component c) s) o (content (place_component c) s) (content (place_component c) t)) s) none
+        ∙ place_is_in c s (content (place_component c) s) (content (place_component c) t) e
+    go (Some w) h =
+        both_are_in c s (content (global_component c) s) (content (global_component c) t) (content (place_component c) s) (content (place_component c) t)
+        (ap is_some (content_global c s (Some w) h)) e
+
 -- changes lead to t where the place's change does so from the state in which the global has its value
-changes_with : (c : Counter) (s t : Vars) (v : Data) (p q : Option Data) → find c.global t ≡ find c.global (store c.global v s)
-    → content (place_component c) s ≡ p → content (place_component c) t ≡ q → after_changes (place_changes c p q) (store c.global v s) ≡ Some t
-    → after_changes (changes_between (components_of (counter_bound c)) s t) s ≡ Some t
-changes_with c s t v p q global_t place_s place_t leads = go (find c.global s) refl
+changes_with : (c : Counter) (s t : Vars) (v m : Data) (q : Option Data) (ps : List Data) → find c.global t ≡ find c.global (store c.global v s)
+    → content (place_component c) s ≡ Some m → content (place_component c) t ≡ q → after_changes (place_changes c (Some m) q) (store c.global v s) ≡ Some t
+    → After s (effect_between (counter_bound c) 0 s t ps) ≡ Some t
+changes_with c s t v m q ps global_t place_s place_t leads =
+    ap (λ b. if b then after_changes (changes_between (components_of (counter_bound c)) s t) s else None) (all_are_in c s t v global_t (ap is_some place_s))
+    ∙ go (find c.global s) refl
   where
     go : (o : Option Data) → find c.global s ≡ o → after_changes (changes_between (components_of (counter_bound c)) s t) s ≡ Some t
     go None h =
@@ -116,19 +150,19 @@ changes_with c s t v p q global_t place_s place_t leads = go (find c.global s) r
     go (Some w) h =
         let before : content (global_component c) s ≡ Some w = content_global c s (Some w) h in
         let after : content (global_component c) t ≡ Some v = content_global c t (Some v) (global_t ∙ find-store c.global v w s h) in
-        (λ i. after_changes (changes_of c (before i) (after i) (place_s i) (place_t i)) s) ∙ global_step c s w v (place_changes c p q) h ∙ leads
+        (λ i. after_changes (changes_of c (before i) (after i) (place_s i) (place_t i)) s) ∙ global_step c s w v (place_changes c (Some m) q) h ∙ leads
 
 -- the changes between a state and the one that a step leads to lead there, whatever the state
-pub changes_lead : (c : Counter) → Apart c.global pc → (s : Vars) (v : Data) (ps : Pairs) (m l : Name)
+pub changes_lead : (c : Counter) → Apart c.global pc → (s : Vars) (v : Data) (ps : Pairs) (m l : Name) (prints : List Data)
     → find pc s ≡ Some (function ps) → lookup (integer (pos c.id)) (graph ps) ≡ Some (string m)
-    → after_changes (changes_between (components_of (counter_bound c)) s (stepped c s v ps l)) s ≡ Some (stepped c s v ps l)
-changes_lead c a s v ps m l e f = go (moves id ps l)
+    → After s (effect_between (counter_bound c) 0 s (stepped c s v ps l) prints) ≡ Some (stepped c s v ps l)
+changes_lead c a s v ps m l prints e f = go (moves id ps l)
   where
     id : Data
     id = integer (pos c.id)
 
     Leads : Vars → Type 0
-    Leads t = after_changes (changes_between (components_of (counter_bound c)) s t) s ≡ Some t
+    Leads t = After s (effect_between (counter_bound c) 0 s t prints) ≡ Some t
 
     with_value : Vars
     with_value = store c.global v s
@@ -141,12 +175,12 @@ changes_lead c a s v ps m l e f = go (moves id ps l)
 
     stays : Leads with_value
     stays =
-        changes_with c s with_value v (Some (string m)) (Some (string m)) refl place_s (content_place c with_value ps (string m) pc_is f)
+        changes_with c s with_value v (string m) (Some (string m)) prints refl place_s (content_place c with_value ps (string m) pc_is f)
         (rw (same_data-self (string m)) refl)
 
     goes : Leads (store pc (moved id ps l) with_value)
     goes =
-        changes_with c s (store pc (moved id ps l) with_value) v (Some (string m)) (Some (string l))
+        changes_with c s (store pc (moved id ps l) with_value) v (string m) (Some (string l)) prints
         (find-store_other pc c.global (moved id ps l) with_value a) place_s
         (content_place c (store pc (moved id ps l) with_value) (pairs (replace_at id (string l) (graph ps))) (string l)
         (find-store pc (moved id ps l) (function ps) with_value pc_is)
@@ -211,10 +245,26 @@ effect_is c n x v l next a = λ i. record { label = label_is x l i; next = label
 -- and it leads to the state after it
 pub after_is : (c : Counter) → Names c → (x v : ℕ) (l next : Name)
     → After (counter_state c x l) (record { label = l; next = next; changes = counter_changes c x v next; prints = [] }) ≡ Some (counter_state c v next)
-after_is c n x v l next = go (nat_eq x v) refl
+after_is c n x v l next =
+    ap (λ b. if b then after_changes (counter_changes c x v next) (counter_state c x l) else None) (are (nat_eq x v)) ∙ go (nat_eq x v) refl
   where
     id : Data
     id = integer (pos c.id)
+
+    global_in : is_in (global_component c) (counter_state c x l) ≡ true
+    global_in = ap is_some (content_global c (counter_state c x l) (Some (integer (pos x))) (rw (same_name-self c.global)))
+
+    place_in : is_in (place_component c) (counter_state c x l) ≡ true
+    place_in =
+        ap is_some (content_place c (counter_state c x l) (pair id (string l) no_pairs) (string l) (rw n.global.pc.back) (rw (same_data-self id)))
+
+    place_are_in : are_in (place_change c next ∷ []) (counter_state c x l) ≡ true
+    place_are_in = ap (λ b. b && true) place_in
+
+    are : (b : Bool)
+        → are_in (if b then place_change c next ∷ [] else global_change c v ∷ place_change c next ∷ []) (counter_state c x l) ≡ true
+    are true = place_are_in
+    are false = ap (λ b. b && are_in (place_change c next ∷ []) (counter_state c x l)) global_in ∙ place_are_in
 
     place_leads : (x : ℕ) → after_changes (place_change c next ∷ []) (counter_state c x l) ≡ Some (counter_state c x next)
     place_leads x = rw n.global.pc.back (rw (same_data-self id))

@@ -9,7 +9,7 @@ use Rattle.pgo_model.specs.Outcome.{Nowhere, Next}
 use Rattle.pgo_model.specs.Accounts.{Fits}
 use Rattle.pgo_model.specs.Core.{rules_of, Reaches}
 use Rattle.pgo_model.specs.State.{IsState}
-use Rattle.pgo_model.specs.Log.{After, effect_between, after_changes, changes_between, components_of}
+use Rattle.pgo_model.specs.Log.{After, effect_between}
 use Rattle.pgo_model.specs.Written.{pc, done}
 use Rattle.pgo_counter.specs.declared.counter.Sum.{Sum}
 use Rattle.pgo_counter.specs.declared.counter.Counter.{Counter}
@@ -42,8 +42,8 @@ no_section c k a s = refl
 step_leads : (c : Counter) → Apart c.global pc → (s t : Vars) (prints ps : List Data) → Steps c s t ps
     → unwrap_or (After s (effect_between (counter_bound c) 0 s t prints)) s ≡ t
 step_leads c g s t prints ps h =
-    ap (λ u. unwrap_or (after_changes (changes_between (components_of (counter_bound c)) s u) s) s) h.leads
-    ∙ ap (λ o. unwrap_or o s) (changes_lead c g s h.value h.places h.label h.next h.function h.there) ∙ sym h.leads
+    ap (λ u. unwrap_or (After s (effect_between (counter_bound c) 0 s u prints)) s) h.leads
+    ∙ ap (λ o. unwrap_or o s) (changes_lead c g s h.value h.places h.label h.next prints h.function h.there) ∙ sym h.leads
 
 -- a counter's rules: a section leads from a state to a state, an entry leads to its section's end and records what was
 -- printed, and a section reaches what its instance is bound to

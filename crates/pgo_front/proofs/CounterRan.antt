@@ -19,12 +19,18 @@ use Rattle.pgo_model.specs.Bundle.{bundle_lines, Bundle}
 use Rattle.pgo_counter.specs.declared.counter.Counter.{Counter}
 use Rattle.pgo_counter.specs.WellNamed.{IsWellNamed, most_statements, IsCounter}
 use Rattle.pgo_counter.specs.Counters.{spec_of, next_name, counter_bound, counter_instance, counter_module}
+use Rattle.pgo_check.specs.declared.verdict.Verdict.TheVariants.{Run}
+use Rattle.pgo_log_text.specs.ReadBundle.{IsReadBundle}
+use Rattle.pgo_front.specs.ReadBack.{entry_read, log_of}
 use Rattle.pgo_front.specs.CounterRuns.{IsAt, settings, last_value}
 use Rattle.pgo_front.specs.Headline.{AllDone, Ran, ids_of}
 use Rattle.pgo_counter.specs.CounterNames.{names}
 use Rattle.pgo_front.proofs.CounterLaws.{bound_is, module_is, place_is, sound, fits}
 use Rattle.pgo_front.proofs.CounterAgrees.{agrees}
 use Rattle.pgo_front.proofs.CounterRun.{is_run}
+use Rattle.pgo_front.proofs.ReadBackLogs.{count_is, run_read}
+use Rattle.pgo_front.proofs.ReadBackVerdicts.{accepted}
+use Rattle.pgo_front.proofs.ReadBack.{is_read, is_short}
 use Rattle.pgo_front.proofs.CounterEnds.{next_done, none_left, status_is}
 
 -- the name of a string
@@ -42,6 +48,10 @@ status_by b = if b then 0 else 21
 zero_where : (b : Bool) → status_by b ≡ 0 → b ≡ true
 zero_where true h = refl
 zero_where false h = absurd (grind (arith, h))
+
+at_most : (n : ℕ) → (n ≡ 0) ⊎ (n ≡ 21) → n ≤ 21
+at_most n (inl e) = omega (arith, e)
+at_most n (inr e) = omega (arith, e)
 
 either_status : (b : Bool) (n : ℕ) → n ≡ (if b then 0 else 21) → (n ≡ 0) ⊎ (n ≡ 21)
 either_status true n h = inl h
@@ -92,20 +102,37 @@ pub ran : (c : Counter) → IsCounter c → (turns values : List ℕ) → IsAt c
 ran c f turns values h n n_is lines lines_are =
     let w : IsWellNamed c = f.named in
     let means : counter_module c ≡ module_of (spec_of c) = sym (module_is c w) in
+    let either : (n ≡ 0) ⊎ (n ≡ 21) = either_status (nat_eq (length values) (length c.body)) n n_is in
     let status : n ≡ status_of (counter_bound c) settings (finished_of (Core (counter_bound c) settings turns))
     = n_is ∙ sym (status_is c w f.few (Core (counter_bound c) settings turns) values h)
+    in
+    let bytes : flatten lines ≡ Bundle (counter_module c) [] (counter_bound c) settings (finished_of (Core (counter_bound c) settings turns)) n
+    = ap flatten lines_are ∙ (λ i. Bundle (counter_module c) [] (counter_bound c) settings (finished_of (Core (counter_bound c) settings turns)) (sym status i))
+    in
+    let run : IsRun (module_of (spec_of c)) [] (ids_of (counter_bound c)) (counter_bound c).start (Core (counter_bound c) settings turns).entries
+    = subst (λ m. IsRun m [] (ids_of (counter_bound c)) (counter_bound c).start (Core (counter_bound c) settings turns).entries) means (is_run c w f.start f.id turns)
+    in
+    let read : IsReadBundle (flatten lines) (module_of (spec_of c)) [] (log_of (counter_bound c) (Core (counter_bound c) settings turns).entries)
+    = is_read c f turns values h n (flatten lines) either bytes
+    in
+    let read_run : IsRun (module_of (spec_of c)) [] (ids_of (counter_bound c)) (counter_bound c).start (log_of (counter_bound c) (Core (counter_bound c) settings turns).entries).entries
+    = run_read (module_of (spec_of c)) [] (ids_of (counter_bound c)) (counter_bound c).start (Core (counter_bound c) settings turns).entries run
     in
     record {
       bound = counter_bound c;
       bound_is = bound_is c w;
       sound = sound c w f.start f.id;
-      bundle =
-          ap flatten lines_are
-          ∙ (λ i. Bundle (means i) [] (counter_bound c) settings (finished_of (Core (counter_bound c) settings turns)) (sym status i));
+      bundle = bytes ∙ (λ i. Bundle (means i) [] (counter_bound c) settings (finished_of (Core (counter_bound c) settings turns)) n);
       agrees = subst (λ m. Agrees m [] (counter_bound c)) means (agrees c w);
-      run = subst (λ m. IsRun m [] (ids_of (counter_bound c)) (counter_bound c).start (Core (counter_bound c) settings turns).entries) means (is_run c w f.start f.id turns);
+      run = run;
+      is_read = read;
+      short = is_short c f turns values h n (flatten lines) (at_most n either) bytes;
+      read_run = read_run;
+      accepted = λ v judged.
+          accepted (flatten lines) (module_of (spec_of c)) [] (log_of (counter_bound c) (Core (counter_bound c) settings turns).entries) read read_run v judged
+          ∙ ap Run (count_is entry_read (Core (counter_bound c) settings turns).entries);
       accounts = (run_turns_law (rules_of (counter_bound c) settings) (Reaches (counter_bound c)) (IsState (counter_bound c)) (fits c w f.start f.id) turns).1;
       status_is = status;
-      either = either_status (nat_eq (length values) (length c.body)) n n_is;
+      either = either;
       fine = zero_at_done c w f.few turns values h n n_is;
     }

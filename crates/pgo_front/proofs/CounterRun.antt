@@ -49,6 +49,17 @@ pub record Moves (c : Counter) (s t : Vars) (prints : List Data) : Type 0 where
   pub small : x < 2 ^ 63
   pub silent : prints ≡ []
 
+-- an entry of a step of a statement, from the value x
+pub record Recorded (c : Counter) (e : Entry Effect) : Type 0 where
+  pub x : ℕ
+  pub before : List Sum
+  pub sum : Sum
+  pub after : List Sum
+  pub body : c.body ≡ before ++ (sum ∷ after)
+  pub fits : sum_value x sum < 2 ^ 63
+  pub instance : e.instance ≡ 0
+  pub change : e.change ≡ record { label = label_name c sum; next = next_name c after; changes = counter_changes c x (sum_value x sum) (next_name c after); prints = [] }
+
 statement_nth : (v : Name) (before after : List Sum) (s : Sum) → nth (map (labeled v) (before ++ (s ∷ after))) (length before) ≡ Some (labeled v s)
 statement_nth v [] after s = refl
 statement_nth v (b ∷ before) after s = statement_nth v before after s
@@ -144,6 +155,12 @@ module _ (c : Counter) (w : IsWellNamed c) where
 
     move_at : (p : ℕ) (e : Entry Effect) → (h : nth m.entries p ≡ Some e) → Moves c (at p) (at (suc p)) (made p e h).prints
     move_at p e h = step_at p e (made p e h) (stands_at p (below p e h))
+
+    -- each entry is one of a statement
+    pub recorded : (p : ℕ) (e : Entry Effect) → nth m.entries p ≡ Some e → Recorded c e
+    recorded p e h =
+        let d = made p e h in let s = move_at p e h in
+        record { x = s.x; before = s.before; sum = s.sum; after = s.after; body = s.body; fits = s.fits; instance = is_zero e.instance d.instance; change = change_is p e d s }
 
     all_lead : AllLead R (counter_bound c).start m.entries
     all_lead p e h =

@@ -17,6 +17,16 @@ pub mod StepWords
 pub mod CoreLists
 pub mod CoreSteps
 pub mod CoreRuns
+pub mod ReadBackLogs
+pub mod ReadBackAccounts
+pub mod ReadBackNames
+pub mod ReadBackText
+pub mod ReadBackEntries
+pub mod ReadBack
+pub mod ReadBackSize
+pub mod ReadBackVerdicts
 pub mod CounterRan
+pub mod Judging
+pub mod Making
 pub mod Caused
 pub mod LinesWritten

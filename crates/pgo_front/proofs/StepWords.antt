@@ -1,5 +1,5 @@
 -- The words of a step are its two fixed words and a list of turns.
-use Rattle.std.proofs.Common.{◌≡◌, ℕ, List, [], ◌∷◌, length, codes, get_or, refl, sym, ◌∙◌, subst, arith, Option, Some, None, Result, Ok, Err, IfOk, Bool, true, false, not, eqb}
+use Rattle.std.proofs.Common.{◌≡◌, ℕ, List, [], ◌∷◌, length, codes, get_or, refl, sym, ◌∙◌, subst, arith, Option, Some, None, Result, Ok, Err, IfOk, Bool, true, false, not, eqb, IsTrue}
 use lib.Pointwise.{pointwise, bytes_decides}
 use Rattle.pgo_front.specs.Asked.{SpelledOnly, AsksOnly}
 use Rattle.pgo_front.specs.Turns.{TurnList}
@@ -40,3 +40,18 @@ pub on_list : {E : Type 0} (r : Result (Option (List ℕ)) E) (words : List (Lis
     → IfOk r (λ o. SpelledOnly list o) → IfOk r (λ o. AsksOnly words o)
 on_list (Ok o) words list e h = asks words list o e h
 on_list (Err x) words list e h = h
+
+-- one word is this one where it is
+pub one : (words : List (List ℕ)) (a : List ℕ) → length words ≡ 1 → a ≡ get_or words 0 a → words ≡ a ∷ []
+one [] a n h = absurd (omega (arith, n))
+one (x ∷ []) a n h = λ i. sym h i ∷ []
+one (x ∷ (y ∷ ws)) a n h = absurd (omega (arith, n))
+
+-- the words are one fixed word exactly where the test of texts says so
+pub same_if : (words : List (List ℕ)) (a : List ℕ) (r : Bool) → words ≡ a ∷ [] → r ≡ pointwise eqb a (codes "check")
+    → (IsTrue r → words ≡ codes "check" ∷ []) × (words ≡ codes "check" ∷ [] → IsTrue r)
+same_if words a r e f =
+    (λ t. e ∙ (λ i. (bytes_decides a (codes "check")).0 (sym f ∙ t) i ∷ []), λ w. f ∙ (bytes_decides a (codes "check")).1 (same (sym e ∙ w)))
+  where
+    same : a ∷ [] ≡ codes "check" ∷ [] → a ≡ codes "check"
+    same e = cc

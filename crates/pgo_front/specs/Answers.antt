@@ -3,20 +3,27 @@ use Rattle.std.specs.Prelude.{◌≡◌, ◌≤◌, ◌<◌, ◌⊎◌, ℕ, Lis
 use Rattle.pgo_io.specs.Faults.{Rose}
 use Rattle.pgo_io.specs.Sink.{Grows, GrowsByPrefix}
 use Rattle.pgo_model.specs.Spec.{Spec}
+use Rattle.pgo_check.specs.declared.verdict.Verdict.{Verdict}
 use Rattle.pgo_front.specs.declared.status.Status.{Status}
 use Rattle.pgo_front.specs.declared.status.Status.TheVariants as status
-use Rattle.pgo_front.specs.Turns.{AsksStep}
+use Rattle.pgo_front.specs.Turns.{AsksStep, AsksCheck}
 use Rattle.pgo_front.specs.Spells.{Spells, most_bytes}
 use Rattle.pgo_front.specs.Statuses.{line_of}
 use Rattle.pgo_front.specs.Headline.{Ran}
+use Rattle.pgo_log_text.specs.ReadBundle.{IsNoBundle}
+use Rattle.pgo_front.specs.Verdicts.{Judged, IsRunVerdict, verdict_line, most_bundle_bytes}
+
+-- ---- words
+
+-- the words ask for the turns of some list
+abbrev pub AsksSomeStep : List (List ℕ) → Type 0
+AsksSomeStep words = (turns : List ℕ) × AsksStep words turns
 
 -- the words ask for nothing that there is
 abbrev pub AsksNothing : List (List ℕ) → Type 0
-AsksNothing words = (turns : List ℕ) → AsksStep words turns → ⊥
+AsksNothing words = ((turns : List ℕ) → AsksStep words turns → ⊥) × (AsksCheck words → ⊥)
 
--- the words ask for the turns of some list
-abbrev pub AsksSome : List (List ℕ) → Type 0
-AsksSome words = (turns : List ℕ) × AsksStep words turns
+-- ---- the command `step`
 
 -- the text spells no specification
 abbrev pub SpellsNothing : List ℕ → Type 0
@@ -32,32 +39,65 @@ pub record Asked (words : List (List ℕ)) (text : List ℕ) (number : ℕ) (wri
   pub ran : Ran spec turns number written
 
 -- the words ask for turns, and where the input told its text, the output has grown by the bundle of its run
-abbrev pub RanTo : List (List ℕ) → (input : Option (List ℕ)) → ℕ → (old new : Option (List ℕ)) → Type 0
-RanTo words input n old new = AsksSome words × IfSome input (λ text. (written : List ℕ) × Asked words text n written × Grows old new written)
+abbrev pub WritesBundle : List (List ℕ) → (input : Option (List ℕ)) → ℕ → (old new : Option (List ℕ)) → Type 0
+WritesBundle words input n old new = AsksSomeStep words × IfSome input (λ text. (written : List ℕ) × Asked words text n written × Grows old new written)
 
 -- the words ask for turns, and where the input told its text, the output has grown by a prefix of that bundle
-abbrev pub RanIntoFault : List (List ℕ) → (input old new : Option (List ℕ)) → Type 0
-RanIntoFault words input old new =
-    AsksSome words × IfSome input (λ text. (n : ℕ) × (written : List ℕ) × Asked words text n written × GrowsByPrefix old new written)
+abbrev pub WritesBundlePrefix : List (List ℕ) → (input old new : Option (List ℕ)) → Type 0
+WritesBundlePrefix words input old new =
+    AsksSomeStep words × IfSome input (λ text. (n : ℕ) × (written : List ℕ) × Asked words text n written × GrowsByPrefix old new written)
+
+-- ---- the command `check`
+
+-- the text is short enough and a bundle, and this is the verdict on its log
+abbrev pub Checked : List ℕ → Verdict → Type 0
+Checked text v = (length text ≤ most_bundle_bytes) × Judged text v
+
+-- the words ask for a check, and where the input told its text, the output has grown by the line of the verdict on it,
+-- which is one of these
+abbrev pub WritesVerdict : List (List ℕ) → (input : Option (List ℕ)) → (Verdict → Type 0) → (old new : Option (List ℕ)) → Type 0
+WritesVerdict words input Wanted old new =
+    AsksCheck words × IfSome input (λ text. (v : Verdict) × Wanted v × Checked text v × Grows old new (verdict_line v))
+
+-- the words ask for a check, and where the input told its text, the output has grown by a prefix of that line
+abbrev pub WritesVerdictPrefix : List (List ℕ) → (input old new : Option (List ℕ)) → Type 0
+WritesVerdictPrefix words input old new =
+    AsksCheck words × IfSome input (λ text. (v : Verdict) × Checked text v × GrowsByPrefix old new (verdict_line v))
+
+-- ---- statuses
+
+-- the run ended with every instance at Done, or the log is a run
+abbrev pub EndsWell : List (List ℕ) → (input old new : Option (List ℕ)) → Type 0
+EndsWell words input old new = WritesBundle words input 0 old new ⊎ WritesVerdict words input IsRunVerdict old new
+
+-- a prefix of the bundle of a run, or of the line of a verdict, came to the output
+abbrev pub WritesPrefix : List (List ℕ) → (input old new : Option (List ℕ)) → Type 0
+WritesPrefix words input old new = WritesBundlePrefix words input old new ⊎ WritesVerdictPrefix words input old new
 
 -- why a command that wrote nothing stopped
 abbrev pub Stops : List (List ℕ) → (input : Option (List ℕ)) → (faults_before faults_now : ℕ) → Status → Type 0
 Stops words input before now status.Usage = AsksNothing words
-Stops words input before now status.SpecRefused = AsksSome words × IfSome input (λ text. (length text ≤ most_bytes) × SpellsNothing text)
-Stops words input before now status.ReadFault = AsksSome words × Rose before now
-Stops words input before now status.TooLong = AsksSome words × IfSome input (λ text. most_bytes < length text)
+Stops words input before now status.SpecRefused = AsksSomeStep words × IfSome input (λ text. (length text ≤ most_bytes) × SpellsNothing text)
+Stops words input before now status.BadBundle = AsksCheck words × IfSome input (λ text. (length text ≤ most_bundle_bytes) × IsNoBundle text)
+Stops words input before now status.ReadFault = (AsksSomeStep words ⊎ AsksCheck words) × Rose before now
+Stops words input before now status.TooLong =
+    (AsksSomeStep words × IfSome input (λ text. most_bytes < length text))
+    ⊎ (AsksCheck words × IfSome input (λ text. most_bundle_bytes < length text))
 Stops words input before now status.NoMemory = Unit {0}
 Stops words input before now status.Fine = ⊥
 Stops words input before now status.WriteFault = ⊥
 Stops words input before now status.Spent = ⊥
+Stops words input before now status.NotARun = ⊥
 
 -- a status that leaves the output as it was
 abbrev pub IsRefusal : Status → Type 0
 IsRefusal status.Fine = ⊥
 IsRefusal status.Spent = ⊥
+IsRefusal status.NotARun = ⊥
 IsRefusal status.WriteFault = ⊥
 IsRefusal status.Usage = Unit {0}
 IsRefusal status.SpecRefused = Unit {0}
+IsRefusal status.BadBundle = Unit {0}
 IsRefusal status.ReadFault = Unit {0}
 IsRefusal status.TooLong = Unit {0}
 IsRefusal status.NoMemory = Unit {0}
@@ -66,8 +106,10 @@ IsRefusal status.NoMemory = Unit {0}
 abbrev pub ReadsAll : Status → Type 0
 ReadsAll status.Fine = Unit {0}
 ReadsAll status.Spent = Unit {0}
+ReadsAll status.NotARun = Unit {0}
 ReadsAll status.WriteFault = Unit {0}
 ReadsAll status.SpecRefused = Unit {0}
+ReadsAll status.BadBundle = Unit {0}
 ReadsAll status.Usage = ⊥
 ReadsAll status.ReadFault = ⊥
 ReadsAll status.TooLong = ⊥
@@ -86,6 +128,11 @@ abbrev pub SaysLine : Status → (old new : Option (List ℕ)) → Type 0
 SaysLine s old new = IfSome (line_of s) (λ l. Grows old new l)
 
 -- the words ask for these turns, and the input tells this text
-pub record IsTold (words : List (List ℕ)) (input : Option (List ℕ)) (turns : List ℕ) (text : List ℕ) : Type 0 where
+pub record IsToldToStep (words : List (List ℕ)) (input : Option (List ℕ)) (turns : List ℕ) (text : List ℕ) : Type 0 where
   pub asks : AsksStep words turns
+  pub told : input ≡ Some text
+
+-- the words ask for a check, and the input tells this text
+pub record IsToldToCheck (words : List (List ℕ)) (input : Option (List ℕ)) (text : List ℕ) : Type 0 where
+  pub asks : AsksCheck words
   pub told : input ≡ Some text

@@ -1,5 +1,5 @@
 -- What `pgo step` promises of a specification and a list of turns: the bundle that it writes, and what is true of it.
-use Rattle.std.specs.Prelude.{◌≡◌, ◌↔◌, ◌⊎◌, ℕ, false, List, [], map, Some}
+use Rattle.std.specs.Prelude.{◌≡◌, ◌≤◌, ◌↔◌, ◌⊎◌, ℕ, false, List, [], length, map, Some}
 use Rattle.pgo_base.specs.Data.{Data, string}
 use Rattle.pgo_base.specs.Lookup.{Vars}
 use Rattle.pgo_model.specs.Spec.{Spec}
@@ -13,7 +13,12 @@ use Rattle.pgo_model.specs.Agrees.{Agrees}
 use Rattle.pgo_model.specs.IsRun.{IsRun}
 use Rattle.pgo_model.specs.Bundle.{Bundle}
 use Rattle.pgo_model.specs.Written.{done}
+use Rattle.pgo_check.specs.declared.verdict.Verdict.{Verdict}
+use Rattle.pgo_check.specs.declared.verdict.Verdict.TheVariants.{Run}
+use Rattle.pgo_log_text.specs.ReadBundle.{IsReadBundle}
 use Rattle.pgo_front.specs.CounterRuns.{settings}
+use Rattle.pgo_front.specs.ReadBack.{log_of}
+use Rattle.pgo_front.specs.Verdicts.{Judged, most_bundle_bytes}
 
 -- every instance is at Done in this state
 abbrev pub AllDone : Bound → Vars → Type 0
@@ -36,6 +41,14 @@ pub record Ran (spec : Spec) (turns : List ℕ) (status : ℕ) (written : List �
   pub agrees : Agrees (module_of spec) [] bound
   -- the entries, in order, are steps of the module from its initial state
   pub run : IsRun (module_of spec) [] (ids_of bound) bound.start (Core bound settings turns).entries
+  -- the bytes are a bundle that `check` reads, of this module and of the log of these entries
+  pub is_read : IsReadBundle written (module_of spec) [] (log_of bound (Core bound settings turns).entries)
+  -- they are no more than it reads
+  pub short : length written ≤ most_bundle_bytes
+  -- and that log is a run of the module as well
+  pub read_run : IsRun (module_of spec) [] (ids_of bound) bound.start (log_of bound (Core bound settings turns).entries).entries
+  -- so the verdict on these bytes is no other than that they are a run of so many entries
+  pub accepted : (v : Verdict) → Judged written v → v ≡ Run (length (Core bound settings turns).entries)
   -- the records number each instance's attempts, and each is one entry, one note true at its place, or one refusal: by
   -- another instance that is bound to the resource, by a pre-commit that is set to fail, or by a full journal
   pub accounts : Accounts (rules_of bound settings) (Reaches bound) false (finished_of (Core bound settings turns))

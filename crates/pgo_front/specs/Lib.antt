@@ -6,6 +6,8 @@ pub mod Cuts
 pub mod CoreAt
 pub mod Statuses
 pub mod Spells
+pub mod ReadBack
 pub mod Headline
+pub mod Verdicts
 pub mod Answers
 pub mod Makes

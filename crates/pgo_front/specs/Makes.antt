@@ -1,26 +1,94 @@
 -- What the parts of a command make of a text and of a counter.
-use Rattle.std.specs.Prelude.{◌≡◌, ◌⊎◌, ℕ, List}
+use Rattle.std.specs.Prelude.{◌≡◌, ◌≤◌, ◌<◌, ◌⊎◌, ℕ, List, length, Option, Some, None, IfSome}
+use Rattle.pgo_io.specs.Faults.{Rose}
 use Rattle.pgo_model.specs.Spec.{Spec}
 use Rattle.pgo_model.specs.ModuleText.{flatten}
-use Rattle.pgo_front.specs.declared.command.Made.{Made}
+use Rattle.pgo_check.specs.declared.verdict.Verdict.{Verdict}
+use Rattle.pgo_check.specs.declared.verdict.Verdict.TheVariants.{Run, Bad}
+use Rattle.pgo_front.specs.declared.made.Made.{Made}
 use Rattle.pgo_front.specs.declared.status.Status.{Status}
 use Rattle.pgo_front.specs.declared.status.Status.TheVariants as status
-use Rattle.pgo_front.specs.Spells.{Spells}
+use Rattle.pgo_front.specs.declared.words.Request.{Request}
+use Rattle.pgo_front.specs.declared.words.Request.TheVariants.{Step, Check}
+use Rattle.pgo_front.specs.Turns.{AsksStep, AsksCheck}
+use Rattle.pgo_front.specs.Spells.{Spells, most_bytes}
 use Rattle.pgo_front.specs.Statuses.{number_of}
 use Rattle.pgo_front.specs.Headline.{Ran}
-use Rattle.pgo_front.specs.Answers.{Asked, SpellsNothing}
+use Rattle.pgo_log_text.specs.ReadBundle.{IsNoBundle}
+use Rattle.pgo_front.specs.Verdicts.{Judged, verdict_line, most_bundle_bytes}
+use Rattle.pgo_front.specs.Answers.{Asked, AsksSomeStep, AsksNothing, SpellsNothing, Checked}
 
--- the command did its work
-abbrev pub IsRunStatus : Made → Type 0
-IsRunStatus m = (m.status ≡ status.Fine) ⊎ (m.status ≡ status.Spent)
+-- what the words ask for
+abbrev pub AsksFor : List (List ℕ) → Option Request → Type 0
+AsksFor words None = AsksNothing words
+AsksFor words (Some (Step turns)) = AsksStep words turns
+AsksFor words (Some Check) = AsksCheck words
+
+-- why the input was not read to its end, or was too long
+abbrev pub StopsReading : (limit : ℕ) → (input : Option (List ℕ)) → (faults_before faults_now : ℕ) → Status → Type 0
+StopsReading limit input before now s =
+    ((s ≡ status.ReadFault) × Rose before now)
+    ⊎ (((s ≡ status.TooLong) × IfSome input (λ text. limit < length text)) ⊎ (s ≡ status.NoMemory))
+
+-- ---- the command `step`
+
+-- the command ran
+abbrev pub IsStepStatus : Made → Type 0
+IsStepStatus m = (m.status ≡ status.Fine) ⊎ (m.status ≡ status.Spent)
 
 -- the text spells a specification, and this is what its run under the turns gives
 abbrev pub MakesOf : (text turns : List ℕ) → Made → Type 0
 MakesOf text turns m = (spec : Spec) × Spells text spec × Ran spec turns (number_of m.status) (flatten m.lines)
 
-abbrev pub MakesAsked : List (List ℕ) → (text : List ℕ) → Made → Type 0
-MakesAsked words text m = Asked words text (number_of m.status) (flatten m.lines)
-
 -- the text is refused, or there was no memory
 abbrev pub StopsAt : (text : List ℕ) → Status → Type 0
 StopsAt text s = ((s ≡ status.SpecRefused) × SpellsNothing text) ⊎ (s ≡ status.NoMemory)
+
+-- why a step of this input stopped
+abbrev pub StopsStep : (input : Option (List ℕ)) → (faults_before faults_now : ℕ) → Status → Type 0
+StopsStep input before now s =
+    ((s ≡ status.SpecRefused) × IfSome input (λ text. (length text ≤ most_bytes) × SpellsNothing text))
+    ⊎ StopsReading most_bytes input before now s
+
+-- ---- the command `check`
+
+-- the status of a verdict
+abbrev pub status_of : Verdict → Status
+status_of (Run n) = status.Fine
+status_of (Bad n w) = status.NotARun
+
+abbrev pub IsVerdictStatus : Made → Type 0
+IsVerdictStatus m = (m.status ≡ status.Fine) ⊎ (m.status ≡ status.NotARun)
+
+-- the status and the line of this verdict
+pub record MakesVerdict (v : Verdict) (m : Made) : Type 0 where
+  pub status_is : m.status ≡ status_of v
+  pub line_is : flatten m.lines ≡ verdict_line v
+
+-- the text is a bundle, and this is the verdict on it
+abbrev pub MakesJudged : (text : List ℕ) → Made → Type 0
+MakesJudged text m = (v : Verdict) × Judged text v × MakesVerdict v m
+
+-- the text is no bundle that is read, or there was no memory
+abbrev pub StopsJudging : (text : List ℕ) → Status → Type 0
+StopsJudging text s = ((s ≡ status.BadBundle) × IsNoBundle text) ⊎ (s ≡ status.NoMemory)
+
+-- why a check of this input stopped
+abbrev pub StopsCheck : (input : Option (List ℕ)) → (faults_before faults_now : ℕ) → Status → Type 0
+StopsCheck input before now s =
+    ((s ≡ status.BadBundle) × IfSome input (λ text. (length text ≤ most_bundle_bytes) × IsNoBundle text))
+    ⊎ StopsReading most_bundle_bytes input before now s
+
+-- ---- both
+
+-- what a command made of its words and its input
+abbrev pub MakesOfStep : List (List ℕ) → (input : Option (List ℕ)) → Made → Type 0
+MakesOfStep words input m =
+    AsksSomeStep words × IsStepStatus m × IfSome input (λ text. Asked words text (number_of m.status) (flatten m.lines))
+
+abbrev pub MakesOfCheck : List (List ℕ) → (input : Option (List ℕ)) → Made → Type 0
+MakesOfCheck words input m =
+    AsksCheck words × IsVerdictStatus m × IfSome input (λ text. (v : Verdict) × Checked text v × MakesVerdict v m)
+
+abbrev pub MakesAsked : List (List ℕ) → (input : Option (List ℕ)) → Made → Type 0
+MakesAsked words input m = MakesOfStep words input m ⊎ MakesOfCheck words input m

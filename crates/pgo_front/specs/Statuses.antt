@@ -11,6 +11,8 @@ number_of status.ReadFault = 12
 number_of status.WriteFault = 13
 number_of status.TooLong = 14
 number_of status.Spent = 21
+number_of status.NotARun = 30
+number_of status.BadBundle = 31
 number_of status.NoMemory = 40
 
 abbrev pub line_of : Status → Option (List ℕ)
@@ -21,4 +23,6 @@ line_of status.ReadFault = Some (codes "pgo: read fault\n")
 line_of status.WriteFault = Some (codes "pgo: write fault\n")
 line_of status.TooLong = Some (codes "pgo: too long\n")
 line_of status.Spent = None
+line_of status.NotARun = None
+line_of status.BadBundle = Some (codes "pgo: not built\n")
 line_of status.NoMemory = Some (codes "pgo: no memory\n")

@@ -1,4 +1,4 @@
--- The words of a command: `step --turns LIST`.
+-- The words of a command: `step --turns LIST`, or `check`.
 use Rattle.std.specs.Prelude.{◌≡◌, ◌≤◌, ◌<◌, ◌^◌, ℕ, List, [], ◌∷◌, ◌++◌, length, replicate, codes, decimal}
 
 -- `k`, or `k*n` for n turns of k; digits without sign or leading zeros
@@ -20,3 +20,7 @@ pub record AsksStep (words : List (List ℕ)) (turns : List ℕ) : Type 0 where
   pub words_are : words ≡ codes "step" ∷ codes "--turns" ∷ list ∷ []
   pub spells : TurnList list turns
   pub few : length turns ≤ most_turns
+
+-- the words ask for the check of a bundle
+abbrev pub AsksCheck : List (List ℕ) → Type 0
+AsksCheck words = words ≡ codes "check" ∷ []

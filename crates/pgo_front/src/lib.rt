@@ -2,9 +2,13 @@
 #![tactic(auto)]
 
 mod bundle_writer;
+mod check;
 mod command;
+mod input;
 mod instance;
+mod made;
 mod status;
+mod step;
 #[cfg(test)]
 mod tests;
 mod words;

@@ -5,7 +5,7 @@ ghost use Rattle.pgo_front.specs.Statuses.{number_of, line_of};
 /// How a command ended. This project's choice.
 #[derive(Clone, Copy, Debug, PartialEq, Eq)]
 pub enum Status {
-    /// Every instance is at Done.
+    /// Every instance is at Done, or the bundle's log is a run of its module.
     Fine,
     /// The words ask for nothing that there is.
     Usage,
@@ -15,16 +15,20 @@ pub enum Status {
     ReadFault,
     /// The output failed; it holds a prefix of what was to be written.
     WriteFault,
-    /// The input has more than 1,048,576 bytes.
+    /// A specification has more than 1,048,576 bytes, or a bundle more than 268,435,456.
     TooLong,
     /// Some instance isn't at Done.
     Spent,
+    /// The bundle's log is no run of its module.
+    NotARun,
+    /// The text is no bundle that is read today.
+    BadBundle,
     /// There was no memory.
     NoMemory,
 }
 
 impl Status {
-    /// The exit status: 0, 10, 11, 12, 13, 14, 21 or 40.
+    /// The exit status: 0, 10, 11, 12, 13, 14, 21, 30, 31 or 40.
     pub fn number(self) -> u8
         ensures { result ≡ number_of self }
     {
@@ -36,6 +40,8 @@ impl Status {
             Status::WriteFault => 13,
             Status::TooLong => 14,
             Status::Spent => 21,
+            Status::NotARun => 30,
+            Status::BadBundle => 31,
             Status::NoMemory => 40,
         }
     }
@@ -45,9 +51,9 @@ impl Status {
         ensures { option_map (λ l. l.now) result ≡ line_of self }
     {
         match self {
-            Status::Fine | Status::Spent => None,
+            Status::Fine | Status::Spent | Status::NotARun => None,
             Status::Usage => Some(b"pgo: usage\n"),
-            Status::SpecRefused => Some(b"pgo: not built\n"),
+            Status::SpecRefused | Status::BadBundle => Some(b"pgo: not built\n"),
             Status::ReadFault => Some(b"pgo: read fault\n"),
             Status::WriteFault => Some(b"pgo: write fault\n"),
             Status::TooLong => Some(b"pgo: too long\n"),

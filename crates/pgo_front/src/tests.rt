@@ -1,4 +1,5 @@
 // Runs of the top call over sources and sinks in memory.
+mod checking;
 mod failing;
 
 use crate::command::pgo;
@@ -178,7 +179,7 @@ fn runs_to_its_end(rt: HostRuntime) -> Result<(), Fail> {
 }
 
 /// Words that ask for nothing that there is.
-const NO_COMMANDS: [&[&str]; 14] = [
+const NO_COMMANDS: [&[&str]; 16] = [
     &[],
     &["step"],
     &["step", "--turns"],
@@ -193,6 +194,8 @@ const NO_COMMANDS: [&[&str]; 14] = [
     &["step", "--turns", "0*1000000,0"],
     &["step", "--turns", "0*6", "0"],
     &["check", "--turns", "0*6"],
+    &["check", "check"],
+    &["Check"],
 ];
 
 #[test]

@@ -1,9 +1,10 @@
 // The words of a command.
-ghost use Rattle.std.specs.Prelude.{◌≡◌, ◌<◌, ◌≤◌, ◌^◌, ◌+◌, ◌++◌, ℕ, List, Some, None, IfSome, IfOk, MatchOption, IsTrue, decimal, length, replicate};
-ghost use Rattle.pgo_front.specs.Turns.{Item, TurnList, AsksStep, most_turns};
+ghost use Rattle.std.specs.Prelude.{◌≡◌, ◌↔◌, ◌<◌, ◌≤◌, ◌^◌, ◌+◌, ◌++◌, ℕ, List, Some, None, IfSome, IfOk, MatchOption, IsTrue, decimal, length, replicate};
+ghost use Rattle.pgo_front.specs.Turns.{Item, TurnList, AsksStep, AsksCheck, most_turns};
 ghost use Rattle.pgo_front.specs.Cuts.{Cuts};
 ghost use Rattle.pgo_front.specs.Items.{ReadsItem, ReadsSingle, ReadsRepeated, turns_of};
 ghost use Rattle.pgo_front.specs.Asked.{SpelledOnly, AsksOnly, AddsItem};
+ghost use Rattle.pgo_front.specs.Makes.{AsksFor};
 
 use itoa::Buffer;
 use pgo_base::word::Word;
@@ -126,8 +127,37 @@ fn read_list(alloc: Global, text: &str) -> Result<Option<Turns>, AllocError>
     }
 }
 
+/// What the words of a command ask for.
+#[derive(Drop)]
+pub enum Request {
+    /// A run under these turns.
+    Step(Turns),
+    /// The check of a bundle.
+    Check,
+}
+
+/// What the words ask for; none where they ask for nothing that there is.
+pub fn read_words(alloc: Global, words: &[Word]) -> Result<Option<Request>, AllocError>
+    ensures { IfOk result (AsksFor words.now) }
+{
+    if is_check(words) {
+        return Ok(Some(Request::Check));
+    }
+    match read_step(alloc, words)? {
+        Some(turns) => Ok(Some(Request::Step(turns))),
+        None => Ok(None),
+    }
+}
+
+/// Whether the words are `check` alone.
+fn is_check(words: &[Word]) -> bool
+    ensures { IsTrue result ↔ AsksCheck words.now }
+{
+    words.len() == 1 && words[0].as_str() == "check"
+}
+
 /// The turns that the words `step --turns LIST` ask for; none where the words are others.
-pub fn read_step(alloc: Global, words: &[Word]) -> Result<Option<Turns>, AllocError>
+fn read_step(alloc: Global, words: &[Word]) -> Result<Option<Turns>, AllocError>
     ensures { IfOk result (λ o. AsksOnly words.now o) }
 {
     if words.len() != 3 || words[0].as_str() != "step" || words[1].as_str() != "--turns" {

@@ -5,7 +5,8 @@ ghost use Rattle.std.specs.Prelude.{◌≡◌, None, IfOk, IsOk, IsErr};
 ghost use Rattle.std.specs.Process.{exit_status};
 ghost use Rattle.pgo_io.specs.Faults.{Rose};
 ghost use Rattle.pgo_front.specs.Statuses.{number_of, line_of};
-ghost use Rattle.pgo_front.specs.Answers.{AsksNothing, RanTo, Stops, IsRefusal, OrNoMemory, SaysLine};
+ghost use Rattle.pgo_front.specs.Answers.{AsksNothing, EndsWell, WritesBundle, WritesVerdict, Stops, IsRefusal, OrNoMemory, SaysLine};
+ghost use Rattle.pgo_front.specs.Verdicts.{IsBadVerdict};
 ghost use Rattle.pgo_main.specs.Arguments.{words_behind_name, words_of, LacksMemory, LacksText};
 
 use pgo_base::word::Word;
@@ -44,8 +45,10 @@ fn run<S: Source, O: Sink, E: Sink>(
     err: &mut E,
 ) -> Status
     // Each status has its cause.
-    ensures fine { result ≡ Status.Fine → RanTo (words_of arguments) (S.left input.old) 0 (O.held out.old) (O.held out.new) }
-    ensures spent { result ≡ Status.Spent → RanTo (words_of arguments) (S.left input.old) 21 (O.held out.old) (O.held out.new) }
+    ensures fine { result ≡ Status.Fine → EndsWell (words_of arguments) (S.left input.old) (O.held out.old) (O.held out.new) }
+    ensures spent { result ≡ Status.Spent → WritesBundle (words_of arguments) (S.left input.old) 21 (O.held out.old) (O.held out.new) }
+    ensures not_a_run { result ≡ Status.NotARun →
+        WritesVerdict (words_of arguments) (S.left input.old) IsBadVerdict (O.held out.old) (O.held out.new) }
     ensures stopped { IsRefusal result →
         Stops (words_of arguments) (S.left input.old) (S.faults input.old) (S.faults input.new) result }
     ensures write_fault { result ≡ Status.WriteFault → Rose (O.faults out.old) (O.faults out.new) }

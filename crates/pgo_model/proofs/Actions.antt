@@ -1,15 +1,12 @@
 -- The actions of a module by name, and whether one is a step.
 use Rattle.std.proofs.Common.{◌≡◌, ℕ, suc, ◌<◌, ◌+◌, List, [], ◌∷◌, ◌++◌, length, map, get_or, drop, refl, ap, sym, ◌∙◌, add-one, drop-cons, subst}
-use Rattle.std.specs.Prelude.{Bool, true, false, if◌then◌else◌, IsTrue, ◌↔◌, Option, Some, None}
+use Rattle.std.specs.Prelude.{Bool, true, false, if◌then◌else◌, Option, Some, None}
 use Rattle.pgo_base.specs.declared.module.WrittenProcess as base_process
-use Rattle.pgo_base.specs.Data.{Data}
-use Rattle.pgo_base.specs.Lookup.{Name, Vars, same_name, find}
+use Rattle.pgo_base.specs.Lookup.{Name, same_name, find}
 use Rattle.pgo_base.specs.Tree.{Tree}
-use Rattle.pgo_model.specs.Acts.{Acts, IsTrueOn}
-use Rattle.pgo_model.specs.Module.{Module, actions_of, actions_in}
+use Rattle.pgo_model.specs.Module.{actions_in}
 use Rattle.pgo_model.specs.ModuleView.{process_view}
 use Rattle.pgo_model.specs.Plain.{IsPlain, HavePlainBodies}
-use Rattle.pgo_model.specs.Written.{self_name}
 
 find_left : (x : Name) (xs ys : List (Name × Tree)) (e : Tree) → find x xs ≡ Some e → find x (xs ++ ys) ≡ Some e
 find_left x [] ys e h = absurd (cc)

@@ -1,7 +1,6 @@
 -- What a plain form means, by the values of its parts.
-use Rattle.std.proofs.Common.{◌≡◌, ℕ, ◌<◌, ◌≤◌, ◌+◌, ◌*◌, suc, List, [], ◌∷◌, ◌++◌, length, map, get_or, drop, refl, ap, sym, ◌∙◌, add-one, drop-cons, subst, arith}
-use Rattle.std.specs.Prelude.{Bool, true, false, not, IsTrue, nat_lt, if◌then◌else◌, Option, Some, None, option_map, option_and_then}
-use Rattle.std.specs.declared.cmp.Ordering.TheVariants.{Less, Equal, Greater}
+use Rattle.std.proofs.Common.{◌≡◌, ℕ, ◌≤◌, ◌*◌, List, [], ◌∷◌, length, refl, ap, sym, ◌∙◌, subst, arith}
+use Rattle.std.specs.Prelude.{Bool, true, false, IsTrue, nat_lt, Option, Some, None, option_map, option_and_then}
 use Rattle.std.specs.Ordering.{match_ordering}
 use Rattle.std.proofs.lemmas.Bool.Decides.{nat_tests}
 use Rattle.std.specs.List.Sorted.{IsStrictlySortedBy}
@@ -9,13 +8,12 @@ use Rattle.pgo_base.specs.declared.expr.Infix.{Infix}
 use Rattle.pgo_base.specs.declared.expr.Infix.TheVariants as infixs
 use Rattle.pgo_base.specs.declared.expr.Quantifier.{Quantifier}
 use Rattle.pgo_base.specs.declared.expr.Quantifier.TheVariants as quantifiers
-use Rattle.pgo_base.specs.Data.{Data, boolean, function, set, items, pairs, graph, keys, graph-pairs}
+use Rattle.pgo_base.specs.Data.{Data, function, pairs, graph, keys, graph-pairs}
 use Rattle.pgo_base.specs.Order.{data_cmp}
-use Rattle.pgo_base.specs.Tree.{Tree, name, primed, number, text, truth, at, word, unary, binary, product, cond_of, case_of, case_other, let_in, quantified, choose, tuple, set_of, filter_of, image, fun_of, fun_set, record_of, record_set, except, index, field, call, unchanged, Trees, no_trees, more_trees, no_bound, more_bound}
+use Rattle.pgo_base.specs.Tree.{Tree, name, primed, number, text, truth, at, word, unary, binary, product, cond_of, case_of, case_other, let_in, quantified, choose, tuple, set_of, filter_of, image, fun_of, fun_set, record_of, record_set, except, index, field, call, unchanged, no_bound, more_bound}
 use Rattle.pgo_base.specs.Lookup.{Name, Names}
-use Rattle.pgo_model.specs.Operators.{or3, and3, not3, any3, all3, both, each, truth_of, from_truth, is_member, members_of, choices, put_at, lookup, replace_at, function_of, function_from, pairs_in_order, insert_pair, where_few, most_members}
-use Rattle.pgo_model.specs.FunctionSets.{choice_count}
-use Rattle.pgo_model.specs.Val.{Scope, Sem, sem, val, plain, binary_value, with_name, with_names, quantify, some_of, every_of, over_each, function_over, index_of, name_values}
+use Rattle.pgo_model.specs.Operators.{both, each, truth_of, from_truth, members_of, choices, put_at, lookup, replace_at, function_of, function_from, pairs_in_order, insert_pair, where_few, most_members}
+use Rattle.pgo_model.specs.Val.{Scope, Sem, sem, val, plain, binary_value, with_name, with_names, some_of, every_of, over_each, function_over, index_of, name_values}
 use Rattle.pgo_model.specs.Plain.{IsPlain, is_plain_operator}
 use Rattle.pgo_model.specs.Over.{over_members, paired_with, placed, placed_where}
 

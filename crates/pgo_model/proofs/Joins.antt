@@ -1,5 +1,5 @@
 -- A quantifier over members, from the first on.
-use Rattle.std.proofs.Common.{◌≡◌, ℕ, ◌<◌, ◌+◌, suc, List, [], ◌∷◌, length, map, get_or, drop, refl, ap, sym, ◌∙◌, add-one, drop-cons}
+use Rattle.std.proofs.Common.{◌≡◌, ℕ, ◌<◌, ◌+◌, suc, List, ◌∷◌, length, map, get_or, drop, refl, ap, sym, ◌∙◌, add-one, drop-cons}
 use Rattle.std.specs.Prelude.{Bool, true, false, Option, Some, None}
 use Rattle.pgo_base.specs.declared.expr.Quantifier.{Quantifier}
 use Rattle.pgo_base.specs.declared.expr.Quantifier.TheVariants as quantifiers

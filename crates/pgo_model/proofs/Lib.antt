@@ -8,4 +8,4 @@ pub mod Joins
 pub mod InLists
 pub mod Actions
 pub mod Stored
-pub mod RunSteps
+pub mod Places

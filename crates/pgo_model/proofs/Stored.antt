@@ -1,12 +1,12 @@
 -- A state with one component changed.
-use Rattle.std.proofs.Common.{◌≡◌, ℕ, zero, suc, ◌<◌, ◌+◌, List, [], ◌∷◌, length, map, get_or, set, refl, ap, sym, ◌∙◌, arith}
+use Rattle.std.proofs.Common.{◌≡◌, ℕ, zero, suc, List, [], ◌∷◌, map, get_or, set, refl, ap, sym, ◌∙◌, arith}
 use Rattle.std.specs.Prelude.{Bool, true, false, if◌then◌else◌, is_some, Option, Some, None, option_map, option_and_then}
 use Rattle.pgo_base.specs.declared.value.Value.{Value}
 use Rattle.pgo_base.specs.Data.{Data, function, pairs, graph-pairs}
 use Rattle.pgo_base.specs.Lookup.{Name, Vars, same_name, find}
 use Rattle.pgo_base.specs.View.{data_of, named_data}
-use Rattle.pgo_model.specs.Log.{Owner, Change, changed, with_part}
-use Rattle.pgo_model.specs.Operators.{lookup, replace_at}
+use Rattle.pgo_model.specs.Log.{Component, Change, content, changed, with_part}
+use Rattle.pgo_model.specs.Operators.{apply, lookup, replace_at}
 use Rattle.pgo_model.specs.Options.{on}
 use Rattle.pgo_model.specs.Section.{store}
 use Rattle.pgo_model.specs.Steps.{place_in}
@@ -73,3 +73,14 @@ none_is (Some a) f o h e = absurd (cc)
 pub some_is : {A : Type 0} (r : Option A) (f : A → Data) (o : Option Data) → is_some r ≡ true → option_map f r ≡ o → (d : Data) × (o ≡ Some d)
 some_is None f o h e = absurd (cc)
 some_is (Some a) f o h e = (f a, sym e)
+
+-- what a variable of pairs has at an index
+pub content_at : (x : Component) (s : Vars) (i : Data) (ps : List (Data × Data)) → x.index ≡ Some i → find x.variable s ≡ Some (function (pairs ps)) → content x s ≡ lookup i ps
+content_at x s i ps e h =
+    ap (λ o. option_and_then (λ v. on (Some v) x.index (λ i. apply v i)) o) h
+    ∙ ap (λ o. on (Some (function (pairs ps))) o (λ i. apply (function (pairs ps)) i)) e ∙ ap (lookup i) (graph-pairs ps)
+
+-- what is seen of a value that may be missing is there where it is
+pub is_some_of : {A B : Type 0} (o : Option A) (f : A → B) (p : Option B) → option_map f o ≡ p → is_some o ≡ is_some p
+is_some_of None f p e = ap is_some e
+is_some_of (Some a) f p e = ap is_some e

@@ -1,7 +1,7 @@
 -- The text of a bundle, version 1: the module, the committed steps, and an account of every attempt.
 use Rattle.std.specs.Prelude.{ℕ, suc, nat_eq, if◌then◌else◌, List, [], ◌∷◌, ◌++◌, length, map, codes, decimal, Option, Some, None}
 use Rattle.pgo_base.specs.Data.{Data}
-use Rattle.pgo_base.specs.Lookup.{Name}
+use Rattle.pgo_base.specs.Lookup.{Name, Vars}
 use Rattle.pgo_model.specs.ValueText.{value_text}
 use Rattle.pgo_model.specs.Outcome.{Kind, Blocked, NoValue, AssertFails}
 use Rattle.pgo_model.specs.Bound.{Bound, Instance, Resource}
@@ -84,15 +84,19 @@ abbrev pub accounts_lines : Bound → Settings → Finished Effect → ℕ → L
 accounts_lines b settings f k [] = []
 accounts_lines b settings f k (i ∷ is) = account_lines b settings f k i ++ accounts_lines b settings f (suc k) is
 
--- the lines of the bundle of what a run leaves
-abbrev pub bundle_lines : Module → List (Name × Data) → Bound → Settings → Finished Effect → ℕ → List Line
-bundle_lines m consts b settings f status =
+-- the lines of a bundle: version, constants, module, start and entries, the lines of the accounts, and the end
+abbrev pub lines_of : Module → List (Name × Data) → Vars → List (Entry Effect) → (accounts : List Line) → (status : ℕ) → List Line
+lines_of m consts start entries accounts status =
     (line (codes "pgo 1") ∷ line (codes "consts " ++ decimal (length consts)) ∷ []) ++ map value_line consts
     ++ (line (codes "module " ++ decimal (length (Text m))) ∷ []) ++ module_lines m
-    ++ (line (codes "init " ++ decimal (length b.start)) ∷ []) ++ map value_line b.start
-    ++ entries_lines 1 f.entries
-    ++ accounts_lines b settings f 0 b.instances
-    ++ (line (codes "end " ++ decimal (length f.entries) ++ codes " " ++ decimal status) ∷ [])
+    ++ (line (codes "init " ++ decimal (length start)) ∷ []) ++ map value_line start
+    ++ entries_lines 1 entries
+    ++ accounts
+    ++ (line (codes "end " ++ decimal (length entries) ++ codes " " ++ decimal status) ∷ [])
+
+-- the lines of the bundle of what a run leaves
+abbrev pub bundle_lines : Module → List (Name × Data) → Bound → Settings → Finished Effect → ℕ → List Line
+bundle_lines m consts b settings f status = lines_of m consts b.start f.entries (accounts_lines b settings f 0 b.instances) status
 
 abbrev pub Bundle : Module → List (Name × Data) → Bound → Settings → Finished Effect → ℕ → List ℕ
 Bundle m consts b settings f status = flatten (bundle_lines m consts b settings f status)

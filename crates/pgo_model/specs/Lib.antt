@@ -34,6 +34,7 @@ pub mod ValueText
 pub mod ExprText
 pub mod ModuleText
 pub mod Bundle
+pub mod IsBundle
 pub mod Names
 pub mod ModuleView
 pub mod LogView

@@ -1,5 +1,5 @@
 -- Components, what an entry records, and the states along a journal.
-use Rattle.std.specs.Prelude.{ℕ, zero, suc, Bool, true, false, not, if◌then◌else◌, List, [], ◌∷◌, ◌++◌, Option, Some, None, option_and_then, option_map}
+use Rattle.std.specs.Prelude.{ℕ, zero, suc, Bool, true, false, not, ◌&&◌, if◌then◌else◌, List, [], ◌∷◌, ◌++◌, Option, Some, None, option_and_then, option_map, is_some}
 use Rattle.pgo_base.specs.Data.{Data, string, function, pairs, graph}
 use Rattle.pgo_base.specs.Lookup.{Name, Vars, find}
 use Rattle.pgo_model.specs.Operators.{same_data, apply, lookup, replace_at}
@@ -32,6 +32,12 @@ pub record Effect : Type 0 where
   pub next : Name
   pub changes : List Change
   pub prints : List Data
+
+-- a log: the identifiers of the instances by number, the state before the first entry, and the entries
+pub record Log : Type 0 where
+  pub ids : List Data
+  pub start : Vars
+  pub entries : List (Entry Effect)
 
 -- what a component has in a state
 abbrev pub content : Component → Vars → Option Data
@@ -92,8 +98,18 @@ abbrev pub after_changes : List Change → Vars → Option Vars
 after_changes [] s = Some s
 after_changes (c ∷ cs) s = option_and_then (after_changes cs) (changed c s)
 
+-- whether a component is in a state
+abbrev pub is_in : Component → Vars → Bool
+is_in c s = is_some (content c s)
+
+-- whether each changed component is in a state
+abbrev pub are_in : List Change → Vars → Bool
+are_in [] s = true
+are_in (c ∷ cs) s = is_in c.component s && are_in cs s
+
+-- the state after an entry: none where a changed component isn't in the state before it; of changes of one component the last holds
 abbrev pub After : Vars → Effect → Option Vars
-After s e = after_changes e.changes s
+After s e = if are_in e.changes s then after_changes e.changes s else None
 
 -- the state after the first n entries
 abbrev pub StateAt : Vars → List (Entry Effect) → ℕ → Option Vars

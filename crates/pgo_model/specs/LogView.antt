@@ -1,12 +1,13 @@
 -- A log as it lies in memory, as the entries that it stands for.
-use Rattle.std.specs.Prelude.{List, [], map, option_map}
+use Rattle.std.specs.Prelude.{[], map, option_map}
 use Rattle.pgo_base.specs.View.{data_of}
 use Rattle.pgo_base.specs.declared.log.Owner as base_owner
 use Rattle.pgo_base.specs.declared.log.Owner.TheVariants as base_owners
 use Rattle.pgo_base.specs.declared.log.Component as base_component
 use Rattle.pgo_base.specs.declared.log.Change as base_change
 use Rattle.pgo_base.specs.declared.log.Entry as base_entry
-use Rattle.pgo_model.specs.Log.{Owner, OfResource, OfInstance, Unowned, Component, Change, Effect}
+use Rattle.pgo_base.specs.declared.log.Log as base_log
+use Rattle.pgo_model.specs.Log.{Owner, OfResource, OfInstance, Unowned, Component, Change, Effect, Log}
 use Rattle.pgo_model.specs.Machine.{Entry}
 
 abbrev pub owner_view : base_owner.Owner → Owner
@@ -27,3 +28,6 @@ entry_view e = record {
   attempt = e.attempt;
   change = record { label = e.label; next = e.next; changes = map change_view e.changes; prints = [] };
 }
+
+abbrev pub log_view : base_log.Log → Log
+log_view l = record { ids = l.ids; start = l.start; entries = map entry_view l.entries }

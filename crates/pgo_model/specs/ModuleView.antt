@@ -1,5 +1,5 @@
 -- A written module as it lies in memory, as the module that it stands for.
-use Rattle.std.specs.Prelude.{List, map}
+use Rattle.std.specs.Prelude.{map}
 use Rattle.pgo_base.specs.View.{data_of}
 use Rattle.pgo_base.specs.declared.module.Module as base_module
 use Rattle.pgo_base.specs.declared.module.WrittenProcess as base_process

@@ -1,5 +1,5 @@
 -- A truth value or a value for each member of one set.
-use Rattle.std.specs.Prelude.{Bool, true, false, ◌||◌, if◌then◌else◌, List, [], ◌∷◌, Option, Some, None, option_map, option_and_then, map}
+use Rattle.std.specs.Prelude.{Bool, true, false, ◌||◌, if◌then◌else◌, List, [], ◌∷◌, Option, Some, None, option_map, option_and_then}
 use Rattle.pgo_base.specs.declared.expr.Quantifier.{Quantifier}
 use Rattle.pgo_base.specs.declared.expr.Quantifier.TheVariants as quantifiers
 use Rattle.pgo_base.specs.Data.{Data, function, pairs}
@@ -7,7 +7,7 @@ use Rattle.pgo_base.specs.Tree.{Tree}
 use Rattle.pgo_base.specs.Lookup.{Name, same_name}
 use Rattle.pgo_model.specs.Module.{WrittenProcess}
 use Rattle.pgo_model.specs.Operators.{any3, all3, or3, and3, both, each, lookup, replace_at, function_of}
-use Rattle.pgo_model.specs.Val.{Scope, val, with_name, binary_value}
+use Rattle.pgo_model.specs.Val.{Scope, val, binary_value}
 use Rattle.pgo_base.specs.declared.expr.Infix.TheVariants as infixs
 
 -- some member or every member

@@ -18,19 +18,14 @@ IsPlaced None n = Unit {0}
 IsPlaced (Some i) n = i < n
 
 -- the entry is a step from s to t
-pub record Leads (m : Module) (ids : List Data) (s : Vars) (e : Entry Effect) (t : Vars) : Type 0 where
+pub record Leads (m : Module) (consts : List (Name × Data)) (ids : List Data) (s : Vars) (e : Entry Effect) (t : Vars) : Type 0 where
   pub id : Data
   pub identifier : nth ids e.instance ≡ Some id
   pub to : After s e.change ≡ Some t
-  pub acts : Acts m [] e.change.label id s t
+  pub acts : Acts m consts e.change.label id s t
   pub next : place_of id t ≡ Some (string e.change.next)
 
 -- where the entry leads, or it is no step
-abbrev pub LeadsTo : Module → List Data → Vars → Entry Effect → Option Vars → Type 0
-LeadsTo m ids s e (Some t) = Leads m ids s e t
-LeadsTo m ids s e None = (t : Vars) → Leads m ids s e t → ⊥
-
--- each entry is a step from where those before it lead
-abbrev pub Runs : Module → List Data → Vars → List (Entry Effect) → Type 0
-Runs m ids s [] = Unit {0}
-Runs m ids s (e ∷ l) = (t : Vars) × (Leads m ids s e t) × (Runs m ids t l)
+abbrev pub LeadsTo : Module → List (Name × Data) → List Data → Vars → Entry Effect → Option Vars → Type 0
+LeadsTo m consts ids s e (Some t) = Leads m consts ids s e t
+LeadsTo m consts ids s e None = (t : Vars) → Leads m consts ids s e t → ⊥

@@ -5,7 +5,7 @@ ghost use Rattle.pgo_model.specs.ModuleView.{module_view};
 ghost use Rattle.pgo_model.specs.Plain.{IsPlain, IsPlainName, IsPlainBinder, IsPlainModule, is_plain_operator};
 
 use pgo_base::expr::{Arms, Binders, Expr, Exprs, Infix, Names, Quantifier, Sub, Update, Updates};
-use pgo_base::log::{Change, Changes, Component, Entry, Owner};
+use pgo_base::log::{Change, Changes, Component, Entries, Entry, Ids, Log, Owner};
 use pgo_base::module::{Action, Actions, Definitions, Module, Processes, WrittenProcess};
 use pgo_base::scope::State;
 use pgo_base::text::Text;
@@ -136,14 +136,15 @@ fn exists(alloc: Global, x: &[u8], r: Sub, p: Sub) -> Result<Sub, AllocError>
     )
 }
 
-/// x = 0 /\ y = 0 /\ pc = [self \in ProcSet |-> CASE self \in {1} -> "P_l"]
-fn init(alloc: Global) -> Result<Sub, AllocError>
+/// x = first /\ y = 0 /\ pc = [self \in ProcSet |-> CASE self \in {1} -> "P_l"]
+fn init(alloc: Global, first: Sub) -> Result<Sub, AllocError>
+    requires { IsPlain first }
     ensures { IfOk result (λ e. IsPlain e) }
 {
     let starts = infix(
         alloc,
         Infix::And,
-        infix(alloc, Infix::Equal, named(alloc, b"x")?, number(alloc, 0)?)?,
+        infix(alloc, Infix::Equal, named(alloc, b"x")?, first)?,
         infix(alloc, Infix::Equal, named(alloc, b"y")?, number(alloc, 0)?)?,
     )?;
     let ours = infix(
@@ -165,8 +166,23 @@ fn init(alloc: Global) -> Result<Sub, AllocError>
     infix(alloc, Infix::And, starts, placed)
 }
 
-/// The module.
+/// The module whose counter begins at 0.
 pub fn counter(alloc: Global) -> Result<Module, AllocError>
+    ensures { IfOk result (λ m. IsPlainModule (module_view m)) }
+{
+    module(alloc, number(alloc, 0)?)
+}
+
+/// The module whose counter begins at the constant N.
+pub fn counter_from_constant(alloc: Global) -> Result<Module, AllocError>
+    ensures { IfOk result (λ m. IsPlainModule (module_view m)) }
+{
+    module(alloc, named(alloc, b"N")?)
+}
+
+/// The module whose counter begins at `first`.
+fn module(alloc: Global, first: Sub) -> Result<Module, AllocError>
+    requires { IsPlain first }
     ensures { IfOk result (λ m. IsPlainModule (module_view m)) }
 {
     let action = Action {
@@ -183,19 +199,49 @@ pub fn counter(alloc: Global) -> Result<Module, AllocError>
         constants: Names::from_vec(Vec::new(alloc)),
         definitions: Definitions::new(alloc),
         variables: Names::from_vec(Vec::new(alloc)),
-        init: init(alloc)?,
+        init: init(alloc, first)?,
         processes: Processes::from_vec(vec![in alloc; process]?),
     })
 }
 
 /// The state in which x is this, y is 0, and the one instance stands at P_l.
-pub fn start(alloc: Global, x: i64) -> Result<State, AllocError> {
+fn start(alloc: Global, x: i64) -> Result<State, AllocError> {
     let label = Value::Str(Text::from_slice(alloc, b"P_l")?);
     let place = Fun::from_sorted(vec![in alloc; (Value::Int(1), label)]?);
     let counter = (Text::from_slice(alloc, b"x")?, Value::Int(x));
     let other = (Text::from_slice(alloc, b"y")?, Value::Int(0));
     let places = (Text::from_slice(alloc, b"pc")?, Value::Fun(place));
     Ok(State::from_vec(vec![in alloc; counter, other, places]?))
+}
+
+/// The log of these entries, where x is this at the start.
+pub fn log(alloc: Global, x: i64, entries: Vec<Entry>) -> Result<Log, AllocError> {
+    Ok(Log {
+        ids: Ids::from_vec(vec![in alloc; Value::Int(1)]?),
+        start: start(alloc, x)?,
+        entries: Entries::from_vec(entries),
+    })
+}
+
+/// The change of a variable, or of its value at an index.
+fn change(
+    alloc: Global,
+    variable: &[u8],
+    index: Option<i64>,
+    value: Value,
+) -> Result<Change, AllocError> {
+    let component = Component {
+        variable: Text::from_slice(alloc, variable)?,
+        index: index.map(Value::Int),
+        owner: Owner::Unowned,
+    };
+    Ok(Change { component, value })
+}
+
+/// The change after which the instance of identifier 1 stands at Done.
+fn done(alloc: Global) -> Result<Change, AllocError> {
+    let label = Value::Str(Text::from_slice(alloc, b"Done")?);
+    change(alloc, b"pc", Some(1), label)
 }
 
 /// The entry of an instance at this label, after which this variable is n and the instance of identifier 1 stands at
@@ -208,25 +254,9 @@ pub fn entry(
     n: i64,
     next: &[u8],
 ) -> Result<Entry, AllocError> {
-    let counter = Component {
-        variable: Text::from_slice(alloc, variable)?,
-        index: None,
-        owner: Owner::Unowned,
-    };
-    let place = Component {
-        variable: Text::from_slice(alloc, b"pc")?,
-        index: Some(Value::Int(1)),
-        owner: Owner::Unowned,
-    };
     let mut changes = Changes::new(alloc);
-    changes.push(Change {
-        component: counter,
-        value: Value::Int(n),
-    })?;
-    changes.push(Change {
-        component: place,
-        value: Value::Str(Text::from_slice(alloc, b"Done")?),
-    })?;
+    changes.push(change(alloc, variable, None, Value::Int(n))?)?;
+    changes.push(done(alloc)?)?;
     Ok(Entry {
         instance,
         attempt: 1,
@@ -239,14 +269,30 @@ pub fn entry(
 /// An entry that leaves x as the action says, and y at n.
 pub fn entry_with_other(alloc: Global, n: i64) -> Result<Entry, AllocError> {
     let mut e = entry(alloc, 0, b"P_l", b"x", 1, b"Done")?;
-    let other = Component {
-        variable: Text::from_slice(alloc, b"y")?,
-        index: None,
-        owner: Owner::Unowned,
-    };
-    e.changes.push(Change {
-        component: other,
-        value: Value::Int(n),
-    })?;
+    e.changes.push(change(alloc, b"y", None, Value::Int(n))?)?;
     Ok(e)
+}
+
+/// An entry that puts n in x, and then leaves x as the action says.
+pub fn entry_with_two(alloc: Global, n: i64) -> Result<Entry, AllocError> {
+    let mut e = entry(alloc, 0, b"P_l", b"x", n, b"Done")?;
+    e.changes.push(change(alloc, b"x", None, Value::Int(1))?)?;
+    Ok(e)
+}
+
+/// An entry that makes x a function of 5, changes it at 5, and then leaves x as the action says.
+pub fn entry_through_function(alloc: Global) -> Result<Entry, AllocError> {
+    let map = Fun::from_sorted(vec![in alloc; (Value::Int(5), Value::Int(1))]?);
+    let mut changes = Changes::new(alloc);
+    changes.push(change(alloc, b"x", None, Value::Fun(map))?)?;
+    changes.push(change(alloc, b"x", Some(5), Value::Int(2))?)?;
+    changes.push(change(alloc, b"x", None, Value::Int(1))?)?;
+    changes.push(done(alloc)?)?;
+    Ok(Entry {
+        instance: 0,
+        attempt: 1,
+        label: Text::from_slice(alloc, b"P_l")?,
+        next: Text::from_slice(alloc, b"Done")?,
+        changes,
+    })
 }

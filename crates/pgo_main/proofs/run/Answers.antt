@@ -1,6 +1,6 @@
 -- The words that `pgo` is given are those of the arguments.
 use Rattle.std.proofs.Common.{◌≡◌, subst, ◌∙◌}
-use Rattle.pgo_front.specs.Answers.{AsksNothing, OrNoMemory, Stops, IsRefusal}
+use Rattle.pgo_front.specs.Answers.{AsksNothing, OrNoMemory, Stops, IsRefusal, EndsWell}
 use Rattle.pgo_front.specs.declared.status.Status.TheVariants as status
 use Rattle.pgo_main.proofs.run.Goals as goal
 
@@ -18,3 +18,9 @@ returns-in-Ok-clause-usage g c =
 pub returns-in-Ok-clause-unread : goal.returns-in-Ok-clause-unread
 returns-in-Ok-clause-unread g c =
     subst (λ ws. AsksNothing ws → c.pgo.new.input ≡ c.args.input.now) (c.as_slice.ensures.value ∙ c.in-Ok.ensures.words) c.pgo.ensures.unread
+
+pub returns-in-Ok-clause-fine : goal.returns-in-Ok-clause-fine
+returns-in-Ok-clause-fine g c =
+    subst
+    (λ ws. c.pgo.result ≡ status.Fine → EndsWell ws (g.S.Source.left c.args.input.now) (g.O.Sink.held c.args.out.now) (g.O.Sink.held c.pgo.new.out))
+    (c.as_slice.ensures.value ∙ c.in-Ok.ensures.words) c.pgo.ensures.fine

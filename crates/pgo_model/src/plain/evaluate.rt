@@ -2,15 +2,15 @@
 ghost use Rattle.std.specs.Prelude.{◌≡◌, ℕ, IsTrue, List, [], ◌∷◌, map, Bool, Option, Some, None, option_map, option_and_then, IfOk};
 ghost use Rattle.pgo_base.specs.Data.{Data, function, pairs};
 ghost use Rattle.pgo_base.specs.Lookup.{same_name};
-ghost use Rattle.pgo_base.specs.View.{data_of, pair_of};
+ghost use Rattle.pgo_base.specs.View.{data_of, pair_of, named_data};
 ghost use Rattle.pgo_base.specs.ExprView.{tree, arm_tree, bound_tree, path_tree};
 ghost use Rattle.pgo_base.specs.Tree.{trees, arms, bound, paths, quantified, fun_of, except, index, no_trees, more_trees, no_bound, more_bound, no_paths, more_paths};
 ghost use Rattle.pgo_model.specs.Operators.{members_of, truth_of, put_at, lookup};
-ghost use Rattle.pgo_model.specs.Val.{val, values_of, case_value, with_name, with_part, default_meaning, value_of_name, value_of_primed, call_def, meanings, binary_value, same_variable, same_variables};
+ghost use Rattle.pgo_model.specs.Val.{val, values_of, case_value, with_name, with_part, default_meaning, value_of_name, value_of_primed, call_def, binary_value, same_variable, same_variables};
 ghost use Rattle.pgo_model.specs.Module.{union_of};
 ghost use Rattle.pgo_model.specs.ModuleView.{defined_view, process_view, module_view};
 ghost use Rattle.pgo_model.specs.Plain.{IsPlain, ArePlain, ArePlainArms, IsOnePlain, IsPlainBinder, IsPlainUpdate, IsPlainName, ArePlainDefined, HavePlainIds, is_plain_operator};
-ghost use Rattle.pgo_model.specs.ScopeView.{scope_view, next_view, bare_scope, HavePlainNames};
+ghost use Rattle.pgo_model.specs.ScopeView.{scope_view, next_view, bare_scope, own_meanings, constant_meanings, newest, HavePlainNames};
 ghost use Rattle.pgo_model.specs.Over.{over_members, join, paired_with, ids_of};
 
 use crate::plain::operators::{
@@ -21,6 +21,7 @@ use crate::plain::parts::{
     binary, is_word, only, only_binder, only_update, primed_value, takes_self, unchanged_value,
 };
 use crate::plain::scope::{Defs, Scope};
+use pgo_base::consts::Consts;
 use pgo_base::expr::{Expr, Names, Quantifier, Update};
 use pgo_base::module::{Defined, WrittenProcess};
 use pgo_base::scope::Env;
@@ -108,8 +109,8 @@ fn defined_value<'a>(
     }
 }
 
-/// What a name stands for among the first of a module's own definitions: the newest of the name decides, and its body
-/// sees those before it.
+/// What a name stands for among the constants and, after them, the first of a module's own definitions: the newest of the
+/// name decides, and its body sees those before it.
 #[cycle(evaluate)]
 fn given_value<'a>(
     alloc: Global,
@@ -118,10 +119,10 @@ fn given_value<'a>(
     s: &Scope<'_, '_, 'a>,
 ) -> Result<Option<Value>, AllocError>
     requires { ArePlainDefined (map defined_view ds.now) }
-    ensures { IfOk result (λ o. option_map data_of o ≡ call_def x.now [] (meanings (map defined_view ds.now) s.now.state.now (next_view s.now))) }
+    ensures { IfOk result (λ o. option_map data_of o ≡ call_def x.now [] (own_meanings s.now.consts.now (map defined_view ds.now) s.now.state.now (next_view s.now))) }
 {
     let Some((d, before)) = ds.split_last() else {
-        return default_value(alloc, x);
+        return constant_value(alloc, x, s.consts);
     };
     match d {
         Defined::Given { name, value } => {
@@ -143,7 +144,7 @@ fn given_value<'a>(
     }
 }
 
-/// The value of a definition's body, which sees the definitions before it and no name.
+/// The value of a definition's body, which sees the constants, the definitions before it and no name.
 #[cycle(evaluate)]
 fn body_value<'a>(
     alloc: Global,
@@ -153,7 +154,7 @@ fn body_value<'a>(
 ) -> Result<Option<Value>, AllocError>
     requires plain { IsPlain (tree body.now) }
     requires names { ArePlainDefined (map defined_view before.now) }
-    ensures { IfOk result (λ o. option_map data_of o ≡ val (tree body.now) (bare_scope (map defined_view before.now) s.now.state.now (next_view s.now))) }
+    ensures { IfOk result (λ o. option_map data_of o ≡ val (tree body.now) (bare_scope s.now.consts.now (map defined_view before.now) s.now.state.now (next_view s.now))) }
 {
     let names = Env::new();
     let inner = Scope {
@@ -161,6 +162,7 @@ fn body_value<'a>(
         part: None,
         state: s.state,
         next: s.next,
+        consts: s.consts,
         defs: Defs::First(before),
     };
     value_of(alloc, body, &inner)
@@ -176,7 +178,7 @@ fn process_set<'a>(
 ) -> Result<Option<Value>, AllocError>
     requires plain { HavePlainIds (map process_view processes.now) }
     requires names { ArePlainDefined (map defined_view ds.now) }
-    ensures { IfOk result (λ o. option_map data_of o ≡ val (union_of (map ids_of (map process_view processes.now))) (bare_scope (map defined_view ds.now) s.now.state.now (next_view s.now))) }
+    ensures { IfOk result (λ o. option_map data_of o ≡ val (union_of (map ids_of (map process_view processes.now))) (bare_scope s.now.consts.now (map defined_view ds.now) s.now.state.now (next_view s.now))) }
 {
     let Some((first, rest)) = processes.split_first() else {
         return set_from(Vec::new(alloc));
@@ -312,6 +314,7 @@ pub fn value_with(
         part: s.part,
         state: s.state,
         next: s.next,
+        consts: s.consts,
         defs: s.defs,
     };
     value_of(alloc, e, &inner)
@@ -426,6 +429,7 @@ fn part_value(
         part: value_at(f.pairs(), i),
         state: s.state,
         next: s.next,
+        consts: s.consts,
         defs: s.defs,
     };
     value_of(alloc, e, &inner)
@@ -466,6 +470,29 @@ fn joined(q: Quantifier, a: Option<bool>, b: Option<bool>) -> Option<bool>
     match q {
         Quantifier::Exists => either(a, b),
         Quantifier::Forall => conjunction(a, b),
+    }
+}
+
+/// The value of the last constant of the name.
+fn constant<'a>(x: &Text, list: &'a [(Text, Value)]) -> Option<&'a Value>
+    ensures { option_map (λ r. data_of r.now) result ≡ newest x.now (map named_data list.now) None }
+{
+    let mut found = None;
+    for c in list {
+        if x.is(&c.0) {
+            found = Some(&c.1);
+        }
+    }
+    found
+}
+
+/// What a name stands for among the constants.
+fn constant_value(alloc: Global, x: &Text, consts: &Consts) -> Result<Option<Value>, AllocError>
+    ensures { IfOk result (λ o. option_map data_of o ≡ call_def x.now [] (constant_meanings consts.now)) }
+{
+    match constant(x, consts.as_slice()) {
+        Some(v) => Ok(Some(v.copy(alloc)?)),
+        None => default_value(alloc, x),
     }
 }
 

@@ -1,23 +1,23 @@
-// The states along a log, and whether a log is a run of a module.
-ghost use Rattle.std.specs.Prelude.{◌≡◌, ◌<◌, ◌↔◌, ◌∷◌, [], ℕ, length, IsTrue, map, Option, Some, None, option_map, IfOk};
+// The state that an entry of a log leads to.
+ghost use Rattle.std.specs.Prelude.{◌≡◌, ◌<◌, ◌↔◌, ◌∷◌, [], ℕ, if◌then◌else◌, length, IsTrue, map, Option, Some, None, option_map, IfOk};
 ghost use Rattle.pgo_base.specs.Lookup.{find};
 ghost use Rattle.pgo_base.specs.View.{data_of, named_data};
 ghost use Rattle.pgo_base.specs.Data.{string};
 ghost use Rattle.pgo_model.specs.Acts.{Acts};
 ghost use Rattle.pgo_model.specs.Declares.{place_of};
-ghost use Rattle.pgo_model.specs.IsRun.{IsRun};
-ghost use Rattle.pgo_model.specs.Log.{after_changes, changed, with_part};
-ghost use Rattle.pgo_model.specs.LogView.{change_view, entry_view};
+ghost use Rattle.pgo_model.specs.Log.{after_changes, are_in, changed, is_in, with_part};
+ghost use Rattle.pgo_model.specs.LogView.{change_view, component_view, entry_view};
 ghost use Rattle.pgo_model.specs.Machine.{nth};
 ghost use Rattle.pgo_model.specs.ModuleView.{module_view};
 ghost use Rattle.pgo_model.specs.Options.{on};
 ghost use Rattle.pgo_model.specs.Plain.{IsPlainModule};
 ghost use Rattle.pgo_model.specs.Section.{store};
-ghost use Rattle.pgo_model.specs.Steps.{place_in, LeadsTo, IsPlaced, Runs};
+ghost use Rattle.pgo_model.specs.Steps.{place_in, LeadsTo, IsPlaced};
 
-use crate::plain::module::{acts, begins};
+use crate::plain::module::acts;
 use crate::plain::operators::{replaced, value_at};
-use pgo_base::log::{Change, Entry};
+use pgo_base::consts::Consts;
+use pgo_base::log::{Change, Component, Entry};
 use pgo_base::module::Module;
 use pgo_base::scope::State;
 use pgo_base::text::Text;
@@ -88,8 +88,36 @@ fn changed(alloc: Global, state: State, change: &Change) -> Result<Option<State>
     Ok(Some(State::from_vec(list)))
 }
 
-/// The state after these changes, where each changed component is in it.
-pub fn after(alloc: Global, s: &State, changes: &[Change]) -> Result<Option<State>, AllocError>
+/// Whether a component is in a state.
+fn is_in(component: &Component, s: &State) -> bool
+    ensures { result ≡ is_in (component_view component.now) s.now }
+{
+    let Some(v) = s.find(&component.variable) else {
+        return false;
+    };
+    let Some(index) = &component.index else {
+        return true;
+    };
+    match v {
+        Value::Fun(f) => value_at(f.pairs(), index).is_some(),
+        _ => false,
+    }
+}
+
+/// Whether each changed component is in a state.
+fn are_in(changes: &[Change], s: &State) -> bool
+    ensures { result ≡ are_in (map change_view changes.now) s.now }
+{
+    for c in changes {
+        if !is_in(&c.component, s) {
+            return false;
+        }
+    }
+    true
+}
+
+/// The state with these changes put in one after another, where each finds its component.
+fn after_changes(alloc: Global, s: &State, changes: &[Change]) -> Result<Option<State>, AllocError>
     ensures { IfOk result (λ o. o ≡ after_changes (map change_view changes.now) s.now) }
 {
     let mut state = s.copy(alloc)?;
@@ -100,6 +128,16 @@ pub fn after(alloc: Global, s: &State, changes: &[Change]) -> Result<Option<Stat
         }
     }
     Ok(Some(state))
+}
+
+/// The state after these changes, where each changed component is in the state before them.
+pub fn after(alloc: Global, s: &State, changes: &[Change]) -> Result<Option<State>, AllocError>
+    ensures { IfOk result (λ o. o ≡ if are_in (map change_view changes.now) s.now then after_changes (map change_view changes.now) s.now else None) }
+{
+    if !are_in(changes, s) {
+        return Ok(None);
+    }
+    after_changes(alloc, s, changes)
 }
 
 /// Where the instance with this identifier stands.
@@ -133,15 +171,16 @@ fn is_string(v: Option<&Value>, text: &Text) -> bool
 fn is_step<'a>(
     alloc: Global,
     m: &'a Module,
+    consts: &'a Consts,
     id: &Value,
     s: &'a State,
     e: &Entry,
     t: &'a State,
 ) -> Result<bool, AllocError>
     requires { IsPlainModule (module_view m.now) }
-    ensures { IfOk result (λ b. IsTrue b ↔ (Acts (module_view m.now) [] e.now.label (data_of id.now) s.now t.now × place_of (data_of id.now) t.now ≡ Some (string e.now.next))) }
+    ensures { IfOk result (λ b. IsTrue b ↔ (Acts (module_view m.now) consts.now e.now.label (data_of id.now) s.now t.now × place_of (data_of id.now) t.now ≡ Some (string e.now.next))) }
 {
-    if !acts(alloc, m, &e.label, id, s, t)? {
+    if !acts(alloc, m, consts, &e.label, id, s, t)? {
         return Ok(false);
     }
     let place = place_of(alloc, id, t)?;
@@ -152,12 +191,13 @@ fn is_step<'a>(
 pub fn step(
     alloc: Global,
     m: &Module,
+    consts: &Consts,
     ids: &[Value],
     s: &State,
     e: &Entry,
 ) -> Result<Option<State>, AllocError>
     requires { IsPlainModule (module_view m.now) }
-    ensures { IfOk result (λ o. LeadsTo (module_view m.now) (map data_of ids.now) s.now (entry_view e.now) o) }
+    ensures { IfOk result (λ o. LeadsTo (module_view m.now) consts.now (map data_of ids.now) s.now (entry_view e.now) o) }
 {
     let Some(id) = ids.get(e.instance as usize) else {
         return Ok(None);
@@ -165,47 +205,9 @@ pub fn step(
     let Some(t) = after(alloc, s, e.changes.as_slice())? else {
         return Ok(None);
     };
-    if is_step(alloc, &*m, id, &*s, e, &t)? {
+    if is_step(alloc, &*m, &*consts, id, &*s, e, &t)? {
         Ok(Some(t))
     } else {
         Ok(None)
     }
-}
-
-/// Whether each entry is a step from where those before it lead.
-fn runs(
-    alloc: Global,
-    m: &Module,
-    ids: &[Value],
-    start: &State,
-    entries: &[Entry],
-) -> Result<bool, AllocError>
-    requires { IsPlainModule (module_view m.now) }
-    ensures { IfOk result (λ b. IsTrue b ↔ Runs (module_view m.now) (map data_of ids.now) start.now (map entry_view entries.now)) }
-{
-    let mut before = start.copy(alloc)?;
-    for e in entries {
-        match step(alloc, m, ids, &before, e)? {
-            None => return Ok(false),
-            Some(next) => before = next,
-        }
-    }
-    Ok(true)
-}
-
-/// Whether a log is a run of a module: Init is TRUE of the start, and each entry is a step of its instance.
-pub fn is_run<'a>(
-    alloc: Global,
-    m: &'a Module,
-    ids: &[Value],
-    start: &'a State,
-    entries: &[Entry],
-) -> Result<bool, AllocError>
-    requires { IsPlainModule (module_view m.now) }
-    ensures { IfOk result (λ b. IsTrue b ↔ IsRun (module_view m.now) [] (map data_of ids.now) start.now (map entry_view entries.now)) }
-{
-    if !begins(alloc, m, start)? {
-        return Ok(false);
-    }
-    runs(alloc, m, ids, start, entries)
 }

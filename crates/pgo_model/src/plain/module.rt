@@ -13,6 +13,7 @@ ghost use Rattle.pgo_model.specs.Written.{self_name};
 
 use crate::plain::evaluate::{value_of, value_with};
 use crate::plain::scope::{Defs, Scope};
+use pgo_base::consts::Consts;
 use pgo_base::expr::{Expr, Sub};
 use pgo_base::module::{Action, Module, WrittenProcess};
 use pgo_base::scope::{Env, State};
@@ -31,9 +32,14 @@ fn is_true(v: &Option<Value>) -> bool
 }
 
 /// Whether Init is TRUE of the state.
-pub fn begins<'a>(alloc: Global, m: &'a Module, s: &'a State) -> Result<bool, AllocError>
+pub fn begins<'a>(
+    alloc: Global,
+    m: &'a Module,
+    consts: &'a Consts,
+    s: &'a State,
+) -> Result<bool, AllocError>
     requires { IsPlainModule (module_view m.now) }
-    ensures { IfOk result (λ b. IsTrue b ↔ Begins (module_view m.now) [] s.now) }
+    ensures { IfOk result (λ b. IsTrue b ↔ Begins (module_view m.now) consts.now s.now) }
 {
     let names = Env::new();
     let scope = Scope {
@@ -41,6 +47,7 @@ pub fn begins<'a>(alloc: Global, m: &'a Module, s: &'a State) -> Result<bool, Al
         part: None,
         state: s,
         next: None,
+        consts,
         defs: Defs::All(m),
     };
     let init = value_of(alloc, m.init.get(), &scope)?;
@@ -75,17 +82,18 @@ fn action_in<'a>(name: &Text, processes: &'a [WrittenProcess]) -> Option<&'a Sub
 pub fn acts<'a>(
     alloc: Global,
     m: &'a Module,
+    consts: &'a Consts,
     label: &Text,
     id: &Value,
     s: &'a State,
     t: &'a State,
 ) -> Result<bool, AllocError>
     requires { IsPlainModule (module_view m.now) }
-    ensures { IfOk result (λ b. IsTrue b ↔ Acts (module_view m.now) [] label.now (data_of id.now) s.now t.now) }
+    ensures { IfOk result (λ b. IsTrue b ↔ Acts (module_view m.now) consts.now label.now (data_of id.now) s.now t.now) }
 {
     match action_in(label, m.processes.as_slice()) {
         None => Ok(false),
-        Some(body) => is_step(alloc, m, body.get(), id, s, t),
+        Some(body) => is_step(alloc, m, consts, body.get(), id, s, t),
     }
 }
 
@@ -93,6 +101,7 @@ pub fn acts<'a>(
 fn is_step<'a>(
     alloc: Global,
     m: &'a Module,
+    consts: &'a Consts,
     body: &Expr,
     id: &Value,
     s: &'a State,
@@ -100,7 +109,7 @@ fn is_step<'a>(
 ) -> Result<bool, AllocError>
     requires plain { IsPlain (tree body.now) }
     requires names { HasPlainNames (module_view m.now) }
-    ensures { IfOk result (λ b. IsTrue b ↔ IsTrueOn (module_view m.now) [] ((self_name, Some (data_of id.now)) ∷ []) s.now (Some t.now) (tree body.now)) }
+    ensures { IfOk result (λ b. IsTrue b ↔ IsTrueOn (module_view m.now) consts.now ((self_name, Some (data_of id.now)) ∷ []) s.now (Some t.now) (tree body.now)) }
 {
     let self_name = Text::from_slice(alloc, b"self")?;
     let names = Env::new();
@@ -109,6 +118,7 @@ fn is_step<'a>(
         part: None,
         state: s,
         next: Some(t),
+        consts,
         defs: Defs::All(m),
     };
     let v = value_with(alloc, &self_name, id, body, &scope)?;

@@ -4,8 +4,9 @@ ghost use Rattle.pgo_base.specs.Tree.{bound};
 ghost use Rattle.pgo_model.specs.ModuleView.{module_view};
 ghost use Rattle.pgo_model.specs.Plain.{IsPlain, IsPlainName, IsPlainBinder, IsPlainModule, is_plain_operator};
 
-use crate::plain::log::is_run;
+use crate::plain::log::step;
 use crate::plain::module::{acts, begins};
+use pgo_base::consts::Consts;
 use pgo_base::expr::{Arms, Binders, Expr, Exprs, Infix, Names, Quantifier, Sub, Update, Updates};
 use pgo_base::log::{Change, Changes, Component, Entry, Owner};
 use pgo_base::module::{Action, Actions, Definitions, Module, Processes, WrittenProcess};
@@ -219,39 +220,28 @@ fn entry(alloc: Global, x: i64) -> Result<Entry, AllocError> {
 fn a_step_adds_one(rt: HostRuntime) -> Result<(), Fail> {
     let alloc = rt.alloc();
     let m = counter(alloc)?;
+    let none = Consts::new(alloc);
     let label = Text::from_slice(alloc, b"P_l")?;
+    let id = Value::Int(1);
     let start = state(alloc, 0, b"P_l")?;
-    assert!(rt; begins(alloc, &m, &start)?);
-    assert!(rt;
-        acts(
-            alloc,
-            &m,
-            &label,
-            &Value::Int(1),
-            &start,
-            &state(alloc, 1, b"Done")?
-        )?
-    );
-    assert!(rt;
-        !acts(
-            alloc,
-            &m,
-            &label,
-            &Value::Int(1),
-            &start,
-            &state(alloc, 2, b"Done")?
-        )?
-    );
+    let one = state(alloc, 1, b"Done")?;
+    let two = state(alloc, 2, b"Done")?;
+    assert!(rt; begins(alloc, &m, &none, &start)?);
+    assert!(rt; acts(alloc, &m, &none, &label, &id, &start, &one)?);
+    assert!(rt; !acts(alloc, &m, &none, &label, &id, &start, &two)?);
     Ok(())
 }
 
 #[test]
-fn a_log_of_one_entry(rt: HostRuntime) -> Result<(), Fail> {
+fn an_entry_is_a_step(rt: HostRuntime) -> Result<(), Fail> {
     let alloc = rt.alloc();
     let m = counter(alloc)?;
+    let none = Consts::new(alloc);
+    let ids = [Value::Int(1)];
     let start = state(alloc, 0, b"P_l")?;
-    assert!(rt; is_run(alloc, &m, &[Value::Int(1)], &start, &[entry(alloc, 1)?])?);
-    assert!(rt; !is_run(alloc, &m, &[Value::Int(1)], &start, &[entry(alloc, 2)?])?);
-    assert!(rt; !is_run(alloc, &m, &[Value::Int(1)], &state(alloc, 1, b"P_l")?, &[])?);
+    let good = step(alloc, &m, &none, &ids, &start, &entry(alloc, 1)?)?;
+    let bad = step(alloc, &m, &none, &ids, &start, &entry(alloc, 2)?)?;
+    assert!(rt; good.is_some());
+    assert!(rt; bad.is_none());
     Ok(())
 }

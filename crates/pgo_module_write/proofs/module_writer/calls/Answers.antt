@@ -1,4 +1,4 @@
-use Rattle.pgo_module_write.proofs.ModuleLines.{HasCalls-more}
+use Rattle.pgo_module_write.specs.ModuleLines.{HasCalls-more}
 use Rattle.pgo_module_write.proofs.module_writer.calls.Goals as goal
 
 pub loop-i-preserved : goal.loop-i-preserved

@@ -1,4 +1,4 @@
-use Rattle.pgo_module_write.proofs.ModuleLines.{module_is}
+use Rattle.pgo_module_write.specs.ModuleLines.{module_is}
 use Rattle.pgo_module_write.proofs.module_writer.module_lines.Goals as goal
 
 pub returns : goal.returns

@@ -1,6 +1,6 @@
 use Rattle.std.proofs.Common.{◌++◌, ap}
 use Rattle.std.proofs.lemmas.Result.{IfOk-equal}
-use Rattle.pgo_module_write.proofs.ModuleLines.{sum_lines}
+use Rattle.pgo_module_write.specs.ModuleLines.{sum_lines}
 use Rattle.pgo_module_write.proofs.module_writer.push_action.Goals as goal
 
 pub returns : goal.returns

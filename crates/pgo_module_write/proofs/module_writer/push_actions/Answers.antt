@@ -1,6 +1,6 @@
 use Rattle.std.proofs.Common.{◌∙◌, ◌+◌}
 use Rattle.std.proofs.lemmas.List.{take_rest}
-use Rattle.pgo_module_write.proofs.ModuleLines.{more_actions}
+use Rattle.pgo_module_write.specs.ModuleLines.{more_actions}
 use Rattle.pgo_module_write.proofs.module_writer.push_actions.Goals as goal
 
 pub loop-i-preserved : goal.loop-i-preserved

@@ -1,6 +1,6 @@
 use Rattle.std.proofs.Common.{◌++◌, ap, sym}
 use Rattle.std.proofs.lemmas.Result.{IfOk-equal}
-use Rattle.pgo_module_write.proofs.ModuleLines.{end_lines}
+use Rattle.pgo_module_write.specs.ModuleLines.{end_lines}
 use Rattle.pgo_module_write.proofs.module_writer.push_end.Goals as goal
 
 pub returns : goal.returns

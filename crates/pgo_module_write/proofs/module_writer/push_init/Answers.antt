@@ -1,6 +1,6 @@
 use Rattle.std.proofs.Common.{◌++◌, ap}
 use Rattle.std.proofs.lemmas.Result.{IfOk-equal}
-use Rattle.pgo_module_write.proofs.ModuleLines.{init_lines}
+use Rattle.pgo_module_write.specs.ModuleLines.{init_lines}
 use Rattle.pgo_module_write.proofs.module_writer.push_init.Goals as goal
 
 pub returns : goal.returns

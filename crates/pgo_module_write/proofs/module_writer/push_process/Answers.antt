@@ -1,7 +1,7 @@
 use Rattle.std.proofs.Common.{◌++◌, ap}
 use Rattle.std.proofs.lemmas.Result.{IfOk-equal}
 use Rattle.pgo_counter.specs.Counters.{counter_labels}
-use Rattle.pgo_module_write.proofs.ModuleLines.{process_lines_are}
+use Rattle.pgo_module_write.specs.ModuleLines.{process_lines_are}
 use Rattle.pgo_module_write.proofs.module_writer.push_process.Goals as goal
 
 pub returns : goal.returns

@@ -10,7 +10,7 @@ use Rattle.pgo_model.specs.Val.{val, with_part, with_name, call_def, meanings, b
 use Rattle.pgo_model.specs.Module.{defs_of, union_of}
 use Rattle.pgo_model.specs.ModuleView.{process_view, module_view, defined_view}
 use Rattle.pgo_model.specs.Plain.{IsPlain, ArePlainDefined, HavePlainIds}
-use Rattle.pgo_model.specs.ScopeView.{scope_view, next_view, bare_scope}
+use Rattle.pgo_model.specs.ScopeView.{scope_view, next_view, bare_scope, own_meanings}
 use Rattle.pgo_model.specs.Over.{takes_self, over_members, paired_with, ids_of, union_from, placed}
 use Rattle.pgo_model.specs.Written.{proc_set}
 use Rattle.pgo_model.proofs.Weight.{weight, trees_weight, ids_weight, given_weight, defined_weight}
@@ -27,7 +27,7 @@ pub defined_value-returns-then-takes_self : goal.defined_value-returns-then-take
 defined_value-returns-then-takes_self t c =
     let self : takes_self c.args.x.now (map process_view c.in-All.m.now.processes) ≡ true =
     ap (λ ps. takes_self c.args.x.now (map process_view ps)) (sym c.as_slice.ensures) ∙ sym c.takes_self.ensures ∙ c.if-takes_self.true in
-    rw c.in-All.is (sym (found_self (module_view c.in-All.m.now) c.args.s.now.state.now (next_view c.args.s.now) c.args.x.now c.requires.plain self))
+    rw c.in-All.is (sym (found_self (module_view c.in-All.m.now) c.args.s.now.consts.now c.args.s.now.state.now (next_view c.args.s.now) c.args.x.now c.requires.plain self))
 
 pub defined_value-returns-then-is_word : goal.defined_value-returns-then-is_word
 defined_value-returns-then-is_word t c =
@@ -37,9 +37,9 @@ defined_value-returns-then-is_word t c =
     let self : takes_self c.args.x.now m.processes ≡ false =
     ap (λ ps. takes_self c.args.x.now (map process_view ps)) (sym c.as_slice.ensures) ∙ sym c.takes_self.ensures ∙ c.if-takes_self.false in
     let set : same_name c.args.x.now proc_set ≡ true = sym c.is_word.ensures ∙ c.if-is_word.true in
-    let e : val (union_of (map ids_of (map process_view c.as_slice-then-is_word.result.now))) (bare_scope (map defined_view c.as_slice-then-is_word-2.result.now) now next) ≡ call_def c.args.x.now [] (meanings (defs_of m []) now next) =
-    (λ i. val (union_of (map ids_of (map process_view (c.as_slice-then-is_word.ensures i)))) (bare_scope (map defined_view (c.as_slice-then-is_word-2.ensures i)) now next))
-    ∙ sym (found_set m now next c.args.x.now c.requires.plain self set) in
+    let e : val (union_of (map ids_of (map process_view c.as_slice-then-is_word.result.now))) (bare_scope c.args.s.now.consts.now (map defined_view c.as_slice-then-is_word-2.result.now) now next) ≡ call_def c.args.x.now [] (meanings (defs_of m c.args.s.now.consts.now) now next) =
+    (λ i. val (union_of (map ids_of (map process_view (c.as_slice-then-is_word.ensures i)))) (bare_scope c.args.s.now.consts.now (map defined_view (c.as_slice-then-is_word-2.ensures i)) now next))
+    ∙ sym (found_set m c.args.s.now.consts.now now next c.args.x.now c.requires.plain self set) in
     rw c.in-All.is (subst (λ x. IfOk c.process_set.result (λ o. option_map data_of o ≡ x)) e c.process_set.ensures)
 
 pub defined_value-returns-else-is_word : goal.defined_value-returns-else-is_word
@@ -50,9 +50,9 @@ defined_value-returns-else-is_word t c =
     let self : takes_self c.args.x.now m.processes ≡ false =
     ap (λ ps. takes_self c.args.x.now (map process_view ps)) (sym c.as_slice.ensures) ∙ sym c.takes_self.ensures ∙ c.if-takes_self.false in
     let set : same_name c.args.x.now proc_set ≡ false = sym c.is_word.ensures ∙ c.if-is_word.false in
-    let e : call_def c.args.x.now [] (meanings (map defined_view c.as_slice-in-All.result.now) now next) ≡ call_def c.args.x.now [] (meanings (defs_of m []) now next) =
-    (λ i. call_def c.args.x.now [] (meanings (map defined_view (c.as_slice-in-All.ensures i)) now next))
-    ∙ sym (found_own m now next c.args.x.now c.requires.plain self set) in
+    let e : call_def c.args.x.now [] (own_meanings c.args.s.now.consts.now (map defined_view c.as_slice-in-All.result.now) now next) ≡ call_def c.args.x.now [] (meanings (defs_of m c.args.s.now.consts.now) now next) =
+    (λ i. call_def c.args.x.now [] (own_meanings c.args.s.now.consts.now (map defined_view (c.as_slice-in-All.ensures i)) now next))
+    ∙ sym (found_own m c.args.s.now.consts.now now next c.args.x.now c.requires.plain self set) in
     rw c.in-All.is (subst (λ x. IfOk c.given_value.result (λ o. option_map data_of o ≡ x)) e c.given_value.ensures)
 
 pub function_value-returns-in-None : goal.function_value-returns-in-None
@@ -128,13 +128,13 @@ process_set-body_value-requires-in-loop-p t c =
 
 pub process_set-loop-p-preserved : goal.process_set-loop-p-preserved
 process_set-loop-p-preserved t c =
-    let s = bare_scope (map defined_view c.args.ds.now) c.args.s.now.state.now (next_view c.args.s.now) in
+    let s = bare_scope c.args.s.now.consts.now (map defined_view c.args.ds.now) c.args.s.now.state.now (next_view c.args.s.now) in
     let w : option_map data_of c.in_ok-ids.ids ≡ val c.p-item.result.ids s = c.in_ok-ids.ensures ∙ ap (λ e. val e s) c.get-in-loop-p.ensures in
     c.loop-p.invariant ∙ union_more (option_map data_of c.loop-p.all) (option_map data_of c.in_ok-all-2.all) (option_map data_of c.in_ok-ids.ids) c.in-Some.rest.now c.loop-p.p-index c.p-item.result s c.loop-p-test.true c.p-item.is w c.in_ok-all-2.ensures
 
 pub process_set-returns : goal.process_set-returns
 process_set-returns t c =
-    let s = bare_scope (map defined_view c.args.ds.now) c.args.s.now.state.now (next_view c.args.s.now) in
+    let s = bare_scope c.args.s.now.consts.now (map defined_view c.args.ds.now) c.args.s.now.state.now (next_view c.args.s.now) in
     let rest = map ids_of (map process_view c.in-Some.rest.now) in
     let e = c.in-Some.ensures.cases in
     let first : option_map data_of c.in_ok-all.all ≡ val c.in-Some.first.now.ids s = c.in_ok-all.ensures ∙ ap (λ e. val e s) c.get.ensures in

@@ -82,5 +82,5 @@ invariant-pairs_over-loop-m l =
 
 abbrev pub invariant-process_set-loop-p : goal.invariant-process_set-loop-p
 invariant-process_set-loop-p l =
-    let s = bare_scope (map defined_view l.ds) l.s.state.now (next_view l.s) in
+    let s = bare_scope l.s.consts.now (map defined_view l.ds) l.s.state.now (next_view l.s) in
     union_from (option_map data_of l.initial.all) (map ids_of (map process_view l.rest)) s ≡ union_from (option_map data_of l.all) (map ids_of (map process_view (drop l.p-index l.rest))) s

@@ -1,4 +1,4 @@
-use Rattle.pgo_model.proofs.RunSteps.{string_is}
+use Rattle.pgo_model.proofs.Places.{string_is}
 use Rattle.pgo_model.proofs.plain.log.is_string.Goals as goal
 
 pub returns-in-Str : goal.returns-in-Str

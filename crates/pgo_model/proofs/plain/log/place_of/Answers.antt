@@ -5,7 +5,7 @@ use Rattle.pgo_base.specs.Lookup.{find}
 use Rattle.pgo_base.specs.View.{data_of}
 use Rattle.pgo_model.specs.Operators.{lookup}
 use Rattle.pgo_model.specs.Written.{pc}
-use Rattle.pgo_model.proofs.RunSteps.{place_is}
+use Rattle.pgo_model.proofs.Places.{place_is}
 use Rattle.pgo_model.proofs.plain.log.place_of.Goals as goal
 
 pub returns-in-Fun : goal.returns-in-Fun

@@ -1,0 +1,195 @@
+-- Numbers and names: what the readers give, and what they are given by.
+use Rattle.std.proofs.Common.{◌≡◌, ◌≤◌, ◌<◌, ◌+◌, ◌*◌, ◌-◌, ◌^◌, ℕ, zero, suc, Bool, true, false, not, ◌&&◌, ◌||◌, cond, nat_eq, nat_lt, nat_le, IsTrue, List, [], ◌∷◌, ◌++◌, length, get_or, decimal, Some, None, refl, sym, ◌∙◌, ap, subst, arith}
+use Rattle.std.specs.List.{prefix_len}
+use Rattle.std.specs.Int.{IsInRange}
+use Rattle.std.proofs.lemmas.Bool.{eq-eqb, ne_eqb, lt-ltb, ltb-true, ltb-false, le-ltb, le-leb, leb-true, and_parts, and_from, or_parts}
+use Rattle.std.proofs.lemmas.Str.Parse.{IsDigitsTest, FoldsDigits, IsNumeralModel, numerals_by_fold}
+use Rattle.std.proofs.lemmas.Fmt.{digits_decimal, digits_value-decimal, decimal-digits_value, decimal_nonempty, decimal_digit, first_decimal}
+use Rattle.pgo_base.specs.Lookup.{Name}
+use Rattle.pgo_model.specs.ValueText.{is_digit, is_letter, is_word_byte, all_word_bytes, is_identifier}
+use Rattle.pgo_model.specs.IsBundle.{count_limit, is_read_name}
+use Rattle.pgo_log_text.specs.Parsers.{Outcome}
+use Rattle.pgo_log_text.specs.Bytes.{is_apart, front, behind, most, natural_from, is_shortest, natural_of, give, natural, number, name}
+use Rattle.pgo_log_text.proofs.BytesSteps.{if_some, cond_true, cond_false, bind_then, then_at, some_pair, give_some}
+use Rattle.pgo_log_text.proofs.BytesRuns.{Stops, prefix_goes, run_front, run_behind, front_behind, words_run, apart_stops}
+
+-- ---- digits
+
+abbrev all_digits : List ℕ → Bool
+all_digits [] = true
+all_digits (b ∷ bs) = is_digit b && all_digits bs
+
+abbrev value_from : ℕ → List ℕ → ℕ
+value_from n [] = n
+value_from n (b ∷ bs) = value_from (n * 10 + (b - 48)) bs
+
+AreDigits : List ℕ → Type 0
+AreDigits ds = all_digits ds ≡ true
+
+digit_range : (c : ℕ) → is_digit c ≡ true → IsInRange 48 57 c
+digit_range c h = let p = and_parts (nat_le 48 c) (nat_le c 57) h in (leb-true 48 c p.0, leb-true c 57 p.1)
+
+tells : IsDigitsTest AreDigits
+unfolding AreDigits
+tells = record {
+  empty = refl;
+  parts = λ c cs e. let k = and_parts (is_digit c) (all_digits cs) e in (digit_range c k.0, k.1);
+  more = λ c cs k e i. (le-leb 48 c k.0 i && le-leb c 57 k.1 i) && e i;
+}
+
+folds : FoldsDigits value_from
+folds = record { empty = λ n. refl; more = λ n c cs k. refl }
+
+own : IsNumeralModel AreDigits (value_from 0)
+own = numerals_by_fold AreDigits tells value_from folds
+
+-- ---- numbers
+
+-- what digits behind a value were
+record Digits (k : ℕ) (bs : List ℕ) (n : ℕ) : Type 0 where
+  digits : all_digits bs ≡ true
+  value : value_from k bs ≡ n
+  small : k ≤ most → n ≤ most
+
+digits_sound : (k : ℕ) (bs : List ℕ) (n : ℕ) → natural_from k bs ≡ Some n → Digits k bs n
+unfolding natural_from
+digits_sound k [] n e = let same : k ≡ n = cc in record { digits = refl; value = same; small = λ h. subst (λ x. x ≤ most) same h }
+digits_sound k (b ∷ bs) n e =
+    let G : Type 0 = Digits k (b ∷ bs) n in
+    if_some (is_digit b) _ _ n G e
+    (λ d e. if_some (nat_lt most (k * 10 + (b - 48))) _ _ n G e
+    (λ _ e. absurd (cc))
+    (λ s e. let next = digits_sound (k * 10 + (b - 48)) bs n e in
+    record { digits = and_from (is_digit b) (all_digits bs) d next.digits; value = next.value; small = λ _. next.small (ltb-false most (k * 10 + (b - 48)) s) }))
+    (λ _ e. absurd (cc))
+
+value_grows : (k : ℕ) (bs : List ℕ) → k ≤ value_from k bs
+value_grows k [] = omega arith
+value_grows k (b ∷ bs) = let h = value_grows (k * 10 + (b - 48)) bs in omega arith
+
+digits_complete : (k : ℕ) (bs : List ℕ) → all_digits bs ≡ true → value_from k bs ≤ most → natural_from k bs ≡ Some (value_from k bs)
+unfolding natural_from
+digits_complete k [] h s = refl
+digits_complete k (b ∷ bs) h s =
+    let d = and_parts (is_digit b) (all_digits bs) h in
+    let g = value_grows (k * 10 + (b - 48)) bs in
+    cond_true _ _ _ d.0 ∙ cond_false _ _ _ (le-ltb most (k * 10 + (b - 48)) (omega arith)) ∙ digits_complete (k * 10 + (b - 48)) bs d.1 s
+
+shortest_parts : (ds : List ℕ) → is_shortest ds ≡ true → (0 < length ds) × (get_or ds 0 0 ≡ 48 → length ds ≡ 1)
+shortest_parts [] h = absurd (cc)
+shortest_parts (b ∷ []) h = (omega arith, λ e. refl)
+shortest_parts (b ∷ (c ∷ ds)) h = (omega arith, λ e. absurd (differs (nat_eq b 48) h (eq-eqb b 48 e)))
+  where
+    differs : (t : Bool) → not t ≡ true → t ≡ true → ⊥
+    differs true h e = cc
+    differs false h e = cc
+
+shortest_from : (ds : List ℕ) → 0 < length ds → (get_or ds 0 0 ≡ 48 → length ds ≡ 1) → is_shortest ds ≡ true
+shortest_from [] h k = absurd (omega arith)
+shortest_from (b ∷ []) h k = refl
+shortest_from (b ∷ (c ∷ ds)) h k = λ i. not (ne_eqb b 48 (λ e. let l = k e in omega arith) i)
+
+-- digits that are read are those of the number
+decimal_of : (ds : List ℕ) (n : ℕ) → natural_of ds ≡ Some n → (ds ≡ decimal n) × (n < 2 ^ 64)
+unfolding natural_of AreDigits
+decimal_of ds n e =
+    if_some (is_shortest ds) _ _ n ((ds ≡ decimal n) × (n < 2 ^ 64)) e
+    (λ s e. let d = digits_sound 0 ds n e in
+    let p = shortest_parts ds s in
+    let small : n < 2 ^ 64 = let l : n ≤ most = d.small (omega arith) in omega arith in
+    (sym (decimal-digits_value own ds d.digits p.0 p.1 (subst (λ x. x < 2 ^ 64) (sym d.value) small)) ∙ ap decimal d.value, small))
+    (λ _ e. absurd (cc))
+
+decimal_shortest : (n : ℕ) → n < 2 ^ 64 → is_shortest (decimal n) ≡ true
+decimal_shortest zero h = ap is_shortest (decimal_digit 0 (omega arith))
+decimal_shortest (suc n) h =
+    shortest_from (decimal (suc n)) (decimal_nonempty (suc n) h) (λ e. absurd (let l = first_decimal (suc n) (omega arith) h in omega arith))
+
+-- the digits of a number are read
+of_decimal : (n : ℕ) → n < 2 ^ 64 → natural_of (decimal n) ≡ Some n
+unfolding natural_of AreDigits
+of_decimal n h =
+    let v : value_from 0 (decimal n) ≡ n = digits_value-decimal own n h in
+    cond_true _ _ _ (decimal_shortest n h)
+    ∙ digits_complete 0 (decimal n) (digits_decimal own n h) (subst (λ x. x ≤ most) (sym v) (omega arith))
+    ∙ ap Some v
+
+-- the first byte of a number is a digit
+pub decimal_front : (n : ℕ) → n < 2 ^ 64 → (b : ℕ) × (bs : List ℕ) × (decimal n ≡ b ∷ bs) × (48 ≤ b) × (b ≤ 57)
+unfolding AreDigits
+decimal_front n h = go (decimal n) (decimal_nonempty n h) (digits_decimal own n h)
+  where
+    go : (ds : List ℕ) → 0 < length ds → all_digits ds ≡ true → (b : ℕ) × (bs : List ℕ) × (ds ≡ b ∷ bs) × (48 ≤ b) × (b ≤ 57)
+    go [] l d = absurd (omega arith)
+    go (b ∷ bs) l d = let k = digit_range b (and_parts (is_digit b) (all_digits bs) d).0 in (b, bs, refl, k.0, k.1)
+
+pub natural_some : (bs : List ℕ) (n : ℕ) (r : List ℕ) → natural bs ≡ Some (n, r) → (bs ≡ decimal n ++ r) × (n < 2 ^ 64)
+unfolding natural
+natural_some bs n r e =
+    let g = give_some (natural_of (front is_digit bs)) (behind is_digit bs) n r e in
+    let d = decimal_of (front is_digit bs) n g.0 in
+    (front_behind is_digit bs r g.1 ∙ ap (λ l. l ++ r) d.0, d.1)
+
+digits_run : (ds : List ℕ) → all_digits ds ≡ true → prefix_len is_digit ds ≡ length ds
+digits_run [] h = refl
+digits_run (b ∷ bs) h =
+    let p = and_parts (is_digit b) (all_digits bs) h in
+    prefix_goes is_digit b bs p.0 ∙ ap suc (digits_run bs p.1)
+
+no_digit : (b : ℕ) → is_word_byte b ≡ false → is_digit b ≡ false
+no_digit b h = let p = or_parts (is_letter b || is_digit b) (nat_eq b 95) h in (or_parts (is_letter b) (is_digit b) p.0).1
+
+digits_stop : (bs : List ℕ) → Stops is_word_byte bs → Stops is_digit bs
+digits_stop [] h = tt
+digits_stop (b ∷ bs) h = no_digit b h
+
+pub natural_finds : (n : ℕ) (r : List ℕ) → n < 2 ^ 64 → is_apart r ≡ true → natural (decimal n ++ r) ≡ Some (n, r)
+unfolding natural AreDigits
+natural_finds n r h a =
+    let run = digits_run (decimal n) (digits_decimal own n h) in
+    let stop = digits_stop r (apart_stops r a) in
+    (λ i. give (natural_of (run_front is_digit (decimal n) r run stop i)) (run_behind is_digit (decimal n) r run stop i))
+    ∙ (λ i. give (of_decimal n h i) r)
+
+pub number_of : (bs : List ℕ) (n : ℕ) (r : List ℕ) → number bs ≡ Some (n, r) → (bs ≡ decimal n ++ r) × (n < 2 ^ 32)
+unfolding number
+number_of bs n r e =
+    let G : Type 0 = (bs ≡ decimal n ++ r) × (n < 2 ^ 32) in
+    bind_then (natural bs) _ (n, r) G e
+    (λ m i got e. if_some (nat_lt m count_limit) _ _ (n, r) G e
+    (λ s e. let p = some_pair m n i r e in
+    let k = natural_some bs m i got in
+    (k.0 ∙ (λ j. decimal (p.0 j) ++ p.1 j), subst (λ x. x < 2 ^ 32) p.0 (ltb-true m count_limit s)))
+    (λ _ e. absurd (cc)))
+
+pub number_at : (n : ℕ) (r : List ℕ) → n < 2 ^ 32 → is_apart r ≡ true → number (decimal n ++ r) ≡ Some (n, r)
+unfolding number
+number_at n r h a =
+    then_at (natural (decimal n ++ r)) _ (Some (n, r)) n r (natural_finds n r (omega arith) a) (cond_true _ _ _ (lt-ltb n count_limit h))
+
+-- ---- names
+
+pub name_of : (bs : List ℕ) (x : Name) (r : List ℕ) → name bs ≡ Some (x, r) → (bs ≡ x ++ r) × IsTrue (is_read_name x)
+unfolding name
+name_of bs x r e =
+    let G : Type 0 = (bs ≡ x ++ r) × IsTrue (is_read_name x) in
+    if_some (is_read_name (front is_word_byte bs)) _ _ (x, r) G e
+    (λ s e. let p = some_pair (front is_word_byte bs) x (behind is_word_byte bs) r e in
+    (front_behind is_word_byte bs r p.1 ∙ ap (λ l. l ++ r) p.0, subst (λ x. IsTrue (is_read_name x)) p.0 s))
+    (λ _ e. absurd (cc))
+
+name_words : (x : Name) → is_read_name x ≡ true → all_word_bytes x ≡ true
+name_words x h =
+    let p = and_parts (is_identifier x) (nat_le (length x) 512) h in
+    let q = and_parts _ _ p.0 in
+    (and_parts (all_word_bytes x) _ q.0).0
+
+name_there : (x : Name) (f : List ℕ) (b r : List ℕ) → f ≡ x → b ≡ r → is_read_name x ≡ true → cond {A = Outcome Name} (is_read_name f) (Some (f, b)) None ≡ Some (x, r)
+name_there x f b r e g h = (λ i. cond {A = Outcome Name} (is_read_name (e i)) (Some (e i, g i)) None) ∙ cond_true _ _ _ h
+
+pub name_at : (x : Name) (r : List ℕ) → IsTrue (is_read_name x) → is_apart r ≡ true → name (x ++ r) ≡ Some (x, r)
+unfolding name
+name_at x r h a =
+    let run = words_run x (name_words x h) in
+    let stop = apart_stops r a in
+    name_there x _ _ r (run_front is_word_byte x r run stop) (run_behind is_word_byte x r run stop) h

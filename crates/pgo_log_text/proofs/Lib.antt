@@ -1,0 +1,16 @@
+pub mod BytesSteps
+pub mod BytesRuns
+pub mod BytesNumbers
+pub mod BytesStrings
+pub mod BytesValues
+pub mod Bytes
+pub mod Turns
+pub mod LinesFields
+pub mod LinesStart
+pub mod LinesChanges
+pub mod LinesParts
+pub mod LinesEntries
+pub mod LinesAccounts
+pub mod LinesLog
+pub mod LinesBundle
+pub mod BundleRead

@@ -1,0 +1,185 @@
+-- The accounts of a log.
+use Rattle.std.proofs.Common.{◌≡◌, ◌<◌, ◌≤◌, ◌^◌, ◌+◌, ℕ, zero, suc, true, false, List, [], ◌∷◌, ◌++◌, length, map, decimal, Option, Some, None, refl, sym, ap, subst, ◌∙◌, append_assoc, arith}
+use Rattle.std.specs.Prelude.{codes}
+use Rattle.pgo_base.specs.Data.{Data}
+use Rattle.pgo_model.specs.ValueText.{value_text}
+use Rattle.pgo_model.specs.ModuleText.{Line, line, flatten}
+use Rattle.pgo_model.specs.Machine.{Step}
+use Rattle.pgo_model.specs.Core.{End, Done, Stopped, JournalFull, Spent}
+use Rattle.pgo_model.specs.Bundle.{fields, end_text, record_lines}
+use Rattle.pgo_model.specs.IsBundle.{Account, read_accounts_lines, AreCounts, IsReadAccount, AreReadAccounts}
+use Rattle.pgo_log_text.specs.Bytes.{begins}
+use Rattle.pgo_log_text.specs.Lines.{end_word, record_line, records, account, accounts}
+use Rattle.pgo_log_text.proofs.BytesSteps.{if_some, bind_then, then_at, some_pair}
+use Rattle.pgo_log_text.proofs.Bytes.{expect_some}
+use Rattle.pgo_log_text.proofs.LinesFields.{this_number_some, this_number_finds, this_field_some, this_field_finds, number_field_some, number_field_finds, last_number_some, last_number_finds, last_value_some, last_value_finds}
+use Rattle.pgo_log_text.proofs.LinesEntries.{flatten_append}
+use Rattle.pgo_log_text.proofs.LinesParts.{texts, Each, PartText, parts_some, parts_finds}
+
+-- ---- how an instance ended
+
+end_word_some : (bs : List ℕ) (u : Unit {0}) (r : List ℕ) → end_word bs ≡ Some (u, r) → (o : Option End) × (bs ≡ end_text o ++ 32 ∷ r)
+unfolding end_word
+end_word_some bs u r e =
+    let G : Type 0 = (o : Option End) × (bs ≡ end_text o ++ 32 ∷ r) in
+    if_some (begins (codes "done ") bs) _ _ (u, r) G e (λ _ e. (Some Done, expect_some (codes "done ") bs u r e))
+    (λ _ e. if_some (begins (codes "stopped ") bs) _ _ (u, r) G e (λ _ e. (Some Stopped, expect_some (codes "stopped ") bs u r e))
+    (λ _ e. if_some (begins (codes "full ") bs) _ _ (u, r) G e (λ _ e. (Some JournalFull, expect_some (codes "full ") bs u r e))
+    (λ _ e. if_some (begins (codes "spent ") bs) _ _ (u, r) G e (λ _ e. (Some Spent, expect_some (codes "spent ") bs u r e))
+    (λ _ e. (None, expect_some (codes "paused ") bs u r e)))))
+
+end_word_finds : (o : Option End) (r : List ℕ) → end_word (end_text o ++ 32 ∷ r) ≡ Some (tt, r)
+unfolding end_word
+end_word_finds (Some Done) r = refl
+end_word_finds (Some Stopped) r = refl
+end_word_finds (Some JournalFull) r = refl
+end_word_finds (Some Spent) r = refl
+end_word_finds None r = refl
+
+-- ---- records
+
+record_nest : (a n f r : List ℕ) → (line (fields (a ∷ codes "step" ∷ n ∷ [])) ++ f) ++ r ≡ a ++ (codes " step " ++ (n ++ 10 ∷ (f ++ r)))
+record_nest a n f r = simp append_assoc
+
+record_some : (a : ℕ) (bs : List ℕ) (n : ℕ) (r : List ℕ) → record_line a bs ≡ Some (n, r) → (bs ≡ decimal a ++ (codes " step " ++ (decimal n ++ 10 ∷ r))) × (n < 2 ^ 32)
+unfolding record_line
+record_some a bs n r e =
+    let G : Type 0 = (bs ≡ decimal a ++ (codes " step " ++ (decimal n ++ 10 ∷ r))) × (n < 2 ^ 32) in
+    bind_then _ _ _ G e (λ t i x e. bind_then _ _ _ G e (λ u j y e.
+    let number = this_number_some a bs t i x in
+    let last = last_number_some j n r e in
+    (number.0 ∙ ap (λ z. decimal a ++ z) (expect_some (codes " step ") i u j y ∙ ap (λ z. codes " step " ++ z) last.0), last.1)))
+
+record_finds : (a n : ℕ) (r : List ℕ) → a < 2 ^ 32 → n < 2 ^ 32 → record_line a (decimal a ++ (codes " step " ++ (decimal n ++ 10 ∷ r))) ≡ Some (n, r)
+unfolding record_line
+record_finds a n r h k =
+    then_at _ _ _ tt (codes " step " ++ (decimal n ++ 10 ∷ r)) (this_number_finds a (codes " step " ++ (decimal n ++ 10 ∷ r)) h refl) (last_number_finds n r k)
+
+-- the numbers of entries that were read
+record RecordsText (left a : ℕ) (bs r : List ℕ) : Type 0 where
+  steps : List ℕ
+  text_is : bs ≡ flatten (record_lines [] a (map Step steps)) ++ r
+  count : length steps ≡ left
+  read : AreCounts steps
+
+records_some : (left a : ℕ) (bs : List ℕ) (u : Unit {0}) (r : List ℕ) → records left a bs ≡ Some (u, r) → RecordsText left a bs r
+unfolding records
+records_some zero a bs u r e = record { steps = []; text_is = (some_pair tt u bs r e).1; count = refl; read = tt }
+records_some (suc left) a bs u r e =
+    let G : Type 0 = RecordsText (suc left) a bs r in
+    bind_then _ _ _ G e (λ n i got e.
+    let one = record_some a bs n i got in
+    let more = records_some left (suc a) i u r e in
+    let f : List ℕ = flatten (record_lines [] (suc a) (map Step more.steps)) in
+    record {
+      steps = n ∷ more.steps;
+      text_is = one.0 ∙ ap (λ z. decimal a ++ (codes " step " ++ (decimal n ++ 10 ∷ z))) more.text_is ∙ sym (record_nest (decimal a) (decimal n) f r);
+      count = ap (λ k. suc k) more.count;
+      read = (one.1, more.read);
+    })
+
+records_finds : (ns : List ℕ) (left a : ℕ) (r : List ℕ) → left ≡ length ns → a + length ns ≤ 2 ^ 32 → AreCounts ns → records left a (flatten (record_lines [] a (map Step ns)) ++ r) ≡ Some (tt, r)
+unfolding records
+records_finds [] zero a r n room h = refl
+records_finds [] (suc k) a r n room h = absurd (cc)
+records_finds (x ∷ ns) zero a r n room h = absurd (cc)
+records_finds (x ∷ ns) (suc k) a r n room h =
+    let f : List ℕ = flatten (record_lines [] (suc a) (map Step ns)) in
+    let few : k ≡ length ns = cc in
+    let below : a < 2 ^ 32 = omega arith in
+    let rooms : suc a + length ns ≤ 2 ^ 32 = omega arith in
+    ap (records (suc k) a) (record_nest (decimal a) (decimal x) f r)
+    ∙ then_at _ _ _ x (f ++ r) (record_finds a x (f ++ r) below h.0) (records_finds ns k (suc a) r few rooms h.1)
+
+-- ---- an account
+
+abbrev account_lines : ℕ → Account → List Line
+account_lines k a =
+    line (fields (codes "inst" ∷ decimal k ∷ decimal (length a.steps) ∷ end_text a.finish ∷ value_text a.id ∷ [])) ∷ record_lines [] 1 (map Step a.steps)
+
+abbrev account_text : ℕ → Account → List ℕ
+account_text k a = flatten (account_lines k a)
+
+abbrev pub id_of : Account → Data
+id_of a = a.id
+
+account_nest : (k n w v f r : List ℕ) → (line (fields (codes "inst" ∷ k ∷ n ∷ w ∷ v ∷ [])) ++ f) ++ r ≡ codes "inst " ++ (k ++ 32 ∷ (n ++ 32 ∷ (w ++ 32 ∷ (v ++ 10 ∷ (f ++ r)))))
+account_nest k n w v f r = simp append_assoc
+
+account_joined : (b0 b1 b2 b3 b4 b5 k n w v f r : List ℕ) → b0 ≡ codes "inst " ++ b1 → b1 ≡ k ++ 32 ∷ b2 → b2 ≡ n ++ 32 ∷ b3 → b3 ≡ w ++ 32 ∷ b4 → b4 ≡ v ++ 10 ∷ b5 → b5 ≡ f ++ r
+    → b0 ≡ (line (fields (codes "inst" ∷ k ∷ n ∷ w ∷ v ∷ [])) ++ f) ++ r
+account_joined b0 b1 b2 b3 b4 b5 k n w v f r e0 e1 e2 e3 e4 e5 =
+    e0 ∙ ap (λ z. codes "inst " ++ z) (e1 ∙ ap (λ z. k ++ 32 ∷ z) (e2 ∙ ap (λ z. n ++ 32 ∷ z) (e3 ∙ ap (λ z. w ++ 32 ∷ z) (e4 ∙ ap (λ z. v ++ 10 ∷ z) e5)))) ∙ sym (account_nest k n w v f r)
+
+account_some : (k : ℕ) (bs : List ℕ) (v : Data) (r : List ℕ) → account k bs ≡ Some (v, r) → PartText id_of account_text IsReadAccount k bs v r
+unfolding account
+account_some k bs v r h =
+    let G : Data → Type 0 = λ v. PartText id_of account_text IsReadAccount k bs v r in
+    bind_then _ _ _ (G v) h (λ t b1 h0 h. bind_then _ _ _ (G v) h (λ u b2 h1 h. bind_then _ _ _ (G v) h (λ n b3 h2 h. bind_then _ _ _ (G v) h (λ s b4 h3 h.
+    bind_then _ _ _ (G v) h (λ w b5 h4 h. bind_then _ _ _ (G v) h (λ q b6 h5 h.
+    let e1 = this_field_some k b1 u b2 h1 in
+    let e2 = number_field_some b2 n b3 h2 in
+    let e3 = end_word_some b3 s b4 h3 in
+    let e4 = last_value_some b4 w b5 h4 in
+    let e5 = records_some n 1 b5 q b6 h5 in
+    let same = some_pair w v b6 r h in
+    subst G same.0 (record {
+      part = record { id = w; finish = e3.0; steps = e5.steps };
+      seen = refl;
+      text_is = account_joined bs b1 b2 b3 b4 b5 (decimal k) (decimal (length e5.steps)) (end_text e3.0) (value_text w) (flatten (record_lines [] 1 (map Step e5.steps))) r
+          (expect_some (codes "inst ") bs t b1 h0) e1.0 (e2.0 ∙ ap (λ x. decimal x ++ 32 ∷ b3) (sym e5.count)) e3.1 e4.0
+          (e5.text_is ∙ ap (λ z. flatten (record_lines [] 1 (map Step e5.steps)) ++ z) same.1);
+      valid = record { id = e4.1; count = subst (λ x. x < 2 ^ 32) (sym e5.count) e2.1; steps = e5.read };
+    })))))))
+
+account_finds : (k : ℕ) (a : Account) (r : List ℕ) → k < 2 ^ 32 → IsReadAccount a → account k (account_text k a ++ r) ≡ Some (a.id, r)
+unfolding account
+account_finds k a r below h =
+    let f : List ℕ = flatten (record_lines [] 1 (map Step a.steps)) in
+    let b5 : List ℕ = f ++ r in
+    let b4 : List ℕ = value_text a.id ++ 10 ∷ b5 in
+    let b3 : List ℕ = end_text a.finish ++ 32 ∷ b4 in
+    let b2 : List ℕ = decimal (length a.steps) ++ 32 ∷ b3 in
+    let count = h.count in
+    let room : 1 + length a.steps ≤ 2 ^ 32 = omega arith in
+    ap (account k) (account_nest (decimal k) (decimal (length a.steps)) (end_text a.finish) (value_text a.id) f r)
+    ∙ then_at _ _ _ tt b2 (this_field_finds k b2 below)
+    (then_at _ _ _ (length a.steps) b3 (number_field_finds (length a.steps) b3 h.count)
+    (then_at _ _ _ tt b4 (end_word_finds a.finish b4)
+    (then_at _ _ _ a.id b5 (last_value_finds a.id b5 h.id)
+    (then_at _ _ _ tt r (records_finds a.steps (length a.steps) 1 r refl room h.steps) refl))))
+
+account_starts : (k : ℕ) (a : Account) (r : List ℕ) → begins (codes "inst ") (account_text k a ++ r) ≡ true
+account_starts k a r = refl
+
+-- ---- accounts
+
+accounts_texts : (k : ℕ) (as' : List Account) → flatten (read_accounts_lines k as') ≡ texts account_text k as'
+accounts_texts k [] = refl
+accounts_texts k (a ∷ as') = flatten_append (account_lines k a) (read_accounts_lines (suc k) as') ∙ ap (λ z. account_text k a ++ z) (accounts_texts (suc k) as')
+
+are_read : (as' : List Account) → Each IsReadAccount as' → AreReadAccounts as'
+are_read [] h = tt
+are_read (a ∷ as') h = (h.0, are_read as' h.1)
+
+each_read : (as' : List Account) → AreReadAccounts as' → Each IsReadAccount as'
+each_read [] h = tt
+each_read (a ∷ as') h = (h.0, each_read as' h.1)
+
+pub record AccountsText (left k : ℕ) (is : List Data) (bs r : List ℕ) : Type 0 where
+  pub made : List Account
+  pub ids : is ≡ map id_of made
+  pub text_is : bs ≡ flatten (read_accounts_lines k made) ++ r
+  pub few : length made ≤ left
+  pub read : AreReadAccounts made
+
+pub accounts_some : (left k : ℕ) (bs : List ℕ) (is : List Data) (r : List ℕ) → accounts left k [] bs ≡ Some (is, r) → AccountsText left k is bs r
+accounts_some left k bs is r h =
+    let p = parts_some (codes "inst ") account id_of account_text IsReadAccount account_some left k [] bs is r h in
+    record { made = p.behind; ids = p.is_all; text_is = p.text_is ∙ ap (λ z. z ++ r) (sym (accounts_texts k p.behind)); few = p.few; read = are_read p.behind p.each }
+
+pub accounts_finds : (left k : ℕ) (as' : List Account) (r : List ℕ) → length as' ≤ left → k + length as' ≤ 2 ^ 32 → AreReadAccounts as' → begins (codes "inst ") r ≡ false
+    → accounts left k [] (flatten (read_accounts_lines k as') ++ r) ≡ Some (map id_of as', r)
+accounts_finds left k as' r few room h b =
+    ap (λ z. accounts left k [] (z ++ r)) (accounts_texts k as')
+    ∙ parts_finds (codes "inst ") account id_of account_text IsReadAccount (2 ^ 32) account_starts account_finds left k [] as' r few room (each_read as' h) b

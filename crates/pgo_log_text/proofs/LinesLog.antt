@@ -1,0 +1,189 @@
+-- The lines from `init` to `end`: what is read is a log's text, and a log's text is read.
+use Rattle.std.proofs.Common.{◌≡◌, ◌<◌, ◌≤◌, ◌^◌, ◌+◌, ℕ, true, false, ◌&&◌, IsTrue, List, [], ◌∷◌, ◌++◌, length, map, decimal, Some, None, refl, sym, ap, subst, ◌∙◌, append_assoc, arith}
+use Rattle.std.specs.Prelude.{codes}
+use Rattle.std.proofs.lemmas.List.{append-nil, length-map}
+use Rattle.std.proofs.lemmas.Bool.{and_parts, and_from}
+use Rattle.std.proofs.lemmas.Bool.Decides.{nat_tests}
+use Rattle.pgo_base.specs.Data.{Data}
+use Rattle.pgo_base.specs.Lookup.{Name, Vars}
+use Rattle.pgo_model.specs.Machine.{Entry}
+use Rattle.pgo_model.specs.Log.{Effect, Log}
+use Rattle.pgo_model.specs.ModuleText.{Line, line, flatten}
+use Rattle.pgo_model.specs.Bundle.{value_line, entries_lines}
+use Rattle.pgo_model.specs.IsBundle.{is_run_status, all_read, AreReadEntries, Account, AreReadAccounts, read_accounts_lines}
+use Rattle.pgo_log_text.specs.Bytes.{begins, at_end}
+use Rattle.pgo_log_text.specs.Lines.{most_parts, ending, finish, heading, log_and_end}
+use Rattle.pgo_log_text.specs.IsLogText.{log_lines, IsLogText}
+use Rattle.pgo_log_text.proofs.BytesSteps.{if_some, cond_true, bind_then, then_at, some_pair}
+use Rattle.pgo_log_text.proofs.Bytes.{expect_some}
+use Rattle.pgo_log_text.proofs.LinesFields.{this_number_some, this_number_finds, this_field_some, this_field_finds, last_number_some, last_number_finds}
+use Rattle.pgo_log_text.proofs.LinesStart.{start_some, start_finds}
+use Rattle.pgo_log_text.proofs.LinesEntries.{flatten_append, entries_some, entries_finds}
+use Rattle.pgo_log_text.proofs.LinesAccounts.{id_of, accounts_some, accounts_finds}
+
+-- ---- the first line
+
+heading_some : (n : ℕ) (bs : List ℕ) (u : Unit {0}) (r : List ℕ) → heading n bs ≡ Some (u, r) → (bs ≡ codes "init " ++ (decimal n ++ 10 ∷ r)) × (n < 2 ^ 32)
+unfolding heading
+heading_some n bs u r e =
+    let G : Type 0 = (bs ≡ codes "init " ++ (decimal n ++ 10 ∷ r)) × (n < 2 ^ 32) in
+    bind_then _ _ _ G e (λ t i a e. bind_then _ _ _ G e (λ v j b e.
+    let number = this_number_some n i v j b in
+    (expect_some (codes "init ") bs t i a ∙ ap (λ z. codes "init " ++ z) (number.0 ∙ ap (λ z. decimal n ++ z) (expect_some (codes "\n") j u r e)), number.1)))
+
+heading_finds : (n : ℕ) (r : List ℕ) → n < 2 ^ 32 → heading n (codes "init " ++ (decimal n ++ 10 ∷ r)) ≡ Some (tt, r)
+unfolding heading
+heading_finds n r h = then_at _ _ _ tt (10 ∷ r) (this_number_finds n (10 ∷ r) h refl) refl
+
+-- ---- the last line
+
+abbrev last_line : ℕ → ℕ → List ℕ
+last_line n s = codes "end " ++ (decimal n ++ 32 ∷ (decimal s ++ 10 ∷ []))
+
+ends : (bs : List ℕ) → at_end bs ≡ true → bs ≡ []
+ends [] h = refl
+ends (b ∷ bs) h = absurd (cc)
+
+record LastText (n s : ℕ) (bs r : List ℕ) : Type 0 where
+  text_is : bs ≡ last_line n s
+  status : IsTrue (is_run_status s)
+  none : r ≡ []
+
+ending_some : (n : ℕ) (bs : List ℕ) (s : ℕ) (r : List ℕ) → ending n bs ≡ Some (s, r) → (n ≡ s) × (bs ≡ []) × (r ≡ []) × IsTrue (is_run_status s)
+unfolding ending
+ending_some n bs s r e =
+    let G : Type 0 = (n ≡ s) × (bs ≡ []) × (r ≡ []) × IsTrue (is_run_status s) in
+    if_some (is_run_status n && at_end bs) _ _ (s, r) G e
+    (λ t e.
+    let same = some_pair n s bs r e in
+    let tests = and_parts (is_run_status n) (at_end bs) t in
+    let all = ends bs tests.1 in
+    (same.0, all, sym same.1 ∙ all, subst (λ n. IsTrue (is_run_status n)) same.0 tests.0))
+    (λ _ e. absurd (cc))
+
+finish_some : (n : ℕ) (bs : List ℕ) (s : ℕ) (r : List ℕ) → finish n bs ≡ Some (s, r) → LastText n s bs r
+unfolding finish
+finish_some n bs s r e =
+    let G : Type 0 = LastText n s bs r in
+    bind_then _ _ _ G e (λ t i a e. bind_then _ _ _ G e (λ u j b e. bind_then _ _ _ G e (λ m k c e.
+    let steps = this_field_some n i u j b in
+    let status = last_number_some j m k c in
+    let end = ending_some m k s r e in
+    record {
+      text_is = expect_some (codes "end ") bs t i a ∙ ap (λ z. codes "end " ++ z) (steps.0 ∙ ap (λ z. decimal n ++ 32 ∷ z) (status.0 ∙ (λ z. decimal (end.0 z) ++ 10 ∷ end.1 z)));
+      status = end.3;
+      none = end.2;
+    })))
+
+status_small : (s : ℕ) → IsTrue (is_run_status s) → s < 2 ^ 32
+status_small s h = grind (arith, nat_tests)
+
+finish_finds : (n s : ℕ) → n < 2 ^ 32 → IsTrue (is_run_status s) → finish n (last_line n s) ≡ Some (s, [])
+unfolding finish ending
+finish_finds n s h k =
+    then_at _ _ _ tt (decimal s ++ 10 ∷ []) (this_field_finds n (decimal s ++ 10 ∷ []) h)
+    (then_at _ _ _ s [] (last_number_finds s [] (status_small s k))
+    (cond_true (is_run_status s && true) (Some (s, [])) None (and_from (is_run_status s) true k refl)))
+
+-- ---- the whole
+
+lines_nest : (a b c e : List Line) → flatten (a ++ b ++ c ++ e) ≡ flatten a ++ (flatten b ++ (flatten c ++ flatten e))
+lines_nest a b c e = simp (flatten_append, append_assoc)
+
+first_nest : (n r : List ℕ) → line (codes "init " ++ n) ++ r ≡ codes "init " ++ (n ++ 10 ∷ r)
+first_nest n r = simp append_assoc
+
+last_nest : (n s : List ℕ) → line (codes "end " ++ n ++ codes " " ++ s) ++ [] ≡ codes "end " ++ (n ++ 32 ∷ (s ++ 10 ∷ []))
+last_nest n s =
+    ap (λ z. codes "end " ++ z) (append-nil (n ++ codes " " ++ s ++ 10 ∷ []) ∙ append_assoc (n ++ codes " ") s (10 ∷ []) ∙ append_assoc n (codes " ") (s ++ 10 ∷ []))
+
+abbrev log_text : Vars → List (Entry Effect) → List Line → ℕ → List ℕ
+log_text s es as' n =
+    codes "init " ++ (decimal (length s) ++ 10 ∷ (flatten (map value_line s) ++ (flatten (entries_lines 1 es) ++ (flatten as' ++ last_line (length es) n))))
+
+log_nest : (s : Vars) (es : List (Entry Effect)) (as' : List Line) (n : ℕ) → flatten (log_lines s es as' n) ≡ log_text s es as' n
+log_nest s es as' n =
+    let end : Line = line (codes "end " ++ decimal (length es) ++ codes " " ++ decimal n) in
+    let behind : List ℕ = flatten (map value_line s ++ entries_lines 1 es ++ as' ++ end ∷ []) in
+    first_nest (decimal (length s)) behind
+    ∙ ap (λ z. codes "init " ++ (decimal (length s) ++ 10 ∷ z)) (lines_nest (map value_line s) (entries_lines 1 es) as' (end ∷ []))
+    ∙ ap (λ z. codes "init " ++ (decimal (length s) ++ 10 ∷ (flatten (map value_line s) ++ (flatten (entries_lines 1 es) ++ (flatten as' ++ z))))) (last_nest (decimal (length es)) (decimal n))
+
+log_joined : (b0 b1 b2 b3 b4 n v e a l : List ℕ) → b0 ≡ codes "init " ++ (n ++ 10 ∷ b1) → b1 ≡ v ++ b2 → b2 ≡ e ++ b3 → b3 ≡ a ++ b4 → b4 ≡ l
+    → b0 ≡ codes "init " ++ (n ++ 10 ∷ (v ++ (e ++ (a ++ l))))
+log_joined b0 b1 b2 b3 b4 n v e a l e0 e1 e2 e3 e4 = e0 ∙ ap (λ z. codes "init " ++ (n ++ 10 ∷ z)) (e1 ∙ ap (λ z. v ++ z) (e2 ∙ ap (λ z. e ++ z) (e3 ∙ ap (λ z. a ++ z) e4)))
+
+below_most : (n : ℕ) → n ≤ most_parts → n < 2 ^ 32
+below_most n h = omega arith
+
+most_below : (n : ℕ) → n < 2 ^ 32 → n ≤ most_parts
+most_below n h = omega arith
+
+abbrev name_of : Name × Data → Name
+name_of p = p.0
+
+-- what is read is the text of a log
+pub log_some : (names : List Name) (bs : List ℕ) (l : Log) (r : List ℕ) → log_and_end names bs ≡ Some (l, r) → IsLogText bs names l × (r ≡ [])
+unfolding log_and_end
+log_some names bs l r h =
+    let G : Log → Type 0 = λ l. IsLogText bs names l × (r ≡ []) in
+    bind_then _ _ _ (G l) h (λ t b1 h0 h. bind_then _ _ _ (G l) h (λ s b2 h1 h. bind_then _ _ _ (G l) h (λ es b3 h2 h. bind_then _ _ _ (G l) h (λ is b4 h3 h.
+    bind_then _ _ _ (G l) h (λ n b5 h4 h.
+    let e0 = heading_some (length names) bs t b1 h0 in
+    let e1 = start_some names [] b1 s b2 h1 in
+    let e2 = entries_some most_parts 1 b2 es b3 h2 in
+    let e3 = accounts_some most_parts 0 b3 is b4 h3 in
+    let e4 = finish_some (length es) b4 n b5 h4 in
+    let same = some_pair {A = Log} (record { ids = is; start = s; entries = es }) l b5 r h in
+    let vars : map name_of s ≡ names = ap (map name_of) e1.is_all ∙ e1.names_are in
+    let many : length s ≡ length names = sym (length-map s name_of) ∙ ap length vars in
+    subst G same.0 (
+      record {
+        accounts = e3.made;
+        status = n;
+        text_is =
+            log_joined bs b1 b2 b3 b4 (decimal (length s)) (flatten (map value_line s)) (flatten (entries_lines 1 es)) (flatten (read_accounts_lines 0 e3.made)) (last_line (length es) n)
+            (e0.0 ∙ ap (λ k. codes "init " ++ (decimal k ++ 10 ∷ b1)) (sym many))
+            (e1.text_is ∙ ap (λ z. flatten (map value_line z) ++ b2) (sym e1.is_all)) e2.text_is e3.text_is e4.text_is
+            ∙ sym (log_nest s es (read_accounts_lines 0 e3.made) n);
+        variables = vars;
+        ids = e3.ids;
+        variable_count = subst (λ k. k < 2 ^ 32) (sym many) e0.1;
+        entry_count = below_most (length es) e2.few;
+        instance_count = below_most (length e3.made) e3.few;
+        start = subst (λ z. IsTrue (all_read z)) (sym e1.is_all) e1.read;
+        entries = e2.read;
+        read_accounts = e3.read;
+        status_is = e4.status;
+      },
+      sym same.1 ∙ e4.none,
+    ))))))
+
+no_step : (as' : List Account) (r : List ℕ) → begins (codes "step ") (flatten (read_accounts_lines 0 as') ++ (codes "end " ++ r)) ≡ false
+no_step [] r = refl
+no_step (a ∷ as') r = refl
+
+text_finds : (s : Vars) (es : List (Entry Effect)) (as' : List Account) (n : ℕ) → length s < 2 ^ 32 → length es < 2 ^ 32 → length as' < 2 ^ 32
+    → IsTrue (all_read s) → AreReadEntries es → AreReadAccounts as' → IsTrue (is_run_status n)
+    → log_and_end (map name_of s) (log_text s es (read_accounts_lines 0 as') n) ≡ Some (record { ids = map id_of as'; start = s; entries = es }, [])
+unfolding log_and_end
+text_finds s es as' n few_s few_e few_a h e a st =
+    let b4 : List ℕ = last_line (length es) n in
+    let b3 : List ℕ = flatten (read_accounts_lines 0 as') ++ b4 in
+    let b2 : List ℕ = flatten (entries_lines 1 es) ++ b3 in
+    let b1 : List ℕ = flatten (map value_line s) ++ b2 in
+    let room_e : 1 + length es ≤ 2 ^ 32 = omega arith in
+    let room_a : 0 + length as' ≤ 2 ^ 32 = omega arith in
+    then_at _ _ _ tt b1 (ap (λ k. heading k (codes "init " ++ (decimal (length s) ++ 10 ∷ b1))) (length-map s name_of) ∙ heading_finds (length s) b1 few_s)
+    (then_at _ _ _ s b2 (start_finds s [] b2 h)
+    (then_at _ _ _ es b3 (entries_finds most_parts 1 es b3 (most_below (length es) few_e) room_e e (no_step as' (decimal (length es) ++ 32 ∷ (decimal n ++ 10 ∷ []))))
+    (then_at _ _ _ (map id_of as') b4 (accounts_finds most_parts 0 as' b4 (most_below (length as') few_a) room_a a refl)
+    (then_at _ _ _ n [] (finish_finds (length es) n few_e st) refl))))
+
+-- the text of a log is read
+pub log_finds : (names : List Name) (bs : List ℕ) (l : Log) → IsLogText bs names l → log_and_end names bs ≡ Some (l, [])
+log_finds names bs l h =
+    let text = h.text_is ∙ log_nest l.start l.entries (read_accounts_lines 0 h.accounts) h.status in
+    ap (λ ns. log_and_end ns bs) (sym h.variables) ∙ ap (log_and_end (map name_of l.start)) text
+    ∙ text_finds l.start l.entries h.accounts h.status h.variable_count h.entry_count h.instance_count h.start h.entries h.read_accounts h.status_is
+    ∙ ap (λ is. Some (record { ids = is; start = l.start; entries = l.entries }, [])) (sym h.ids)

@@ -1,0 +1,6 @@
+pub mod Parsers
+pub mod Bytes
+pub mod Lines
+pub mod IsLogText
+pub mod Head
+pub mod ReadBundle

@@ -1,0 +1,223 @@
+// A cursor over the bytes of a text.
+ghost use Rattle.std.specs.Prelude.{◌≡◌, ◌≤◌, length, false, []};
+ghost use Rattle.std.specs.List.{prefix_len};
+ghost use Rattle.pgo_model.specs.ValueText as text;
+ghost use Rattle.pgo_log_text.specs.Bytes as spec;
+ghost use Rattle.pgo_log_text.specs.Parsers.{Reads, ReadsAs};
+
+use crate::errors::LogStop;
+use crate::names::{is_read_name, is_word_byte};
+use crate::numbers::{natural_of, negative, positive};
+use pgo_base::text::Text;
+use pgo_counter::names::is_digit;
+use std::alloc::Global;
+use std::marker::Model;
+
+/// The bytes that are still to be read.
+#[derive(Drop)]
+pub struct Cursor<'a> {
+    rest: &'a [u8],
+}
+
+impl<'a> Model for Cursor<'a> {
+    ghost use Rattle.std.specs.Prelude.{List, ℕ};
+
+    ghost Value = { List ℕ };
+
+    ghost view = { λ c. c.rest.now };
+}
+
+/// How many digits stand at the front.
+fn digits_length(bytes: &[u8]) -> usize
+    ensures value { result ≡ prefix_len text.is_digit bytes.now }
+    ensures within { result ≤ length bytes.now }
+{
+    bytes.iter().take_while(|b| is_digit(**b)).count()
+}
+
+/// How many word bytes stand at the front.
+fn word_length(bytes: &[u8]) -> usize
+    ensures value { result ≡ prefix_len text.is_word_byte bytes.now }
+    ensures within { result ≤ length bytes.now }
+{
+    bytes.iter().take_while(|b| is_word_byte(**b)).count()
+}
+
+impl<'a> Cursor<'a> {
+    pub fn new(text: &'a [u8]) -> Cursor<'a>
+        ensures { result ≡ text.now }
+    {
+        Cursor { rest: text }
+    }
+
+    /// Whether these bytes are next.
+    pub fn begins(&self, wanted: &[u8]) -> bool
+        ensures { result ≡ spec.begins wanted.now self.now }
+    {
+        self.rest.starts_with(wanted)
+    }
+
+    /// Whether all is read.
+    pub fn is_at_end(&self) -> bool
+        ensures { result ≡ spec.at_end self.now }
+    {
+        match self.rest {
+            [] => true,
+            [_, ..] => false,
+        }
+    }
+
+    /// These bytes.
+    pub fn expect(&mut self, wanted: &[u8]) -> Result<(), LogStop>
+        ensures { Reads (spec.expect wanted.now self.old) result self.new }
+    {
+        match self.rest.strip_prefix(wanted) {
+            Some(rest) => {
+                self.rest = rest;
+                Ok(())
+            }
+            None => Err(LogStop::BadLog),
+        }
+    }
+
+    /// The next bytes, so many.
+    pub fn take(&mut self, count: u32) -> Result<&'a [u8], LogStop>
+        ensures { ReadsAs (λ s. s.now) (spec.taken count self.old) result self.new }
+    {
+        let count = count as usize;
+        if count > self.rest.len() {
+            return Err(LogStop::BadLog);
+        }
+        let taken = &self.rest[..count];
+        self.rest = &self.rest[count..];
+        Ok(taken)
+    }
+
+    /// A number of 64 bits.
+    #[tactic(auto, unfolding(crate::specs::Bytes::natural))]
+    fn natural(&mut self) -> Result<u64, LogStop>
+        ensures { Reads (spec.natural self.old) result self.new }
+    {
+        let length = digits_length(self.rest);
+        let digits = &self.rest[..length];
+        self.rest = &self.rest[length..];
+        match natural_of(digits) {
+            Some(n) => Ok(n),
+            None => Err(LogStop::BadLog),
+        }
+    }
+
+    /// A number below 2^32.
+    #[tactic(auto, unfolding(crate::specs::Bytes::number))]
+    pub fn number(&mut self) -> Result<u32, LogStop>
+        ensures { Reads (spec.number self.old) result self.new }
+    {
+        match u32::try_from(self.natural()?) {
+            Ok(n) => Ok(n),
+            Err(_) => Err(LogStop::BadLog),
+        }
+    }
+
+    /// A label or a variable.
+    #[tactic(auto, unfolding(crate::specs::Bytes::name))]
+    pub fn name(&mut self, alloc: Global) -> Result<Text, LogStop>
+        ensures { Reads (spec.name self.old) result self.new }
+    {
+        let length = word_length(self.rest);
+        let word = &self.rest[..length];
+        self.rest = &self.rest[length..];
+        if is_read_name(word) {
+            Ok(Text::from_slice(alloc, word)?)
+        } else {
+            Err(LogStop::BadLog)
+        }
+    }
+
+    /// An integer of 64 bits below 0.
+    #[tactic(auto, unfolding(crate::specs::Bytes::below_zero))]
+    fn below_zero(&mut self) -> Result<i64, LogStop>
+        ensures { Reads (spec.below_zero self.old) result self.new }
+    {
+        self.expect(b"-")?;
+        match negative(self.natural()?) {
+            Some(z) => Ok(z),
+            None => Err(LogStop::BadLog),
+        }
+    }
+
+    #[tactic(auto, unfolding(crate::specs::Bytes::from_zero))]
+    fn from_zero(&mut self) -> Result<i64, LogStop>
+        ensures { Reads (spec.from_zero self.old) result self.new }
+    {
+        match positive(self.natural()?) {
+            Some(z) => Ok(z),
+            None => Err(LogStop::BadLog),
+        }
+    }
+
+    /// An integer of 64 bits.
+    #[tactic(auto, unfolding(crate::specs::Bytes::whole))]
+    pub(crate) fn whole(&mut self) -> Result<i64, LogStop>
+        ensures { Reads (spec.whole self.old) result self.new }
+    {
+        if self.begins(b"-") {
+            self.below_zero()
+        } else {
+            self.from_zero()
+        }
+    }
+
+    /// The bytes of a string behind its opening quote.
+    #[tactic(auto, unfolding(crate::specs::Bytes::string_from))]
+    pub(crate) fn string(&mut self, alloc: Global) -> Result<Text, LogStop>
+        ensures { Reads (spec.string_from false [] self.old) result self.new }
+    {
+        let bytes = self.rest;
+        let mut string = Text::new(alloc);
+        let mut escaping = false;
+        for (i, b) in bytes.iter().enumerate() {
+            if escaping {
+                match unescaped(*b) {
+                    Some(c) => {
+                        string.push(c)?;
+                        escaping = false;
+                        continue;
+                    }
+                    None => return Err(LogStop::BadLog),
+                }
+            }
+            if *b == b'"' {
+                self.rest = &bytes[i + 1..];
+                return Ok(string);
+            }
+            if *b == b'\\' {
+                escaping = true;
+                continue;
+            }
+            if !is_printable(*b) {
+                return Err(LogStop::BadLog);
+            }
+            string.push(*b)?;
+        }
+        Err(LogStop::BadLog)
+    }
+}
+
+/// The byte that one behind a `\` stands for.
+fn unescaped(b: u8) -> Option<u8>
+    ensures { result ≡ spec.unescaped b }
+{
+    match b {
+        b'"' => Some(b'"'),
+        b'\\' => Some(b'\\'),
+        b'n' => Some(b'\n'),
+        b't' => Some(b'\t'),
+        _ => None,
+    }
+}
+
+fn is_printable(b: u8) -> bool
+    ensures { result ≡ spec.is_printable b }
+{
+    b' ' <= b && b <= b'~'
+}

@@ -1,0 +1,15 @@
+// A bundle from its text.
+#![tactic(auto)]
+
+mod account;
+pub mod bundle_reader;
+mod cursor;
+mod entry;
+pub mod errors;
+mod field;
+mod lines;
+mod names;
+mod numbers;
+#[cfg(test)]
+mod tests;
+mod value;

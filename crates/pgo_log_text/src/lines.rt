@@ -1,0 +1,100 @@
+// The lines of a bundle from `init` to `end`.
+ghost use Rattle.std.specs.Prelude.{◌≡◌, []};
+ghost use Rattle.pgo_model.specs.IsBundle as is_bundle;
+ghost use Rattle.pgo_base.specs.View.{data_of};
+ghost use Rattle.pgo_model.specs.LogView.{log_view};
+ghost use Rattle.pgo_log_text.specs.Lines as spec;
+ghost use Rattle.pgo_log_text.specs.Parsers.{Reads, ReadsAs};
+
+use crate::account::accounts;
+use crate::cursor::Cursor;
+use crate::entry::entries;
+use crate::errors::LogStop;
+use crate::field::{last_number, last_value, this_field, this_number};
+use pgo_base::log::Log;
+use pgo_base::scope::State;
+use pgo_base::text::Text;
+use pgo_base::value::Value;
+use std::alloc::Global;
+
+/// The line `init` with the number of variables.
+#[tactic(auto, unfolding(crate::specs::Lines::heading))]
+fn heading(cursor: &mut Cursor<'_>, count: usize) -> Result<(), LogStop>
+    ensures { Reads (spec.heading count cursor.old) result cursor.new }
+{
+    cursor.expect(b"init ")?;
+    this_number(cursor, count)?;
+    cursor.expect(b"\n")
+}
+
+/// A variable's line: `name = value`.
+#[tactic(auto, unfolding(crate::specs::Lines::variable_line))]
+fn variable_line(alloc: Global, cursor: &mut Cursor<'_>, name: &Text) -> Result<Value, LogStop>
+    ensures { ReadsAs data_of (spec.variable_line name.now cursor.old) result cursor.new }
+{
+    cursor.expect(name.as_bytes())?;
+    cursor.expect(b" = ")?;
+    last_value(alloc, cursor)
+}
+
+/// The values of these variables at the start.
+fn start(alloc: Global, cursor: &mut Cursor<'_>, names: &[Text]) -> Result<State, LogStop>
+    ensures { Reads (spec.start names.now [] cursor.old) result cursor.new }
+{
+    let mut list = Vec::new(alloc);
+    for name in names {
+        let value = variable_line(alloc, cursor, name)?;
+        list.push((name.copy(alloc)?, value))?;
+    }
+    Ok(State::from_vec(list))
+}
+
+/// Whether this is a status of a run.
+fn is_run_status(status: u32) -> bool
+    ensures { result ≡ is_bundle.is_run_status status }
+{
+    status == 0 || status == 20 || status == 21 || status == 23
+}
+
+/// The status, where nothing stands behind it.
+#[tactic(auto, unfolding(crate::specs::Lines::ending))]
+fn ending(cursor: &mut Cursor<'_>, status: u32) -> Result<u32, LogStop>
+    ensures { Reads (spec.ending status cursor.old) result cursor.new }
+{
+    if is_run_status(status) && cursor.is_at_end() {
+        Ok(status)
+    } else {
+        Err(LogStop::BadLog)
+    }
+}
+
+/// The last line, and nothing behind it.
+#[tactic(auto, unfolding(crate::specs::Lines::finish))]
+fn finish(cursor: &mut Cursor<'_>, steps: usize) -> Result<u32, LogStop>
+    ensures { Reads (spec.finish steps cursor.old) result cursor.new }
+{
+    cursor.expect(b"end ")?;
+    this_field(cursor, steps)?;
+    let status = last_number(cursor)?;
+    ending(cursor, status)
+}
+
+/// The log of a bundle from `init` on, with these variables.
+#[tactic(auto, unfolding(crate::specs::Lines::log_and_end))]
+pub fn log_and_end(alloc: Global, cursor: &mut Cursor<'_>, names: &[Text]) -> Result<Log, LogStop>
+    ensures { ReadsAs log_view (spec.log_and_end names.now cursor.old) result cursor.new }
+{
+    heading(cursor, names.len())?;
+    let start = start(alloc, cursor, names)?;
+    let entries = entries(alloc, cursor)?;
+    let ids = accounts(alloc, cursor)?;
+    finish(cursor, entries.as_slice().len())?;
+    Ok(Log {
+        ids,
+        start,
+        entries,
+    })
+}
+
+#[cfg(test)]
+mod tests;

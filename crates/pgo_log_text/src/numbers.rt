@@ -1,0 +1,66 @@
+// The numbers of a bundle.
+ghost use Rattle.std.specs.Prelude.{◌≡◌};
+ghost use Rattle.pgo_log_text.specs.Bytes as spec;
+
+use pgo_counter::names::is_digit;
+
+/// Whether there is one byte, or some of which the first is no zero.
+fn is_shortest(digits: &[u8]) -> bool
+    ensures { result ≡ spec.is_shortest digits.now }
+{
+    match digits {
+        [] => false,
+        [_] => true,
+        [first, _, ..] => *first != b'0',
+    }
+}
+
+/// The number that digits spell, leading zeros among them, where it has 64 bits.
+#[tactic(auto, unfolding(crate::specs::Bytes::natural_from))]
+fn natural_from(digits: &[u8]) -> Option<u64>
+    ensures { result ≡ spec.natural_from 0 digits.now }
+{
+    let mut value: u128 = 0;
+    for b in digits {
+        if !is_digit(*b) {
+            return None;
+        }
+        value = value * 10 + u128::from(*b - b'0');
+        if value > u128::from(u64::MAX) {
+            return None;
+        }
+    }
+    Some(value as u64)
+}
+
+/// The number that digits without leading zeros spell, where it has 64 bits.
+#[tactic(auto, unfolding(crate::specs::Bytes::natural_of))]
+pub fn natural_of(digits: &[u8]) -> Option<u64>
+    ensures { result ≡ spec.natural_of digits.now }
+{
+    if is_shortest(digits) {
+        natural_from(digits)
+    } else {
+        None
+    }
+}
+
+/// The integer that this number is.
+pub fn positive(n: u64) -> Option<i64>
+    ensures { result ≡ spec.positive n }
+{
+    i64::try_from(n).ok()
+}
+
+/// The integer that this number behind a minus is; there is no `-0`.
+pub fn negative(n: u64) -> Option<i64>
+    ensures { result ≡ spec.negative n }
+{
+    if n == 0 {
+        return None;
+    }
+    match i64::try_from(n - 1) {
+        Ok(z) => Some(-1 - z),
+        Err(_) => None,
+    }
+}

@@ -1,0 +1,9 @@
+pub mod Statements
+pub mod Compared
+pub mod Items
+pub mod Marks
+pub mod Numbers
+pub mod Texts
+pub mod Places
+pub mod Complete
+pub mod ModuleReads
