@@ -122,5 +122,5 @@ coded_graph = coded_list (coded× coded_data coded_data)
 abbrev pub coded_state : Coded (List (List ℕ × Data))
 coded_state = coded_list (coded× (coded_list coded_ℕ) coded_data)
 
-abbrev pub coded_env : Coded (List (List ℕ × Option Data))
-coded_env = coded_list (coded× (coded_list coded_ℕ) (coded_option coded_data))
+abbrev pub coded_bindings : Coded (List (List ℕ × Option Data))
+coded_bindings = coded_list (coded× (coded_list coded_ℕ) (coded_option coded_data))

@@ -1,6 +1,6 @@
 -- The order of values is a total order, and two values that it does not tell apart are one.
-use Rattle.std.specs.Prelude.{◌≡◌, ℕ, zero, suc, ◌≤◌, max, Bool, true, false, ℤ, pos, List, [], ◌∷◌, map, length, refl}
-use Rattle.std.proofs.Common.{arith, ap, sym, ◌∙◌, rules}
+use Rattle.std.specs.Prelude.{◌≡◌, ℕ, zero, suc, ◌≤◌, max, Bool, true, false, ℤ, pos, List, [], ◌∷◌, refl}
+use Rattle.std.proofs.Common.{arith, ap, sym, ◌∙◌}
 use Rattle.std.specs.Cmp.{IsTotalOrder}
 use Rattle.std.specs.Cmp.Lexicographic.{slice_cmp}
 use Rattle.std.specs.declared.cmp.Ordering.{Ordering}

@@ -1,7 +1,6 @@
 // The values of constants.
-ghost use Rattle.std.specs.Prelude.{◌≡◌, [], map, option_map};
-ghost use Rattle.pgo_base.specs.View.{data_of, named_data};
-ghost use Rattle.pgo_base.specs.Lookup.{find};
+ghost use Rattle.std.specs.Prelude.{◌≡◌, [], map};
+ghost use Rattle.pgo_base.specs.View.{named_data};
 
 use crate::text::Text;
 use crate::value::Value;
@@ -50,17 +49,5 @@ impl Consts {
         ensures { map named_data result.now ≡ self.now }
     {
         self.list.as_slice()
-    }
-
-    /// The value of a constant.
-    pub fn find(&self, name: &Text) -> Option<&Value>
-        ensures { option_map (λ r. data_of r.now) result ≡ find name.now self.now }
-    {
-        for p in &self.list {
-            if name.is(&p.0) {
-                return Some(&p.1);
-            }
-        }
-        None
     }
 }

@@ -1,6 +1,7 @@
 // Texts, values and expressions.
 #![tactic(auto)]
 
+pub mod bindings;
 pub mod compare;
 pub mod consts;
 pub mod depth;

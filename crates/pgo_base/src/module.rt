@@ -141,13 +141,13 @@ pub enum Defined {
     },
 }
 
-/// Definitions in order.
+/// Definitions in order; the values of constants may be among them.
 #[derive(Drop)]
-pub struct Definitions {
+pub struct Defs {
     list: Vec<Defined>,
 }
 
-impl Model for Definitions {
+impl Model for Defs {
     ghost use Rattle.std.specs.Prelude.{List};
     ghost use Rattle.pgo_base.specs.declared.module.Defined.{Defined};
     ghost use Rattle.pgo_base.specs.DefinedCode.{coded_definitions};
@@ -159,12 +159,12 @@ impl Model for Definitions {
     ghost view = { λ d. d.list.items };
 }
 
-impl Definitions {
+impl Defs {
     /// No definition.
-    pub fn new(alloc: Global) -> Definitions
+    pub fn new(alloc: Global) -> Defs
         ensures { result ≡ [] }
     {
-        Definitions {
+        Defs {
             list: Vec::new(alloc),
         }
     }
@@ -185,10 +185,10 @@ impl Definitions {
     }
 
     /// These definitions.
-    pub fn from_vec(list: Vec<Defined>) -> Definitions
+    pub fn from_vec(list: Vec<Defined>) -> Defs
         ensures { result ≡ list.items }
     {
-        Definitions { list }
+        Defs { list }
     }
 }
 
@@ -197,7 +197,7 @@ impl Definitions {
 pub struct Module {
     pub name: Text,
     pub constants: Names,
-    pub definitions: Definitions,
+    pub definitions: Defs,
     pub variables: Names,
     pub init: Sub,
     pub processes: Processes,

@@ -1,20 +1,13 @@
-ghost use Rattle.std.specs.Prelude.{◌≡◌, ℕ, List, [], ◌∷◌, Option, Some, None, option_map, map, IfOk};
+// The value of each variable, and what an expression sees.
+ghost use Rattle.std.specs.Prelude.{◌≡◌, option_map, map, IfOk};
 ghost use Rattle.pgo_base.specs.View.{data_of, named_data};
 ghost use Rattle.pgo_base.specs.Lookup.{find};
 
-use crate::expr::{Names, Sub};
+use crate::bindings::Bindings;
 use crate::text::Text;
 use crate::value::Value;
 use std::alloc::{AllocError, Global};
 use std::marker::Model;
-
-/// A definition: its name, its parameters and its body.
-#[derive(Drop)]
-pub struct Definition {
-    pub name: Text,
-    pub params: Names,
-    pub body: Sub,
-}
 
 /// The value of each variable, in order.
 #[derive(Drop)]
@@ -36,36 +29,6 @@ impl Model for State {
     ghost view = { λ s. map named_data s.list.items };
 }
 
-/// The names that an expression sees, the newest first; one without a value is a LET name that has none.
-#[cycle(env)]
-#[derive(Drop)]
-pub struct Env<'a> {
-    link: Link<'a>,
-}
-
-#[cycle(env)]
-#[derive(Drop)]
-enum Link<'a> {
-    Empty,
-    More(&'a Text, Option<&'a Value>, &'a Env<'a>),
-}
-
-impl<'a> Model for Env<'a> {
-    ghost use Rattle.std.specs.Prelude.{List, ℕ, length, Option};
-    ghost use Rattle.pgo_base.specs.Data.{Data};
-    ghost use Rattle.pgo_base.specs.Code.{coded_env};
-
-    ghost Value = { List (List ℕ × Option Data) };
-
-    ghost coded = { coded_env };
-
-    ghost use Rattle.pgo_base.specs.EnvView.{names_of};
-
-    ghost view = { λ e. names_of e.link };
-
-    ghost size = { length };
-}
-
 impl State {
     /// The value of a variable.
     pub fn find(&self, name: &Text) -> Option<&Value>
@@ -80,37 +43,12 @@ impl State {
     }
 }
 
-impl<'a> Env<'a> {
-    pub fn new() -> Env<'a>
-        ensures { result ≡ [] }
-    {
-        Env { link: Link::Empty }
-    }
-
-    /// The names of `outer`, and one more before them.
-    pub fn with(name: &'a Text, value: Option<&'a Value>, outer: &'a Env<'a>) -> Env<'a>
-        ensures { result ≡ (name.entry.now, option_map (λ r. data_of r.now) value.entry) ∷ outer.entry.now }
-    {
-        Env {
-            link: Link::More(name, value, outer),
-        }
-    }
-
-    /// What a name stands for: a value, or none.
-    pub fn find(&self, name: &Text) -> Option<Option<&'a Value>>
-        ensures { option_map (λ o. option_map (λ r. data_of r.now) o) result ≡ find name.now self.now }
-    {
-        match &self.link {
-            Link::Empty => None,
-            Link::More(n, v, outer) => {
-                if name.is(n) {
-                    Some(*v)
-                } else {
-                    outer.find(name)
-                }
-            }
-        }
-    }
+/// What an expression sees beside the definitions: the names in scope, the state, and the next state where there is one.
+#[derive(Clone, Copy)]
+pub struct Env<'names, 'around> {
+    pub names: &'names Bindings<'names>,
+    pub state: &'around State,
+    pub next: Option<&'around State>,
 }
 
 impl State {

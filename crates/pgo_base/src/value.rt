@@ -5,8 +5,10 @@ ghost use Rattle.pgo_base.specs.View.{data_of, pair_of};
 ghost use Rattle.pgo_base.specs.Data.{keys};
 ghost use Rattle.pgo_base.specs.Order.{data_cmp};
 ghost use Rattle.pgo_base.specs.Sets.{in_order};
+ghost use Rattle.pgo_base.specs.Pairs.{pairs_in_order};
 ghost use Rattle.std.specs.List.Sorted.{IsStrictlySortedBy};
 
+use crate::compare::compare;
 use crate::text::Text;
 use std::alloc::{AllocError, Global};
 use std::cmp::Ordering;
@@ -177,6 +179,18 @@ impl Set {
         members.sort()?;
         members.dedup();
         Ok(Set { members })
+    }
+}
+
+impl Fun {
+    /// The function of these pairs of a key and its value, in any order. Of several with one key the left one counts.
+    pub fn from_pairs(pairs: Vec<(Value, Value)>) -> Result<Fun, AllocError>
+        ensures { IfOk result (λ f. f ≡ pairs_in_order (map pair_of pairs.items)) }
+    {
+        let mut pairs = pairs;
+        pairs.sort_by(|a, b| compare(&a.0, &b.0))?;
+        pairs.dedup_by(|next, kept| compare(&next.0, &kept.0).is_eq());
+        Ok(Fun { pairs })
     }
 }
 

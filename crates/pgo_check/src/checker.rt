@@ -4,37 +4,37 @@ ghost use Rattle.pgo_base.specs.View.{data_of};
 ghost use Rattle.pgo_model.specs.IsRun.{IsRun};
 ghost use Rattle.pgo_model.specs.LogView.{entry_view, log_view};
 ghost use Rattle.pgo_model.specs.ModuleView.{module_view};
-ghost use Rattle.pgo_model.specs.Plain.{IsPlainModule};
+ghost use Rattle.pgo_check.specs.Assigned.{SeesItsDefinitions};
 ghost use Rattle.pgo_model.specs.Steps.{IsPlaced};
 ghost use Rattle.pgo_check.specs.Verdict.{Decides, Finds};
 
+use crate::actions::begins;
+use crate::definitions::Assigned;
 use crate::errors::NoMemory;
+use crate::states::step;
 use crate::verdict::{Verdict, Why};
 use pgo_base::consts::Consts;
 use pgo_base::log::{Entry, Log};
 use pgo_base::module::Module;
 use pgo_base::scope::State;
 use pgo_base::value::Value;
-use pgo_model::plain::log::step;
-use pgo_model::plain::module::begins;
 use std::alloc::{AllocError, Global};
 
 /// The place of the first entry that is no step, from 0, where there is one.
 fn first_bad(
     alloc: Global,
-    m: &Module,
-    consts: &Consts,
+    m: &Assigned<'_>,
     ids: &[Value],
     start: &State,
     entries: &[Entry],
 ) -> Result<Option<usize>, AllocError>
-    requires { IsPlainModule (module_view m.now) }
-    ensures found { IfOk result (λ o. Finds (module_view m.now) consts.now (map data_of ids.now) start.now (map entry_view entries.now) o) }
+    requires { SeesItsDefinitions m.now }
+    ensures found { IfOk result (λ o. Finds (module_view m.now.module.now) m.now.consts.now (map data_of ids.now) start.now (map entry_view entries.now) o) }
     ensures within { IfOk result (λ o. IsPlaced o (length entries.now)) }
 {
     let mut before = start.copy(alloc)?;
     for (i, e) in entries.iter().enumerate() {
-        match step(alloc, m, consts, ids, &before, e)? {
+        match step(alloc, m, ids, &before, e)? {
             None => return Ok(Some(i)),
             Some(next) => before = next,
         }
@@ -53,18 +53,18 @@ fn first_bad(
 ///
 /// Source: Specifying Systems, for what a behavior of a module is; the places are this project's choice.
 pub fn check(alloc: Global, m: &Module, consts: &Consts, log: &Log) -> Result<Verdict, NoMemory>
-    requires { IsPlainModule (module_view m.now) }
     ensures decides { let l = log_view log.now in IfOk result (λ v. Decides (module_view m.now) consts.now l.ids l.start l.entries v) }
     ensures exact { let l = log_view log.now in IfOk result (λ v. IsRun (module_view m.now) consts.now l.ids l.start l.entries ↔ v ≡ Verdict.Run (length l.entries)) }
 {
-    if !begins(alloc, m, consts, &log.start)? {
+    let m = Assigned::new(alloc, m, consts)?;
+    if !begins(alloc, &m, &log.start)? {
         return Ok(Verdict::Bad {
             at: 0,
             why: Why::NoInit,
         });
     }
     let entries = log.entries.as_slice();
-    match first_bad(alloc, m, consts, log.ids.as_slice(), &log.start, entries)? {
+    match first_bad(alloc, &m, log.ids.as_slice(), &log.start, entries)? {
         None => Ok(Verdict::Run {
             steps: entries.len() as u64,
         }),

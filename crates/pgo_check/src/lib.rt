@@ -1,8 +1,11 @@
 // Whether a log is a run of a module.
 #![tactic(auto)]
 
+mod actions;
 pub mod checker;
+mod definitions;
 pub mod errors;
+mod states;
 #[cfg(test)]
 mod tests;
 pub mod verdict;

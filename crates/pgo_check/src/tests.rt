@@ -1,6 +1,4 @@
 // What a check finds in logs of a counter.
-ghost use Rattle.pgo_model.specs.ModuleView.{module_view};
-ghost use Rattle.pgo_model.specs.Plain.{IsPlainModule};
 
 mod counter;
 
@@ -19,9 +17,7 @@ use std::alloc::Global;
 use std::test::Fail;
 
 /// The verdict on these entries without constants, where x is this at the start.
-fn verdict(alloc: Global, m: &Module, x: i64, entries: Vec<Entry>) -> Result<Verdict, Fail>
-    requires { IsPlainModule (module_view m.now) }
-{
+fn verdict(alloc: Global, m: &Module, x: i64, entries: Vec<Entry>) -> Result<Verdict, Fail> {
     let none = Consts::new(alloc);
     Ok(check(alloc, m, &none, &log(alloc, x, entries)?)?)
 }

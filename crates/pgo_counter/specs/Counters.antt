@@ -2,11 +2,12 @@
 use Rattle.std.specs.Prelude.{◌+◌, ℕ, pos, Bool, true, false, ◌||◌, List, [], ◌∷◌, map, Some, None}
 use Rattle.pgo_base.specs.declared.expr.Infix.TheVariants as infixs
 use Rattle.pgo_base.specs.declared.expr.Quantifier.TheVariants as quantifiers
-use Rattle.pgo_base.specs.Data.{integer, string, function, pair, no_pairs}
+use Rattle.pgo_base.specs.Data.{integer, string, model, function, pair, no_pairs}
 use Rattle.pgo_base.specs.Tree.{Tree, name, primed, number, text, binary, quantified, set_of, fun_of, case_of, trees, bound, arms}
 use Rattle.pgo_base.specs.Lookup.{Name, Vars}
 use Rattle.pgo_model.specs.Spec.{Spec, Whole, Assign, Labeled, Archetype, ByRef, RefTo, One, Equals}
-use Rattle.pgo_model.specs.Written.{pc, self_name, done, proc_set, written, made}
+use Rattle.pgo_model.specs.Val.{Given}
+use Rattle.pgo_model.specs.Written.{pc, self_name, done, proc_set, default_init_value, written, made}
 use Rattle.pgo_model.specs.Code.{Code, Let, Become, Seq, Goto, place, value_base}
 use Rattle.pgo_model.specs.Bound.{Bound, Instance}
 use Rattle.pgo_model.specs.Module.{Module, stands_at}
@@ -72,7 +73,7 @@ counter_instance c = record { number = 0; id = integer (pos c.id); process = c.p
 abbrev pub counter_bound : Counter → Bound
 counter_bound c = record {
   spec = spec_of c;
-  defs = [];
+  defs = Given default_init_value (model default_init_value) ∷ [];
   instances = counter_instance c ∷ [];
   resources = record { number = 0; global = c.global; index = None } ∷ [];
   start = counter_state c c.start (next_name c c.body);

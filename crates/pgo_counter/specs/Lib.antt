@@ -4,5 +4,4 @@ pub mod NameBytes
 pub mod CounterNames
 pub mod CounterCodes
 pub mod CounterModules
-pub mod PlainCounters
 pub mod FreshNames

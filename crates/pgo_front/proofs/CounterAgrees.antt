@@ -1,13 +1,13 @@
 -- The module of a counter agrees with its bound system: its actions with its sections, its Init with the start.
 use Rattle.std.proofs.Common.{◌≡◌, ℕ, zero, suc, pos, ◌+ℤ◌, Bool, true, false, if◌then◌else◌, List, [], ◌∷◌, map, Option, Some, None, ◌↔◌, refl, sym, ap, ◌∙◌, subst, option_and_then, IsTrue, ◌⊎◌, inl, inr, ◌++◌, append-nil, fold}
 use Rattle.pgo_base.specs.declared.expr.Infix.TheVariants as infixs
-use Rattle.pgo_base.specs.Data.{Data, boolean, integer, string, set, item, no_items}
+use Rattle.pgo_base.specs.Data.{Data, boolean, integer, string, model, set, item, no_items}
 use Rattle.pgo_base.specs.Tree.{Tree, name, primed, text, number, binary, except, index, paths, trees, case_of, arms, fun_of, bound}
 use Rattle.pgo_base.specs.Lookup.{Name, Vars, same_name, find}
 use Rattle.pgo_model.specs.Names.{same_name-self, same_name-is}
 use Rattle.pgo_model.specs.Operators.{apply, put_at, both, on_integers, in_64, fits_i64, set_from, members_of, function_from}
-use Rattle.pgo_model.specs.Val.{Meaning, Scope, arithmetic, call_def, or_else, with_name, val, value_of_name, meanings, meaning_of, Means, function_over, with_names, over_each}
-use Rattle.pgo_model.specs.Written.{pc, self_name, made, written, proc_set, terminating}
+use Rattle.pgo_model.specs.Val.{Meaning, Scope, arithmetic, call_def, or_else, with_name, val, value_of_name, meanings, meaning_of, Given, Means, function_over, with_names, over_each}
+use Rattle.pgo_model.specs.Written.{pc, self_name, made, written, proc_set, terminating, default_init_value}
 use Rattle.pgo_model.specs.Code.{Code, Become, place, value_base}
 use Rattle.pgo_model.specs.Spec.{Labeled, Declaration, Equals}
 use Rattle.pgo_model.specs.Bound.{Instance, sections_of, first_label}
@@ -353,7 +353,7 @@ module _ (c : Counter) (n : Names c) (d w : Data) where
 
   -- what ProcSet sees, and ProcSet
   abbrev first_meanings : List Meaning
-  first_meanings = meanings (Means proc_set [] (proc_set_of (counter_module c)) ∷ []) (state_at c d w) None
+  first_meanings = meanings (Given default_init_value (model default_init_value) ∷ Means proc_set [] (proc_set_of (counter_module c)) ∷ []) (state_at c d w) None
 
   proc_set_value : val (name proc_set) at_start ≡ Some (set (item (id_of c) no_items))
   proc_set_value =

@@ -2,7 +2,6 @@
 ghost use Rattle.std.specs.Prelude.{◌≡◌, IfOk, IfErr};
 ghost use Rattle.pgo_model.specs.LogView.{log_view};
 ghost use Rattle.pgo_model.specs.ModuleView.{module_view};
-ghost use Rattle.pgo_model.specs.Plain.{IsPlainModule};
 ghost use Rattle.pgo_log_text.specs.Head as spec;
 ghost use Rattle.pgo_log_text.specs.Parsers.{ReadsAs};
 ghost use Rattle.pgo_log_text.specs.ReadBundle.{IsReadBundle, IsOnlyBundle, IsRefused, SpellsModule, HasNoModule};
@@ -21,7 +20,8 @@ use std::alloc::Global;
 ///
 /// A text is read where it is, byte for byte, a bundle of version 1 of a module that the counter form can make
 /// (`IsCounterModule`), without constants, whose records are all `step`, and whose values are integers, strings, and
-/// functions on one integer to one of these, in their canonical text. The account of attempts is read for its form alone.
+/// functions on one integer to one of these, in their canonical text. Of the account of attempts the identifiers
+/// are used, and the rest is read for its form alone.
 /// Reading takes time and memory in proportion to the bytes.
 ///
 /// - `BadLog` comes where the text is no such bundle.
@@ -31,7 +31,6 @@ use std::alloc::Global;
 pub fn read_bundle(alloc: Global, text: &[u8]) -> Result<(Module, Consts, Log), LogStop>
     ensures bundle { IfOk result (λ b. IsReadBundle text.now (module_view b.0) b.1 (log_view b.2)) }
     ensures only { IfOk result (λ b. IsOnlyBundle text.now (module_view b.0) b.1 (log_view b.2)) }
-    ensures plain { IfOk result (λ b. IsPlainModule (module_view b.0)) }
     ensures refused { IfErr result (IsRefused text.now) }
 {
     let mut cursor = Cursor::new(text);
@@ -63,7 +62,6 @@ fn module_part<'a>(cursor: &mut Cursor<'a>) -> Result<&'a [u8], LogStop>
 /// The module that the bytes spell.
 fn module_of(alloc: Global, text: &[u8]) -> Result<Module, LogStop>
     ensures ok { IfOk result (λ m. SpellsModule text.now (module_view m)) }
-    ensures plain { IfOk result (λ m. IsPlainModule (module_view m)) }
     ensures refused { IfErr result (HasNoModule text.now) }
 {
     match read_module(alloc, text) {

@@ -3,14 +3,14 @@ use Rattle.std.specs.Prelude.{◌≡◌, true, List, [], ◌∷◌, Option, Some
 use Rattle.pgo_base.specs.Data.{Data, boolean}
 use Rattle.pgo_base.specs.Tree.{Tree}
 use Rattle.pgo_base.specs.Lookup.{Name, Names, Vars, find}
-use Rattle.pgo_model.specs.Val.{meanings, val}
+use Rattle.pgo_model.specs.Val.{Val}
 use Rattle.pgo_model.specs.Module.{Module, actions_of, defs_of}
 use Rattle.pgo_model.specs.Written.{self_name}
 
 -- the expression is TRUE where these names are bound, on a state and, where there is one, the next
 abbrev pub IsTrueOn : Module → List (Name × Data) → Names → Vars → Option Vars → Tree → Type 0
 IsTrueOn m consts names s t e =
-    val e (record { names = names; part = None; now = s; next = t; defs = meanings (defs_of m consts) s t }) ≡ Some (boolean true)
+    Val (defs_of m consts) e names s t ≡ Some (boolean true)
 
 -- Init is TRUE
 abbrev pub Begins : Module → List (Name × Data) → Vars → Type 0

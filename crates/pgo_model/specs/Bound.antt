@@ -1,12 +1,12 @@
 -- A specification with its instances, its resources and its starting state.
 use Rattle.std.specs.Prelude.{ℕ, suc, ◌+◌, Bool, true, false, if◌then◌else◌, List, [], ◌∷◌, ◌++◌, length, map, Option, Some, None, option_map, option_and_then}
-use Rattle.pgo_base.specs.Data.{Data, string}
+use Rattle.pgo_base.specs.Data.{Data, string, model}
 use Rattle.pgo_base.specs.Tree.{Tree}
 use Rattle.pgo_base.specs.Lookup.{Name, Vars, same_name}
 use Rattle.pgo_model.specs.Operators.{both, each, function_from}
 use Rattle.pgo_model.specs.Val.{Defined, Given, meanings, val}
 use Rattle.pgo_model.specs.Spec.{Spec, Process, Archetype, Parameter, ByRef, Argument, RefTo, Identifiers, One, Equals, Declaration}
-use Rattle.pgo_model.specs.Written.{pc, done, written}
+use Rattle.pgo_model.specs.Written.{pc, done, written, default_init_value}
 use Rattle.pgo_model.specs.Code.{Code, sections}
 
 -- one process identifier running one archetype; `bindings` says which global each parameter is
@@ -30,9 +30,9 @@ pub record Bound : Type 0 where
   pub resources : List Resource
   pub start : Vars
 
--- the definitions of a specification, behind its constants
+-- the definitions of a specification, behind its constants and `defaultInitValue`
 abbrev pub defs_with : Spec → List (Name × Data) → List Defined
-defs_with s consts = map (λ c. Given c.0 c.1) consts ++ s.definitions
+defs_with s consts = map (λ c. Given c.0 c.1) consts ++ (Given default_init_value (model default_init_value) ∷ []) ++ s.definitions
 
 -- the value of an expression that names no variable
 abbrev pub closed_value : List Defined → Tree → Option Data

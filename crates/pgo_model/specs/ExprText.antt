@@ -1,6 +1,6 @@
 -- The canonical text of an expression: each operator's application and each open form stands in `( )`, but for the
 -- outermost of a definition's body or of a bullet's item.
-use Rattle.std.specs.Prelude.{ℕ, Bool, true, false, List, [], ◌∷◌, ◌++◌, codes}
+use Rattle.std.specs.Prelude.{ℕ, Bool, true, false, if◌then◌else◌, List, [], ◌∷◌, ◌++◌, codes}
 use Rattle.std.specs.Fmt.{signed_decimal}
 use Rattle.pgo_base.specs.declared.expr.Prefix.{Prefix}
 use Rattle.pgo_base.specs.declared.expr.Infix.{Infix}
@@ -11,8 +11,9 @@ use Rattle.pgo_base.specs.declared.expr.Infix.TheVariants as infixs
 use Rattle.pgo_base.specs.declared.expr.Quantifier.TheVariants as quantifiers
 use Rattle.pgo_base.specs.declared.expr.Word.TheVariants as words
 use Rattle.pgo_base.specs.Tree.{Tree, name, primed, number, text, truth, at, word, unary, binary, product, cond_of, case_of, case_other, let_in, quantified, choose, tuple, set_of, filter_of, image, fun_of, fun_set, record_of, record_set, except, index, field, call, unchanged, Trees, no_trees, more_trees, NamedTrees, no_named, more_named, TreePairs, no_arms, more_arms, BoundTrees, no_bound, more_bound, PathTrees, no_paths, more_paths}
+use Rattle.pgo_base.specs.Data.{string}
 use Rattle.pgo_base.specs.Lookup.{Name}
-use Rattle.pgo_model.specs.ValueText.{string_text, truth_text}
+use Rattle.pgo_model.specs.ValueText.{string_text, truth_text, is_field}
 
 -- none stands after `-` and `~`, one blank after the others
 abbrev pub prefix_text : Prefix → List ℕ
@@ -143,6 +144,9 @@ abbrev mutual
   updates_text (more_paths ps e (more_paths qs f us)) =
       codes "!" ++ path_text ps ++ codes " = " ++ expr_text false e ++ codes ", " ++ updates_text (more_paths qs f us)
 
+  -- an index that is a string of a field's name is written as the field
   pub path_text : Trees → List ℕ
   path_text no_trees = []
+  path_text (more_trees (text s) ts) =
+      (if is_field (string s) then codes "." ++ s else codes "[" ++ string_text s ++ codes "]") ++ path_text ts
   path_text (more_trees t ts) = codes "[" ++ expr_text false t ++ codes "]" ++ path_text ts

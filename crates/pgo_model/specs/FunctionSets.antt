@@ -2,7 +2,8 @@
 -- keys in order, and at each key the members of the set from which the value there comes.
 use Rattle.std.specs.Prelude.{ℕ, ◌*◌, Bool, true, false, ◌&&◌, List, [], ◌∷◌, length, map, Option, Some, option_map, option_and_then}
 use Rattle.pgo_base.specs.Data.{Data, function, graph}
-use Rattle.pgo_model.specs.Operators.{both, each, same_data, contains, where_few, set_from, function_from, pairs_in_order, members_of, sequence_at, choices}
+use Rattle.pgo_base.specs.Pairs.{pairs_in_order}
+use Rattle.pgo_model.specs.Operators.{both, each, same_data, contains, where_few, set_from, function_from, members_of, sequence_at, choices}
 
 -- the keys, each with the members that the value there may be
 abbrev pub Choices : Type 0
@@ -49,7 +50,8 @@ product_choices ss = choices_of (sequence_at 1 ss)
 abbrev pub function_choices : Data → Data → Option Choices
 function_choices x y = both (λ ms ns. Some (map (λ m. (m, ns)) ms)) (members_of x) (members_of y)
 
--- a set of records, whose fields are strings; of a field that stands twice the left one counts
+-- a set of records, whose fields are strings; of a field that stands twice the left one counts, and the other need be
+-- no set
 abbrev pub record_choices : List (Data × Data) → Option Choices
 record_choices ps = choices_of (pairs_in_order ps)
 

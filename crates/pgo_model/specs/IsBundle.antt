@@ -1,5 +1,6 @@
 -- Which texts are bundles of version 1, of which module and log, in the form that is read today: every record is `step`.
--- The account of attempts is read for its form alone. In a text components have no owner and entries no prints.
+-- Of the account of attempts the identifiers are part of the log; the rest of it is read for its form alone. In a text components
+-- have no owner and entries no prints.
 use Rattle.std.specs.Prelude.{◌≡◌, ◌<◌, ◌^◌, ℕ, suc, Bool, true, false, ◌&&◌, ◌||◌, nat_eq, nat_le, IsTrue, List, [], ◌∷◌, ◌++◌, length, map, codes, decimal, Option, Some, None}
 use Rattle.pgo_base.specs.Data.{Data, integer, string, function, no_pairs, pair}
 use Rattle.pgo_base.specs.Lookup.{Name}

@@ -38,7 +38,4 @@ pub mod IsBundle
 pub mod Names
 pub mod ModuleView
 pub mod LogView
-pub mod Plain
-pub mod ScopeView
-pub mod Over
 pub mod Steps

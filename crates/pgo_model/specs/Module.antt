@@ -4,11 +4,11 @@ use Rattle.std.specs.Prelude.{true, false}
 use Rattle.pgo_base.specs.declared.expr.Infix.{Infix}
 use Rattle.pgo_base.specs.declared.expr.Infix.TheVariants as infixs
 use Rattle.pgo_base.specs.declared.expr.Quantifier.TheVariants as quantifiers
-use Rattle.pgo_base.specs.Data.{Data}
+use Rattle.pgo_base.specs.Data.{Data, model}
 use Rattle.pgo_base.specs.Tree.{Tree, name, text, truth, binary, quantified, index, call, unchanged, set_of, trees, bound}
 use Rattle.pgo_base.specs.Lookup.{Name}
 use Rattle.pgo_model.specs.Val.{Defined, Given, Means}
-use Rattle.pgo_model.specs.Written.{pc, self_name, done, proc_set, terminating}
+use Rattle.pgo_model.specs.Written.{pc, self_name, done, proc_set, terminating, default_init_value}
 
 -- a process's definitions: its label actions in order, each with the parameter `self`, and its own of this name, with
 -- its identifiers
@@ -86,10 +86,10 @@ actions_in (p ∷ ps) = p.actions ++ actions_in ps
 abbrev pub actions_of : Module → List (Name × Tree)
 actions_of m = actions_in m.processes
 
--- the definitions that the module's expressions see beside `defaultInitValue`: the constants' values, the module's
--- definitions, and then ProcSet, each process's label actions and its own definition, and Terminating
+-- the definitions that the module's expressions see: the constants' values, `defaultInitValue`, the module's definitions,
+-- and then ProcSet, each process's label actions and its own definition, and Terminating
 abbrev pub defs_of : Module → List (Name × Data) → List Defined
 defs_of m consts =
-    map (λ c. Given c.0 c.1) consts ++ m.definitions
+    map (λ c. Given c.0 c.1) consts ++ (Given default_init_value (model default_init_value) ∷ []) ++ m.definitions
     ++ (Means proc_set [] (proc_set_of m) ∷ []) ++ process_definitions m.processes
     ++ (Means terminating [] (terminating_body m) ∷ [])

@@ -1,9 +1,10 @@
 -- The operators on values, each with a value or none.
 use Rattle.std.specs.Prelude.{ℕ, zero, suc, ◌^◌, ℤ, pos, negsuc, ◌+ℤ◌, ◌-ℤ◌, Bool, true, false, not, ◌&&◌, if◌then◌else◌, nat_lt, int_lt, List, [], ◌∷◌, ◌++◌, length, map, filter, Option, Some, None, option_map, option_and_then}
-use Rattle.std.specs.Ordering.{is_eq, match_ordering}
+use Rattle.std.specs.Ordering.{is_eq}
 use Rattle.pgo_base.specs.Data.{Data, boolean, integer, set, function, items, members, pairs, graph}
 use Rattle.pgo_base.specs.Order.{data_cmp}
 use Rattle.pgo_base.specs.Sets.{in_order}
+use Rattle.pgo_base.specs.Pairs.{pairs_in_order}
 use Rattle.pgo_base.specs.Size.{depth}
 use Rattle.std.specs.Int.{int_div_euclid, int_rem_euclid}
 
@@ -133,16 +134,6 @@ built n v = if nat_lt most_depth (depth v) then None else if_few n v
 abbrev pub set_from : List Data → Option Data
 set_from xs = let ms = in_order xs in built (length ms) (set (items ms))
 
--- a pair put in order of the keys, in place of one with its key
-abbrev pub insert_pair : Data × Data → List (Data × Data) → List (Data × Data)
-insert_pair p [] = p ∷ []
-insert_pair p (q ∷ qs) = match_ordering (data_cmp p.0 q.0) (p ∷ q ∷ qs) (p ∷ qs) (q ∷ insert_pair p qs)
-
--- the pairs in order of the keys; of several with one key the first counts
-abbrev pub pairs_in_order : List (Data × Data) → List (Data × Data)
-pairs_in_order [] = []
-pairs_in_order (p ∷ ps) = insert_pair p (pairs_in_order ps)
-
 -- the function with this graph, which is in order
 abbrev pub function_of : List (Data × Data) → Option Data
 function_of ps = built (length ps) (function (pairs ps))
@@ -196,31 +187,34 @@ sequence_at n (x ∷ xs) = (integer (pos n), x) ∷ sequence_at (suc n) xs
 abbrev pub sequence : List Data → Option Data
 sequence xs = function_from (sequence_at 1 xs)
 
+-- m before each of these
+abbrev pub put : Data → List (List Data) → List (List Data)
+put m [] = []
+put m (c ∷ cs) = (m ∷ c) ∷ put m cs
+
+-- each of these members before each of those lists
+abbrev pub spread : List Data → List (List Data) → List (List Data)
+spread [] cs = []
+spread (m ∷ ms) cs = put m cs ++ spread ms cs
+
 -- all lists of one member from each
 abbrev pub choices : List (List Data) → List (List Data)
 choices [] = [] ∷ []
 choices (ms ∷ rest) = spread ms (choices rest)
-  where
-    put : Data → List (List Data) → List (List Data)
-    put m [] = []
-    put m (c ∷ cs) = (m ∷ c) ∷ put m cs
-
-    spread : List Data → List (List Data) → List (List Data)
-    spread [] cs = []
-    spread (m ∷ ms) cs = put m cs ++ spread ms cs
 
 -- n integers from a on
 abbrev pub upward : ℤ → ℕ → List Data
 upward a zero = []
 upward a (suc n) = integer a ∷ upward (a +ℤ pos 1) n
 
+-- how many integers there are from 0 to z
+abbrev pub count_to : ℤ → ℕ
+count_to (pos n) = suc n
+count_to (negsuc n) = 0
+
 -- how many integers there are from a to b
 abbrev pub span : ℤ → ℤ → ℕ
-span a b = count_of (b -ℤ a)
-  where
-    count_of : ℤ → ℕ
-    count_of (pos n) = suc n
-    count_of (negsuc n) = 0
+span a b = count_to (b -ℤ a)
 
 -- a .. b
 abbrev pub range : ℤ → ℤ → Option Data
@@ -269,13 +263,14 @@ included (m ∷ ms) ns = contains m ns && included ms ns
 abbrev pub subset : Data → Data → Option Data
 subset x y = both (λ ms ns. Some (boolean (included ms ns))) (members_of x) (members_of y)
 
+-- these lists, one after another
+abbrev pub joined : List (List Data) → List Data
+joined [] = []
+joined (ms ∷ rest) = ms ++ joined rest
+
 -- UNION
 abbrev pub flatten : Data → Option Data
 flatten x = option_and_then (λ ms. option_and_then (λ mss. set_from (joined mss)) (each members_of ms)) (members_of x)
-  where
-    joined : List (List Data) → List Data
-    joined [] = []
-    joined (ms ∷ rest) = ms ++ joined rest
 
 -- the lists of some of these members
 abbrev pub sublists : List Data → List (List Data)

@@ -349,3 +349,11 @@ default_meaning = constant_meaning default_init_value (model default_init_value)
 -- each definition sees those before it
 abbrev pub meanings : List Defined → Vars → Option Vars → List Meaning
 meanings ds now next = fold (meaning_of now next) (default_meaning ∷ []) ds
+
+-- what an expression sees by itself: all of these definitions, the names in scope, and the variables now and next
+abbrev pub seen : List Defined → Names → Vars → Option Vars → Scope
+seen ds names now next = record { names = names; part = None; now = now; next = next; defs = meanings ds now next }
+
+-- the value of an expression that sees these definitions and names, on a state and, where there is one, the next
+abbrev pub Val : List Defined → Tree → Names → Vars → Option Vars → Option Data
+Val ds e names now next = val e (seen ds names now next)

@@ -1,8 +1,6 @@
 // Laws of the core machine.
 #![tactic(auto)]
 
-pub mod plain;
-
 ghost use Rattle.std.specs.Prelude.{false, ℕ, List};
 ghost use Rattle.pgo_model.specs.Bound.{Bound};
 ghost use Rattle.pgo_model.specs.State.{IsState};

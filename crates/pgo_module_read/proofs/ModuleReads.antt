@@ -5,7 +5,6 @@ use Rattle.std.proofs.lemmas.Bool.Decides.{nat_tests}
 use Rattle.pgo_model.specs.ValueText.{is_one_of}
 use Rattle.pgo_model.specs.Module.{Module}
 use Rattle.pgo_model.specs.ModuleText.{Line, flatten, module_lines, Text}
-use Rattle.pgo_model.specs.Plain.{IsPlainModule}
 use Rattle.pgo_counter.specs.declared.counter.Term.TheVariants.{Parameter, Number}
 use Rattle.pgo_counter.specs.declared.counter.Sum.{Sum}
 use Rattle.pgo_counter.specs.declared.counter.Counter.{Counter}
@@ -14,7 +13,6 @@ use Rattle.pgo_counter.specs.NameBytes.{and_both}
 use Rattle.pgo_counter.specs.Counters.{counter_module}
 use Rattle.pgo_counter.specs.CounterModules.{IsCounterModule, HasWrittenForm, module_names, has_module_names}
 use Rattle.pgo_counter.specs.FreshNames.{fresh_counter}
-use Rattle.pgo_counter.specs.PlainCounters.{counter_is_plain}
 use Rattle.pgo_module_read.specs.Finding.{before, left_place, right_place, start_place, id_place, number_in, begins_with_digit, term_in, statement_in, statements_in, comes_first, next_place, actions_place, found}
 use Rattle.pgo_module_read.proofs.Numbers.{number_small}
 use Rattle.pgo_module_read.proofs.Complete.{bare, bare_form, found_is}
@@ -131,10 +129,6 @@ text_of t k m r = r.text_is ∙ ap Text (sym r.means)
 -- no other counter's module has the text
 pub only_one : (t : List ℕ) (k : Counter) (m : Module) → Reads t k m → (n : Module) → IsCounterModule n → t ≡ Text n → n ≡ m
 only_one t k m r n is same = (has t n is same).means ∙ ap counter_module (sym r.found_is) ∙ sym r.means
-
--- an evaluator for plain modules takes it
-pub is_plain : (t : List ℕ) (k : Counter) (m : Module) → Reads t k m → IsPlainModule m
-is_plain t k m r = subst IsPlainModule (sym r.means) (counter_is_plain k r.form)
 
 -- a text in which no statement is found is that of no counter's module
 pub no_statement : (t : List ℕ) (k : Counter) → k ≡ found t → length k.body ≡ 0 → (n : Module) → IsCounterModule n → t ≡ Text n → ⊥

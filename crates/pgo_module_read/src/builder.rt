@@ -9,7 +9,7 @@ ghost use Rattle.pgo_model.specs.Translate.{moves_to};
 ghost use Rattle.pgo_counter.specs.Counters.{term_tree, sum_tree, sum_items, sum_action, counter_actions, counter_init, counter_module, id_set, label_name, next_name};
 
 use pgo_base::expr::{Arms, Binders, Expr, Exprs, Infix, Names, Quantifier, Sub, Update, Updates};
-use pgo_base::module::{Action, Actions, Definitions, Module, Processes, WrittenProcess};
+use pgo_base::module::{Action, Actions, Defs, Module, Processes, WrittenProcess};
 use pgo_base::text::Text;
 use pgo_counter::counter::{Counter, Sum, Term};
 use pgo_module_write::module_writer::{label, next_label};
@@ -279,7 +279,7 @@ pub fn build(alloc: Global, counter: &Counter) -> Result<Module, AllocError>
     Ok(Module {
         name,
         constants: Names::from_vec(Vec::new(alloc)),
-        definitions: Definitions::new(alloc),
+        definitions: Defs::new(alloc),
         variables,
         init,
         processes,

@@ -3,7 +3,6 @@ ghost use Rattle.std.specs.Prelude.{◌≡◌, IfOk, IfErr};
 ghost use Rattle.pgo_model.specs.Module as model;
 ghost use Rattle.pgo_model.specs.ModuleText.{Text};
 ghost use Rattle.pgo_model.specs.ModuleView.{module_view};
-ghost use Rattle.pgo_model.specs.Plain.{IsPlainModule};
 ghost use Rattle.pgo_counter.specs.CounterModules.{IsCounterModule};
 ghost use Rattle.pgo_module_read.specs.Refused.{IsRefused};
 
@@ -25,7 +24,6 @@ use std::alloc::Global;
 ///
 /// - `ok`, `text`: what is read is the module of a counter, and the text is its text.
 /// - `one`: no other module of a counter has this text.
-/// - `plain`: it has the forms of expression alone that the plain programs evaluate.
 /// - `refused`: `Syntax` comes only where the text is that of no counter's module. Its offset is the first byte at which
 ///   the text differs from that of the module which its own names and numbers make, or the text's length where it has
 ///   no statement, or where a name in it is no name, is taken, or stands twice.
@@ -37,7 +35,6 @@ pub fn read_module(alloc: Global, text: &[u8]) -> Result<Module, TextStop>
     ensures ok { IfOk result (λ m. IsCounterModule (module_view m)) }
     ensures text { IfOk result (λ m. text.now ≡ Text (module_view m)) }
     ensures one { IfOk result (λ m. (n : model.Module) → IsCounterModule n → text.now ≡ Text n → n ≡ module_view m) }
-    ensures plain { IfOk result (λ m. IsPlainModule (module_view m)) }
     ensures refused { IfErr result (λ s. IsRefused text.now s) }
 {
     let counter = find(alloc, text)?;

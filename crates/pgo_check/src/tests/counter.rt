@@ -1,56 +1,34 @@
 // The module of a counter with a second variable that stays as it is, its states and its entries, built by hand.
-ghost use Rattle.std.specs.Prelude.{IsTrue, IfOk};
-ghost use Rattle.pgo_base.specs.Tree.{bound};
-ghost use Rattle.pgo_model.specs.ModuleView.{module_view};
-ghost use Rattle.pgo_model.specs.Plain.{IsPlain, IsPlainName, IsPlainBinder, IsPlainModule, is_plain_operator};
-
 use pgo_base::expr::{Arms, Binders, Expr, Exprs, Infix, Names, Quantifier, Sub, Update, Updates};
 use pgo_base::log::{Change, Changes, Component, Entries, Entry, Ids, Log, Owner};
-use pgo_base::module::{Action, Actions, Definitions, Module, Processes, WrittenProcess};
+use pgo_base::module::{Action, Actions, Defs, Module, Processes, WrittenProcess};
 use pgo_base::scope::State;
 use pgo_base::text::Text;
 use pgo_base::value::{Fun, Value};
 use std::alloc::{AllocError, Global};
 
-fn named(alloc: Global, x: &[u8]) -> Result<Sub, AllocError>
-    requires { IsPlainName x.now }
-    ensures { IfOk result (λ e. IsPlain e) }
-{
+fn named(alloc: Global, x: &[u8]) -> Result<Sub, AllocError> {
     Sub::new(alloc, Expr::Name(Text::from_slice(alloc, x)?))
 }
 
-fn primed(alloc: Global, x: &[u8]) -> Result<Sub, AllocError>
-    ensures { IfOk result (λ e. IsPlain e) }
-{
+fn primed(alloc: Global, x: &[u8]) -> Result<Sub, AllocError> {
     Sub::new(alloc, Expr::Primed(Text::from_slice(alloc, x)?))
 }
 
-fn string(alloc: Global, x: &[u8]) -> Result<Sub, AllocError>
-    ensures { IfOk result (λ e. IsPlain e) }
-{
+fn string(alloc: Global, x: &[u8]) -> Result<Sub, AllocError> {
     Sub::new(alloc, Expr::Text(Text::from_slice(alloc, x)?))
 }
 
-fn number(alloc: Global, n: i64) -> Result<Sub, AllocError>
-    ensures { IfOk result (λ e. IsPlain e) }
-{
+fn number(alloc: Global, n: i64) -> Result<Sub, AllocError> {
     Sub::new(alloc, Expr::Number(n))
 }
 
-fn infix(alloc: Global, op: Infix, a: Sub, b: Sub) -> Result<Sub, AllocError>
-    requires operator { IsTrue (is_plain_operator op) }
-    requires left { IsPlain a }
-    requires right { IsPlain b }
-    ensures { IfOk result (λ e. IsPlain e) }
-{
+fn infix(alloc: Global, op: Infix, a: Sub, b: Sub) -> Result<Sub, AllocError> {
     Sub::new(alloc, Expr::Infix(op, a, b))
 }
 
 /// {e}
-fn set_of(alloc: Global, e: Sub) -> Result<Sub, AllocError>
-    requires { IsPlain e }
-    ensures { IfOk result (λ e. IsPlain e) }
-{
+fn set_of(alloc: Global, e: Sub) -> Result<Sub, AllocError> {
     Sub::new(
         alloc,
         Expr::SetOf(Exprs::from_vec(vec![in alloc; e.into_expr()]?)),
@@ -58,11 +36,7 @@ fn set_of(alloc: Global, e: Sub) -> Result<Sub, AllocError>
 }
 
 /// f[i]
-fn index(alloc: Global, f: Sub, i: Sub) -> Result<Sub, AllocError>
-    requires function { IsPlain f }
-    requires index { IsPlain i }
-    ensures { IfOk result (λ e. IsPlain e) }
-{
+fn index(alloc: Global, f: Sub, i: Sub) -> Result<Sub, AllocError> {
     Sub::new(
         alloc,
         Expr::Index(f, Exprs::from_vec(vec![in alloc; i.into_expr()]?)),
@@ -70,18 +44,13 @@ fn index(alloc: Global, f: Sub, i: Sub) -> Result<Sub, AllocError>
 }
 
 /// x \in r, as a binder
-fn over(alloc: Global, x: &[u8], r: Sub) -> Result<Binders, AllocError>
-    requires { IsPlain r }
-    ensures { IfOk result (λ bs. IsPlainBinder (bound bs)) }
-{
+fn over(alloc: Global, x: &[u8], r: Sub) -> Result<Binders, AllocError> {
     let names = Names::from_vec(vec![in alloc; Text::from_slice(alloc, x)?]?);
     Ok(Binders::from_vec(vec![in alloc; (names, r.into_expr())]?))
 }
 
 /// [pc EXCEPT ![self] = "Done"]
-fn moved(alloc: Global) -> Result<Sub, AllocError>
-    ensures { IfOk result (λ e. IsPlain e) }
-{
+fn moved(alloc: Global) -> Result<Sub, AllocError> {
     let self_name = named(alloc, b"self")?;
     let update = Update {
         path: Exprs::from_vec(vec![in alloc; self_name.into_expr()]?),
@@ -97,17 +66,13 @@ fn moved(alloc: Global) -> Result<Sub, AllocError>
 }
 
 /// UNCHANGED <<y>>
-fn rest(alloc: Global) -> Result<Sub, AllocError>
-    ensures { IfOk result (λ e. IsPlain e) }
-{
+fn rest(alloc: Global) -> Result<Sub, AllocError> {
     let names = Names::from_vec(vec![in alloc; Text::from_slice(alloc, b"y")?]?);
     Sub::new(alloc, Expr::Unchanged(names))
 }
 
 /// pc[self] = "P_l" /\ \E v \in {x + 1} : x' = v /\ pc' = [pc EXCEPT ![self] = "Done"] /\ UNCHANGED <<y>>
-fn action(alloc: Global) -> Result<Sub, AllocError>
-    ensures { IfOk result (λ e. IsPlain e) }
-{
+fn action(alloc: Global) -> Result<Sub, AllocError> {
     let place = index(alloc, named(alloc, b"pc")?, named(alloc, b"self")?)?;
     let stands = infix(alloc, Infix::Equal, place, string(alloc, b"P_l")?)?;
     let sum = infix(alloc, Infix::Add, named(alloc, b"x")?, number(alloc, 1)?)?;
@@ -125,11 +90,7 @@ fn action(alloc: Global) -> Result<Sub, AllocError>
 }
 
 /// \E x \in r : p
-fn exists(alloc: Global, x: &[u8], r: Sub, p: Sub) -> Result<Sub, AllocError>
-    requires set { IsPlain r }
-    requires body { IsPlain p }
-    ensures { IfOk result (λ e. IsPlain e) }
-{
+fn exists(alloc: Global, x: &[u8], r: Sub, p: Sub) -> Result<Sub, AllocError> {
     Sub::new(
         alloc,
         Expr::Quantified(Quantifier::Exists, over(alloc, x, r)?, p),
@@ -137,10 +98,7 @@ fn exists(alloc: Global, x: &[u8], r: Sub, p: Sub) -> Result<Sub, AllocError>
 }
 
 /// x = first /\ y = 0 /\ pc = [self \in ProcSet |-> CASE self \in {1} -> "P_l"]
-fn init(alloc: Global, first: Sub) -> Result<Sub, AllocError>
-    requires { IsPlain first }
-    ensures { IfOk result (λ e. IsPlain e) }
-{
+fn init(alloc: Global, first: Sub) -> Result<Sub, AllocError> {
     let starts = infix(
         alloc,
         Infix::And,
@@ -167,24 +125,17 @@ fn init(alloc: Global, first: Sub) -> Result<Sub, AllocError>
 }
 
 /// The module whose counter begins at 0.
-pub fn counter(alloc: Global) -> Result<Module, AllocError>
-    ensures { IfOk result (λ m. IsPlainModule (module_view m)) }
-{
+pub fn counter(alloc: Global) -> Result<Module, AllocError> {
     module(alloc, number(alloc, 0)?)
 }
 
 /// The module whose counter begins at the constant N.
-pub fn counter_from_constant(alloc: Global) -> Result<Module, AllocError>
-    ensures { IfOk result (λ m. IsPlainModule (module_view m)) }
-{
+pub fn counter_from_constant(alloc: Global) -> Result<Module, AllocError> {
     module(alloc, named(alloc, b"N")?)
 }
 
 /// The module whose counter begins at `first`.
-fn module(alloc: Global, first: Sub) -> Result<Module, AllocError>
-    requires { IsPlain first }
-    ensures { IfOk result (λ m. IsPlainModule (module_view m)) }
-{
+fn module(alloc: Global, first: Sub) -> Result<Module, AllocError> {
     let action = Action {
         name: Text::from_slice(alloc, b"P_l")?,
         body: action(alloc)?,
@@ -197,7 +148,7 @@ fn module(alloc: Global, first: Sub) -> Result<Module, AllocError>
     Ok(Module {
         name: Text::from_slice(alloc, b"Counter")?,
         constants: Names::from_vec(Vec::new(alloc)),
-        definitions: Definitions::new(alloc),
+        definitions: Defs::new(alloc),
         variables: Names::from_vec(Vec::new(alloc)),
         init: init(alloc, first)?,
         processes: Processes::from_vec(vec![in alloc; process]?),

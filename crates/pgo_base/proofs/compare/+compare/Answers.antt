@@ -1,9 +1,9 @@
-use Rattle.std.proofs.Common.{◌≡◌, ◌+◌, ◌≤◌, map, get_or, sym, ap, ◌∙◌, arith, rules}
+use Rattle.std.proofs.Common.{◌+◌, ◌≤◌, map, sym, ◌∙◌, arith}
 use Rattle.std.specs.Ordering.{ordering_then}
 use Rattle.pgo_base.specs.Size.{depth, members_size}
 use Rattle.pgo_base.specs.View.{data_of, pair_of, key_of, value_of}
 use Rattle.pgo_base.specs.Falls.{items_depth-items, pairs_depth-pairs}
-use Rattle.pgo_base.proofs.Ordered.{at_size, cmp_step, cmp_end, set_cmp, function_cmp, keys_size, values_size}
+use Rattle.pgo_base.proofs.Ordered.{at_size, cmp_end, set_cmp, function_cmp, keys_size, values_size}
 use Rattle.pgo_base.proofs.compare.+compare.Goals as goal
 
 pub compare-compare_members-requires : goal.compare-compare_members-requires

@@ -8,16 +8,16 @@ use Rattle.pgo_check.proofs.checker.first_bad.Goals as goal
 
 pub loop-i-init : goal.loop-i-init
 loop-i-init c =
-    let m = module_view c.args.m.now in
-    let consts = c.args.consts.now in
+    let m = module_view c.args.m.now.module.now in
+    let consts = c.args.m.now.consts.now in
     let ids = map data_of c.args.ids.now in
     let l = map entry_view c.args.entries.now in
     subst (λ t. IsReached m consts ids c.args.start.now l 0 t) (sym c.in_ok-before.ensures) (start_reached m consts ids c.args.start.now l)
 
 pub loop-i-preserved : goal.loop-i-preserved
 loop-i-preserved c =
-    let m = module_view c.args.m.now in
-    let consts = c.args.consts.now in
+    let m = module_view c.args.m.now.module.now in
+    let consts = c.args.m.now.consts.now in
     let ids = map data_of c.args.ids.now in
     let l = map entry_view c.args.entries.now in
     let e = c.index-entries-i.result in
@@ -26,8 +26,8 @@ loop-i-preserved c =
 
 pub returns-in-None-clause-found : goal.returns-in-None-clause-found
 returns-in-None-clause-found c =
-    let m = module_view c.args.m.now in
-    let consts = c.args.consts.now in
+    let m = module_view c.args.m.now.module.now in
+    let consts = c.args.m.now.consts.now in
     let ids = map data_of c.args.ids.now in
     let l = map entry_view c.args.entries.now in
     let e = c.index-entries-i.result in
@@ -36,8 +36,8 @@ returns-in-None-clause-found c =
 
 pub returns-clause-found : goal.returns-clause-found
 returns-clause-found c =
-    let m = module_view c.args.m.now in
-    let consts = c.args.consts.now in
+    let m = module_view c.args.m.now.module.now in
+    let consts = c.args.m.now.consts.now in
     let ids = map data_of c.args.ids.now in
     let l = map entry_view c.args.entries.now in
     all_steps m consts ids c.args.start.now c.loop-i.before l c.loop-i.i c.loop-i.invariant (omega (arith, length-map c.args.entries.now entry_view))

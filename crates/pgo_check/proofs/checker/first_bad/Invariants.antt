@@ -6,4 +6,4 @@ use Rattle.pgo_check.proofs.Reached.{IsReached}
 use Rattle.pgo_check.proofs.checker.first_bad.Given as goal
 
 abbrev pub invariant-loop-i : goal.invariant-loop-i
-invariant-loop-i l = IsReached (module_view l.m) l.consts (map data_of l.ids) l.start (map entry_view l.entries) l.i l.before
+invariant-loop-i l = IsReached (module_view l.m.module.now) l.m.consts.now (map data_of l.ids) l.start (map entry_view l.entries) l.i l.before

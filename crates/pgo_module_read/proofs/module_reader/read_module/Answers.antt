@@ -1,6 +1,6 @@
 use Rattle.std.proofs.Common.{◌∙◌, sym}
 use Rattle.pgo_model.specs.ModuleView.{module_view}
-use Rattle.pgo_module_read.proofs.ModuleReads.{reads, is_counter_module, text_of, only_one, is_plain, no_statement, no_names, other_text, none_there, some_there}
+use Rattle.pgo_module_read.proofs.ModuleReads.{reads, is_counter_module, text_of, only_one, no_statement, no_names, other_text, none_there, some_there}
 use Rattle.pgo_module_read.proofs.module_reader.read_module.Goals as goal
 
 pub returns-then-is_empty-clause-refused : goal.returns-then-is_empty-clause-refused
@@ -26,4 +26,4 @@ returns c =
     (sym c.in_ok-has_module_names.ensures ∙ c.if-not-branch.false)
     c.in_ok-build.ensures (c.as_slice-2.ensures ∙ c.in_ok-lines.ensures) c.in_default.ensures.same
     in
-    record { ok = is_counter_module t k m r; text = text_of t k m r; one = only_one t k m r; plain = is_plain t k m r; refused = tt }
+    record { ok = is_counter_module t k m r; text = text_of t k m r; one = only_one t k m r; refused = tt }

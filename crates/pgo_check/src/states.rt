@@ -1,0 +1,263 @@
+// The state that an entry of a log leads to.
+ghost use Rattle.std.specs.Prelude.{◌≡◌, ◌<◌, ◌↔◌, ◌&&◌, ◌∷◌, [], ℕ, if◌then◌else◌, length, IsTrue, map, Option, Some, None, option_map, IfOk};
+ghost use Rattle.pgo_base.specs.Lookup.{find};
+ghost use Rattle.pgo_base.specs.View.{data_of, named_data, pair_of};
+ghost use Rattle.pgo_base.specs.Order.{data_cmp};
+ghost use Rattle.std.specs.List.Sorted.{IsStrictlySortedBy};
+ghost use Rattle.pgo_model.specs.Operators.{lookup, replace_at, same_data};
+ghost use Rattle.pgo_base.specs.Data.{string, keys};
+ghost use Rattle.pgo_model.specs.Acts.{Acts};
+ghost use Rattle.pgo_model.specs.Declares.{place_of};
+ghost use Rattle.pgo_model.specs.Log.{after_changes, are_in, changed, is_in, with_part};
+ghost use Rattle.pgo_model.specs.LogView.{change_view, component_view, entry_view};
+ghost use Rattle.pgo_model.specs.Machine.{nth};
+ghost use Rattle.pgo_model.specs.ModuleView.{module_view};
+ghost use Rattle.pgo_model.specs.Options.{on};
+ghost use Rattle.pgo_check.specs.Assigned.{SeesItsDefinitions};
+ghost use Rattle.pgo_model.specs.Section.{store};
+ghost use Rattle.pgo_model.specs.Steps.{place_in, LeadsTo, IsPlaced};
+
+use crate::actions::acts;
+use crate::definitions::Assigned;
+use pgo_base::compare::compare;
+use pgo_base::log::{Change, Component, Entry};
+use pgo_base::scope::State;
+use pgo_base::text::Text;
+use pgo_base::value::{Fun, Value};
+use std::alloc::{AllocError, Global};
+
+/// A function with another value at an index in its domain.
+fn with_part(
+    alloc: Global,
+    old: &Value,
+    index: &Value,
+    value: &Value,
+) -> Result<Option<Value>, AllocError>
+    ensures { IfOk result (λ o. option_map data_of o ≡ with_part (data_of old.now) (data_of index.now) (data_of value.now)) }
+{
+    match old {
+        Value::Fun(f) => {
+            if value_at(f.pairs(), index).is_none() {
+                return Ok(None);
+            }
+            let pairs = replaced(alloc, f, index, value)?;
+            Ok(Some(Value::Fun(Fun::from_sorted(pairs))))
+        }
+        _ => Ok(None),
+    }
+}
+
+/// What a variable becomes where it, or its value at an index, becomes this value.
+fn new_value(
+    alloc: Global,
+    old: &Value,
+    index: &Option<Value>,
+    value: &Value,
+) -> Result<Option<Value>, AllocError>
+    ensures { IfOk result (λ o. option_map data_of o ≡ on (Some (data_of value.now)) (option_map data_of index.now) (λ i. with_part (data_of old.now) i (data_of value.now))) }
+{
+    match index {
+        None => Ok(Some(value.copy(alloc)?)),
+        Some(index) => with_part(alloc, old, index, value),
+    }
+}
+
+/// The place of the first variable of the name.
+fn place_in(name: &Text, list: &[(Text, Value)]) -> Option<usize>
+    ensures place { result ≡ place_in name.now (map named_data list.now) }
+    ensures within { IsPlaced result (length list.now) }
+{
+    for (i, p) in list.iter().enumerate() {
+        if name.is(&p.0) {
+            return Some(i);
+        }
+    }
+    None
+}
+
+/// The state with one component changed, where the component is in it.
+fn changed(alloc: Global, state: State, change: &Change) -> Result<Option<State>, AllocError>
+    ensures { IfOk result (λ o. o ≡ changed (change_view change.now) state) }
+{
+    let mut list = state.into_vec();
+    let Some(i) = place_in(&change.component.variable, &list) else {
+        return Ok(None);
+    };
+    let Some(v) = new_value(alloc, &list[i].1, &change.component.index, &change.value)? else {
+        return Ok(None);
+    };
+    list[i].1 = v;
+    Ok(Some(State::from_vec(list)))
+}
+
+/// Whether a component is in a state.
+fn is_in(component: &Component, s: &State) -> bool
+    ensures { result ≡ is_in (component_view component.now) s.now }
+{
+    let Some(v) = s.find(&component.variable) else {
+        return false;
+    };
+    let Some(index) = &component.index else {
+        return true;
+    };
+    match v {
+        Value::Fun(f) => value_at(f.pairs(), index).is_some(),
+        _ => false,
+    }
+}
+
+/// Whether each changed component is in a state.
+fn are_in(changes: &[Change], s: &State) -> bool
+    ensures { result ≡ are_in (map change_view changes.now) s.now }
+{
+    for c in changes {
+        if !is_in(&c.component, s) {
+            return false;
+        }
+    }
+    true
+}
+
+/// The state with these changes put in one after another, where each finds its component.
+fn after_changes(alloc: Global, s: &State, changes: &[Change]) -> Result<Option<State>, AllocError>
+    ensures { IfOk result (λ o. o ≡ after_changes (map change_view changes.now) s.now) }
+{
+    let mut state = s.copy(alloc)?;
+    for c in changes {
+        match changed(alloc, state, c)? {
+            None => return Ok(None),
+            Some(next) => state = next,
+        }
+    }
+    Ok(Some(state))
+}
+
+/// The state after these changes, where each changed component is in the state before them.
+pub fn after(alloc: Global, s: &State, changes: &[Change]) -> Result<Option<State>, AllocError>
+    ensures { IfOk result (λ o. o ≡ if are_in (map change_view changes.now) s.now then after_changes (map change_view changes.now) s.now else None) }
+{
+    if !are_in(changes, s) {
+        return Ok(None);
+    }
+    after_changes(alloc, s, changes)
+}
+
+/// Where the instance with this identifier stands.
+fn place_of<'a>(alloc: Global, id: &Value, s: &'a State) -> Result<Option<&'a Value>, AllocError>
+    ensures { IfOk result (λ o. option_map (λ r. data_of r.now) o ≡ place_of (data_of id.now) s.now) }
+{
+    let pc = Text::from_slice(alloc, b"pc")?;
+    let Some(f) = s.find(&pc) else {
+        return Ok(None);
+    };
+    match f {
+        Value::Fun(f) => Ok(value_at(f.pairs(), id)),
+        _ => Ok(None),
+    }
+}
+
+/// Whether a value is this string.
+fn is_string(v: Option<&Value>, text: &Text) -> bool
+    ensures { IsTrue result ↔ option_map (λ r. data_of r.now) v.entry ≡ Some (string text.now) }
+{
+    let Some(v) = v else {
+        return false;
+    };
+    match v {
+        Value::Str(t) => t.is(text),
+        _ => false,
+    }
+}
+
+/// Whether an entry's action is TRUE of a pair of states, and its instance stands at the entry's next label then.
+fn is_step<'a>(
+    alloc: Global,
+    m: &Assigned<'_>,
+    id: &Value,
+    s: &'a State,
+    e: &Entry,
+    t: &'a State,
+) -> Result<bool, AllocError>
+    requires { SeesItsDefinitions m.now }
+    ensures { IfOk result (λ b. IsTrue b ↔ (Acts (module_view m.now.module.now) m.now.consts.now e.now.label (data_of id.now) s.now t.now × place_of (data_of id.now) t.now ≡ Some (string e.now.next))) }
+{
+    if !acts(alloc, m, &e.label, id, s, t)? {
+        return Ok(false);
+    }
+    let place = place_of(alloc, id, t)?;
+    Ok(is_string(place, &e.next))
+}
+
+/// The state that an entry leads to, where the entry is a step from this state.
+pub fn step(
+    alloc: Global,
+    m: &Assigned<'_>,
+    ids: &[Value],
+    s: &State,
+    e: &Entry,
+) -> Result<Option<State>, AllocError>
+    requires { SeesItsDefinitions m.now }
+    ensures { IfOk result (λ o. LeadsTo (module_view m.now.module.now) m.now.consts.now (map data_of ids.now) s.now (entry_view e.now) o) }
+{
+    let Some(id) = ids.get(e.instance as usize) else {
+        return Ok(None);
+    };
+    let Some(t) = after(alloc, s, e.changes.as_slice())? else {
+        return Ok(None);
+    };
+    if is_step(alloc, m, id, &*s, e, &t)? {
+        Ok(Some(t))
+    } else {
+        Ok(None)
+    }
+}
+
+/// The value at a key.
+fn value_at<'a>(pairs: &'a [(Value, Value)], key: &Value) -> Option<&'a Value>
+    ensures { option_map (λ r. data_of r.now) result ≡ lookup (data_of key.now) (map pair_of pairs.now) }
+{
+    for p in pairs {
+        if compare(key, &p.0).is_eq() {
+            return Some(&p.1);
+        }
+    }
+    None
+}
+
+/// The pairs of a function with another value at one key; where the key is not there, the same pairs.
+fn replaced(
+    alloc: Global,
+    f: &Fun,
+    key: &Value,
+    value: &Value,
+) -> Result<Vec<(Value, Value)>, AllocError>
+    ensures pairs { IfOk result (λ ps. map pair_of ps.items ≡ replace_at (data_of key.now) (data_of value.now) f.now) }
+    ensures sorted { IfOk result (λ ps. IsStrictlySortedBy data_cmp (keys (map pair_of ps.items))) }
+{
+    let old = f.in_order();
+    let mut pairs = Vec::with_capacity(alloc, old.len())?;
+    let mut left = true;
+    for p in old {
+        let is_here = is_at(left, key, &p.0);
+        let v = one_of(is_here, value, &p.1).copy(alloc)?;
+        pairs.push((p.0.copy(alloc)?, v))?;
+        if is_here {
+            left = false;
+        }
+    }
+    Ok(pairs)
+}
+
+/// Whether the key is still to be found, and is this one.
+fn is_at(left: bool, key: &Value, other: &Value) -> bool
+    ensures { result ≡ left && same_data (data_of key.now) (data_of other.now) }
+{
+    left && compare(key, other).is_eq()
+}
+
+/// The first where the test is true, else the second.
+fn one_of<'a>(test: bool, first: &'a Value, second: &'a Value) -> &'a Value
+    ensures { result.now ≡ (if test then first.now else second.now) }
+{
+    if test { first } else { second }
+}

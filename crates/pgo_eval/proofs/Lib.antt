@@ -1,0 +1,17 @@
+pub mod Choices
+pub mod Advance
+pub mod FewChoices
+pub mod Quantify
+pub mod Measures
+pub mod NewestFound
+pub mod Arguments
+pub mod PutAt
+pub mod Starts
+pub mod Keys
+pub mod Functions
+pub mod Ranges
+pub mod Filters
+pub mod UpdateSteps
+pub mod Operands
+pub mod InLists
+pub mod Walks

@@ -1,0 +1,8 @@
+pub mod ScopeView
+pub mod Strict
+pub mod Choices
+pub mod HeldView
+pub mod Weight
+pub mod Newest
+pub mod Decided
+pub mod Paths

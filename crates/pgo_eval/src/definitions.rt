@@ -1,0 +1,95 @@
+// The definitions that an expression sees.
+ghost use Rattle.std.specs.Prelude.{◌≡◌, ◌==◌, if◌then◌else◌, List, [], ◌∷◌, length, map, Option, Some, None, option_map, IfOk};
+ghost use Rattle.pgo_base.specs.Data.{Data};
+ghost use Rattle.pgo_base.specs.BindingsView.{onto, named_view};
+ghost use Rattle.pgo_base.specs.View.{data_of};
+ghost use Rattle.pgo_model.specs.ModuleView.{defined_view};
+ghost use Rattle.pgo_model.specs.Val.{call_def, default_meaning, name_values};
+ghost use Rattle.pgo_eval.specs.HeldView.{held_data};
+ghost use Rattle.pgo_eval.specs.Newest.{IsFound, name_of};
+
+use crate::held::Held;
+use crate::words::is_word;
+use pgo_base::bindings::NamedValue;
+use pgo_base::module::Defined;
+use pgo_base::text::Text;
+use pgo_base::value::Value;
+use std::alloc::{AllocError, Global};
+
+/// A definition, and those before it.
+#[derive(Clone, Copy)]
+pub struct Found<'a> {
+    pub definition: &'a Defined,
+    pub before: &'a [Defined],
+}
+
+/// The newest definition of a name: the last in the list.
+pub fn newest<'a>(x: &Text, defs: &'a [Defined]) -> Option<Found<'a>>
+    ensures { IsFound x.now (map defined_view defs.now) result }
+{
+    let mut left = defs;
+    while let Some((definition, before)) = left.split_last() {
+        if x.is(name_of(definition)) {
+            return Some(Found { definition, before });
+        }
+        left = before;
+    }
+    None
+}
+
+/// The name of a definition.
+fn name_of(d: &Defined) -> &Text
+    ensures { result.now ≡ name_of (defined_view d.now) }
+{
+    match d {
+        Defined::Given { name, .. } => name,
+        Defined::Means { name, .. } => name,
+    }
+}
+
+/// The definition that every list of definitions begins with, a model value, on this many arguments.
+pub fn default_value<'a>(
+    alloc: Global,
+    x: &Text,
+    count: usize,
+) -> Result<Option<Held<'a>>, AllocError>
+    ensures { (args : List Data) → length args ≡ count → IfOk result (λ o. option_map held_data o ≡ call_def x.now args (default_meaning ∷ [])) }
+{
+    if count == 0 && is_word(x, b"defaultInitValue") {
+        let name = Text::from_slice(alloc, b"defaultInitValue")?;
+        Ok(Some(Held::Own(Value::Model(name))))
+    } else {
+        Ok(None)
+    }
+}
+
+/// The value of a constant on this many arguments.
+pub fn given<'a>(value: &'a Value, count: usize) -> Option<Held<'a>>
+    ensures { option_map held_data result ≡ (if count == 0 then Some (data_of value.entry.now) else None) }
+{
+    if count == 0 {
+        Some(Held::Lent(value))
+    } else {
+        None
+    }
+}
+
+/// The parameters with their arguments, as many of these as of those.
+pub fn arguments(
+    alloc: Global,
+    params: &[Text],
+    args: Vec<Value>,
+) -> Result<Vec<NamedValue>, AllocError>
+    requires { length args.items ≡ length params.now }
+    ensures { IfOk result (λ list. onto (map named_view list.items) [] ≡ name_values params.now (map data_of args.items) []) }
+{
+    let mut list = Vec::with_capacity(alloc, params.len())?;
+    for v in args {
+        let name = params[list.len()].copy(alloc)?;
+        list.push(NamedValue {
+            name,
+            value: Some(v),
+        })?;
+    }
+    Ok(list)
+}

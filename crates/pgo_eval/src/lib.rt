@@ -1,0 +1,29 @@
+// The value of an expression.
+#![tactic(auto)]
+
+mod answers;
+mod arithmetic;
+mod binders;
+mod built;
+mod calls;
+mod choice;
+mod control;
+mod definitions;
+pub mod eval;
+mod evaluate;
+mod evaluated;
+mod held;
+mod members;
+mod names;
+mod one_name;
+mod operations;
+mod operators;
+mod paths;
+mod quantifiers;
+mod scope;
+mod states;
+#[cfg(test)]
+mod tests;
+mod truths;
+mod updates;
+mod words;

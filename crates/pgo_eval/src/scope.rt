@@ -1,0 +1,15 @@
+// What an expression sees while it is evaluated.
+use pgo_base::bindings::Bindings;
+use pgo_base::module::Defined;
+use pgo_base::scope::State;
+use pgo_base::value::Value;
+
+/// The names in scope, what `@` stands for, the variables now and next, and the definitions, the newest last.
+#[derive(Clone, Copy)]
+pub struct Scope<'names, 'part, 'around> {
+    pub names: &'names Bindings<'names>,
+    pub part: Option<&'part Value>,
+    pub state: &'around State,
+    pub next: Option<&'around State>,
+    pub defs: &'around [Defined],
+}

@@ -1,0 +1,12 @@
+pub mod Searched
+pub mod Ordered
+pub mod Each
+pub mod Members
+pub mod Replacing
+pub mod Graphs
+pub mod Numbered
+pub mod Upward
+pub mod Subsets
+pub mod Stops
+pub mod Choosing
+pub mod Paired

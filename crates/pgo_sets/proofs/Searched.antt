@@ -1,0 +1,110 @@
+-- What a binary search of members or keys in order finds.
+use Rattle.std.proofs.Common.{◌≡◌, ◌⊎◌, inl, inr, ℕ, zero, suc, ◌<◌, ◌≤◌, ltb, Bool, true, false, if◌then◌else◌, List, [], ◌∷◌, length, map, get_or, Some, None, Result, Ok, Err, is_ok, refl, ap, sym, ◌∙◌, subst, arith}
+use Rattle.std.specs.declared.cmp.Ordering.{Ordering}
+use Rattle.std.specs.declared.cmp.Ordering.TheVariants.{Less, Equal, Greater}
+use Rattle.std.specs.Ordering.{is_eq, ordering_index, ordering_reverse}
+use Rattle.std.specs.List.{AllByRecursion}
+use Rattle.std.specs.List.Sorted.{IsStrictlySortedBy, IsNonDecreasingBy, IsPartitionPoint, IsSearchInRange, IsBinarySearchResult}
+use Rattle.std.proofs.lemmas.Bool.Decides.{nat_tests}
+use Rattle.pgo_base.specs.declared.value.Value.{Value}
+use Rattle.pgo_base.specs.Data.{Data, keys}
+use Rattle.pgo_base.specs.Order.{data_cmp}
+use Rattle.pgo_base.specs.Exact.{data_exact, data_itself}
+use Rattle.pgo_base.specs.Total.{data_total}
+use Rattle.pgo_base.specs.Sets.{IsSorted}
+use Rattle.pgo_base.specs.View.{data_of, pair_of, key_of, value_of}
+use Rattle.pgo_model.specs.Operators.{same_data, contains, lookup}
+
+abbrev Below : Data → List Data → Type 0
+Below x ys = AllByRecursion (λ y. data_cmp x y ≡ Less) ys
+
+-- the order of a greater value and k is no less
+rises : (x y k : Data) → data_cmp x y ≡ Less → ordering_index (data_cmp x k) ≤ ordering_index (data_cmp y k)
+rises x y k h = go (data_cmp x k) (data_cmp y k) refl refl
+  where
+    go : (o p : Ordering) → data_cmp x k ≡ o → data_cmp y k ≡ p → ordering_index o ≤ ordering_index p
+    go Less Less e f = omega arith
+    go Less Equal e f = omega arith
+    go Less Greater e f = omega arith
+    go Equal Less e f = absurd (let z : data_cmp x k ≡ Less = data_total.trans x y k h f in cc)
+    go Equal Equal e f = omega arith
+    go Equal Greater e f = omega arith
+    go Greater Less e f = absurd (let z : data_cmp x k ≡ Less = data_total.trans x y k h f in cc)
+    go Greater Equal e f = absurd (let z : data_cmp x k ≡ Less = ap (data_cmp x) (sym (data_exact y k f)) ∙ h in cc)
+    go Greater Greater e f = omega arith
+
+below_at : {A : Type 0} (f : A → Data) (x : Data) (ys : List A) (j : ℕ) (d : A) → Below x (map f ys) → j < length ys → data_cmp x (f (get_or ys j d)) ≡ Less
+below_at f x [] j d b h = absurd (omega arith)
+below_at f x (y ∷ ys) zero d b h = b.0
+below_at f x (y ∷ ys) (suc j) d b h = below_at f x ys j d b.1 (omega arith)
+
+-- along what is in order
+pub non_decreasing : {A : Type 0} (f : A → Data) (k : Data) (xs : List A) → IsSorted (map f xs) → IsNonDecreasingBy (λ x. ordering_index (data_cmp (f x) k)) xs
+unfolding IsStrictlySortedBy
+non_decreasing f k [] s i j d p h = absurd (omega arith)
+non_decreasing f k (x ∷ xs) s zero zero d p h = omega arith
+non_decreasing f k (x ∷ xs) s zero (suc j) d p h = rises (f x) (f (get_or xs j d)) k (below_at f (f x) xs j d s.0 (omega arith))
+non_decreasing f k (x ∷ xs) s (suc i) zero d p h = absurd (omega arith)
+non_decreasing f k (x ∷ xs) s (suc i) (suc j) d p h = non_decreasing f k xs s.1 i j d (omega arith) (omega arith)
+
+apart_from : (x k : Data) (o : Ordering) → data_cmp x k ≡ o → (o ≡ Less) ⊎ (o ≡ Greater) → same_data k x ≡ false
+apart_from x k Less e h = ap is_eq (data_total.antisymm k x ∙ ap ordering_reverse e)
+apart_from x k Equal e (inl h) = absurd (cc)
+apart_from x k Equal e (inr h) = absurd (cc)
+apart_from x k Greater e h = ap is_eq (data_total.antisymm k x ∙ ap ordering_reverse e)
+
+same_at : (x k : Data) → data_cmp x k ≡ Equal → same_data k x ≡ true
+same_at x k h = ap is_eq (ap (data_cmp k) (data_exact x k h) ∙ data_itself k)
+
+-- each is apart from k
+abbrev Apart : {A : Type 0} → (A → Data) → Data → List A → Type 0
+Apart {A} f k xs = (j : ℕ) (d : A) → j < length xs → same_data k (f (get_or xs j d)) ≡ false
+
+all_apart : {A : Type 0} (f : A → Data) (k : Data) (xs : List A) (i : ℕ) → IsPartitionPoint (λ x. data_cmp (f x) k ≡ Less) (λ x. data_cmp (f x) k ≡ Greater) xs i → Apart f k xs
+all_apart f k xs i h j d below = go (ltb j i) refl
+  where
+    go : (b : Bool) → ltb j i ≡ b → same_data k (f (get_or xs j d)) ≡ false
+    go true e = apart_from (f (get_or xs j d)) k _ refl (inl (h.0 j d (omega arith) (grind (arith, nat_tests))))
+    go false e = apart_from (f (get_or xs j d)) k _ refl (inr (h.1 j d (grind (arith, nat_tests)) below))
+
+contains_none : (k : Data) (xs : List Value) → Apart data_of k xs → contains k (map data_of xs) ≡ false
+contains_none k [] h = refl
+contains_none k (x ∷ xs) h = ap (λ b. if b then true else contains k (map data_of xs)) (h 0 x (omega arith)) ∙ contains_none k xs (λ j d b. h (suc j) d (omega arith))
+
+contains_at : (k : Data) (xs : List Value) (i : ℕ) (d : Value) → i < length xs → data_cmp (data_of (get_or xs i d)) k ≡ Equal → contains k (map data_of xs) ≡ true
+contains_at k [] i d b h = absurd (omega arith)
+contains_at k (x ∷ xs) zero d b h = ap (λ b. if b then true else contains k (map data_of xs)) (same_at (data_of x) k h)
+contains_at k (x ∷ xs) (suc i) d b h = go (same_data k (data_of x)) (contains_at k xs i d (omega arith) h)
+  where
+    go : (t : Bool) → contains k (map data_of xs) ≡ true → (if t then true else contains k (map data_of xs)) ≡ true
+    go true e = refl
+    go false e = e
+
+-- a search for a member tells whether it is there
+pub member_searched : (v : Value) (xs : List Value) (r : Result ℕ ℕ) → IsSearchInRange r (length xs) → IsSorted (map data_of xs) → IsBinarySearchResult (λ x. data_cmp (data_of x) (data_of v)) xs r → is_ok r ≡ contains (data_of v) (map data_of xs)
+member_searched v xs (Ok i) b s h = sym (contains_at (data_of v) xs i v b (h v))
+member_searched v xs (Err i) b s h = sym (contains_none (data_of v) xs (all_apart data_of (data_of v) xs i (h (non_decreasing data_of (data_of v) xs s))))
+
+pub keys_map : (ps : List (Value × Value)) → keys (map pair_of ps) ≡ map key_of ps
+keys_map [] = refl
+keys_map (p ∷ ps) = ap (λ ks. key_of p ∷ ks) (keys_map ps)
+
+lookup_none : (k : Data) (ps : List (Value × Value)) → Apart key_of k ps → lookup k (map pair_of ps) ≡ None
+lookup_none k [] h = refl
+lookup_none k (p ∷ ps) h = ap (λ b. if b then Some (value_of p) else lookup k (map pair_of ps)) (h 0 p (omega arith)) ∙ lookup_none k ps (λ j d b. h (suc j) d (omega arith))
+
+lookup_at : (k : Data) (ps : List (Value × Value)) (i : ℕ) (d : Value × Value) → IsSorted (map key_of ps) → i < length ps → data_cmp (key_of (get_or ps i d)) k ≡ Equal → lookup k (map pair_of ps) ≡ Some (value_of (get_or ps i d))
+unfolding IsStrictlySortedBy
+lookup_at k [] i d s b h = absurd (omega arith)
+lookup_at k (p ∷ ps) zero d s b h = ap (λ b. if b then Some (value_of p) else lookup k (map pair_of ps)) (same_at (key_of p) k h)
+lookup_at k (p ∷ ps) (suc i) d s b h =
+    let less : data_cmp (key_of p) k ≡ Less = ap (data_cmp (key_of p)) (sym (data_exact (key_of (get_or ps i d)) k h)) ∙ below_at key_of (key_of p) ps i d s.0 (omega arith) in
+    ap (λ b. if b then Some (value_of p) else lookup k (map pair_of ps)) (apart_from (key_of p) k Less less (inl refl)) ∙ lookup_at k ps i d s.1 (omega arith) h
+
+-- a search for a key finds its value
+pub key_found : (k : Data) (ps : List (Value × Value)) (i : ℕ) (d : Value × Value) → IsSorted (keys (map pair_of ps)) → i < length ps → data_cmp (key_of (get_or ps i d)) k ≡ Equal → lookup k (map pair_of ps) ≡ Some (value_of (get_or ps i d))
+key_found k ps i d s b h = lookup_at k ps i d (subst IsSorted (keys_map ps) s) b h
+
+-- or tells that it isn't there
+pub key_missing : (k : Data) (ps : List (Value × Value)) (i : ℕ) → IsSorted (keys (map pair_of ps)) → (IsNonDecreasingBy (λ p. ordering_index (data_cmp (key_of p) k)) ps → IsPartitionPoint (λ p. data_cmp (key_of p) k ≡ Less) (λ p. data_cmp (key_of p) k ≡ Greater) ps i) → lookup k (map pair_of ps) ≡ None
+key_missing k ps i s h = lookup_none k ps (all_apart key_of k ps i (h (non_decreasing key_of k ps (subst IsSorted (keys_map ps) s))))

@@ -1,0 +1,5 @@
+pub mod Answers
+pub mod Kept
+pub mod Replaced
+pub mod Chosen
+pub mod Choices
