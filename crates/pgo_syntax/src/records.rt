@@ -1,0 +1,248 @@
+// What becomes of the attempts of a run, and how a run is set.
+ghost use Rattle.std.specs.Prelude.{◌≡◌, [], ◌∷◌, ◌++◌, IfOk};
+ghost use Rattle.pgo_model.specs.Core.{is_listed};
+
+use std::alloc::{AllocError, Global};
+use std::marker::Model;
+
+/// Why an attempt found no end: an `await` is FALSE or a `with` has no member, an expression has no value, or an
+/// `assert` is FALSE.
+#[derive(Clone, Copy, Debug, PartialEq, Eq)]
+pub enum NoteKind {
+    Blocked,
+    NoValue,
+    AssertFails,
+}
+
+/// An attempt that found no end, with the number of entries before it.
+#[derive(Clone, Copy, Debug, PartialEq, Eq)]
+pub struct Note {
+    pub instance: u32,
+    pub attempt: u32,
+    pub kind: NoteKind,
+    pub position: u32,
+}
+
+/// Notes in order.
+#[derive(Drop)]
+pub struct Notes {
+    list: Vec<Note>,
+}
+
+impl Model for Notes {
+    ghost use Rattle.std.specs.Prelude.{List};
+    ghost use Rattle.pgo_syntax.specs.declared.records.Note.{Note};
+    ghost use Rattle.pgo_syntax.specs.NoteCode.{coded_notes};
+
+    ghost Value = { List Note };
+
+    ghost coded = { coded_notes };
+
+    ghost view = { λ l. l.list.items };
+}
+
+impl Notes {
+    /// No note.
+    pub fn new(alloc: Global) -> Notes
+        ensures { result ≡ [] }
+    {
+        Notes {
+            list: Vec::new(alloc),
+        }
+    }
+
+    /// One note more, at the end.
+    pub fn push(&mut self, note: Note) -> Result<(), AllocError>
+        ensures { IfOk result (λ _. self.new ≡ self.old ++ note ∷ []) }
+    {
+        self.list.push(note)?;
+        Ok(())
+    }
+
+    /// The notes as a slice.
+    pub fn as_slice(&self) -> &[Note]
+        ensures { result.now ≡ self.now }
+    {
+        self.list.as_slice()
+    }
+
+    /// These notes.
+    pub fn from_vec(list: Vec<Note>) -> Notes
+        ensures { result ≡ list.items }
+    {
+        Notes { list }
+    }
+
+    /// The notes, out of the list.
+    pub fn into_vec(self) -> Vec<Note>
+        ensures { result.items ≡ self }
+    {
+        self.list
+    }
+}
+
+/// Why an attempt was refused.
+#[derive(Clone, Copy, Debug, PartialEq, Eq)]
+pub enum Refusal {
+    /// another instance holds the resource; 1,024 stands for the journal
+    Held { resource: u32, holder: u32 },
+    /// the pre-commit of this number at the resource fails
+    Down { resource: u32, op: u32 },
+    /// the journal has so many entries, and room for no more
+    Full { entries: u32 },
+}
+
+/// What became of an attempt: entry n (from 1), a note with n entries before it, or a refusal.
+#[derive(Clone, Copy, Debug, PartialEq, Eq)]
+pub enum AttemptResult {
+    Step { n: u32 },
+    Noted { kind: NoteKind, n: u32 },
+    Refused { refusal: Refusal },
+}
+
+/// An attempt, numbered from 1, and what became of it.
+#[derive(Clone, Copy, Debug, PartialEq, Eq)]
+pub struct Record {
+    pub attempt: u32,
+    pub result: AttemptResult,
+}
+
+/// Records in order.
+#[derive(Drop)]
+pub struct Records {
+    list: Vec<Record>,
+}
+
+impl Model for Records {
+    ghost use Rattle.std.specs.Prelude.{List};
+    ghost use Rattle.pgo_syntax.specs.declared.records.Record.{Record};
+    ghost use Rattle.pgo_syntax.specs.RecordCode.{coded_records};
+
+    ghost Value = { List Record };
+
+    ghost coded = { coded_records };
+
+    ghost view = { λ l. l.list.items };
+}
+
+impl Records {
+    /// No record.
+    pub fn new(alloc: Global) -> Records
+        ensures { result ≡ [] }
+    {
+        Records {
+            list: Vec::new(alloc),
+        }
+    }
+
+    /// One record more, at the end.
+    pub fn push(&mut self, item: Record) -> Result<(), AllocError>
+        ensures { IfOk result (λ _. self.new ≡ self.old ++ item ∷ []) }
+    {
+        self.list.push(item)?;
+        Ok(())
+    }
+
+    /// The records as a slice.
+    pub fn as_slice(&self) -> &[Record]
+        ensures { result.now ≡ self.now }
+    {
+        self.list.as_slice()
+    }
+
+    /// These records.
+    pub fn from_vec(list: Vec<Record>) -> Records
+        ensures { result ≡ list.items }
+    {
+        Records { list }
+    }
+
+    /// The records, out of the list.
+    pub fn into_vec(self) -> Vec<Record>
+        ensures { result.items ≡ self }
+    {
+        self.list
+    }
+}
+
+/// Why an instance makes no more attempts: it is at "Done"; its last record is a note that no retry can mend, or the
+/// refusal Full; it has made all its attempts; memory was wanting; or no instance has the number.
+#[derive(Clone, Copy, Debug, PartialEq, Eq)]
+pub enum End {
+    Done,
+    Stopped,
+    Full,
+    Spent,
+    NoMemory,
+    Nobody,
+}
+
+/// The pre-commits that fail, in order: a resource's number, and the number of the pre-commit at it, from 1.
+#[derive(Drop)]
+pub struct Down {
+    list: Vec<(u32, u32)>,
+}
+
+impl Model for Down {
+    ghost use Rattle.std.specs.Prelude.{List, ℕ};
+
+    ghost Value = { List (ℕ × ℕ) };
+
+    ghost view = { λ d. d.list.items };
+}
+
+impl Down {
+    /// None.
+    pub fn new(alloc: Global) -> Down
+        ensures { result ≡ [] }
+    {
+        Down {
+            list: Vec::new(alloc),
+        }
+    }
+
+    /// One more, at the end.
+    pub fn push(&mut self, resource: u32, number: u32) -> Result<(), AllocError>
+        ensures { IfOk result (λ _. self.new ≡ self.old ++ (resource, number) ∷ []) }
+    {
+        self.list.push((resource, number))?;
+        Ok(())
+    }
+
+    /// The pairs as a slice.
+    pub fn as_slice(&self) -> &[(u32, u32)]
+        ensures { result.now ≡ self.now }
+    {
+        self.list.as_slice()
+    }
+
+    /// These pairs.
+    pub fn from_vec(list: Vec<(u32, u32)>) -> Down
+        ensures { result ≡ list.items }
+    {
+        Down { list }
+    }
+
+    /// Whether the pre-commit of this number at the resource fails.
+    pub fn lists(&self, resource: u32, number: u32) -> bool
+        ensures { result ≡ is_listed self.now resource number }
+    {
+        for pair in &self.list {
+            if pair.0 == resource && pair.1 == number {
+                return true;
+            }
+        }
+        false
+    }
+}
+
+/// How a run is set: the seed of its choices, the most attempts of an instance, the most entries of the journal, the
+/// pre-commits that fail, and whether a blocked instance waits for another's commit.
+#[derive(Drop)]
+pub struct Settings {
+    pub seed: u64,
+    pub attempts: u32,
+    pub steps: u32,
+    pub down: Down,
+    pub park: bool,
+}

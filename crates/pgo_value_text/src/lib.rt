@@ -1,0 +1,16 @@
+// The canonical text of a value, written and read.
+#![tactic(auto)]
+
+mod atom;
+mod built;
+mod cursor;
+pub mod errors;
+mod integer;
+pub mod laws;
+pub mod read;
+mod small;
+mod stop;
+#[cfg(test)]
+mod tests;
+mod words;
+pub mod write;

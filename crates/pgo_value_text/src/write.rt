@@ -1,0 +1,268 @@
+// The canonical text of a value.
+ghost use Rattle.std.specs.Prelude.{◌≡◌, ◌++◌, ◌+◌, codes, map, IfOk};
+ghost use Rattle.std.specs.Fmt.{signed_decimal};
+ghost use Rattle.pgo_base.specs.Data.{pairs};
+ghost use Rattle.pgo_base.specs.View.{data_of, pair_of};
+ghost use Rattle.pgo_model.specs.ValueText as spec;
+ghost use Rattle.pgo_value_text.specs.Writing as writing;
+
+use crate::errors::NoMemory;
+use crate::words::is_name;
+use itoa::Buffer;
+use pgo_base::text::Text;
+use pgo_base::value::Value;
+use std::alloc::{AllocError, Global};
+
+/// The canonical text of a value.
+///
+/// `NoMemory` comes where there is no memory.
+///
+/// Source: "Specifying Systems" for the forms, this project's choice for the order and the blanks.
+pub fn write_value(alloc: Global, value: &Value) -> Result<Text, NoMemory>
+    ensures { IfOk result (λ t. t ≡ spec.value_text (data_of value.now)) }
+{
+    let mut bytes = Vec::new(alloc);
+    push_value(&mut bytes, value)?;
+    Ok(Text::from_bytes(bytes))
+}
+
+/// Adds a byte of a string as it is written there.
+fn push_escaped(bytes: &mut Vec<u8>, byte: u8) -> Result<(), AllocError>
+    ensures { IfOk result (λ _. bytes.new.items ≡ bytes.old.items ++ spec.escaped byte) }
+{
+    match byte {
+        b'"' => bytes.extend_from_slice(b"\\\"")?,
+        b'\\' => bytes.extend_from_slice(b"\\\\")?,
+        b'\n' => bytes.extend_from_slice(b"\\n")?,
+        b'\t' => bytes.extend_from_slice(b"\\t")?,
+        _ => bytes.push(byte)?,
+    }
+    Ok(())
+}
+
+/// Adds the bytes of a string with its escapes.
+fn push_all_escaped(bytes: &mut Vec<u8>, text: &[u8]) -> Result<(), AllocError>
+    ensures { IfOk result (λ _. bytes.new.items ≡ bytes.old.items ++ spec.all_escaped text.now) }
+{
+    for byte in text {
+        push_escaped(bytes, *byte)?;
+    }
+    Ok(())
+}
+
+/// Adds a string in its quotes.
+fn push_string(bytes: &mut Vec<u8>, text: &[u8]) -> Result<(), AllocError>
+    ensures { IfOk result (λ _. bytes.new.items ≡ bytes.old.items ++ spec.string_text text.now) }
+{
+    bytes.push(b'"')?;
+    push_all_escaped(bytes, text)?;
+    bytes.push(b'"')?;
+    Ok(())
+}
+
+/// Adds an integer in decimal digits.
+fn push_integer(bytes: &mut Vec<u8>, z: i64) -> Result<(), AllocError>
+    ensures { IfOk result (λ _. bytes.new.items ≡ bytes.old.items ++ signed_decimal z) }
+{
+    let mut buffer = Buffer::new();
+    bytes.extend_from_slice(buffer.format(z).as_bytes())
+}
+
+/// Whether a key is this number.
+fn is_number(key: &Value, number: u64) -> bool
+    ensures { result ≡ spec.is_number number (data_of key.now) }
+{
+    match key {
+        Value::Int(z) => match u64::try_from(*z) {
+            Ok(n) => n == number,
+            Err(_) => false,
+        },
+        _ => false,
+    }
+}
+
+/// Whether the keys are 1, 2 and so on.
+fn is_sequence(list: &[(Value, Value)]) -> bool
+    ensures { result ≡ spec.is_sequence_from 1 (pairs (map pair_of list.now)) }
+{
+    for (i, p) in list.iter().enumerate() {
+        if !is_number(&p.0, i as u64 + 1) {
+            return false;
+        }
+    }
+    true
+}
+
+/// Whether a key can be a record's field.
+fn is_field(key: &Value) -> bool
+    ensures { result ≡ spec.is_field (data_of key.now) }
+{
+    match key {
+        Value::Str(s) => is_name(s.as_bytes()),
+        _ => false,
+    }
+}
+
+fn all_fields(list: &[(Value, Value)]) -> bool
+    ensures { result ≡ spec.all_fields (pairs (map pair_of list.now)) }
+{
+    for p in list {
+        if !is_field(&p.0) {
+            return false;
+        }
+    }
+    true
+}
+
+/// Adds a field's name.
+fn push_field(bytes: &mut Vec<u8>, key: &Value) -> Result<(), AllocError>
+    ensures { IfOk result (λ _. bytes.new.items ≡ bytes.old.items ++ spec.field_text (data_of key.now)) }
+{
+    match key {
+        Value::Str(s) => bytes.extend_from_slice(s.as_bytes()),
+        _ => Ok(()),
+    }
+}
+
+/// How a function is written.
+#[derive(Clone, Copy)]
+enum FunctionForm {
+    /// `<<a, b>>`, where the keys are 1, 2 and so on.
+    Tuple,
+    /// `[a |-> 1, b |-> 2]`, where each key can be a field.
+    Record,
+    /// `(k :> v @@ l :> w)`.
+    Mapping,
+}
+
+/// How the function with these pairs is written.
+fn form_of(list: &[(Value, Value)]) -> FunctionForm
+    ensures { result ≡ writing.form_of (pairs (map pair_of list.now)) }
+{
+    if is_sequence(list) {
+        FunctionForm::Tuple
+    } else if all_fields(list) {
+        FunctionForm::Record
+    } else {
+        FunctionForm::Mapping
+    }
+}
+
+/// The word before the pairs.
+fn opening(form: FunctionForm) -> &'static [u8]
+    ensures { result.now ≡ writing.opening form }
+{
+    match form {
+        FunctionForm::Tuple => b"<<",
+        FunctionForm::Record => b"[",
+        FunctionForm::Mapping => b"(",
+    }
+}
+
+/// The word behind the pairs.
+fn closing(form: FunctionForm) -> &'static [u8]
+    ensures { result.now ≡ writing.closing form }
+{
+    match form {
+        FunctionForm::Tuple => b">>",
+        FunctionForm::Record => b"]",
+        FunctionForm::Mapping => b")",
+    }
+}
+
+/// The word between two pairs.
+fn between(form: FunctionForm) -> &'static [u8]
+    ensures { result.now ≡ writing.between form }
+{
+    match form {
+        FunctionForm::Tuple => b", ",
+        FunctionForm::Record => b", ",
+        FunctionForm::Mapping => b" @@ ",
+    }
+}
+
+/// Adds the word between two parts, before each but the first.
+fn push_between(bytes: &mut Vec<u8>, word: &[u8], place: usize) -> Result<(), AllocError>
+    ensures { IfOk result (λ _. bytes.new.items ≡ bytes.old.items ++ writing.before word.now place) }
+{
+    if place == 0 {
+        return Ok(());
+    }
+    bytes.extend_from_slice(word)
+}
+
+/// Adds a value.
+#[cycle(push)]
+fn push_value(bytes: &mut Vec<u8>, value: &Value) -> Result<(), AllocError>
+    ensures { IfOk result (λ _. bytes.new.items ≡ bytes.old.items ++ spec.value_text (data_of value.now)) }
+{
+    match value {
+        Value::Bool(true) => bytes.extend_from_slice(b"TRUE"),
+        Value::Bool(false) => bytes.extend_from_slice(b"FALSE"),
+        Value::Int(z) => push_integer(bytes, *z),
+        Value::Str(s) => push_string(bytes, s.as_bytes()),
+        Value::Model(x) => bytes.extend_from_slice(x.as_bytes()),
+        Value::Set(s) => push_set(bytes, s.members()),
+        Value::Fun(f) => push_function(bytes, f.pairs()),
+    }
+}
+
+/// Adds a set.
+#[cycle(push)]
+fn push_set(bytes: &mut Vec<u8>, members: &[Value]) -> Result<(), AllocError>
+    ensures { IfOk result (λ _. bytes.new.items ≡ bytes.old.items ++ writing.set_text (map data_of members.now)) }
+{
+    bytes.push(b'{')?;
+    for (i, m) in members.iter().enumerate() {
+        push_between(bytes, b", ", i)?;
+        push_value(bytes, m)?;
+    }
+    bytes.push(b'}')?;
+    Ok(())
+}
+
+/// Adds a function.
+#[cycle(push)]
+fn push_function(bytes: &mut Vec<u8>, list: &[(Value, Value)]) -> Result<(), AllocError>
+    ensures { IfOk result (λ _. bytes.new.items ≡ bytes.old.items ++ writing.function_text (map pair_of list.now)) }
+{
+    let form = form_of(list);
+    bytes.extend_from_slice(opening(form))?;
+    push_pairs(bytes, list, form)?;
+    bytes.extend_from_slice(closing(form))
+}
+
+/// Adds pairs in this form.
+#[cycle(push)]
+fn push_pairs(
+    bytes: &mut Vec<u8>,
+    list: &[(Value, Value)],
+    form: FunctionForm,
+) -> Result<(), AllocError>
+    ensures { IfOk result (λ _. bytes.new.items ≡ bytes.old.items ++ writing.pairs_text form (map pair_of list.now)) }
+{
+    for (i, p) in list.iter().enumerate() {
+        push_between(bytes, between(form), i)?;
+        push_key(bytes, &p.0, form)?;
+        push_value(bytes, &p.1)?;
+    }
+    Ok(())
+}
+
+/// Adds the key of a pair in this form, with the arrow behind it.
+#[cycle(push)]
+fn push_key(bytes: &mut Vec<u8>, key: &Value, form: FunctionForm) -> Result<(), AllocError>
+    ensures { IfOk result (λ _. bytes.new.items ≡ bytes.old.items ++ writing.key_text form (data_of key.now)) }
+{
+    match form {
+        FunctionForm::Tuple => Ok(()),
+        FunctionForm::Record => {
+            push_field(bytes, key)?;
+            bytes.extend_from_slice(b" |-> ")
+        }
+        FunctionForm::Mapping => {
+            push_value(bytes, key)?;
+            bytes.extend_from_slice(b" :> ")
+        }
+    }
+}
