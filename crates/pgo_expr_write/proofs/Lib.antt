@@ -1,0 +1,4 @@
+pub mod Nesting
+pub mod ListTexts
+pub mod Written
+pub mod Heights

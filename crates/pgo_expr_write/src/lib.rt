@@ -1,0 +1,13 @@
+// The canonical text of an expression.
+#![tactic(auto)]
+
+pub mod errors;
+mod forms;
+mod lists;
+mod operators;
+mod parts;
+mod strings;
+#[cfg(test)]
+mod tests;
+mod words;
+pub mod write;

@@ -1,0 +1,108 @@
+// The canonical text of an expression.
+ghost use Rattle.std.specs.Prelude.{◌≡◌, ◌++◌, true, false, map, IfOk};
+ghost use Rattle.pgo_base.specs.ExprView.{tree};
+ghost use Rattle.pgo_model.specs.ExprText.{expr_text};
+ghost use Rattle.pgo_expr_write.specs.Parts.{see};
+ghost use Rattle.pgo_expr_write.specs.Pieces as spec;
+
+use crate::errors::NoMemory;
+use crate::forms::parts_of;
+use crate::parts::Part;
+use crate::strings::{push_integer, push_string};
+use pgo_base::expr::Expr;
+use pgo_base::text::Text;
+use std::alloc::{AllocError, Global};
+
+/// The canonical text of an expression: each application of an operator and each open form stands in `( )`, the
+/// outermost too.
+///
+/// `NoMemory` comes where there is no memory.
+///
+/// Source: "Specifying Systems" for the forms, this project's choice for the parentheses and the blanks.
+pub fn write_expr(alloc: Global, e: &Expr) -> Result<Text, NoMemory>
+    ensures { IfOk result (λ t. t ≡ expr_text false (tree e.now)) }
+{
+    let mut bytes = Vec::new(alloc);
+    push_operand(&mut bytes, alloc, e)?;
+    Ok(Text::from_bytes(bytes))
+}
+
+/// The same for the body of a definition or of a bullet's item, where the outermost pair of parentheses is left out.
+///
+/// `NoMemory` comes where there is no memory.
+///
+/// Source: "Specifying Systems" for the forms, this project's choice for the parentheses and the blanks.
+pub fn write_body(alloc: Global, e: &Expr) -> Result<Text, NoMemory>
+    ensures { IfOk result (λ t. t ≡ expr_text true (tree e.now)) }
+{
+    let mut bytes = Vec::new(alloc);
+    push_body(&mut bytes, alloc, e)?;
+    Ok(Text::from_bytes(bytes))
+}
+
+/// Whether an expression is an application of an operator or an open form.
+fn is_enclosed(e: &Expr) -> bool
+    ensures { result ≡ spec.is_enclosed (tree e.now) }
+{
+    match e {
+        Expr::Prefix(..)
+        | Expr::Infix(..)
+        | Expr::Product(_)
+        | Expr::If(..)
+        | Expr::Case(_)
+        | Expr::CaseOther(..)
+        | Expr::Let(..)
+        | Expr::Quantified(..)
+        | Expr::Choose(..) => true,
+        _ => false,
+    }
+}
+
+/// Adds an expression, in `( )` where it is an application or an open form.
+#[cycle(push)]
+fn push_operand(bytes: &mut Vec<u8>, alloc: Global, e: &Expr) -> Result<(), AllocError>
+    ensures { IfOk result (λ _. bytes.new.items ≡ bytes.old.items ++ expr_text false (tree e.now)) }
+{
+    if !is_enclosed(e) {
+        return push_body(bytes, alloc, e);
+    }
+    bytes.push(b'(')?;
+    push_body(bytes, alloc, e)?;
+    bytes.push(b')')?;
+    Ok(())
+}
+
+/// Adds an expression without its own `( )`.
+#[cycle(push)]
+fn push_body(bytes: &mut Vec<u8>, alloc: Global, e: &Expr) -> Result<(), AllocError>
+    ensures { IfOk result (λ _. bytes.new.items ≡ bytes.old.items ++ expr_text true (tree e.now)) }
+{
+    let parts = parts_of(alloc, e)?;
+    push_parts(bytes, alloc, parts.as_slice())
+}
+
+/// Adds these parts.
+#[cycle(push)]
+fn push_parts(bytes: &mut Vec<u8>, alloc: Global, parts: &[Part<'_>]) -> Result<(), AllocError>
+    ensures { IfOk result (λ _. bytes.new.items ≡ bytes.old.items ++ spec.pieces_text (map see parts.now)) }
+{
+    for part in parts {
+        push_part(bytes, alloc, *part)?;
+    }
+    Ok(())
+}
+
+/// Adds a part.
+#[cycle(push)]
+fn push_part(bytes: &mut Vec<u8>, alloc: Global, part: Part<'_>) -> Result<(), AllocError>
+    ensures { IfOk result (λ _. bytes.new.items ≡ bytes.old.items ++ spec.piece_text (see part.entry)) }
+{
+    match part {
+        Part::Bytes(b) => bytes.extend_from_slice(b),
+        Part::Name(x) => bytes.extend_from_slice(x.as_bytes()),
+        Part::Quoted(s) => push_string(bytes, s.as_bytes()),
+        Part::Number(z) => push_integer(bytes, z),
+        Part::Operand(e) => push_operand(bytes, alloc, e.get()),
+        Part::Member(e) => push_operand(bytes, alloc, e),
+    }
+}

@@ -1,0 +1,15 @@
+pub mod Comments
+pub mod Turns
+pub mod Runs
+pub mod Tables
+pub mod Numbers
+pub mod Closing
+pub mod Strings
+pub mod PieceSound
+pub mod PieceComplete
+pub mod LexedExact
+pub mod MarksComplete
+pub mod MarksSound
+pub mod TokensExact
+pub mod SignEnds
+pub mod FurtherRight

@@ -1,0 +1,9 @@
+pub mod Symbols
+pub mod Lexemes
+pub mod Pieces
+pub mod Kinds
+pub mod Layout
+pub mod Tokenized
+pub mod Answers
+pub mod Lexing
+pub mod Marking

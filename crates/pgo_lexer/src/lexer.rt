@@ -1,0 +1,84 @@
+// A text cut into its tokens.
+ghost use Rattle.std.specs.Prelude.{◌≡◌, ◌≤◌, ◌<◌, ◌+◌, [], length, IfOk};
+ghost use Rattle.pgo_lexer.specs.Answers.{Gives, ok_as};
+ghost use Rattle.pgo_lexer.specs.Pieces as piece;
+ghost use Rattle.pgo_lexer.specs.Lexing as spec;
+
+use crate::bytes::{columns_behind, first, skip};
+use crate::errors::TextStop;
+use crate::piece::{Piece, first_piece};
+use crate::token::{Lexeme, Tokens};
+use std::alloc::Global;
+
+/// The most bytes of a text whose columns can be counted; no memory holds as many.
+const MOST_BYTES: usize = 1152921504606846976;
+
+/// The piece that the rest of a text begins with, which stands at an offset.
+fn next_piece(alloc: Global, rest: &[u8], at: usize) -> Result<Piece, TextStop>
+    ensures value { Gives (piece.first_piece rest.now) result }
+    ensures within { IfOk result (λ p. p.length ≤ length rest.now) }
+{
+    match first_piece(alloc, rest)? {
+        Some(piece) => Ok(piece),
+        None => Err(TextStop::at(at)),
+    }
+}
+
+/// Adds the token that a piece is, if it is one and the limit allows it.
+fn add(
+    tokens: &mut Tokens,
+    limit: u32,
+    column: usize,
+    start: usize,
+    piece: Piece,
+) -> Result<(), TextStop>
+    requires { start + piece.length < 18446744073709551616 }
+    ensures { Gives (spec.added limit column start tokens.old piece.length piece.token) (ok_as tokens.new result) }
+{
+    let stop = start + piece.length;
+    match piece.token {
+        None => Ok(()),
+        Some(token) => {
+            if tokens.len() >= limit as usize {
+                return Err(TextStop::at(start));
+            }
+            let lexeme = Lexeme {
+                token,
+                column,
+                start,
+                stop,
+            };
+            tokens.push(lexeme)?;
+            Ok(())
+        }
+    }
+}
+
+/// The tokens of a text without marks, at most so many.
+pub fn lexed(alloc: Global, text: &[u8], limit: u32) -> Result<Tokens, TextStop>
+    ensures { Gives (spec.lexed limit (length text.now) 0 0 [] text.now) result }
+{
+    if text.len() > MOST_BYTES {
+        return Err(TextStop::NoMemory);
+    }
+    let mut tokens = Tokens::new(alloc);
+    let mut rest = text;
+    let mut column: usize = 0;
+    let mut at: usize = 0;
+    for _turn in 0..text.len() {
+        if rest.len() == 0 {
+            return Ok(tokens);
+        }
+        let p = next_piece(alloc, rest, at)?;
+        let length = p.length;
+        add(&mut tokens, limit, column, at, p)?;
+        column = columns_behind(column, first(rest, length));
+        at += length;
+        rest = skip(rest, length);
+    }
+    if rest.len() == 0 {
+        Ok(tokens)
+    } else {
+        Err(TextStop::at(at))
+    }
+}

@@ -1,0 +1,20 @@
+// The tokens of a text, with the marks of its junction lists.
+#![tactic(auto)]
+
+mod bytes;
+mod comment;
+pub mod errors;
+mod kind;
+pub mod laws;
+mod lexer;
+mod marker;
+mod number;
+mod piece;
+mod stack;
+mod string;
+pub mod symbol;
+mod table;
+#[cfg(test)]
+mod tests;
+pub mod token;
+pub mod tokenizer;
