@@ -2,3 +2,16 @@ pub mod Nesting
 pub mod ListTexts
 pub mod Written
 pub mod Heights
+pub mod Lexed
+pub mod FixedWords
+pub mod Leaves
+pub mod Inners
+pub mod Rows
+pub mod ItemRows
+pub mod OperatorForms
+pub mod OpenForms
+pub mod BracketForms
+pub mod ProductForms
+pub mod Canonical
+pub mod Formed
+pub mod ReadBack

@@ -3,6 +3,7 @@
 
 pub mod errors;
 mod forms;
+pub mod laws;
 mod lists;
 mod operators;
 mod parts;

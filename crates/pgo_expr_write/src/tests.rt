@@ -1,6 +1,7 @@
 // Expressions and their canonical texts.
 mod build;
 mod forms;
+mod rows;
 
 use crate::tests::build::{arms, between, fields, infix, list, named, prefix, string, text};
 use crate::tests::forms::{

@@ -1,12 +1,16 @@
 // The canonical text of an expression.
-ghost use Rattle.std.specs.Prelude.{◌≡◌, ◌++◌, true, false, map, IfOk};
+ghost use Rattle.std.specs.Prelude.{◌≡◌, ◌≤◌, ◌++◌, ℕ, true, false, map, length, IfOk};
 ghost use Rattle.pgo_base.specs.ExprView.{tree};
 ghost use Rattle.pgo_model.specs.ExprText.{expr_text};
+ghost use Rattle.pgo_expr_read.specs.Heights.{height};
+ghost use Rattle.pgo_expr_read.specs.Texts.{SpellsText, most_tokens};
 ghost use Rattle.pgo_expr_write.specs.Parts.{see};
 ghost use Rattle.pgo_expr_write.specs.Pieces as spec;
+ghost use Rattle.pgo_expr_write.specs.WellFormed.{IsWellFormed};
 
 use crate::errors::NoMemory;
 use crate::forms::parts_of;
+use crate::laws::canonical_text_is_read_back;
 use crate::parts::Part;
 use crate::strings::{push_integer, push_string};
 use pgo_base::expr::Expr;
@@ -20,11 +24,12 @@ use std::alloc::{AllocError, Global};
 ///
 /// Source: "Specifying Systems" for the forms, this project's choice for the parentheses and the blanks.
 pub fn write_expr(alloc: Global, e: &Expr) -> Result<Text, NoMemory>
-    ensures { IfOk result (λ t. t ≡ expr_text false (tree e.now)) }
+    ensures text { IfOk result (λ t. t ≡ expr_text false (tree e.now)) }
+    // It is read back as the same expression, by `read_expr` of `pgo_expr_read`.
+    ensures read { IfOk result (λ t. (limit : ℕ) → IsWellFormed (tree e.now) → height (tree e.now) ≤ limit → length t ≤ most_tokens → SpellsText limit t (tree e.now)) }
 {
-    let mut bytes = Vec::new(alloc);
-    push_operand(&mut bytes, alloc, e)?;
-    Ok(Text::from_bytes(bytes))
+    canonical_text_is_read_back();
+    operand_text(alloc, e)
 }
 
 /// The same for the body of a definition or of a bullet's item, where the outermost pair of parentheses is left out.
@@ -33,6 +38,25 @@ pub fn write_expr(alloc: Global, e: &Expr) -> Result<Text, NoMemory>
 ///
 /// Source: "Specifying Systems" for the forms, this project's choice for the parentheses and the blanks.
 pub fn write_body(alloc: Global, e: &Expr) -> Result<Text, NoMemory>
+    ensures text { IfOk result (λ t. t ≡ expr_text true (tree e.now)) }
+    // It is read back as the same expression, by `read_expr` of `pgo_expr_read`.
+    ensures read { IfOk result (λ t. (limit : ℕ) → IsWellFormed (tree e.now) → height (tree e.now) ≤ limit → length t ≤ most_tokens → SpellsText limit t (tree e.now)) }
+{
+    canonical_text_is_read_back();
+    body_text(alloc, e)
+}
+
+/// The text of an expression as an operand.
+fn operand_text(alloc: Global, e: &Expr) -> Result<Text, NoMemory>
+    ensures { IfOk result (λ t. t ≡ expr_text false (tree e.now)) }
+{
+    let mut bytes = Vec::new(alloc);
+    push_operand(&mut bytes, alloc, e)?;
+    Ok(Text::from_bytes(bytes))
+}
+
+/// The text of an expression as a body.
+fn body_text(alloc: Global, e: &Expr) -> Result<Text, NoMemory>
     ensures { IfOk result (λ t. t ≡ expr_text true (tree e.now)) }
 {
     let mut bytes = Vec::new(alloc);

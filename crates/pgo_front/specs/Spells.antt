@@ -2,7 +2,7 @@
 use Rattle.std.specs.Prelude.{◌≡◌, ℕ, List}
 use Rattle.pgo_model.specs.Spec.{Spec}
 use Rattle.pgo_counter.specs.declared.counter.Counter.{Counter}
-use Rattle.pgo_mpcal_read.specs.Form.{SpellsCounter}
+use Rattle.pgo_counter_read.specs.Form.{SpellsCounter}
 use Rattle.pgo_counter.specs.Counters.{spec_of}
 
 -- the text spells this specification, which is of the counter form

@@ -15,8 +15,8 @@ use crate::instance::run_turns;
 use crate::made::Made;
 use crate::status::Status;
 use pgo_counter::counter::Counter;
+use pgo_counter_read::reader::{ReadStop, read_counter};
 use pgo_io::source::Source;
-use pgo_mpcal_read::reader::{ReadStop, read_counter};
 use std::alloc::{AllocError, Global};
 
 /// The most bytes of a specification.

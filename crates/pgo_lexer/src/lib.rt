@@ -1,15 +1,15 @@
 // The tokens of a text, with the marks of its junction lists.
 #![tactic(auto)]
 
-mod bytes;
-mod comment;
+pub mod bytes;
+pub mod comment;
 pub mod errors;
 mod kind;
 pub mod laws;
 mod lexer;
 mod marker;
 mod number;
-mod piece;
+pub mod piece;
 mod stack;
 mod string;
 pub mod symbol;

@@ -9,7 +9,7 @@ ghost use Rattle.pgo_lexer.specs.Tokenized.{Tokenized, IsOrNoMemory, Spans};
 
 use crate::errors::TextStop;
 use crate::lexer::lexed;
-use crate::marker::marked;
+pub use crate::marker::marked;
 use crate::token::Tokens;
 use std::alloc::Global;
 

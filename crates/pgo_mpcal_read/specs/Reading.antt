@@ -1,28 +1,28 @@
--- The reader of the counter form as functions on lists of tokens, in the shape of the code.
-use Rattle.std.specs.Prelude.{◌≡◌, ◌+◌, ◌*◌, ◌-◌, ℕ, zero, suc, Bool, false, not, nat_eq, nat_lt, if◌then◌else◌, List, [], ◌∷◌, ◌++◌, length, codes, Option, Some, None, Result, Ok, Err}
-use Rattle.pgo_base.specs.Lookup.{Name}
-use Rattle.pgo_model.specs.ValueText.{is_digit, same_bytes}
-use Rattle.pgo_mpcal_read.specs.declared.token.Token.{Token}
-use Rattle.pgo_mpcal_read.specs.declared.token.Token.TheVariants as t
-use Rattle.pgo_mpcal_read.specs.declared.token.Lexeme.{Lexeme}
-use Rattle.pgo_counter.specs.declared.counter.Term.{Term}
-use Rattle.pgo_counter.specs.declared.counter.Term.TheVariants.{Parameter, Number}
-use Rattle.pgo_counter.specs.declared.counter.Sum.{Sum}
-use Rattle.pgo_counter.specs.declared.counter.Counter.{Counter}
-use Rattle.pgo_mpcal_read.specs.declared.reader.ReadStop.{ReadStop}
-use Rattle.pgo_mpcal_read.specs.declared.reader.ReadStop.TheVariants.{NotCounter, NoMemory}
-use Rattle.pgo_mpcal_read.specs.Form.{tokens_of}
-use Rattle.pgo_counter.specs.WellNamed.{is_well_named, most, most_statements}
-use Rattle.pgo_mpcal_read.specs.declared.reader.Heading.{Heading}
-use Rattle.pgo_mpcal_read.specs.Lexing.{lexed}
+-- The reader as functions on lists of tokens, in the shape of the code: what it reads, and the tokens behind it.
+use Rattle.std.specs.Prelude.{◌≡◌, ℕ, zero, suc, pos, ◌-◌, Bool, true, false, if◌then◌else◌, List, [], ◌∷◌, ◌++◌, length, drop, take, Option, Some, None, Result, Ok, Err}
+use Rattle.pgo_base.specs.Tree.{Tree}
+use Rattle.pgo_lexer.specs.declared.token.Lexeme.{Lexeme}
+use Rattle.pgo_lexer.specs.declared.token.Token.{Token}
+use Rattle.pgo_lexer.specs.declared.token.Token.TheVariants as t
+use Rattle.pgo_lexer.specs.declared.errors.TextStop.{TextStop}
+use Rattle.pgo_lexer.specs.declared.errors.TextStop.TheVariants.{Syntax, NoMemory}
+use Rattle.pgo_expr_read.specs.declared.read.Read.{Read}
+use Rattle.pgo_expr_read.specs.Lookahead.{tokens_of}
+use Rattle.pgo_expr_read.specs.Parsers as expression_parsers
+use Rattle.pgo_expr_read.specs.Reading as expression_reading
+use Rattle.pgo_syntax.specs.declared.name.PlacedName.{PlacedName}
+use Rattle.pgo_mpcal_read.specs.declared.sign.Sign.{Sign}
+use Rattle.pgo_mpcal_read.specs.declared.sign.Sign.TheVariants as sign
+use Rattle.pgo_mpcal_read.specs.Signs.{is_sign, sees}
+use Rattle.pgo_mpcal_read.specs.Leaves.{most_height, closes}
 
--- ---- what a reader gives, and the tokens behind it
+-- ---- parsers
 
 abbrev pub Outcome : Type 0 → Type 0
-Outcome A = Option (A × List Token)
+Outcome A = Option (A × List Lexeme)
 
 abbrev pub Parser : Type 0 → Type 0
-Parser A = List Token → Outcome A
+Parser A = List Lexeme → Outcome A
 
 abbrev pub and_then : {A B : Type 0} → Outcome A → (A → Parser B) → Outcome B
 and_then (Some p) f = f p.0 p.1
@@ -39,263 +39,154 @@ p >> q = p >>= (λ _. q)
 abbrev pub pure : {A : Type 0} → A → Parser A
 pure a = λ i. Some (a, i)
 
--- what a reader returns is what the function gives, unless memory runs out
-abbrev pub ReadsAs : {A B : Type 0} → (A → B) → Outcome B → Result A ReadStop → List Token → Type 0
-ReadsAs see outcome (Ok a) new = outcome ≡ Some (see a, new)
-ReadsAs see outcome (Err NotCounter) new = outcome ≡ None
-ReadsAs see outcome (Err NoMemory) new = Unit {0}
+abbrev pub IsSyntax : TextStop → Type 0
+IsSyntax (Syntax n) = Unit {0}
+IsSyntax NoMemory = ⊥
 
-abbrev pub Reads : {A : Type 0} → Outcome A → Result A ReadStop → List Token → Type 0
+-- what a reader returns is what the function gives, unless memory runs out
+abbrev pub Reads : {A : Type 0} → Outcome A → Result A TextStop → List Lexeme → Type 0
 Reads outcome (Ok a) new = outcome ≡ Some (a, new)
-Reads outcome (Err NotCounter) new = outcome ≡ None
+Reads outcome (Err (Syntax n)) new = outcome ≡ None
 Reads outcome (Err NoMemory) new = Unit {0}
 
-abbrev pub Makes : {A : Type 0} → Option A → Result A ReadStop → Type 0
+-- the same of a result that stands for what the function gives
+abbrev pub Makes : {A : Type 0} → Option A → Result A TextStop → Type 0
 Makes outcome (Ok a) = outcome ≡ Some a
-Makes outcome (Err NotCounter) = outcome ≡ None
+Makes outcome (Err (Syntax n)) = outcome ≡ None
 Makes outcome (Err NoMemory) = Unit {0}
+
+-- the same of what only goes past tokens
+abbrev pub Passes : Option (List Lexeme) → Result (Unit {0}) TextStop → List Lexeme → Type 0
+Passes outcome (Ok u) new = outcome ≡ Some new
+Passes outcome (Err (Syntax n)) new = outcome ≡ None
+Passes outcome (Err NoMemory) new = Unit {0}
 
 -- ---- single tokens
 
--- which form a token has, whatever word it is
-abbrev pub kind : Token → ℕ
-kind (t.Word x) = 0
-kind t.Dashes = 1
-kind t.Row = 2
-kind t.Mpcal = 3
-kind t.OpenComment = 4
-kind t.CloseComment = 5
-kind t.OpenBrace = 6
-kind t.CloseBrace = 7
-kind t.OpenParen = 8
-kind t.CloseParen = 9
-kind t.Colon = 10
-kind t.Becomes = 11
-kind t.Plus = 12
-kind t.Semicolon = 13
-kind t.Equal = 14
-kind t.Defined = 15
+abbrev pub skip : List Lexeme → List Lexeme
+skip [] = []
+skip (l ∷ rest) = rest
 
-abbrev pub first : List Token → Option Token
-first [] = None
-first (token ∷ ts) = Some token
+unfoldable pub past : Sign → List Lexeme → List Lexeme
+past v i = if sees v i then skip i else i
 
-abbrev pub others : List Token → List Token
-others [] = []
-others (token ∷ ts) = ts
+abbrev pub eat : Sign → Parser Bool
+eat v = λ i. Some (sees v i, past v i)
 
-abbrev pub at_word : List Token → Bool
-at_word [] = false
-at_word (token ∷ ts) = nat_eq (kind token) 0
+unfoldable pub expect : Sign → Parser (Unit {0})
+expect v = λ i. if sees v i then Some (tt, skip i) else None
 
-abbrev pub end : Parser (Unit {0})
-end [] = Some (tt, [])
-end (token ∷ ts) = None
+-- a sign, and its place
+unfoldable pub mark : Sign → Parser ℕ
+mark v [] = None
+mark v (l ∷ rest) = if is_sign v l.token then Some (l.start, rest) else None
 
--- a token of this form
-abbrev pub expect : Token → Parser (Unit {0})
-expect wanted [] = None
-expect wanted (token ∷ ts) = if nat_eq (kind token) (kind wanted) then Some (tt, ts) else None
+abbrev pub name_of : Token → ℕ → List Lexeme → Outcome PlacedName
+name_of (t.Name x) start rest = Some (record { name = x; place = start }, rest)
+name_of _ start rest = None
 
-abbrev pub word_in : Token → List Token → Outcome Name
-word_in (t.Word x) ts = Some (x, ts)
-word_in _ ts = None
+-- a name with its place
+abbrev pub name : Parser PlacedName
+name [] = None
+name (l ∷ rest) = name_of l.token l.start rest
 
-abbrev pub word : Parser Name
-word [] = None
-word (token ∷ ts) = word_in token ts
+abbrev pub number_of : Token → List Lexeme → Outcome ℕ
+number_of (t.Number (pos n)) rest = Some (n, rest)
+number_of _ rest = None
 
--- this word
-unfoldable pub expect_word : Name → Parser (Unit {0})
-expect_word wanted = do
-  x ← word
-  (λ i. if same_bytes x wanted then Some (tt, i) else None)
+abbrev pub number : Parser ℕ
+number [] = None
+number (l ∷ rest) = number_of l.token rest
 
--- ---- numbers
+abbrev pub is_name : Token → Bool
+is_name (t.Name x) = true
+is_name _ = false
 
--- the value of digits behind a value, where all are digits and no value on the way is too great
-unfoldable pub number_from : ℕ → List ℕ → Option ℕ
-number_from n [] = Some n
-number_from n (b ∷ bs) = if is_digit b then (if nat_lt most (n * 10 + (b - 48)) then None else number_from (n * 10 + (b - 48)) bs) else None
+abbrev pub sees_name : List Lexeme → Bool
+sees_name [] = false
+sees_name (l ∷ rest) = is_name l.token
 
-unfoldable pub number_of : List ℕ → Option ℕ
-number_of bs = if nat_eq (length bs) 0 then None else number_from 0 bs
+-- the second token is this sign
+abbrev pub sees_second : Sign → List Lexeme → Bool
+sees_second v i = sees v (skip i)
 
-abbrev pub give : {A : Type 0} → Option A → Parser A
-give (Some a) i = Some (a, i)
-give None i = None
+-- the place of the next token
+abbrev pub place : List Lexeme → ℕ
+place [] = 0
+place (l ∷ rest) = l.start
 
-unfoldable pub numeral : Parser ℕ
-numeral = do
-  x ← word
-  give (number_of x)
+-- ---- expressions
 
--- ---- the parts of a specification
+-- the tokens that are left of these where so many are left
+abbrev pub left_of : List Lexeme → ℕ → List Lexeme
+left_of i n = drop (length i - n) i
 
--- ---- MODULE name ----
-unfoldable pub title : Parser Name
-title = do
-  expect t.Dashes
-  expect_word (codes "MODULE")
-  x ← word
-  expect t.Dashes
-  pure x
+-- the tokens before those, where so many are left
+abbrev pub without_last : List Lexeme → ℕ → List Lexeme
+without_last i n = take (length i - n) i
 
-unfoldable pub extends : Parser (Unit {0})
-extends = do
-  expect_word (codes "EXTENDS")
-  expect_word (codes "Integers")
-  expect t.OpenComment
-  expect t.Mpcal
+-- the tokens before those that are left
+abbrev pub front_of : List Lexeme → List Lexeme → List Lexeme
+front_of i rest = without_last i (length rest)
 
--- the algorithm's name, and the brace behind it
-unfoldable pub algorithm : Parser Name
-algorithm = do
-  x ← word
-  expect t.OpenBrace
-  pure x
+abbrev pub on_tokens : List Lexeme → expression_parsers.Outcome (Read Tree) → Outcome Tree
+on_tokens i (Some p) = Some (p.0.tree, left_of i (length p.1))
+on_tokens i None = None
 
-unfoldable pub archetype : Parser Name
-archetype = do
-  expect_word (codes "archetype")
-  word
+unfoldable pub expression : Parser Tree
+expression i = on_tokens i (expression_reading.expr most_height 0 (tokens_of i))
 
--- (ref name)
-unfoldable pub by_ref : Parser Name
-by_ref = do
-  expect t.OpenParen
-  expect_word (codes "ref")
-  x ← word
-  expect t.CloseParen
-  pure x
+unfoldable pub range : Parser Tree
+range i = on_tokens i (expression_reading.range most_height (expression_reading.expr most_height) 0 (tokens_of i))
 
-unfoldable pub head : Parser Heading
-head = do
-  n ← title
-  extends
-  g ← algorithm
-  a ← archetype
-  v ← by_ref
-  expect t.OpenBrace
-  pure (record { name = n; algorithm = g; archetype = a; parameter = v })
+-- ---- lists
 
-abbrev pub as_number : Option ℕ → Option Term
-as_number None = None
-as_number (Some n) = Some (Number n)
+-- one more as long as it goes on
+unfoldable pub folded : {A : Type 0} → (List Lexeme → Bool) → (A → Parser A) → (turns : ℕ) → A → Parser A
+folded goes more zero acc = pure acc
+folded goes more (suc n) acc = λ i. if goes i then and_then (more acc i) (folded goes more n) else Some (acc, i)
 
--- the side of a sum that this word is
-unfoldable pub term_of : Name → Name → Option Term
-term_of v x = if same_bytes x v then Some Parameter else as_number (number_of x)
+abbrev pub all_folded : {A : Type 0} → (List Lexeme → Bool) → (A → Parser A) → A → Parser A
+all_folded goes more acc = λ i. folded goes more (length i) acc i
 
-unfoldable pub term : Name → Parser Term
-term v = do
-  x ← word
-  give (term_of v x)
+-- one more item, behind a sign
+unfoldable pub one_behind : {A : Type 0} → Sign → Parser A → List A → Parser (List A)
+one_behind v item all = do
+  expect v
+  a ← item
+  pure (all ++ a ∷ [])
 
--- : v :=
-unfoldable pub assigned : Name → Parser (Unit {0})
-assigned v = do
-  expect t.Colon
-  expect_word v
-  expect t.Becomes
+abbrev pub behind : {A : Type 0} → Sign → Parser A → List A → Parser (List A)
+behind v item first = all_folded (sees v) (one_behind v item) first
 
-unfoldable pub statement : Name → Parser Sum
-statement v = do
-  l ← word
-  assigned v
-  x ← term v
-  expect t.Plus
-  y ← term v
-  expect t.Semicolon
-  pure (record { label = l; left = x; right = y })
+unfoldable pub items : {A : Type 0} → Sign → Parser A → Parser (List A)
+items v item = do
+  first ← item
+  behind v item (first ∷ [])
 
--- statements behind these, so many at most
-unfoldable pub statements : ℕ → Name → List Sum → Parser (List Sum)
-statements zero v ss = pure ss
-statements (suc n) v ss = λ i. if at_word i then and_then (statement v i) (λ s. statements n v (ss ++ s ∷ [])) else Some (ss, i)
+unfoldable pub some_in_brackets : {A : Type 0} → Parser A → Parser (List A)
+some_in_brackets item = do
+  all ← items sign.Comma item
+  expect sign.RoundClose
+  pure all
 
-unfoldable pub variables : Parser (Name × ℕ)
-variables = do
-  expect t.CloseBrace
-  expect_word (codes "variables")
-  g ← word
-  expect t.Equal
-  n ← numeral
-  expect t.Semicolon
-  pure (g, n)
+unfoldable pub in_brackets : {A : Type 0} → Parser A → Parser (List A)
+in_brackets item = do
+  expect sign.RoundOpen
+  is_empty ← eat sign.RoundClose
+  if is_empty then pure [] else some_in_brackets item
 
--- the process's name and its identifier
-unfoldable pub identified : Parser (Name × ℕ)
-identified = do
-  expect t.OpenParen
-  p ← word
-  expect t.Equal
-  n ← numeral
-  expect t.CloseParen
-  pure (p, n)
+-- one more item
+unfoldable pub one_more : {A : Type 0} → Parser A → List A → Parser (List A)
+one_more item all = do
+  a ← item
+  pure (all ++ a ∷ [])
 
-unfoldable pub process : Parser (Name × ℕ)
-process = do
-  expect_word (codes "process")
-  p ← identified
-  expect t.Defined
-  pure p
+abbrev pub row : {A : Type 0} → (List Lexeme → Bool) → Parser A → Parser (List A)
+row goes item = all_folded goes (one_more item) []
 
--- (ref g) with the name given
-unfoldable pub ref_to : Name → Parser (Unit {0})
-ref_to g = do
-  expect t.OpenParen
-  expect_word (codes "ref")
-  expect_word g
-  expect t.CloseParen
+-- ---- what ends a statement or a declaration
 
-unfoldable pub instance : (archetype global : Name) → Parser (Unit {0})
-instance a g = do
-  expect_word (codes "instance")
-  expect_word a
-  ref_to g
-  expect t.Semicolon
-
-unfoldable pub ending : Parser (Unit {0})
-ending = do
-  expect t.CloseBrace
-  expect t.CloseComment
-  expect t.Row
-  end
-
-unfoldable pub specification : Parser Counter
-specification = do
-  h ← head
-  ss ← statements most_statements h.parameter []
-  g ← variables
-  p ← process
-  instance h.archetype g.0
-  ending
-  pure (record { name = h.name; algorithm = h.algorithm; archetype = h.archetype; parameter = h.parameter; body = ss; global = g.0; start = g.1; process = p.0; id = p.1 })
-
--- ---- a counter that is taken
-
-abbrev pub accepted : Counter → Option Counter
-accepted c = if nat_eq (length c.body) 0 then None else (if is_well_named c then Some c else None)
-
--- ---- a whole text
-
-abbrev pub head_on_one_line : List Lexeme → Bool
-head_on_one_line [] = false
-head_on_one_line (l ∷ []) = false
-head_on_one_line (l ∷ (m ∷ ls)) = not m.on_new_line
-
-abbrev pub of_tokens : Outcome Counter → Option Counter
-of_tokens None = None
-of_tokens (Some p) = accepted p.0
-
-abbrev pub of_lexemes : List Lexeme → Option Counter
-of_lexemes ls = if head_on_one_line ls then of_tokens (specification (tokens_of ls)) else None
-
-abbrev pub of_lexed : Option (List Lexeme) → Option Counter
-of_lexed None = None
-of_lexed (Some ls) = of_lexemes ls
-
--- the specification that a text spells
-unfoldable pub read : List ℕ → Option Counter
-read bs = of_lexed (lexed (length bs) false [] bs)
+-- a `;` behind these tokens, which may be left out where they end in a `}`
+unfoldable pub ended : List Lexeme → List Lexeme → Option (List Lexeme)
+ended i rest = if sees sign.Semicolon rest then Some (skip rest) else if closes (front_of i rest) then Some rest else None

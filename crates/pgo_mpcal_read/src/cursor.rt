@@ -1,171 +1,395 @@
-// A cursor over the tokens of a text.
-ghost use Rattle.std.specs.Prelude.{◌≡◌, option_map};
-ghost use Rattle.pgo_mpcal_read.specs.Form as form;
+// A cursor over the tokens of a specification.
+ghost use Rattle.std.specs.Prelude.{◌≡◌, Some, length};
+ghost use Rattle.pgo_mpcal_read.specs.Leads as leads;
+ghost use Rattle.pgo_mpcal_read.specs.Leaves as leaves;
+ghost use Rattle.pgo_mpcal_read.specs.Signs as signs;
+ghost use Rattle.pgo_model.specs.ValueText.{same_bytes};
 ghost use Rattle.pgo_mpcal_read.specs.Reading as spec;
-ghost use Rattle.pgo_mpcal_read.specs.Reading.{Reads, ReadsAs};
+ghost use Rattle.pgo_mpcal_read.specs.ReadingSpec as specification;
+ghost use Rattle.pgo_mpcal_read.specs.Reading.{Reads, Makes, Passes};
 
-use crate::numeral::number_of;
-use crate::reader::ReadStop;
-use crate::token::{Lexeme, Token};
-use pgo_base::text::Text;
-use pgo_counter::counter::Term;
-use pgo_counter::names::same_bytes;
+use crate::lead::{self, Lead};
+use crate::sign::{Sign, is_sign};
+use pgo_base::expr::Sub;
+use pgo_expr_read::cursor::Cursor as ExprCursor;
+use pgo_expr_read::reader;
+use pgo_lexer::errors::TextStop;
+use pgo_lexer::symbol::{Bracket, Symbol};
+use pgo_lexer::token::{Lexeme, Token};
+use pgo_syntax::name::PlacedName;
 use std::alloc::Global;
 use std::marker::Model;
 
-/// The tokens that are still to be read.
+/// The greatest height of an expression.
+const MOST_HEIGHT: u32 = 128;
+
+/// The tokens that are left to read.
 #[derive(Drop)]
 pub struct Cursor<'a> {
     rest: &'a [Lexeme],
+    /// The offset of what comes behind the last token.
+    end: u64,
 }
 
 impl<'a> Model for Cursor<'a> {
     ghost use Rattle.std.specs.Prelude.{List};
-    ghost use Rattle.pgo_mpcal_read.specs.declared.token.Token.{Token};
-    ghost use Rattle.pgo_mpcal_read.specs.Form.{tokens_of};
+    ghost use Rattle.pgo_lexer.specs.declared.token.Lexeme.{Lexeme};
 
-    ghost Value = { List Token };
+    ghost Value = { List Lexeme };
 
-    ghost view = { λ c. tokens_of c.rest.now };
+    ghost view = { λ c. c.rest.now };
 }
 
-/// Which form a token has, whatever word it is.
-fn kind(token: &Token) -> u8
-    ensures { result ≡ spec.kind token.now }
+/// The offset of the first of these tokens that has a place, or the end.
+fn offset(rest: &[Lexeme], end: u64) -> u64 {
+    for lexeme in rest {
+        if lexeme.stop > lexeme.start {
+            return lexeme.start as u64;
+        }
+    }
+    end
+}
+
+/// A place in a text. No text of 4 GiB or more is read.
+fn place_of(start: usize) -> Result<u32, TextStop>
+    ensures { Makes (Some start) result }
+{
+    match u32::try_from(start) {
+        Ok(place) => Ok(place),
+        Err(_) => Err(TextStop::NoMemory),
+    }
+}
+
+/// The last of these tokens, so many.
+fn last<'a>(rest: &'a [Lexeme], count: usize) -> &'a [Lexeme]
+    ensures { result.now ≡ spec.left_of rest.now count }
+{
+    &rest[rest.len().saturating_sub(count)..]
+}
+
+/// The first of these tokens, all but so many.
+fn first<'a>(rest: &'a [Lexeme], left: usize) -> &'a [Lexeme]
+    ensures { result.now ≡ spec.without_last rest.now left }
+{
+    &rest[..rest.len().saturating_sub(left)]
+}
+
+/// The tokens behind the first.
+fn tail<'a>(rest: &'a [Lexeme]) -> &'a [Lexeme]
+    ensures { result.now ≡ spec.skip rest.now }
+{
+    match rest {
+        [] => rest,
+        [_, rest @ ..] => rest,
+    }
+}
+
+fn is_same(a: &[u8], b: &[u8]) -> bool
+    ensures { result ≡ same_bytes a.now b.now }
+{
+    a == b
+}
+
+fn closes_behind(before: bool, token: &Token) -> bool
+    ensures { result ≡ leaves.closes_behind before token.now }
 {
     match token {
-        Token::Word(_) => 0,
-        Token::Dashes => 1,
-        Token::Row => 2,
-        Token::Mpcal => 3,
-        Token::OpenComment => 4,
-        Token::CloseComment => 5,
-        Token::OpenBrace => 6,
-        Token::CloseBrace => 7,
-        Token::OpenParen => 8,
-        Token::CloseParen => 9,
-        Token::Colon => 10,
-        Token::Becomes => 11,
-        Token::Plus => 12,
-        Token::Semicolon => 13,
-        Token::Equal => 14,
-        Token::Defined => 15,
+        Token::Symbol(Symbol::Close(Bracket::Curly)) => true,
+        Token::ListClose => before,
+        _ => false,
     }
+}
+
+/// Whether the last of these tokens is a `}`; marks behind it count for nothing.
+fn closes(tokens: &[Lexeme]) -> bool
+    ensures { result ≡ leaves.closes tokens.now }
+{
+    let mut closed = false;
+    for lexeme in tokens {
+        closed = closes_behind(closed, &lexeme.token);
+    }
+    closed
 }
 
 impl<'a> Cursor<'a> {
-    pub fn new(rest: &'a [Lexeme]) -> Cursor<'a>
-        ensures { result ≡ form.tokens_of rest.now }
+    /// A cursor at the first of these tokens; `end` is the offset of what comes behind them.
+    pub fn new(rest: &'a [Lexeme], end: u64) -> Cursor<'a>
+        ensures { result ≡ rest.now }
     {
-        Cursor { rest }
+        Cursor { rest, end }
     }
 
-    /// Whether a word is next.
-    pub fn at_word(&self) -> bool
-        ensures { result ≡ spec.at_word self.now }
+    /// The tokens that are left.
+    pub fn rest(&self) -> &'a [Lexeme]
+        ensures { result.now ≡ self.now }
     {
-        match self.rest {
-            [] => false,
-            [first, ..] => kind(&first.token) == 0,
+        self.rest
+    }
+
+    /// How many tokens are left.
+    pub fn left(&self) -> usize
+        ensures { result ≡ length self.now }
+    {
+        self.rest.len()
+    }
+
+    /// The error that the next token has no place here.
+    pub fn refuse(&self) -> TextStop
+        ensures { spec.IsSyntax result }
+    {
+        TextStop::Syntax {
+            offset: offset(self.rest, self.end),
         }
     }
 
-    /// Takes the next token.
-    fn next(&mut self) -> Option<&'a Token>
-        ensures token { option_map (λ t. t.now) result ≡ spec.first self.old }
-        ensures after { self.new ≡ spec.others self.old }
+    /// Whether this sign is next.
+    pub fn sees(&self, sign: Sign) -> bool
+        ensures { result ≡ signs.sees sign self.now }
     {
         match self.rest {
-            [] => None,
-            [first, rest @ ..] => {
+            [] => false,
+            [lexeme, ..] => is_sign(sign, &lexeme.token),
+        }
+    }
+
+    /// Whether this sign is the second of the tokens that are left.
+    pub fn sees_second(&self, sign: Sign) -> bool
+        ensures { result ≡ spec.sees_second sign self.now }
+    {
+        match self.rest {
+            [] => false,
+            [_, rest @ ..] => match rest {
+                [] => false,
+                [lexeme, ..] => is_sign(sign, &lexeme.token),
+            },
+        }
+    }
+
+    /// Whether a name is next.
+    pub fn sees_name(&self) -> bool
+        ensures { result ≡ spec.sees_name self.now }
+    {
+        match self.rest {
+            [] => false,
+            [lexeme, ..] => match &lexeme.token {
+                Token::Name(_) => true,
+                _ => false,
+            },
+        }
+    }
+
+    /// Whether some token is left.
+    pub fn some_left(&self) -> bool
+        ensures { result ≡ specification.some_left self.now }
+    {
+        match self.rest {
+            [] => false,
+            [_, ..] => true,
+        }
+    }
+
+    /// Whether this word is next.
+    pub fn sees_word(&self, word: &[u8]) -> bool
+        ensures { result ≡ specification.sees_word word.now self.now }
+    {
+        match self.rest {
+            [] => false,
+            [lexeme, ..] => match &lexeme.token {
+                Token::Name(text) => is_same(text.as_bytes(), word),
+                _ => false,
+            },
+        }
+    }
+
+    /// Whether this word is next, and a name behind it.
+    pub fn begins_list(&self, word: &[u8]) -> bool
+        ensures { result ≡ specification.begins_list word.now self.now }
+    {
+        self.sees_word(word) && Cursor::new(tail(self.rest), self.end).sees_name()
+    }
+
+    /// Whether a `-` that begins at this offset is next.
+    pub fn sees_minus(&self, at: usize) -> bool
+        ensures { result ≡ specification.sees_minus at self.now }
+    {
+        match self.rest {
+            [] => false,
+            [lexeme, ..] => is_sign(Sign::Minus, &lexeme.token) && lexeme.start == at,
+        }
+    }
+
+    /// Where the next token ends.
+    pub fn stop(&self) -> usize
+        ensures { result ≡ specification.stop_of self.now }
+    {
+        match self.rest {
+            [] => 0,
+            [lexeme, ..] => lexeme.stop,
+        }
+    }
+
+    /// The tokens from `before` on that were read.
+    pub fn read_of<'b>(&self, before: &'b [Lexeme]) -> &'b [Lexeme]
+        ensures { result.now ≡ spec.front_of before.now self.now }
+    {
+        first(before, self.left())
+    }
+
+    /// The form of the statement that is next.
+    pub fn lead(&self) -> Lead
+        ensures { result ≡ leads.lead_of self.now }
+    {
+        lead::lead_of(self.rest)
+    }
+
+    /// Goes past the next token.
+    pub fn skip(&mut self)
+        ensures { self.new ≡ spec.skip self.old }
+    {
+        match self.rest {
+            [] => {}
+            [_, rest @ ..] => self.rest = rest,
+        }
+    }
+
+    /// Goes past this sign if it is next, and tells whether it was.
+    #[tactic(auto, unfolding(crate::specs::Reading::past))]
+    pub fn eat(&mut self, sign: Sign) -> bool
+        ensures found { result ≡ signs.sees sign self.old }
+        ensures after { self.new ≡ spec.past sign self.old }
+    {
+        let found = self.sees(sign);
+        if found {
+            self.skip();
+        }
+        found
+    }
+
+    /// Goes past this sign, which must be next.
+    #[tactic(auto, unfolding(crate::specs::Reading::expect, crate::specs::Reading::past))]
+    pub fn expect(&mut self, sign: Sign) -> Result<(), TextStop>
+        ensures { Reads (spec.expect sign self.old) result self.new }
+    {
+        if self.eat(sign) {
+            Ok(())
+        } else {
+            Err(self.refuse())
+        }
+    }
+
+    /// Goes past this sign, which must be next, and gives its place.
+    #[tactic(auto, unfolding(crate::specs::Reading::mark))]
+    pub fn mark(&mut self, sign: Sign) -> Result<u32, TextStop>
+        ensures { Reads (spec.mark sign self.old) result self.new }
+    {
+        match self.rest {
+            [] => Err(self.refuse()),
+            [lexeme, rest @ ..] => {
+                if !is_sign(sign, &lexeme.token) {
+                    return Err(self.refuse());
+                }
+                let place = place_of(lexeme.start)?;
                 self.rest = rest;
-                Some(&first.token)
+                Ok(place)
             }
         }
     }
 
-    /// The end of the tokens.
-    pub fn end(&mut self) -> Result<(), ReadStop>
-        ensures { Reads (spec.end self.old) result self.new }
+    /// Goes past this word, which must be next.
+    #[tactic(auto, unfolding(crate::specs::ReadingSpec::expect_word))]
+    pub fn expect_word(&mut self, word: &[u8]) -> Result<(), TextStop>
+        ensures { Reads (specification.expect_word word.now self.old) result self.new }
     {
-        match self.next() {
-            None => Ok(()),
-            Some(_) => Err(ReadStop::NotCounter),
-        }
-    }
-
-    /// A token of this form.
-    pub fn expect(&mut self, wanted: &Token) -> Result<(), ReadStop>
-        ensures { Reads (spec.expect wanted.now self.old) result self.new }
-    {
-        match self.next() {
-            Some(token) if kind(token) == kind(wanted) => Ok(()),
-            _ => Err(ReadStop::NotCounter),
-        }
-    }
-
-    /// A word.
-    fn word(&mut self) -> Result<&'a Text, ReadStop>
-        ensures { ReadsAs (λ x. x.now) (spec.word self.old) result self.new }
-    {
-        match self.next() {
-            Some(Token::Word(text)) => Ok(text),
-            _ => Err(ReadStop::NotCounter),
-        }
-    }
-
-    /// This word.
-    #[tactic(auto, unfolding(crate::specs::Reading::expect_word))]
-    pub fn expect_word(&mut self, wanted: &[u8]) -> Result<(), ReadStop>
-        ensures { Reads (spec.expect_word wanted.now self.old) result self.new }
-    {
-        if same_bytes(self.word()?.as_bytes(), wanted) {
+        if self.sees_word(word) {
+            self.skip();
             Ok(())
         } else {
-            Err(ReadStop::NotCounter)
+            Err(self.refuse())
         }
     }
 
-    /// A name, which is not tested yet.
-    pub fn name(&mut self, alloc: Global) -> Result<Text, ReadStop>
-        ensures { Reads (spec.word self.old) result self.new }
+    /// The place of the next token.
+    pub fn place(&self) -> Result<u32, TextStop>
+        ensures { Makes (Some (spec.place self.now)) result }
     {
-        Ok(self.word()?.copy(alloc)?)
-    }
-
-    /// A number.
-    #[tactic(auto, unfolding(crate::specs::Reading::numeral))]
-    pub fn numeral(&mut self) -> Result<u32, ReadStop>
-        ensures { Reads (spec.numeral self.old) result self.new }
-    {
-        match number_of(self.word()?.as_bytes()) {
-            Some(n) => Ok(n),
-            None => Err(ReadStop::NotCounter),
+        match self.rest {
+            [] => Ok(0),
+            [lexeme, ..] => place_of(lexeme.start),
         }
     }
 
-    /// One side of a sum.
-    #[tactic(auto, unfolding(crate::specs::Reading::term))]
-    pub fn term(&mut self, parameter: &Text) -> Result<Term, ReadStop>
-        ensures { Reads (spec.term parameter.now self.old) result self.new }
+    /// A name, which must be next, with its place.
+    pub fn name(&mut self, alloc: Global) -> Result<PlacedName, TextStop>
+        ensures { Reads (spec.name self.old) result self.new }
     {
-        match term_of(parameter, self.word()?) {
-            Some(term) => Ok(term),
-            None => Err(ReadStop::NotCounter),
+        match self.rest {
+            [] => Err(self.refuse()),
+            [lexeme, rest @ ..] => match &lexeme.token {
+                Token::Name(text) => {
+                    let place = place_of(lexeme.start)?;
+                    let name = text.copy(alloc)?;
+                    self.rest = rest;
+                    Ok(PlacedName { name, place })
+                }
+                _ => Err(self.refuse()),
+            },
         }
     }
-}
 
-/// The side of a sum that this word is.
-#[tactic(auto, unfolding(crate::specs::Reading::term_of))]
-fn term_of(parameter: &Text, word: &Text) -> Option<Term>
-    ensures { result ≡ spec.term_of parameter.now word.now }
-{
-    if same_bytes(word.as_bytes(), parameter.as_bytes()) {
-        return Some(Term::Parameter);
+    /// A number, which must be next.
+    pub fn number(&mut self) -> Result<u64, TextStop>
+        ensures { Reads (spec.number self.old) result self.new }
+    {
+        match self.rest {
+            [] => Err(self.refuse()),
+            [lexeme, rest @ ..] => match &lexeme.token {
+                Token::Number(number) => {
+                    if *number < 0 {
+                        return Err(self.refuse());
+                    }
+                    self.rest = rest;
+                    Ok(*number as u64)
+                }
+                _ => Err(self.refuse()),
+            },
+        }
     }
-    match number_of(word.as_bytes()) {
-        Some(n) => Some(Term::Number(n)),
-        None => None,
+
+    /// An expression, as far as it goes.
+    #[tactic(auto, unfolding(crate::specs::Reading::expression))]
+    pub fn expression(&mut self, alloc: Global) -> Result<Sub, TextStop>
+        ensures { Reads (spec.expression self.old) result self.new }
+    {
+        let mut inner = ExprCursor::new(self.rest, self.end);
+        let read = reader::expr(alloc, &mut inner, MOST_HEIGHT, 0)?;
+        self.rest = last(self.rest, inner.left());
+        Ok(read.tree)
+    }
+
+    /// What stands at the right of a `\in`: an expression, or `Nat`, `Int` or `STRING` alone.
+    #[tactic(auto, unfolding(crate::specs::Reading::range))]
+    pub fn range(&mut self, alloc: Global) -> Result<Sub, TextStop>
+        ensures { Reads (spec.range self.old) result self.new }
+    {
+        let mut inner = ExprCursor::new(self.rest, self.end);
+        let read = reader::range(alloc, &mut inner, MOST_HEIGHT)?;
+        self.rest = last(self.rest, inner.left());
+        Ok(read.tree)
+    }
+
+    /// Goes past a `;`, which may be left out where the tokens from `before` on that were read end in a `}`.
+    #[tactic(auto, unfolding(crate::specs::Reading::ended))]
+    pub fn end(&mut self, before: &[Lexeme]) -> Result<(), TextStop>
+        ensures { Passes (spec.ended before.now self.old) result self.new }
+    {
+        if self.sees(Sign::Semicolon) {
+            self.skip();
+            return Ok(());
+        }
+        if closes(first(before, self.left())) {
+            Ok(())
+        } else {
+            Err(self.refuse())
+        }
     }
 }

@@ -1,8 +1,20 @@
-// A specification of the counter form from the bytes of its text.
+// The reader of specifications.
 #![tactic(auto)]
 
+mod assignments;
 mod cursor;
-mod lexer;
-mod numeral;
+mod declarations;
+mod deep;
+mod depths;
+mod header;
+mod lead;
+mod names;
+mod nesting;
+mod parameters;
 pub mod reader;
-mod token;
+mod shallow;
+mod sign;
+mod standing;
+mod statements;
+mod units;
+mod whole_parts;

@@ -1,321 +1,181 @@
-// The reader of the counter form.
-ghost use Rattle.std.specs.Prelude.{◌≡◌, ◌⊎◌, Ok, Err, IfOk, []};
-ghost use Rattle.pgo_mpcal_read.specs.Reading as spec;
+// The reader of specifications.
+ghost use Rattle.std.specs.Prelude.{◌≡◌, Some, IfOk, List, ℕ};
+ghost use Rattle.pgo_syntax.specs.declared.spec.Spec.{Spec};
 ghost use Rattle.pgo_mpcal_read.specs.Reading.{Reads, Makes};
-ghost use Rattle.pgo_counter.specs.declared.counter.Counter.{Counter};
-ghost use Rattle.pgo_counter.specs.WellNamed.{most_statements};
-ghost use Rattle.pgo_mpcal_read.specs.Form.{SpellsCounter};
+ghost use Rattle.pgo_mpcal_read.specs.ReadingSpec as spec;
+ghost use Rattle.pgo_mpcal_read.specs.Spells.{declarations_of};
+ghost use Rattle.pgo_mpcal_read.specs.Shallow.{Tells};
+ghost use Rattle.pgo_mpcal_read.specs.Texts.{SpellsSpec, IsOrNoMemory};
 
 use crate::cursor::Cursor;
-use crate::lexer::lexed;
-use crate::token::{Lexeme, Token};
-use pgo_base::text::Text;
-use pgo_counter::counter::{Counter, Sum, Sums};
-use pgo_counter::names::is_well_named;
-use std::alloc::{AllocError, AllocFailed, Global};
-use thiserror::Error;
+use crate::depths::MacroDepths;
+use crate::header::{Header, read_header};
+use crate::shallow::rows_too_deep;
+use crate::standing::{Standing, all_may_stand, refused};
+use crate::units::{Units, algorithm};
+use crate::whole_parts::MOST_DEPTH;
+use pgo_lexer::errors::TextStop;
+use pgo_lexer::token::Lexeme;
+use pgo_spec_text::parts::{one_pair, spec_tokens};
+use pgo_syntax::archetype::Archetype;
+use pgo_syntax::declaration::Declarations;
+use pgo_syntax::name::PlacedName;
+use pgo_syntax::spec::Spec;
+use std::alloc::Global;
 
-/// Why a text was not read.
-#[derive(Debug, Drop, Error)]
-pub enum ReadStop {
-    #[error("the text is not of the counter form")]
-    NotCounter,
-    #[error("out of memory")]
-    NoMemory,
-}
-
-impl From<AllocError> for ReadStop {
-    ghost use Rattle.pgo_mpcal_read.specs.declared.reader.ReadStop.TheVariants.{NoMemory};
-
-    ghost from_gives = { λ _ e. e ≡ NoMemory };
-
-    fn from(_error: AllocError) -> ReadStop {
-        ReadStop::NoMemory
-    }
-}
-
-impl<T: Drop> From<AllocFailed<T>> for ReadStop {
-    ghost use Rattle.pgo_mpcal_read.specs.declared.reader.ReadStop.TheVariants.{NoMemory};
-
-    ghost from_gives = { λ _ e. e ≡ NoMemory };
-
-    fn from(_error: AllocFailed<T>) -> ReadStop {
-        ReadStop::NoMemory
-    }
-}
-
-/// The names that stand before the body.
-#[derive(Drop)]
-struct Heading {
-    name: Text,
-    algorithm: Text,
-    archetype: Text,
-    parameter: Text,
-}
-
-/// `---- MODULE name ----`.
-#[tactic(auto, unfolding(crate::specs::Reading::title))]
-fn title(alloc: Global, cursor: &mut Cursor<'_>) -> Result<Text, ReadStop>
-    ensures { Reads (spec.title cursor.old) result cursor.new }
+/// A header that is all of these tokens.
+fn whole_header(alloc: Global, tokens: &[Lexeme], end: u64) -> Result<Header, TextStop>
+    ensures { Makes (spec.whole (spec.header tokens.now)) result }
 {
-    cursor.expect(&Token::Dashes)?;
-    cursor.expect_word(b"MODULE")?;
-    let name = cursor.name(alloc)?;
-    cursor.expect(&Token::Dashes)?;
-    Ok(name)
-}
-
-/// `EXTENDS Integers (* --mpcal`.
-#[tactic(auto, unfolding(crate::specs::Reading::extends))]
-fn extends(cursor: &mut Cursor<'_>) -> Result<(), ReadStop>
-    ensures { Reads (spec.extends cursor.old) result cursor.new }
-{
-    cursor.expect_word(b"EXTENDS")?;
-    cursor.expect_word(b"Integers")?;
-    cursor.expect(&Token::OpenComment)?;
-    cursor.expect(&Token::Mpcal)
-}
-
-/// The algorithm's name, and the brace behind it.
-#[tactic(auto, unfolding(crate::specs::Reading::algorithm))]
-fn algorithm(alloc: Global, cursor: &mut Cursor<'_>) -> Result<Text, ReadStop>
-    ensures { Reads (spec.algorithm cursor.old) result cursor.new }
-{
-    let name = cursor.name(alloc)?;
-    cursor.expect(&Token::OpenBrace)?;
-    Ok(name)
-}
-
-/// `archetype name`.
-#[tactic(auto, unfolding(crate::specs::Reading::archetype))]
-fn archetype(alloc: Global, cursor: &mut Cursor<'_>) -> Result<Text, ReadStop>
-    ensures { Reads (spec.archetype cursor.old) result cursor.new }
-{
-    cursor.expect_word(b"archetype")?;
-    cursor.name(alloc)
-}
-
-/// `(ref name)`.
-#[tactic(auto, unfolding(crate::specs::Reading::by_ref))]
-fn by_ref(alloc: Global, cursor: &mut Cursor<'_>) -> Result<Text, ReadStop>
-    ensures { Reads (spec.by_ref cursor.old) result cursor.new }
-{
-    cursor.expect(&Token::OpenParen)?;
-    cursor.expect_word(b"ref")?;
-    let name = cursor.name(alloc)?;
-    cursor.expect(&Token::CloseParen)?;
-    Ok(name)
-}
-
-/// What stands before the body.
-#[tactic(auto, unfolding(crate::specs::Reading::head))]
-fn head(alloc: Global, cursor: &mut Cursor<'_>) -> Result<Heading, ReadStop>
-    ensures { Reads (spec.head cursor.old) result cursor.new }
-{
-    let name = title(alloc, cursor)?;
-    extends(cursor)?;
-    let algorithm = algorithm(alloc, cursor)?;
-    let archetype = archetype(alloc, cursor)?;
-    let parameter = by_ref(alloc, cursor)?;
-    cursor.expect(&Token::OpenBrace)?;
-    Ok(Heading {
-        name,
-        algorithm,
-        archetype,
-        parameter,
-    })
-}
-
-/// `: parameter :=`.
-#[tactic(auto, unfolding(crate::specs::Reading::assigned))]
-fn assigned(cursor: &mut Cursor<'_>, parameter: &Text) -> Result<(), ReadStop>
-    ensures { Reads (spec.assigned parameter.now cursor.old) result cursor.new }
-{
-    cursor.expect(&Token::Colon)?;
-    cursor.expect_word(parameter.as_bytes())?;
-    cursor.expect(&Token::Becomes)
-}
-
-/// One statement.
-#[tactic(auto, unfolding(crate::specs::Reading::statement))]
-fn statement(alloc: Global, cursor: &mut Cursor<'_>, parameter: &Text) -> Result<Sum, ReadStop>
-    ensures { Reads (spec.statement parameter.now cursor.old) result cursor.new }
-{
-    let label = cursor.name(alloc)?;
-    assigned(cursor, parameter)?;
-    let left = cursor.term(parameter)?;
-    cursor.expect(&Token::Plus)?;
-    let right = cursor.term(parameter)?;
-    cursor.expect(&Token::Semicolon)?;
-    Ok(Sum { label, left, right })
-}
-
-/// The most statements of a body.
-const MOST_STATEMENTS: usize = 16;
-
-/// The statements, up to the most that a body has.
-fn statements(alloc: Global, cursor: &mut Cursor<'_>, parameter: &Text) -> Result<Sums, ReadStop>
-    ensures { Reads (spec.statements most_statements parameter.now [] cursor.old) result cursor.new }
-{
-    let mut body = Sums::new(alloc);
-    for _turn in 0..MOST_STATEMENTS {
-        if !cursor.at_word() {
-            return Ok(body);
-        }
-        body.push(statement(alloc, cursor, parameter)?)?;
-    }
-    Ok(body)
-}
-
-/// The end of the archetype, then the global and its starting value.
-#[tactic(auto, unfolding(crate::specs::Reading::variables))]
-fn variables(alloc: Global, cursor: &mut Cursor<'_>) -> Result<(Text, u32), ReadStop>
-    ensures { Reads (spec.variables cursor.old) result cursor.new }
-{
-    cursor.expect(&Token::CloseBrace)?;
-    cursor.expect_word(b"variables")?;
-    let global = cursor.name(alloc)?;
-    cursor.expect(&Token::Equal)?;
-    let start = cursor.numeral()?;
-    cursor.expect(&Token::Semicolon)?;
-    Ok((global, start))
-}
-
-/// `(name = identifier)`.
-#[tactic(auto, unfolding(crate::specs::Reading::identified))]
-fn identified(alloc: Global, cursor: &mut Cursor<'_>) -> Result<(Text, u32), ReadStop>
-    ensures { Reads (spec.identified cursor.old) result cursor.new }
-{
-    cursor.expect(&Token::OpenParen)?;
-    let name = cursor.name(alloc)?;
-    cursor.expect(&Token::Equal)?;
-    let id = cursor.numeral()?;
-    cursor.expect(&Token::CloseParen)?;
-    Ok((name, id))
-}
-
-/// `process (name = identifier) ==`.
-#[tactic(auto, unfolding(crate::specs::Reading::process))]
-fn process(alloc: Global, cursor: &mut Cursor<'_>) -> Result<(Text, u32), ReadStop>
-    ensures { Reads (spec.process cursor.old) result cursor.new }
-{
-    cursor.expect_word(b"process")?;
-    let process = identified(alloc, cursor)?;
-    cursor.expect(&Token::Defined)?;
-    Ok(process)
-}
-
-/// `(ref global)`.
-#[tactic(auto, unfolding(crate::specs::Reading::ref_to))]
-fn ref_to(cursor: &mut Cursor<'_>, global: &Text) -> Result<(), ReadStop>
-    ensures { Reads (spec.ref_to global.now cursor.old) result cursor.new }
-{
-    cursor.expect(&Token::OpenParen)?;
-    cursor.expect_word(b"ref")?;
-    cursor.expect_word(global.as_bytes())?;
-    cursor.expect(&Token::CloseParen)
-}
-
-/// `instance archetype(ref global);`.
-#[tactic(auto, unfolding(crate::specs::Reading::instance))]
-fn instance(cursor: &mut Cursor<'_>, archetype: &Text, global: &Text) -> Result<(), ReadStop>
-    ensures { Reads (spec.instance archetype.now global.now cursor.old) result cursor.new }
-{
-    cursor.expect_word(b"instance")?;
-    cursor.expect_word(archetype.as_bytes())?;
-    ref_to(cursor, global)?;
-    cursor.expect(&Token::Semicolon)
-}
-
-/// `} *) ====`, with nothing behind it.
-#[tactic(auto, unfolding(crate::specs::Reading::ending))]
-fn ending(cursor: &mut Cursor<'_>) -> Result<(), ReadStop>
-    ensures { Reads (spec.ending cursor.old) result cursor.new }
-{
-    cursor.expect(&Token::CloseBrace)?;
-    cursor.expect(&Token::CloseComment)?;
-    cursor.expect(&Token::Row)?;
-    cursor.end()
-}
-
-/// The whole specification, whose names are not tested yet.
-#[tactic(auto, unfolding(crate::specs::Reading::specification))]
-fn specification(alloc: Global, cursor: &mut Cursor<'_>) -> Result<Counter, ReadStop>
-    ensures { Reads (spec.specification cursor.old) result cursor.new }
-{
-    let heading = head(alloc, cursor)?;
-    let body = statements(alloc, cursor, &heading.parameter)?;
-    let (global, start) = variables(alloc, cursor)?;
-    let (process, id) = process(alloc, cursor)?;
-    instance(cursor, &heading.archetype, &global)?;
-    ending(cursor)?;
-    Ok(Counter {
-        name: heading.name,
-        algorithm: heading.algorithm,
-        archetype: heading.archetype,
-        parameter: heading.parameter,
-        body,
-        global,
-        start,
-        process,
-        id,
-    })
-}
-
-/// A specification with a statement, and with names as they must be.
-fn accepted(alloc: Global, counter: Counter) -> Result<Counter, ReadStop>
-    ensures { Makes (spec.accepted counter) result }
-{
-    if counter.body.as_slice().len() == 0 {
-        return Err(ReadStop::NotCounter);
-    }
-    if is_well_named(alloc, &counter)? {
-        Ok(counter)
+    let mut cursor = Cursor::new(tokens, end);
+    let h = read_header(alloc, &mut cursor)?;
+    if cursor.left() == 0 {
+        Ok(h)
     } else {
-        Err(ReadStop::NotCounter)
+        Err(cursor.refuse())
     }
 }
 
-/// Whether the second token stands on the line of the first.
-fn head_on_one_line(lexemes: &[Lexeme]) -> bool
-    ensures { result ≡ spec.head_on_one_line lexemes.now }
+/// The header. It has no `$variable` and no `$value`.
+#[tactic(auto, unfolding(crate::specs::ReadingSpec::all_header))]
+fn all_header(alloc: Global, tokens: &[Lexeme], end: u64) -> Result<Header, TextStop>
+    ensures { Makes (spec.all_header tokens.now) result }
 {
-    match lexemes {
-        [_, second, ..] => !second.on_new_line,
-        _ => false,
+    match whole_header(alloc, tokens, end) {
+        Ok(h) => {
+            if all_may_stand(Standing::Plain, tokens) {
+                Ok(h)
+            } else {
+                Err(refused(Standing::Plain, tokens, TextStop::Syntax { offset: end }))
+            }
+        }
+        Err(stop) => Err(refused(Standing::Plain, tokens, stop)),
     }
 }
 
-/// The specification of these tokens.
-fn of_lexemes(alloc: Global, lexemes: &[Lexeme]) -> Result<Counter, ReadStop>
-    ensures { Makes (spec.of_lexemes lexemes.now) result }
+/// An algorithm that is all of these tokens. It has a process, and no statement is too deep.
+#[tactic(auto, unfolding(crate::specs::ReadingSpec::all_algorithm))]
+fn all_algorithm(
+    alloc: Global,
+    tokens: &[Lexeme],
+    end: u64,
+) -> Result<(PlacedName, Units), TextStop>
+    ensures { Makes (spec.all_algorithm tokens.now) result }
 {
-    if !head_on_one_line(lexemes) {
-        return Err(ReadStop::NotCounter);
+    let mut cursor = Cursor::new(tokens, end);
+    let a = algorithm(alloc, &mut cursor)?;
+    if cursor.left() != 0 {
+        return Err(cursor.refuse());
     }
-    let counter = specification(alloc, &mut Cursor::new(lexemes))?;
-    accepted(alloc, counter)
-}
-
-/// The specification of a text, as the function on lists gives it.
-#[tactic(auto, unfolding(crate::specs::Reading::read))]
-fn read(alloc: Global, text: &[u8]) -> Result<Counter, ReadStop>
-    ensures { Makes (spec.read text.now) result }
-{
-    match lexed(alloc, text)? {
-        Some(lexemes) => of_lexemes(alloc, &lexemes),
-        None => Err(ReadStop::NotCounter),
+    match a.1.processes.as_slice() {
+        [] => return Err(TextStop::at(last_start(tokens))),
+        [_, ..] => {}
+    }
+    match deep_archetype(&a.1.depths, a.1.archetypes.as_slice()) {
+        None => Ok(a),
+        Some(place) => Err(TextStop::at(place as usize)),
     }
 }
 
-/// The specification of the counter form that a text spells; there is at most one.
-pub fn read_counter(alloc: Global, text: &[u8]) -> Result<Counter, ReadStop>
-    ensures spelled { IfOk result (λ c. SpellsCounter text.now c) }
-    ensures found { (c : Counter) → SpellsCounter text.now c → (result ≡ Ok c) ⊎ (result ≡ Err ReadStop.NoMemory) }
-    ensures refused { result ≡ Err ReadStop.NotCounter → (c : Counter) → SpellsCounter text.now c → ⊥ }
+/// The place of a statement of these archetypes at which one is too deep, with these macros in the place of their calls; none
+/// where none is.
+fn deep_archetype(macros: &MacroDepths, list: &[Archetype]) -> Option<u32>
+    ensures { Tells (spec.are_shallow macros.now list.now) result }
 {
-    read(alloc, text)
+    for a in list {
+        let found = rows_too_deep(macros, a.body.as_slice(), MOST_DEPTH);
+        if found.is_some() {
+            return found;
+        }
+    }
+    None
 }
 
-#[cfg(test)]
-mod tests;
+/// Where the last of these tokens begins.
+fn last_start(tokens: &[Lexeme]) -> usize {
+    match tokens {
+        [] => 0,
+        [.., last] => last.start,
+    }
+}
+
+/// Those that were declared, if some were.
+fn declarations_of(alloc: Global, globals: Option<Declarations>) -> Declarations
+    ensures { result ≡ declarations_of globals }
+{
+    match globals {
+        Some(declarations) => declarations,
+        None => Declarations::new(alloc),
+    }
+}
+
+/// A specification of these parts.
+#[tactic(auto, unfolding(crate::specs::ReadingSpec::spec_of))]
+fn spec_of(alloc: Global, h: Header, a: (PlacedName, Units)) -> Spec
+    ensures { result ≡ spec.spec_of h a }
+{
+    let (name, units) = a;
+    Spec {
+        name: h.name,
+        extends: h.extends,
+        constants: h.constants,
+        definitions: h.definitions,
+        algorithm: name,
+        define: units.define,
+        macros: units.macros,
+        mappings: units.mappings,
+        archetypes: units.archetypes,
+        globals: declarations_of(alloc, units.globals),
+        processes: units.processes,
+    }
+}
+
+/// The specification of a header and an algorithm.
+#[tactic(auto, unfolding(crate::specs::ReadingSpec::spec))]
+fn read_tokens(
+    alloc: Global,
+    header: &[Lexeme],
+    header_end: u64,
+    algorithm: &[Lexeme],
+    end: u64,
+) -> Result<Spec, TextStop>
+    ensures { Makes (spec.spec header.now algorithm.now) result }
+{
+    let h = all_header(alloc, header, header_end)?;
+    let a = all_algorithm(alloc, algorithm, end)?;
+    Ok(spec_of(alloc, h, a))
+}
+
+/// Where the first of these tokens begins, or `end`.
+fn first_start(tokens: &[Lexeme], end: u64) -> u64 {
+    match tokens {
+        [] => end,
+        [first, ..] => first.start as u64,
+    }
+}
+
+/// The one specification that a text spells ("the PlusCal manual" has the statements, the Modular PlusCal paper archetypes,
+/// mapping macros and instances; what stands in which place, and the limits, are this project's choice).
+///
+/// Expressions have at most height 128, and statements nest at most 128 deep, macros in the place of their calls; a text has
+/// at most 262144 tokens, and an identifier at most 128 bytes. `Syntax` comes exactly where the text spells no
+/// specification; its offset is that of the first token or byte that can't stand at its place, or the text's length. A text
+/// with a token at 4 GiB or behind it is answered `NoMemory`.
+pub fn read_spec(alloc: Global, text: &[u8]) -> Result<Spec, TextStop>
+    ensures found { IfOk result (λ s. SpellsSpec text.now s) }
+    // What the text spells is answered, unless memory runs out. So `Syntax` comes only where it spells nothing.
+    ensures only { (s : Spec) → SpellsSpec text.now s → IsOrNoMemory result s }
+{
+    let parts = spec_tokens(alloc, text)?;
+    let end = text.len() as u64;
+    let algorithm = parts.algorithm.as_slice();
+    let header = parts.header.as_slice();
+    read_tokens(alloc, header, first_start(algorithm, end), algorithm, end)
+}
+
+/// A text spells at most one specification.
+pub fn one_spec()
+    ensures { (text : List ℕ) (s t : Spec) → SpellsSpec text s → SpellsSpec text t → s ≡ t }
+{
+    one_pair();
+}

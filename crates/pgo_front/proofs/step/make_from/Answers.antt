@@ -1,5 +1,5 @@
 use Rattle.std.proofs.Common.{Err, inl, refl, ap, ◌∙◌}
-use Rattle.pgo_mpcal_read.specs.CounterForm.{is_counter}
+use Rattle.pgo_counter_read.specs.CounterForm.{is_counter}
 use Rattle.pgo_front.proofs.step.make_from.Goals as goal
 
 pub make_run-requires : goal.make_run-requires

@@ -1,0 +1,164 @@
+-- What is among the items of a list, and what is found there by its name.
+use Rattle.std.proofs.Common.{◌≡◌, ◌⊎◌, ℕ, zero, suc, Bool, true, false, ◌||◌, if◌then◌else◌, List, [], ◌∷◌, ◌++◌, map, cond, Option, Some, None, refl, ap, sym, ◌∙◌, subst, inl, inr}
+use Rattle.std.specs.Prelude.{filter}
+use Rattle.std.specs.List.{AllByRecursion, filter_map, flat_map, list_any, cons_option}
+use Rattle.pgo_base.specs.Lookup.{Name, same_name, find}
+use Rattle.pgo_model.specs.Machine.{nth}
+use Rattle.pgo_model.specs.Names.{same_name-self, same_name-is}
+use Rattle.pgo_bind.specs.BoundOf.{numbered}
+use Rattle.pgo_bind.specs.State.{AreDifferent}
+
+abbrev pub IsAmong : {A : Type 0} → A → List A → Type 0
+IsAmong x [] = ⊥
+IsAmong x (y ∷ ys) = (x ≡ y) ⊎ IsAmong x ys
+
+pub among_map : {A B : Type 0} (f : A → B) (x : A) (xs : List A) → IsAmong x xs → IsAmong (f x) (map f xs)
+among_map f x [] h = h
+among_map f x (y ∷ ys) (inl e) = inl (ap f e)
+among_map f x (y ∷ ys) (inr h) = inr (among_map f x ys h)
+
+pub among_left : {A : Type 0} (x : A) (xs ys : List A) → IsAmong x xs → IsAmong x (xs ++ ys)
+among_left x [] ys h = absurd h
+among_left x (z ∷ xs) ys (inl e) = inl e
+among_left x (z ∷ xs) ys (inr h) = inr (among_left x xs ys h)
+
+pub among_right : {A : Type 0} (x : A) (xs ys : List A) → IsAmong x ys → IsAmong x (xs ++ ys)
+among_right x [] ys h = h
+among_right x (z ∷ xs) ys h = inr (among_right x xs ys h)
+
+pub among_append : {A : Type 0} (x : A) (xs ys : List A) → IsAmong x (xs ++ ys) → IsAmong x xs ⊎ IsAmong x ys
+among_append x [] ys h = inr h
+among_append x (z ∷ xs) ys (inl e) = inl (inl e)
+among_append {A = A} x (z ∷ xs) ys (inr h) = go (among_append x xs ys h)
+  where
+    go : IsAmong x xs ⊎ IsAmong x ys → IsAmong x (z ∷ xs) ⊎ IsAmong x ys
+    go (inl g) = inl (inr g)
+    go (inr g) = inr g
+
+pub among_flat_map : {A B : Type 0} (f : A → List B) (x : A) (y : B) (xs : List A) → IsAmong x xs → IsAmong y (f x) → IsAmong y (flat_map f xs)
+among_flat_map f x y [] h g = absurd h
+among_flat_map f x y (z ∷ zs) (inl e) g = among_left y (f z) (flat_map f zs) (subst (λ w. IsAmong y (f w)) e g)
+among_flat_map f x y (z ∷ zs) (inr h) g = among_right y (f z) (flat_map f zs) (among_flat_map f x y zs h g)
+
+pub among_filter_map : {A B : Type 0} (f : A → Option B) (x : A) (y : B) (xs : List A) → IsAmong x xs → f x ≡ Some y → IsAmong y (filter_map f xs)
+among_filter_map f x y [] h g = absurd h
+among_filter_map f x y (z ∷ zs) (inl e) g = subst (λ o. IsAmong y (cons_option o (filter_map f zs))) (sym g ∙ ap f e) (inl refl)
+among_filter_map {B = B} f x y (z ∷ zs) (inr h) g = go (f z) (among_filter_map f x y zs h g)
+  where
+    go : (o : Option B) → IsAmong y (filter_map f zs) → IsAmong y (cons_option o (filter_map f zs))
+    go None r = r
+    go (Some w) r = inr r
+
+pub among_filter : {A : Type 0} (p : A → Bool) (x : A) (xs : List A) → IsAmong x xs → p x ≡ true → IsAmong x (filter p xs)
+among_filter p x [] h g = absurd h
+among_filter p x (z ∷ zs) (inl e) g = subst (λ b. IsAmong x (cond b (z ∷ filter p zs) (filter p zs))) (sym g ∙ ap p e) (inl e)
+among_filter p x (z ∷ zs) (inr h) g = go (p z) (among_filter p x zs h g)
+  where
+    go : (b : Bool) → IsAmong x (filter p zs) → IsAmong x (cond b (z ∷ filter p zs) (filter p zs))
+    go true r = inr r
+    go false r = r
+
+-- where an item of such a list comes from
+pub from_map : {A B : Type 0} (f : A → B) (y : B) (xs : List A) → IsAmong y (map f xs) → (x : A) × IsAmong x xs × (y ≡ f x)
+from_map f y [] h = absurd h
+from_map f y (z ∷ zs) (inl e) = (z, inl refl, e)
+from_map f y (z ∷ zs) (inr h) = let r = from_map f y zs h in (r.0, inr r.1, r.2)
+
+pub from_flat_map : {A B : Type 0} (f : A → List B) (y : B) (xs : List A) → IsAmong y (flat_map f xs) → (x : A) × IsAmong x xs × IsAmong y (f x)
+from_flat_map f y [] h = absurd h
+from_flat_map {A = A} f y (z ∷ zs) h = go (among_append y (f z) (flat_map f zs) h) (from_flat_map f y zs)
+  where
+    go : IsAmong y (f z) ⊎ IsAmong y (flat_map f zs) → (IsAmong y (flat_map f zs) → (x : A) × IsAmong x zs × IsAmong y (f x)) → (x : A) × IsAmong x (z ∷ zs) × IsAmong y (f x)
+    go (inl g) r = (z, inl refl, g)
+    go (inr g) r = let q = r g in (q.0, inr q.1, q.2)
+
+pub from_filter_map : {A B : Type 0} (f : A → Option B) (y : B) (xs : List A) → IsAmong y (filter_map f xs) → (x : A) × IsAmong x xs × (f x ≡ Some y)
+from_filter_map f y [] h = absurd h
+from_filter_map {A = A} {B = B} f y (z ∷ zs) h = go (f z) refl h (from_filter_map f y zs)
+  where
+    go : (o : Option B) → f z ≡ o → IsAmong y (cons_option o (filter_map f zs)) → (IsAmong y (filter_map f zs) → (x : A) × IsAmong x zs × (f x ≡ Some y)) → (x : A) × IsAmong x (z ∷ zs) × (f x ≡ Some y)
+    go None e g r = let q = r g in (q.0, inr q.1, q.2)
+    go (Some w) e (inl g) r = (z, inl refl, e ∙ ap Some (sym g))
+    go (Some w) e (inr g) r = let q = r g in (q.0, inr q.1, q.2)
+
+pub among_nth : {A : Type 0} (x : A) (xs : List A) (n : ℕ) → nth xs n ≡ Some x → IsAmong x xs
+among_nth x [] n h = absurd (cc)
+among_nth x (y ∷ ys) zero h = inl (sym (some_is y x h))
+  where
+    some_is : {A : Type 0} (a b : A) → Some a ≡ Some b → a ≡ b
+    some_is a b e = cc
+among_nth x (y ∷ ys) (suc n) h = inr (among_nth x ys n h)
+
+pub from_numbered : {A B : Type 0} (f : ℕ → A → B) (n : ℕ) (y : B) (xs : List A) → IsAmong y (numbered f n xs) → (x : A) × IsAmong x xs × ((m : ℕ) × (y ≡ f m x))
+from_numbered f n y [] h = absurd h
+from_numbered f n y (z ∷ zs) (inl e) = (z, inl refl, (n, e))
+from_numbered f n y (z ∷ zs) (inr h) = let r = from_numbered f (suc n) y zs h in (r.0, inr r.1, r.2)
+
+-- what is so of none is so of none of these
+pub none_any : {A : Type 0} (p : A → Bool) (x : A) (xs : List A) → list_any p xs ≡ false → IsAmong x xs → p x ≡ false
+none_any p x [] h g = absurd g
+none_any p x (y ∷ ys) h (inl e) = ap p e ∙ left (p y) (list_any p ys) h
+  where
+    left : (a b : Bool) → (a || b) ≡ false → a ≡ false
+    left true b e = e
+    left false b e = refl
+none_any p x (y ∷ ys) h (inr g) = none_any p x ys (right (p y) (list_any p ys) h) g
+  where
+    right : (a b : Bool) → (a || b) ≡ false → b ≡ false
+    right true b e = absurd (cc)
+    right false b e = e
+
+pub some_any : {A : Type 0} (p : A → Bool) (x : A) (xs : List A) → IsAmong x xs → p x ≡ true → list_any p xs ≡ true
+some_any p x [] h g = absurd h
+some_any p x (y ∷ ys) (inl e) g = ap (λ b. b || list_any p ys) (sym (ap p e) ∙ g)
+some_any p x (y ∷ ys) (inr h) g = go (p y) (some_any p x ys h g)
+  where
+    go : (b : Bool) → list_any p ys ≡ true → (b || list_any p ys) ≡ true
+    go true r = refl
+    go false r = r
+
+empty_none : {A : Type 0} (x : A) (xs : List A) → xs ≡ [] → IsAmong x xs → ⊥
+empty_none x xs e h = subst (IsAmong x) e h
+
+pub none_filter_map : {A B : Type 0} (f : A → Option B) (x : A) (xs : List A) → filter_map f xs ≡ [] → IsAmong x xs → f x ≡ None
+none_filter_map {B = B} f x xs e h = go (f x) refl
+  where
+    go : (o : Option B) → f x ≡ o → f x ≡ None
+    go None g = g
+    go (Some y) g = absurd (empty_none y (filter_map f xs) e (among_filter_map f x y xs h g))
+
+pub none_flat_map : {A B : Type 0} (f : A → List B) (x : A) (xs : List A) → flat_map f xs ≡ [] → IsAmong x xs → f x ≡ []
+none_flat_map {B = B} f x xs e h = go (f x) refl
+  where
+    go : (ys : List B) → f x ≡ ys → f x ≡ []
+    go [] g = g
+    go (y ∷ ys) g = absurd (empty_none y (flat_map f xs) e (among_flat_map f x y xs h (subst (IsAmong y) (sym g) (inl refl))))
+
+pub none_left : {A : Type 0} (xs ys : List A) → xs ++ ys ≡ [] → xs ≡ []
+none_left [] ys h = refl
+none_left (x ∷ xs) ys h = absurd (cc)
+
+pub none_right : {A : Type 0} (xs ys : List A) → xs ++ ys ≡ [] → ys ≡ []
+none_right [] ys h = h
+none_right (x ∷ xs) ys h = absurd (cc)
+
+all_at : {A : Type 0} (P : A → Type 0) (x : A) (xs : List A) → AllByRecursion P xs → IsAmong x xs → P x
+all_at P x [] a h = absurd h
+all_at P x (y ∷ ys) a (inl e) = subst P (sym e) a.0
+all_at P x (y ∷ ys) a (inr h) = all_at P x ys a.1 h
+
+turned : (x y : Name) → same_name x y ≡ false → same_name y x ≡ false
+turned x y h = go (same_name y x) refl
+  where
+    go : (b : Bool) → same_name y x ≡ b → same_name y x ≡ false
+    go false e = e
+    go true e = absurd (let s = same_name-is y x e in let t : same_name x y ≡ true = ap (same_name x) s ∙ same_name-self x in cc)
+
+-- names that differ are found
+pub found_among : {A : Type 0} (x : Name) (v : A) (s : List (Name × A)) → AreDifferent (map (λ p. p.0) s) → IsAmong (x, v) s → find x s ≡ Some v
+found_among x v [] d h = absurd h
+found_among x v (p ∷ ps) d (inl e) =
+    ap (λ b. if b then Some p.1 else find x ps) (ap (same_name x) (sym (ap (λ q. q.0) e)) ∙ same_name-self x) ∙ ap (λ q. Some q.1) (sym e)
+found_among x v (p ∷ ps) d (inr h) =
+    let apart = all_at (λ y. same_name p.0 y ≡ false) x (map (λ q. q.0) ps) d.0 (among_map (λ q. q.0) (x, v) ps h) in
+    ap (λ b. if b then Some p.1 else find x ps) (turned p.0 x apart) ∙ found_among x v ps d.1 h

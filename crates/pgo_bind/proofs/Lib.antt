@@ -1,0 +1,15 @@
+pub mod Numbered
+pub mod KindLaws
+pub mod Matching
+pub mod Placed
+pub mod Firsts
+pub mod Ordered
+pub mod Passing
+pub mod Mentioned
+pub mod Among
+pub mod Lookups
+pub mod StartNames
+pub mod UniqueIds
+pub mod Unrefused
+pub mod Declared
+pub mod Places

@@ -1,0 +1,8 @@
+use Rattle.std.proofs.Common.{◌≡◌, ℕ, suc, ◌+◌, ◌≤◌, List, ◌++◌, length, map, drop, None, option_map}
+use Rattle.pgo_bind.specs.Views.{start_view, handed_view, run_view, global_view, part_view}
+use Rattle.pgo_bind.specs.BoundOf as bound
+use Rattle.pgo_bind.proofs.globals.globals_of.Given as goal
+
+abbrev pub invariant-loop-declaration : goal.invariant-loop-declaration
+invariant-loop-declaration l =
+    map (bound.global_of l.defs (map run_view l.runs)) l.declaration-items ≡ map global_view l.list.items ++ map (bound.global_of l.defs (map run_view l.runs)) (drop l.declaration-index l.declaration-items)

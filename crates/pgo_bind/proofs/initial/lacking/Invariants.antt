@@ -1,0 +1,8 @@
+use Rattle.std.proofs.Common.{◌≡◌, ℕ, suc, ◌+◌, ◌≤◌, List, ◌++◌, length, map, drop, None, option_map}
+use Rattle.pgo_bind.specs.Views.{start_view, handed_view, run_view, global_view, part_view, finding_view}
+use Rattle.pgo_bind.specs.Refusals as specs
+use Rattle.pgo_bind.proofs.initial.lacking.Given as goal
+
+abbrev pub invariant-loop-a : goal.invariant-loop-a
+invariant-loop-a l =
+    specs.earlier (option_map finding_view l.best) (specs.first_placed (specs.lacking (drop l.a-index l.archetypes) l.defs (map run_view l.runs) l.lack)) ≡ specs.first_placed (specs.lacking l.archetypes l.defs (map run_view l.runs) l.lack)

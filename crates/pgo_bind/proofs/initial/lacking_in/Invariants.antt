@@ -1,0 +1,9 @@
+use Rattle.std.proofs.Common.{◌≡◌, ℕ, suc, ◌+◌, ◌≤◌, List, ◌++◌, length, map, drop, None, option_map}
+use Rattle.pgo_bind.specs.Views.{start_view, handed_view, run_view, global_view, part_view, finding_view}
+use Rattle.pgo_bind.specs.Refusals as specs
+use Rattle.std.specs.List.{filter_map, flat_map}
+use Rattle.pgo_bind.proofs.initial.lacking_in.Given as goal
+
+abbrev pub invariant-loop-d : goal.invariant-loop-d
+invariant-loop-d l =
+    specs.earlier (option_map finding_view l.best) (specs.first_placed (filter_map (specs.lacking_local l.defs l.lack) (drop l.d-index l.locals))) ≡ specs.first_placed (filter_map (specs.lacking_local l.defs l.lack) l.locals)

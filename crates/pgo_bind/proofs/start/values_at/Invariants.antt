@@ -1,0 +1,10 @@
+use Rattle.std.proofs.Common.{◌≡◌, ℕ, suc, ◌+◌, ◌≤◌, List, ◌++◌, length, map, drop, None, option_map}
+use Rattle.pgo_base.specs.View.{data_of, named_data, pair_of}
+use Rattle.pgo_bind.specs.Values as values
+use Rattle.pgo_base.specs.ExprView.{tree}
+use Rattle.pgo_base.specs.Data.{Data}
+use Rattle.pgo_bind.proofs.start.values_at.Given as goal
+
+abbrev pub invariant-loop-id : goal.invariant-loop-id
+invariant-loop-id l =
+    map (λ (d : Data). (d, values.beginning (values.argument_start l.defs (tree l.e) d))) (map data_of l.ids) ≡ map pair_of l.pairs.items ++ map (λ (d : Data). (d, values.beginning (values.argument_start l.defs (tree l.e) d))) (map data_of (drop l.id-index l.ids))

@@ -1,0 +1,12 @@
+pub mod Values
+pub mod Runs
+pub mod BoundOf
+pub mod Refusals
+pub mod Answers
+pub mod Views
+pub mod Kinds
+pub mod Operands
+pub mod Mentions
+pub mod State
+pub mod Declares
+pub mod Sound

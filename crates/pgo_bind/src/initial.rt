@@ -1,0 +1,395 @@
+// Initial values, sets and value arguments: each has a value, and no set is empty.
+ghost use Rattle.std.specs.Prelude.{◌≡◌, ◌++◌, map, option_map, IfOk};
+ghost use Rattle.std.specs.List.{filter_map, flat_map};
+ghost use Rattle.pgo_base.specs.View.{data_of};
+ghost use Rattle.pgo_base.specs.ExprView.{tree};
+ghost use Rattle.pgo_bind.specs.Answers.{Passes};
+ghost use Rattle.pgo_bind.specs.Refusals as specs;
+ghost use Rattle.pgo_bind.specs.Runs.{is_some_item};
+ghost use Rattle.pgo_bind.specs.Values.{is_empty};
+ghost use Rattle.pgo_bind.specs.Views.{start_view, handed_view, run_view, global_view, finding_view};
+ghost use Rattle.pgo_bind.specs.declared.errors.BindError.TheVariants as errors;
+
+use crate::errors::BindError;
+use crate::globals::GlobalStart;
+use crate::mentions::mentions;
+use crate::runs::{Handed, Run};
+use crate::values::{
+    Start, argument_start, closed_value, default_value, is_unset, start_in, start_of_value,
+};
+use pgo_base::expr::Expr;
+use pgo_base::module::Defs;
+use pgo_base::text::Text;
+use pgo_base::value::Value;
+use pgo_syntax::archetype::Archetype;
+use pgo_syntax::binding::Origin;
+use pgo_syntax::declaration::Declaration;
+use pgo_syntax::name::PlacedName;
+use pgo_syntax::process::Argument;
+use std::alloc::{AllocError, Global};
+
+/// What is wrong with the set behind `\in`.
+#[derive(Clone, Copy, Debug, PartialEq, Eq)]
+pub enum Lack {
+    /// There is none.
+    NoSet,
+    /// It is empty.
+    NoMember,
+}
+
+/// A name, with its place in the text.
+#[derive(Clone, Copy)]
+pub struct Finding<'a> {
+    pub place: u32,
+    pub name: &'a Text,
+}
+
+/// The one that stands first in the text.
+fn earlier<'a>(a: Option<Finding<'a>>, b: Option<Finding<'a>>) -> Option<Finding<'a>>
+    ensures { option_map finding_view result ≡ specs.earlier (option_map finding_view a.entry) (option_map finding_view b.entry) }
+{
+    match (a, b) {
+        (None, _) => b,
+        (Some(_), None) => a,
+        (Some(x), Some(y)) => { if y.place < x.place { b } else { a } }
+    }
+}
+
+/// A name, where the test is true.
+fn where_true<'a>(test: bool, name: &'a PlacedName) -> Option<Finding<'a>>
+    ensures { option_map finding_view result ≡ specs.where_true test (specs.at_place name.now) }
+{
+    if test {
+        Some(Finding {
+            place: name.place,
+            name: &name.name,
+        })
+    } else {
+        None
+    }
+}
+
+/// The first global without a value, or with too deep a one.
+#[tactic(auto, using(crate::proofs::Placed::placed_step, crate::proofs::Placed::earlier_none))]
+fn unset_globals<'a>(globals: &'a [GlobalStart<'a>]) -> Option<Finding<'a>>
+    ensures { option_map finding_view result ≡ specs.first_placed (filter_map specs.unset_global (map global_view globals.now)) }
+{
+    let mut best = None;
+    for g in globals {
+        let found = where_true(is_unset(256, &g.start), &g.declaration.name);
+        best = earlier(best, found);
+    }
+    best
+}
+
+fn is_empty(start: &Start) -> bool
+    ensures { result ≡ is_empty (start_view start.now) }
+{
+    match start {
+        Start::Missing => false,
+        Start::Empty => true,
+        Start::Begins(_) => false,
+    }
+}
+
+/// The first global with an empty set.
+#[tactic(auto, using(crate::proofs::Placed::placed_step, crate::proofs::Placed::earlier_none))]
+fn empty_globals<'a>(globals: &'a [GlobalStart<'a>]) -> Option<Finding<'a>>
+    ensures { option_map finding_view result ≡ specs.first_placed (filter_map specs.empty_global (map global_view globals.now)) }
+{
+    let mut best = None;
+    for g in globals {
+        let found = where_true(is_empty(&g.start), &g.declaration.name);
+        best = earlier(best, found);
+    }
+    best
+}
+
+/// Whether a set has this lack.
+fn lacks(lack: Lack, start: &Start) -> bool
+    ensures { result ≡ specs.lacks lack (start_view start.now) }
+{
+    match (lack, start) {
+        (Lack::NoSet, Start::Missing) => true,
+        (Lack::NoSet, Start::Empty) => false,
+        (Lack::NoSet, Start::Begins(_)) => false,
+        (Lack::NoMember, Start::Missing) => false,
+        (Lack::NoMember, Start::Empty) => true,
+        (Lack::NoMember, Start::Begins(_)) => false,
+    }
+}
+
+/// Whether the set behind a local's `\in` has this lack.
+fn lacks_in(
+    alloc: Global,
+    defs: &Defs,
+    lack: Lack,
+    initial: &Option<Origin>,
+) -> Result<bool, AllocError>
+    ensures { IfOk result (λ b. b ≡ specs.lacks_in lack (specs.local_set defs.now initial.now)) }
+{
+    match initial {
+        None => Ok(false),
+        Some(Origin::Equals(_)) => Ok(false),
+        Some(Origin::In(e)) => Ok(lacks(lack, &start_in(alloc, defs, e.get())?)),
+    }
+}
+
+/// The first local of an archetype whose set has this lack.
+#[tactic(auto, using(crate::proofs::Placed::placed_step, crate::proofs::Placed::earlier_none))]
+fn lacking_in<'a>(
+    alloc: Global,
+    defs: &Defs,
+    lack: Lack,
+    locals: &'a [Declaration],
+) -> Result<Option<Finding<'a>>, AllocError>
+    ensures { IfOk result (λ o. option_map finding_view o ≡ specs.first_placed (filter_map (specs.lacking_local defs.now lack) locals.now)) }
+{
+    let mut best = None;
+    for d in locals {
+        let found = where_true(lacks_in(alloc, defs, lack, &d.initial)?, &d.name);
+        best = earlier(best, found);
+    }
+    Ok(best)
+}
+
+/// Whether a process runs the archetype.
+fn is_run(archetype: &Archetype, runs: &[Run<'_>]) -> bool
+    ensures { result ≡ specs.is_run (map run_view runs.now) archetype.now }
+{
+    for r in runs {
+        if archetype.name.name.is(&r.archetype.name.name) {
+            return true;
+        }
+    }
+    false
+}
+
+/// The first local whose set has this lack, of the archetypes that a process runs.
+#[tactic(auto, using(crate::proofs::Placed::placed_more, crate::proofs::Placed::earlier_none))]
+fn lacking<'a>(
+    alloc: Global,
+    defs: &Defs,
+    runs: &[Run<'_>],
+    lack: Lack,
+    archetypes: &'a [Archetype],
+) -> Result<Option<Finding<'a>>, AllocError>
+    ensures { IfOk result (λ o. option_map finding_view o ≡ specs.first_placed (specs.lacking archetypes.now defs.now (map run_view runs.now) lack)) }
+{
+    let mut best = None;
+    for a in archetypes {
+        if is_run(a, runs) {
+            let found = lacking_in(alloc, defs, lack, a.locals.as_slice())?;
+            best = earlier(best, found);
+            continue;
+        }
+    }
+    Ok(best)
+}
+
+/// Whether the value of an expression is missing or too deep at some of these identifiers.
+fn is_some_unset(alloc: Global, defs: &Defs, e: &Expr, ids: &[Value]) -> Result<bool, AllocError>
+    ensures { IfOk result (λ b. b ≡ specs.is_some_unset defs.now (tree e.now) (map data_of ids.now)) }
+{
+    for id in ids {
+        if is_unset(255, &argument_start(alloc, defs, e, id)?) {
+            return Ok(true);
+        }
+    }
+    Ok(false)
+}
+
+/// Whether the value of an expression in which `self` doesn't stand is missing or too deep.
+fn is_closed_unset(alloc: Global, defs: &Defs, e: &Expr) -> Result<bool, AllocError>
+    ensures { IfOk result (λ b. b ≡ specs.is_closed_unset defs.now (tree e.now)) }
+{
+    if mentions(alloc, b"self", e)? {
+        return Ok(false);
+    }
+    let start = start_of_value(closed_value(alloc, defs, e)?);
+    Ok(is_unset(255, &start))
+}
+
+/// Whether there is an identifier.
+fn is_some_item(ids: &[Value]) -> bool
+    ensures { result ≡ is_some_item (map data_of ids.now) }
+{
+    !ids.is_empty()
+}
+
+/// Whether the value of an expression is missing or too deep, at some of these identifiers or by itself.
+fn is_value_unset(alloc: Global, defs: &Defs, e: &Expr, ids: &[Value]) -> Result<bool, AllocError>
+    ensures { IfOk result (λ b. b ≡ specs.is_value_unset defs.now (tree e.now) (map data_of ids.now)) }
+{
+    if is_some_item(ids) {
+        is_some_unset(alloc, defs, e, ids)
+    } else {
+        is_closed_unset(alloc, defs, e)
+    }
+}
+
+/// Whether what is the same at each identifier is missing or too deep at some.
+fn is_unset_somewhere(start: &Start, ids: &[Value]) -> bool
+    ensures { result ≡ specs.is_unset_somewhere (start_view start.now) (map data_of ids.now) }
+{
+    match ids.split_first() {
+        None => false,
+        Some((_first, _rest)) => is_unset(255, start),
+    }
+}
+
+/// Whether what a local starts with is missing or too deep at some of these identifiers.
+fn is_unset_at(
+    alloc: Global,
+    defs: &Defs,
+    initial: &Option<Origin>,
+    ids: &[Value],
+) -> Result<bool, AllocError>
+    ensures { IfOk result (λ b. b ≡ specs.is_unset_at defs.now initial.now (map data_of ids.now)) }
+{
+    match initial {
+        None => {
+            let start = Start::Begins(default_value(alloc)?);
+            Ok(is_unset_somewhere(&start, ids))
+        }
+        Some(Origin::Equals(e)) => is_value_unset(alloc, defs, e.get(), ids),
+        Some(Origin::In(e)) => {
+            let start = start_in(alloc, defs, e.get())?;
+            Ok(is_unset_somewhere(&start, ids))
+        }
+    }
+}
+
+/// The first local of a process that is missing or too deep at some identifier.
+#[tactic(auto, using(crate::proofs::Placed::placed_step, crate::proofs::Placed::earlier_none))]
+fn unset_locals<'a>(
+    alloc: Global,
+    defs: &Defs,
+    run: &Run<'a>,
+    locals: &'a [Declaration],
+) -> Result<Option<Finding<'a>>, AllocError>
+    ensures { IfOk result (λ o. option_map finding_view o ≡ specs.first_placed (filter_map (specs.unset_local defs.now (run_view run.now)) locals.now)) }
+{
+    let mut best = None;
+    for d in locals {
+        let unset = is_unset_at(alloc, defs, &d.initial, run.run_ids())?;
+        best = earlier(best, where_true(unset, &d.name));
+    }
+    Ok(best)
+}
+
+/// A value parameter that is missing or too deep at some identifier.
+fn unset_handed<'a>(
+    alloc: Global,
+    defs: &Defs,
+    run: &Run<'_>,
+    h: &Handed<'a>,
+) -> Result<Option<Finding<'a>>, AllocError>
+    ensures { IfOk result (λ o. option_map finding_view o ≡ specs.unset_handed defs.now (run_view run.now) (handed_view h.now)) }
+{
+    match h.argument {
+        Argument::Ref(..) => Ok(None),
+        Argument::Value(place, e) => {
+            if is_value_unset(alloc, defs, e.get(), run.run_ids())? {
+                Ok(Some(Finding {
+                    place: *place,
+                    name: &h.parameter.name.name,
+                }))
+            } else {
+                Ok(None)
+            }
+        }
+    }
+}
+
+/// The first value parameter of a process that is missing or too deep at some identifier.
+#[tactic(auto, using(crate::proofs::Placed::placed_step, crate::proofs::Placed::earlier_none))]
+fn unset_arguments<'a>(
+    alloc: Global,
+    defs: &Defs,
+    run: &Run<'_>,
+    handed: &[Handed<'a>],
+) -> Result<Option<Finding<'a>>, AllocError>
+    ensures { IfOk result (λ o. option_map finding_view o ≡ specs.first_placed (filter_map (specs.unset_handed defs.now (run_view run.now)) (map handed_view handed.now))) }
+{
+    let mut best = None;
+    for h in handed {
+        let found = unset_handed(alloc, defs, run, h)?;
+        best = earlier(best, found);
+    }
+    Ok(best)
+}
+
+/// What is first missing or too deep in a process.
+#[tactic(auto, using(crate::proofs::Placed::placed_append))]
+fn unset_in_run<'a>(
+    alloc: Global,
+    defs: &Defs,
+    run: &Run<'a>,
+) -> Result<Option<Finding<'a>>, AllocError>
+    ensures { IfOk result (λ o. option_map finding_view o ≡ specs.first_placed (specs.unset_in_run defs.now (run_view run.now))) }
+{
+    let first = unset_locals(alloc, defs, run, run.archetype.locals.as_slice())?;
+    let second = unset_arguments(alloc, defs, run, run.handed.as_slice())?;
+    Ok(earlier(first, second))
+}
+
+/// What is first missing or too deep in the processes.
+#[tactic(auto, using(crate::proofs::Placed::placed_more, crate::proofs::Placed::earlier_none))]
+fn unset_in_runs<'a>(
+    alloc: Global,
+    defs: &Defs,
+    runs: &[Run<'a>],
+) -> Result<Option<Finding<'a>>, AllocError>
+    ensures { IfOk result (λ o. option_map finding_view o ≡ specs.first_placed (flat_map (specs.unset_in_run defs.now) (map run_view runs.now))) }
+{
+    let mut best = None;
+    for r in runs {
+        let found = unset_in_run(alloc, defs, r)?;
+        best = earlier(best, found);
+    }
+    Ok(best)
+}
+
+/// Refuses what has no value, or too deep a one.
+#[tactic(auto, using(crate::proofs::Placed::placed_append))]
+pub fn values_set<'a>(
+    alloc: Global,
+    archetypes: &'a [Archetype],
+    defs: &Defs,
+    runs: &[Run<'a>],
+    globals: &'a [GlobalStart<'a>],
+) -> Result<(), BindError>
+    ensures { Passes (option_map (λ p. errors.InitNoValue p.1) (specs.first_placed (specs.values_unset archetypes.now defs.now (map run_view runs.now) (map global_view globals.now)))) result }
+{
+    let first = unset_globals(globals);
+    let second = lacking(alloc, defs, runs, Lack::NoSet, archetypes)?;
+    let third = unset_in_runs(alloc, defs, runs)?;
+    match earlier(first, earlier(second, third)) {
+        None => Ok(()),
+        Some(found) => Err(BindError::InitNoValue {
+            name: found.name.copy(alloc)?,
+        }),
+    }
+}
+
+/// Refuses an empty set.
+#[tactic(auto, using(crate::proofs::Placed::placed_append))]
+pub fn sets_filled<'a>(
+    alloc: Global,
+    archetypes: &'a [Archetype],
+    defs: &Defs,
+    runs: &[Run<'a>],
+    globals: &'a [GlobalStart<'a>],
+) -> Result<(), BindError>
+    ensures { Passes (option_map (λ p. errors.InitEmpty p.1) (specs.first_placed (specs.sets_empty archetypes.now defs.now (map run_view runs.now) (map global_view globals.now)))) result }
+{
+    let first = empty_globals(globals);
+    let second = lacking(alloc, defs, runs, Lack::NoMember, archetypes)?;
+    match earlier(first, second) {
+        None => Ok(()),
+        Some(found) => Err(BindError::InitEmpty {
+            name: found.name.copy(alloc)?,
+        }),
+    }
+}

@@ -1,0 +1,172 @@
+// Which archetype runs under which identifiers, with which arguments.
+ghost use Rattle.std.specs.Prelude.{◌≡◌, map, None, option_map, IfOk};
+ghost use Rattle.pgo_base.specs.View.{data_of};
+ghost use Rattle.pgo_base.specs.ExprView.{tree};
+ghost use Rattle.pgo_model.specs.Operators.{members_of};
+ghost use Rattle.pgo_bind.specs.Runs as specs;
+ghost use Rattle.pgo_bind.specs.Views.{handed_view, run_view};
+
+use crate::values::closed_value;
+use pgo_base::module::Defs;
+use pgo_base::text::Text;
+use pgo_base::value::Value;
+use pgo_syntax::archetype::{Archetype, Parameter};
+use pgo_syntax::binding::Origin;
+use pgo_syntax::process::{Argument, Process};
+use pgo_syntax::spec::Spec;
+use std::alloc::{AllocError, Global};
+
+/// A parameter and what it is handed, with the argument's number from 1.
+#[derive(Clone, Copy)]
+pub struct Handed<'a> {
+    pub number: u64,
+    pub parameter: &'a Parameter,
+    pub argument: &'a Argument,
+}
+
+/// A process with its archetype and, where they have a value, its identifiers in value order.
+#[derive(Drop)]
+pub struct Run<'a> {
+    pub process: &'a Process,
+    pub archetype: &'a Archetype,
+    pub handed: Vec<Handed<'a>>,
+    pub ids: Option<Vec<Value>>,
+}
+
+impl<'a> Run<'a> {
+    /// The identifiers with which it has instances.
+    pub fn run_ids(&self) -> &[Value]
+        ensures { map data_of result.now ≡ specs.run_ids (run_view self.now) }
+    {
+        match &self.ids {
+            None => &[],
+            Some(ids) => ids.as_slice(),
+        }
+    }
+
+    /// Whether it has instances.
+    pub fn has_ids(&self) -> bool
+        ensures { result ≡ specs.has_ids (run_view self.now) }
+    {
+        !self.run_ids().is_empty()
+    }
+}
+
+/// Parameters with their arguments.
+fn matched<'a>(
+    alloc: Global,
+    params: &'a [Parameter],
+    arguments: &'a [Argument],
+) -> Result<Vec<Handed<'a>>, AllocError>
+    ensures { IfOk result (λ v. map handed_view v.items ≡ specs.handed_from 1 params.now arguments.now) }
+{
+    let n = params.len().min(arguments.len());
+    let mut list = Vec::with_capacity(alloc, n)?;
+    for i in 0..n {
+        list.push(Handed {
+            number: i as u64 + 1,
+            parameter: &params[i],
+            argument: &arguments[i],
+        })?;
+    }
+    Ok(list)
+}
+
+/// The first archetype of the name.
+fn archetype_named<'a>(name: &Text, archetypes: &'a [Archetype]) -> Option<&'a Archetype>
+    ensures { option_map (λ r. r.now) result ≡ specs.archetype_named name.now archetypes.now }
+{
+    for a in archetypes {
+        if name.is(&a.name.name) {
+            return Some(a);
+        }
+    }
+    None
+}
+
+/// These values once more.
+fn copies(alloc: Global, values: &[Value]) -> Result<Vec<Value>, AllocError>
+    ensures { IfOk result (λ v. map data_of v.items ≡ map data_of values.now) }
+{
+    let mut list = Vec::with_capacity(alloc, values.len())?;
+    for v in values {
+        list.push(v.copy(alloc)?)?;
+    }
+    Ok(list)
+}
+
+/// The members of a set.
+fn members(alloc: Global, value: &Value) -> Result<Option<Vec<Value>>, AllocError>
+    ensures { IfOk result (λ o. option_map (λ v. map data_of v.items) o ≡ members_of (data_of value.now)) }
+{
+    match value {
+        Value::Set(set) => Ok(Some(copies(alloc, set.members())?)),
+        _ => Ok(None),
+    }
+}
+
+/// The members of a set, if it is one.
+fn members_of(alloc: Global, value: Option<Value>) -> Result<Option<Vec<Value>>, AllocError>
+    ensures { IfOk result (λ o. option_map (λ v. map data_of v.items) o ≡ specs.members_in (option_map data_of value)) }
+{
+    match &value {
+        None => Ok(None),
+        Some(v) => members(alloc, v),
+    }
+}
+
+/// The value alone, if there is one.
+fn alone(alloc: Global, value: Option<Value>) -> Result<Option<Vec<Value>>, AllocError>
+    ensures { IfOk result (λ o. option_map (λ v. map data_of v.items) o ≡ specs.alone (option_map data_of value)) }
+{
+    match value {
+        None => Ok(None),
+        Some(v) => Ok(Some(vec![in alloc; v]?)),
+    }
+}
+
+/// The identifiers of a process, in value order.
+fn ids_of(alloc: Global, defs: &Defs, origin: &Origin) -> Result<Option<Vec<Value>>, AllocError>
+    ensures { IfOk result (λ o. option_map (λ v. map data_of v.items) o ≡ specs.ids_of defs.now origin.now) }
+{
+    match origin {
+        Origin::Equals(e) => alone(alloc, closed_value(alloc, defs, e.get())?),
+        Origin::In(e) => members_of(alloc, closed_value(alloc, defs, e.get())?),
+    }
+}
+
+/// A process with this archetype.
+fn run_with<'a>(
+    alloc: Global,
+    defs: &Defs,
+    process: &'a Process,
+    archetype: &'a Archetype,
+) -> Result<Run<'a>, AllocError>
+    ensures { IfOk result (λ r. run_view r ≡ specs.run_with defs.now process.now archetype.now) }
+{
+    let params = archetype.params.as_slice();
+    Ok(Run {
+        process,
+        archetype,
+        handed: matched(alloc, params, process.arguments.as_slice())?,
+        ids: ids_of(alloc, defs, &process.ids)?,
+    })
+}
+
+/// The processes whose archetype is there, in the order of the text.
+pub fn runs_of<'a>(alloc: Global, spec: &'a Spec, defs: &Defs) -> Result<Vec<Run<'a>>, AllocError>
+    ensures { IfOk result (λ v. map run_view v.items ≡ specs.runs_of spec.now defs.now) }
+{
+    let archetypes = spec.archetypes.as_slice();
+    let mut list = Vec::new(alloc);
+    for p in spec.processes.as_slice() {
+        match archetype_named(&p.archetype.name, archetypes) {
+            None => continue,
+            Some(a) => {
+                list.push(run_with(alloc, defs, p, a)?)?;
+                continue;
+            }
+        }
+    }
+    Ok(list)
+}

@@ -1,0 +1,7 @@
+-- What the loop keeps: whether one is among the tokens is decided by those that are left.
+use Rattle.std.proofs.Common.{◌≡◌, drop}
+use Rattle.pgo_expr_read.specs.Lookahead.{has_mapped, tokens_of}
+use Rattle.pgo_expr_read.proofs.reader.has_mapped.Given as goal
+
+abbrev pub invariant-loop-lexeme : goal.invariant-loop-lexeme
+invariant-loop-lexeme l = has_mapped (tokens_of l.tokens) ≡ has_mapped (tokens_of (drop l.lexeme-index l.tokens))

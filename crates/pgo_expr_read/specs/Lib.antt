@@ -1,0 +1,11 @@
+pub mod Table
+pub mod Signs
+pub mod Lookahead
+pub mod Heights
+pub mod Kinds
+pub mod Spells
+pub mod Parsers
+pub mod Reading
+pub mod Nests
+pub mod Fronts
+pub mod Texts

@@ -1,0 +1,204 @@
+-- Readers as functions on lists of tokens: what they give, single tokens, what was read, and lists.
+use Rattle.std.specs.Prelude.{◌≡◌, ℕ, zero, suc, ◌+◌, ◌-◌, max, Bool, true, false, ◌&&◌, ◌||◌, if◌then◌else◌, nat_lt, nat_le, nat_eq, List, [], ◌∷◌, ◌++◌, length, Option, Some, None, Result, Ok, Err}
+use Rattle.pgo_base.specs.Tree.{Tree}
+use Rattle.pgo_base.specs.Tree as e
+use Rattle.pgo_lexer.specs.declared.symbol.Junction.{Junction}
+use Rattle.pgo_lexer.specs.declared.token.Token.{Token}
+use Rattle.pgo_lexer.specs.declared.token.Token.TheVariants as t
+use Rattle.pgo_lexer.specs.declared.errors.TextStop.{TextStop}
+use Rattle.pgo_lexer.specs.declared.errors.TextStop.TheVariants.{Syntax, NoMemory}
+use Rattle.pgo_expr_read.specs.declared.sign.Sign.{Sign}
+use Rattle.pgo_expr_read.specs.declared.sign.Sign.TheVariants as sign
+use Rattle.pgo_expr_read.specs.declared.table.Operator.{Operator}
+use Rattle.pgo_expr_read.specs.declared.table.Operator.TheVariants as operator
+use Rattle.pgo_expr_read.specs.declared.table.Form.{Form}
+use Rattle.pgo_expr_read.specs.declared.table.Form.TheVariants as form
+use Rattle.pgo_expr_read.specs.declared.read.Ending.{Ending}
+use Rattle.pgo_expr_read.specs.declared.read.Ending.TheVariants as ending
+use Rattle.pgo_expr_read.specs.declared.read.Read.{Read}
+use Rattle.pgo_expr_read.specs.Lookahead.{sees, sees_name, sees_arm}
+use Rattle.pgo_expr_read.specs.Kinds.{Kind, Thing, Name, may_follow}
+use Rattle.pgo_expr_read.specs.Kinds as kind
+use Rattle.pgo_expr_read.specs.Spells.{infix_of}
+use Rattle.pgo_expr_read.specs.Table.{low, takes_left, form_low}
+
+-- ---- parsers
+
+abbrev pub Outcome : Type 0 → Type 0
+Outcome A = Option (A × List Token)
+
+abbrev pub Parser : Type 0 → Type 0
+Parser A = List Token → Outcome A
+
+abbrev pub and_then : {A B : Type 0} → Outcome A → (A → Parser B) → Outcome B
+and_then (Some p) f = f p.0 p.1
+and_then None f = None
+
+infixl 10 ◌>>=◌
+abbrev pub ◌>>=◌ : {A B : Type 0} → Parser A → (A → Parser B) → Parser B
+p >>= f = λ i. and_then (p i) f
+
+infixl 10 ◌>>◌
+abbrev pub ◌>>◌ : {A B : Type 0} → Parser A → Parser B → Parser B
+p >> q = p >>= (λ _. q)
+
+abbrev pub pure : {A : Type 0} → A → Parser A
+pure a = λ i. Some (a, i)
+
+abbrev pub give_at : {A : Type 0} → Option A → Parser A
+give_at (Some a) i = Some (a, i)
+give_at None i = None
+
+abbrev pub IsSyntax : TextStop → Type 0
+IsSyntax (Syntax n) = Unit {0}
+IsSyntax NoMemory = ⊥
+
+-- what a reader returns is what the function gives, unless memory runs out
+abbrev pub Reads : {A : Type 0} → Outcome A → Result A TextStop → List Token → Type 0
+Reads outcome (Ok a) new = outcome ≡ Some (a, new)
+Reads outcome (Err (Syntax n)) new = outcome ≡ None
+Reads outcome (Err NoMemory) new = Unit {0}
+
+abbrev pub Makes : {A : Type 0} → Option A → Result A TextStop → Type 0
+Makes outcome (Ok a) = outcome ≡ Some a
+Makes outcome (Err (Syntax n)) = outcome ≡ None
+Makes outcome (Err NoMemory) = Unit {0}
+
+-- the same of a result that stands for what the function gives
+abbrev pub MakesAs : {A B : Type 0} → (A → B) → Option B → Result A TextStop → Type 0
+MakesAs see outcome (Ok a) = outcome ≡ Some (see a)
+MakesAs see outcome (Err (Syntax n)) = outcome ≡ None
+MakesAs see outcome (Err NoMemory) = Unit {0}
+
+-- ---- single tokens
+
+abbrev pub skip : List Token → List Token
+skip [] = []
+skip (token ∷ rest) = rest
+
+abbrev pub advance : Parser (Unit {0})
+advance = λ i. Some (tt, skip i)
+
+unfoldable pub past : Sign → List Token → List Token
+past v i = if sees v i then skip i else i
+
+abbrev pub eat : Sign → Parser Bool
+eat v = λ i. Some (sees v i, past v i)
+
+unfoldable pub expect : Sign → Parser (Unit {0})
+expect v = λ i. if sees v i then Some (tt, skip i) else None
+
+abbrev pub name : Parser Name
+name (t.Name x ∷ rest) = Some (x, rest)
+name _ = None
+
+abbrev pub text : Parser (List ℕ)
+text (t.Text x ∷ rest) = Some (x, rest)
+text _ = None
+
+-- ---- what was read
+
+abbrev pub made : {A : Type 0} → Form → Ending → ℕ → A → Read A
+made f o h a = record { form = f; ending = o; height = h; tree = a }
+
+-- a part of an expression or of a list
+abbrev pub part : {A : Type 0} → Ending → ℕ → A → Read A
+part o h a = made form.Closed o h a
+
+-- a node above expressions of at most this height
+unfoldable pub raised : (limit : ℕ) → Form → Ending → ℕ → Tree → Option (Read Tree)
+raised limit f o h a = if nat_lt h limit then Some (made f o (h + 1) a) else None
+
+abbrev pub closed : Read Tree → Read Tree
+closed r = part ending.Closed r.height r.tree
+
+abbrev pub is_closed : Ending → Bool
+is_closed ending.Closed = true
+is_closed _ = false
+
+-- may take an index or a field
+unfoldable pub ends_closed : Read Tree → Bool
+ends_closed r = is_closed r.ending && nat_lt 31 (form_low r.form)
+
+unfoldable pub goes_on : (least : ℕ) → Read Tree → Operator → Bool
+goes_on least r op = is_closed r.ending && (nat_le least (low op) && takes_left op r.form)
+
+-- a list without items
+abbrev pub nothing : {A : Type 0} → Read (List A)
+nothing = part ending.Closed 0 []
+
+-- one more item of a list
+abbrev pub pushed : {A : Type 0} → Read (List A) → Read A → Read (List A)
+pushed all r = part r.ending (max all.height r.height) (all.tree ++ r.tree ∷ [])
+
+abbrev pub one_of : {A : Type 0} → Read A → Read (List A)
+one_of r = pushed nothing r
+
+-- one more item of a junction list
+unfoldable pub joins : (limit : ℕ) → Junction → Read Tree → Read Tree → Option (Read Tree)
+joins limit op all r = raised limit form.Closed ending.Closed (max all.height r.height) (e.binary (infix_of op) all.tree r.tree)
+
+-- the height that counts of a left operand: a product of more has no node above that of its first operands
+abbrev pub left_height : Operator → Form → ℕ → ℕ
+left_height operator.Product (form.Operation operator.Product) h = h - 1
+left_height op f h = h
+
+-- an index of more than one expression is a tuple
+unfoldable pub index_height : (limit : ℕ) → Read (List Tree) → Option ℕ
+index_height limit all = if nat_eq (length all.tree) 1 then Some all.height else if nat_lt all.height limit then Some (all.height + 1) else None
+
+-- ---- lists
+
+-- one more as long as it goes on
+unfoldable pub folded : {A : Type 0} → (List Token → Bool) → (A → Parser A) → (turns : ℕ) → A → Parser A
+folded goes more zero acc = pure acc
+folded goes more (suc n) acc = λ i. if goes i then and_then (more acc i) (folded goes more n) else Some (acc, i)
+
+abbrev pub all_folded : {A : Type 0} → (List Token → Bool) → (A → Parser A) → A → Parser A
+all_folded goes more acc = λ i. folded goes more (length i) acc i
+
+abbrev pub sees_step : List Token → Bool
+sees_step i = sees sign.SquareOpen i || sees sign.Dot i
+
+-- whether a list goes on
+abbrev pub goes : Kind → List Token → Bool
+goes kind.item i = sees sign.ListNext i
+goes kind.arm i = sees_arm i
+goes kind.definition i = sees_name i
+goes kind.step i = sees_step i
+goes _ i = sees sign.Comma i
+
+-- what stands between two items
+abbrev pub pass : Kind → Parser (Unit {0})
+pass kind.item = expect sign.ListNext
+pass kind.arm = expect sign.Arm
+pass kind.definition = pure tt
+pass kind.step = pure tt
+pass _ = expect sign.Comma
+
+unfoldable pub one_more : (k : Kind) → Parser (Read (Thing k)) → Read (List (Thing k)) → Parser (Read (List (Thing k)))
+one_more k item all =
+    if may_follow k all.ending then (do
+      pass k
+      r ← item
+      pure (pushed all r)) else (λ i. None)
+
+abbrev pub behind : (k : Kind) → Parser (Read (Thing k)) → Read (List (Thing k)) → Parser (Read (List (Thing k)))
+behind k item all = all_folded (goes k) (one_more k item) all
+
+unfoldable pub listed : (k : Kind) → Parser (Read (Thing k)) → Parser (Read (List (Thing k)))
+listed k item = do
+  first ← item
+  behind k item (one_of first)
+
+unfoldable pub one_more_name : List Name → Parser (List Name)
+one_more_name all = do
+  expect sign.Comma
+  x ← name
+  pure (all ++ x ∷ [])
+
+-- names with commas between them
+unfoldable pub names : Parser (List Name)
+names = do
+  x ← name
+  all_folded (sees sign.Comma) one_more_name (x ∷ [])

@@ -1,0 +1,190 @@
+// A cursor over tokens.
+ghost use Rattle.std.specs.Prelude.{◌≡◌, length};
+ghost use Rattle.pgo_expr_read.specs.Lookahead as look;
+ghost use Rattle.pgo_expr_read.specs.Lookahead.{tokens_of};
+ghost use Rattle.pgo_expr_read.specs.Reading as spec;
+ghost use Rattle.pgo_expr_read.specs.Reading.{Reads};
+
+use crate::lookahead::{self, Lead, Next, Opener, Square};
+use crate::sign::Sign;
+use pgo_base::expr::Word;
+use pgo_base::text::Text;
+use pgo_lexer::errors::TextStop;
+use pgo_lexer::token::{Lexeme, Token};
+use std::alloc::Global;
+use std::marker::Model;
+
+/// The tokens that are left to read.
+#[derive(Drop)]
+pub struct Cursor<'a> {
+    rest: &'a [Lexeme],
+    /// The length of the text, which is the offset of what comes behind the last token.
+    end: u64,
+}
+
+impl<'a> Model for Cursor<'a> {
+    ghost use Rattle.std.specs.Prelude.{List};
+    ghost use Rattle.pgo_lexer.specs.declared.token.Token.{Token};
+    ghost use Rattle.pgo_expr_read.specs.Lookahead.{tokens_of};
+
+    ghost Value = { List Token };
+
+    ghost view = { λ c. tokens_of c.rest.now };
+}
+
+/// The offset of the first of these tokens that has a place, or the end of the text.
+fn offset(rest: &[Lexeme], end: u64) -> u64 {
+    for lexeme in rest {
+        if lexeme.stop > lexeme.start {
+            return lexeme.start as u64;
+        }
+    }
+    end
+}
+
+impl<'a> Cursor<'a> {
+    /// A cursor at the first of these tokens of a text of this length.
+    pub fn new(rest: &'a [Lexeme], end: u64) -> Cursor<'a>
+        ensures { result ≡ tokens_of rest.now }
+    {
+        Cursor { rest, end }
+    }
+
+    /// How many tokens are left.
+    #[tactic(auto, using(crate::proofs::Lengths::tokens_length))]
+    pub fn left(&self) -> usize
+        ensures { result ≡ length self.now }
+    {
+        self.rest.len()
+    }
+
+    /// The error that the next token has no place here.
+    pub fn refuse(&self) -> TextStop
+        ensures { spec.IsSyntax result }
+    {
+        TextStop::Syntax {
+            offset: offset(self.rest, self.end),
+        }
+    }
+
+    pub fn after(&self) -> Next
+        ensures { result ≡ look.after self.now }
+    {
+        lookahead::after(self.rest)
+    }
+
+    pub fn begin(&self) -> Lead
+        ensures { result ≡ look.begin self.now }
+    {
+        lookahead::begin(self.rest)
+    }
+
+    pub fn opens(&self) -> Option<Opener>
+        ensures { result ≡ look.opens self.now }
+    {
+        lookahead::opens(self.rest)
+    }
+
+    pub fn form_of_square(&self) -> Square
+        ensures { result ≡ look.form_of_square self.now }
+    {
+        lookahead::form_of_square(self.rest)
+    }
+
+    pub fn begins_binder(&self) -> bool
+        ensures { result ≡ look.begins_binder self.now }
+    {
+        lookahead::begins_binder(self.rest)
+    }
+
+    pub fn endless(&self) -> Option<Word>
+        ensures { result ≡ look.endless self.now }
+    {
+        lookahead::endless(self.rest)
+    }
+
+    pub fn sees(&self, sign: Sign) -> bool
+        ensures { result ≡ look.sees sign self.now }
+    {
+        lookahead::sees(self.rest, sign)
+    }
+
+    pub fn sees_name(&self) -> bool
+        ensures { result ≡ look.sees_name self.now }
+    {
+        lookahead::sees_name(self.rest)
+    }
+
+    pub fn sees_arm(&self) -> bool
+        ensures { result ≡ look.sees_arm self.now }
+    {
+        lookahead::sees_arm(self.rest)
+    }
+
+    /// Goes past the next token.
+    pub fn skip(&mut self)
+        ensures { self.new ≡ spec.skip self.old }
+    {
+        match self.rest {
+            [] => {}
+            [_, rest @ ..] => self.rest = rest,
+        }
+    }
+
+    /// Goes past this sign if it is next, and tells whether it was.
+    #[tactic(auto, unfolding(crate::specs::Reading::past))]
+    pub fn eat(&mut self, sign: Sign) -> bool
+        ensures found { result ≡ look.sees sign self.old }
+        ensures after { self.new ≡ spec.past sign self.old }
+    {
+        let found = self.sees(sign);
+        if found {
+            self.skip();
+        }
+        found
+    }
+
+    /// Goes past this sign, which must be next.
+    #[tactic(auto, unfolding(crate::specs::Reading::expect, crate::specs::Reading::past))]
+    pub fn expect(&mut self, sign: Sign) -> Result<(), TextStop>
+        ensures { Reads (spec.expect sign self.old) result self.new }
+    {
+        if self.eat(sign) {
+            Ok(())
+        } else {
+            Err(self.refuse())
+        }
+    }
+
+    /// A name, which must be next.
+    pub fn name(&mut self, alloc: Global) -> Result<Text, TextStop>
+        ensures { Reads (spec.name self.old) result self.new }
+    {
+        match self.rest {
+            [] => Err(self.refuse()),
+            [lexeme, rest @ ..] => match &lexeme.token {
+                Token::Name(text) => {
+                    self.rest = rest;
+                    Ok(text.copy(alloc)?)
+                }
+                _ => Err(self.refuse()),
+            },
+        }
+    }
+
+    /// A string, which must be next.
+    pub fn text(&mut self, alloc: Global) -> Result<Text, TextStop>
+        ensures { Reads (spec.text self.old) result self.new }
+    {
+        match self.rest {
+            [] => Err(self.refuse()),
+            [lexeme, rest @ ..] => match &lexeme.token {
+                Token::Text(text) => {
+                    self.rest = rest;
+                    Ok(text.copy(alloc)?)
+                }
+                _ => Err(self.refuse()),
+            },
+        }
+    }
+}

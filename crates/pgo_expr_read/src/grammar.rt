@@ -1,0 +1,495 @@
+// The forms of expressions.
+ghost use Rattle.std.specs.Prelude.{◌≡◌, ◌+◌, [], ◌∷◌, length, IfOk};
+ghost use Rattle.pgo_base.specs.Tree as e;
+ghost use Rattle.pgo_base.specs.ExprView.{tree};
+ghost use Rattle.pgo_expr_read.specs.Kinds as kind;
+ghost use Rattle.pgo_expr_read.specs.Spells.{opened, infix_of};
+ghost use Rattle.pgo_expr_read.specs.Nests.{Nests};
+ghost use Rattle.pgo_expr_read.specs.Reading as spec;
+ghost use Rattle.pgo_expr_read.specs.Reading.{Reads, Makes};
+
+use crate::ast;
+use crate::cursor::Cursor;
+use crate::lists::{is_case, names};
+use crate::lookahead::{Lead, Square};
+use crate::read::{Ending, Read, nothing, push_tree, raised};
+use crate::sign::Sign;
+use crate::table::{Form, prefix_least};
+use pgo_base::expr::{Arms, Expr, Exprs, Prefix, Quantifier, Sub, Word};
+use pgo_base::text::Text;
+use pgo_lexer::errors::TextStop;
+use std::alloc::Global;
+
+/// The rules that hold expressions take the reader of those as a parameter, so that each is proved by itself.
+#[derive(Clone, Copy)]
+pub struct Grammar<F> {
+    pub alloc: Global,
+    /// The greatest height of an expression.
+    pub limit: u32,
+    /// The greatest height of its subexpressions.
+    pub below: u32,
+    pub expr: F,
+}
+
+/// How an open form ends whose last expression ends so.
+fn opened(ending: Ending) -> Ending
+    ensures { result ≡ opened ending }
+{
+    match ending {
+        Ending::Case => Ending::Case,
+        _ => Ending::Open,
+    }
+}
+
+impl<F: Fn(Global, &mut Cursor<'_>, u32, u8) -> Result<Read<Sub>, TextStop>> Grammar<F> {
+    /// A subexpression of a form at this level or above.
+    pub fn expr(&self, cursor: &mut Cursor<'_>, least: u8) -> Result<Read<Sub>, TextStop>
+        requires { Nests self.now.below (F.pre self.now.expr) (F.post self.now.expr) }
+        ensures { Reads (spec.expr self.now.below least cursor.old) result cursor.new }
+    {
+        (self.expr)(self.alloc, cursor, self.below, least)
+    }
+
+    /// An expression above others of at most this height.
+    pub fn node(
+        &self,
+        cursor: &Cursor<'_>,
+        ending: Ending,
+        height: u32,
+        tree: Sub,
+    ) -> Result<Read<Sub>, TextStop>
+        ensures { Reads (spec.node self.now.limit (spec.expr self.now.below) ending height tree cursor.now) result cursor.now }
+    {
+        raised(cursor, self.limit, Form::Closed, ending, height, tree)
+    }
+
+    /// An expression without subexpressions.
+    #[tactic(auto, unfolding(crate::specs::Reading::leaf))]
+    pub fn leaf(&self, cursor: &Cursor<'_>, expr: Expr) -> Result<Read<Sub>, TextStop>
+        ensures { Reads (spec.leaf self.now.limit (spec.expr self.now.below) (tree expr) cursor.now) result cursor.now }
+    {
+        let tree = Sub::new(self.alloc, expr)?;
+        self.node(cursor, Ending::Closed, 0, tree)
+    }
+
+    /// A set at the right of `\in`.
+    #[tactic(auto, unfolding(crate::specs::Reading::range))]
+    pub fn range(&self, cursor: &mut Cursor<'_>, least: u8) -> Result<Read<Sub>, TextStop>
+        requires { Nests self.now.below (F.pre self.now.expr) (F.post self.now.expr) }
+        ensures { Reads (spec.range self.now.limit (spec.expr self.now.below) least cursor.old) result cursor.new }
+    {
+        match cursor.endless() {
+            Some(word) => {
+                cursor.skip();
+                self.leaf(cursor, Expr::Word(word))
+            }
+            None => self.expr(cursor, least),
+        }
+    }
+
+    /// The operand of a prefix operator.
+    #[tactic(auto, unfolding(crate::specs::Reading::prefixed))]
+    pub fn prefixed(&self, cursor: &mut Cursor<'_>, op: Prefix) -> Result<Read<Sub>, TextStop>
+        requires { Nests self.now.below (F.pre self.now.expr) (F.post self.now.expr) }
+        ensures { Reads (spec.prefixed self.now.limit (spec.expr self.now.below) op cursor.old) result cursor.new }
+    {
+        cursor.skip();
+        let r = self.expr(cursor, prefix_least(op))?;
+        let tree = ast::unary(self.alloc, op, r.tree)?;
+        raised(
+            cursor,
+            self.limit,
+            Form::Prefix(op),
+            r.ending,
+            r.height,
+            tree,
+        )
+    }
+
+    /// The arguments of an operator of this name.
+    #[tactic(auto, unfolding(crate::specs::Reading::call))]
+    pub fn call(&self, cursor: &mut Cursor<'_>, name: Text) -> Result<Read<Sub>, TextStop>
+        requires { Nests self.now.below (F.pre self.now.expr) (F.post self.now.expr) }
+        ensures { Reads (spec.call self.now.limit (spec.expr self.now.below) name cursor.old) result cursor.new }
+    {
+        let all = self.trees(cursor)?;
+        cursor.expect(Sign::RoundClose)?;
+        let tree = Sub::new(self.alloc, Expr::Call(name, all.tree))?;
+        self.node(cursor, Ending::Closed, all.height, tree)
+    }
+
+    /// A name, alone, primed or with arguments.
+    #[tactic(auto, unfolding(crate::specs::Reading::named_form, crate::specs::Reading::plain_name))]
+    pub fn named_form(&self, cursor: &mut Cursor<'_>) -> Result<Read<Sub>, TextStop>
+        requires { Nests self.now.below (F.pre self.now.expr) (F.post self.now.expr) }
+        ensures { Reads (spec.named_form self.now.limit (spec.expr self.now.below) cursor.old) result cursor.new }
+    {
+        let name = cursor.name(self.alloc)?;
+        if cursor.eat(Sign::RoundOpen) {
+            return self.call(cursor, name);
+        }
+        if cursor.eat(Sign::Prime) {
+            return self.leaf(cursor, Expr::Primed(name));
+        }
+        self.leaf(cursor, Expr::Name(name))
+    }
+
+    /// What stands in `<< >>`.
+    #[tactic(auto, unfolding(crate::specs::Reading::tuple, crate::specs::Reading::some_tuple))]
+    pub fn tuple(&self, cursor: &mut Cursor<'_>) -> Result<Read<Sub>, TextStop>
+        requires { Nests self.now.below (F.pre self.now.expr) (F.post self.now.expr) }
+        ensures { Reads (spec.tuple self.now.limit (spec.expr self.now.below) cursor.old) result cursor.new }
+    {
+        cursor.skip();
+        if cursor.eat(Sign::AngleClose) {
+            return self.leaf(cursor, Expr::Tuple(Exprs::new(self.alloc)));
+        }
+        let all = self.trees(cursor)?;
+        cursor.expect(Sign::AngleClose)?;
+        let tree = Sub::new(self.alloc, Expr::Tuple(all.tree))?;
+        self.node(cursor, Ending::Closed, all.height, tree)
+    }
+
+    /// The members of a set with a property.
+    #[tactic(auto, unfolding(crate::specs::Reading::filter))]
+    pub fn filter(&self, cursor: &mut Cursor<'_>) -> Result<Read<Sub>, TextStop>
+        requires { Nests self.now.below (F.pre self.now.expr) (F.post self.now.expr) }
+        ensures { Reads (spec.filter self.now.limit (spec.expr self.now.below) cursor.old) result cursor.new }
+    {
+        let name = cursor.name(self.alloc)?;
+        cursor.expect(Sign::In)?;
+        let set = self.range(cursor, 0)?;
+        cursor.expect(Sign::Colon)?;
+        let p = self.expr(cursor, 0)?;
+        cursor.expect(Sign::CurlyClose)?;
+        let height = set.height.max(p.height);
+        let tree = ast::filter_of(self.alloc, name, set.tree, p.tree)?;
+        self.node(cursor, Ending::Closed, height, tree)
+    }
+
+    /// The values of an expression over a set, behind the `:`.
+    #[tactic(auto, unfolding(crate::specs::Reading::image))]
+    pub fn image(&self, cursor: &mut Cursor<'_>, b: Read<Sub>) -> Result<Read<Sub>, TextStop>
+        requires { Nests self.now.below (F.pre self.now.expr) (F.post self.now.expr) }
+        ensures { Reads (spec.image self.now.limit (spec.expr self.now.below) b cursor.old) result cursor.new }
+    {
+        let name = cursor.name(self.alloc)?;
+        cursor.expect(Sign::In)?;
+        let set = self.range(cursor, 0)?;
+        cursor.expect(Sign::CurlyClose)?;
+        let height = b.height.max(set.height);
+        let tree = ast::image(self.alloc, b.tree, name, set.tree)?;
+        self.node(cursor, Ending::Closed, height, tree)
+    }
+
+    /// The members of a set, behind the first.
+    #[tactic(auto, unfolding(crate::specs::Reading::members))]
+    pub fn members(&self, cursor: &mut Cursor<'_>, first: Read<Sub>) -> Result<Read<Sub>, TextStop>
+        requires { Nests self.now.below (F.pre self.now.expr) (F.post self.now.expr) }
+        ensures { Reads (spec.members self.now.limit (spec.expr self.now.below) first cursor.old) result cursor.new }
+    {
+        let one = push_tree(nothing(Exprs::new(self.alloc)), first)?;
+        let all = self.trees_behind(cursor, one)?;
+        cursor.expect(Sign::CurlyClose)?;
+        let tree = Sub::new(self.alloc, Expr::SetOf(all.tree))?;
+        self.node(cursor, Ending::Closed, all.height, tree)
+    }
+
+    /// What stands in `{ }` and doesn't begin with a name and `\in`.
+    #[tactic(auto, unfolding(crate::specs::Reading::other_set))]
+    pub fn other_set(&self, cursor: &mut Cursor<'_>) -> Result<Read<Sub>, TextStop>
+        requires { Nests self.now.below (F.pre self.now.expr) (F.post self.now.expr) }
+        ensures { Reads (spec.other_set self.now.limit (spec.expr self.now.below) cursor.old) result cursor.new }
+    {
+        let first = self.expr(cursor, 0)?;
+        if cursor.eat(Sign::Colon) {
+            self.image(cursor, first)
+        } else {
+            self.members(cursor, first)
+        }
+    }
+
+    /// What stands in `{ }`.
+    #[tactic(auto, unfolding(crate::specs::Reading::set, crate::specs::Reading::some_set))]
+    pub fn set(&self, cursor: &mut Cursor<'_>) -> Result<Read<Sub>, TextStop>
+        requires { Nests self.now.below (F.pre self.now.expr) (F.post self.now.expr) }
+        ensures { Reads (spec.set self.now.limit (spec.expr self.now.below) cursor.old) result cursor.new }
+    {
+        cursor.skip();
+        if cursor.eat(Sign::CurlyClose) {
+            return self.leaf(cursor, Expr::SetOf(Exprs::new(self.alloc)));
+        }
+        if cursor.begins_binder() {
+            self.filter(cursor)
+        } else {
+            self.other_set(cursor)
+        }
+    }
+
+    /// A function by its values.
+    #[tactic(auto, unfolding(crate::specs::Reading::fun_of))]
+    pub fn fun_of(&self, cursor: &mut Cursor<'_>) -> Result<Read<Sub>, TextStop>
+        requires { Nests self.now.below (F.pre self.now.expr) (F.post self.now.expr) }
+        ensures { Reads (spec.fun_of self.now.limit (spec.expr self.now.below) cursor.old) result cursor.new }
+    {
+        let binders = self.binders(cursor)?;
+        cursor.expect(Sign::MapsTo)?;
+        let a = self.expr(cursor, 0)?;
+        cursor.expect(Sign::SquareClose)?;
+        let height = binders.height.max(a.height);
+        let tree = ast::fun_of(self.alloc, binders.tree, a.tree)?;
+        self.node(cursor, Ending::Closed, height, tree)
+    }
+
+    /// A record.
+    #[tactic(auto, unfolding(crate::specs::Reading::record_of))]
+    pub fn record_of(&self, cursor: &mut Cursor<'_>) -> Result<Read<Sub>, TextStop>
+        requires { Nests self.now.below (F.pre self.now.expr) (F.post self.now.expr) }
+        ensures { Reads (spec.record_of self.now.limit (spec.expr self.now.below) cursor.old) result cursor.new }
+    {
+        let all = self.fields(cursor, Sign::MapsTo)?;
+        cursor.expect(Sign::SquareClose)?;
+        let tree = Sub::new(self.alloc, Expr::Record(all.tree))?;
+        self.node(cursor, Ending::Closed, all.height, tree)
+    }
+
+    /// A set of records.
+    #[tactic(auto, unfolding(crate::specs::Reading::record_set))]
+    pub fn record_set(&self, cursor: &mut Cursor<'_>) -> Result<Read<Sub>, TextStop>
+        requires { Nests self.now.below (F.pre self.now.expr) (F.post self.now.expr) }
+        ensures { Reads (spec.record_set self.now.limit (spec.expr self.now.below) cursor.old) result cursor.new }
+    {
+        let all = self.fields(cursor, Sign::Colon)?;
+        cursor.expect(Sign::SquareClose)?;
+        let tree = Sub::new(self.alloc, Expr::RecordSet(all.tree))?;
+        self.node(cursor, Ending::Closed, all.height, tree)
+    }
+
+    /// A set of functions, behind their domain.
+    #[tactic(auto, unfolding(crate::specs::Reading::fun_set))]
+    pub fn fun_set(&self, cursor: &mut Cursor<'_>, a: Read<Sub>) -> Result<Read<Sub>, TextStop>
+        requires { Nests self.now.below (F.pre self.now.expr) (F.post self.now.expr) }
+        ensures { Reads (spec.fun_set self.now.limit (spec.expr self.now.below) a cursor.old) result cursor.new }
+    {
+        cursor.expect(Sign::Arrow)?;
+        let b = self.expr(cursor, 0)?;
+        cursor.expect(Sign::SquareClose)?;
+        let height = a.height.max(b.height);
+        let tree = ast::fun_set(self.alloc, a.tree, b.tree)?;
+        self.node(cursor, Ending::Closed, height, tree)
+    }
+
+    /// The updates of EXCEPT.
+    #[tactic(auto, unfolding(crate::specs::Reading::except))]
+    pub fn except(&self, cursor: &mut Cursor<'_>, a: Read<Sub>) -> Result<Read<Sub>, TextStop>
+        requires { Nests self.now.below (F.pre self.now.expr) (F.post self.now.expr) }
+        ensures { Reads (spec.except self.now.limit (spec.expr self.now.below) a cursor.old) result cursor.new }
+    {
+        let updates = self.updates(cursor)?;
+        cursor.expect(Sign::SquareClose)?;
+        let height = a.height.max(updates.height);
+        let tree = ast::except(self.alloc, a.tree, updates.tree)?;
+        self.node(cursor, Ending::Closed, height, tree)
+    }
+
+    /// A set of functions, or EXCEPT.
+    #[tactic(auto, unfolding(crate::specs::Reading::other_square))]
+    pub fn other_square(&self, cursor: &mut Cursor<'_>) -> Result<Read<Sub>, TextStop>
+        requires { Nests self.now.below (F.pre self.now.expr) (F.post self.now.expr) }
+        ensures { Reads (spec.other_square self.now.limit (spec.expr self.now.below) cursor.old) result cursor.new }
+    {
+        let a = self.expr(cursor, 0)?;
+        if cursor.eat(Sign::Except) {
+            self.except(cursor, a)
+        } else {
+            self.fun_set(cursor, a)
+        }
+    }
+
+    /// What stands in `[ ]`.
+    #[tactic(auto, unfolding(crate::specs::Reading::square_form))]
+    pub fn square_form(&self, cursor: &mut Cursor<'_>) -> Result<Read<Sub>, TextStop>
+        requires { Nests self.now.below (F.pre self.now.expr) (F.post self.now.expr) }
+        ensures { Reads (spec.square_form self.now.limit (spec.expr self.now.below) cursor.old) result cursor.new }
+    {
+        cursor.skip();
+        match cursor.form_of_square() {
+            Square::Record => self.record_of(cursor),
+            Square::RecordSet => self.record_set(cursor),
+            Square::Function => self.fun_of(cursor),
+            Square::Other => self.other_square(cursor),
+        }
+    }
+
+    /// The binders and the body of a quantifier.
+    #[tactic(auto, unfolding(crate::specs::Reading::quantified))]
+    pub fn quantified(
+        &self,
+        cursor: &mut Cursor<'_>,
+        quantifier: Quantifier,
+    ) -> Result<Read<Sub>, TextStop>
+        requires { Nests self.now.below (F.pre self.now.expr) (F.post self.now.expr) }
+        ensures { Reads (spec.quantified self.now.limit (spec.expr self.now.below) quantifier cursor.old) result cursor.new }
+    {
+        cursor.skip();
+        let binders = self.binders(cursor)?;
+        cursor.expect(Sign::Colon)?;
+        let p = self.expr(cursor, 0)?;
+        let height = binders.height.max(p.height);
+        let tree = ast::quantified(self.alloc, quantifier, binders.tree, p.tree)?;
+        self.node(cursor, opened(p.ending), height, tree)
+    }
+
+    /// The rest of a CHOOSE.
+    #[tactic(auto, unfolding(crate::specs::Reading::choose))]
+    pub fn choose(&self, cursor: &mut Cursor<'_>) -> Result<Read<Sub>, TextStop>
+        requires { Nests self.now.below (F.pre self.now.expr) (F.post self.now.expr) }
+        ensures { Reads (spec.choose self.now.limit (spec.expr self.now.below) cursor.old) result cursor.new }
+    {
+        cursor.skip();
+        let name = cursor.name(self.alloc)?;
+        cursor.expect(Sign::In)?;
+        let set = self.range(cursor, 0)?;
+        cursor.expect(Sign::Colon)?;
+        let p = self.expr(cursor, 0)?;
+        let height = set.height.max(p.height);
+        let tree = ast::choose(self.alloc, name, set.tree, p.tree)?;
+        self.node(cursor, opened(p.ending), height, tree)
+    }
+
+    /// The rest of an IF.
+    #[tactic(auto, unfolding(crate::specs::Reading::cond_of))]
+    pub fn cond_of(&self, cursor: &mut Cursor<'_>) -> Result<Read<Sub>, TextStop>
+        requires { Nests self.now.below (F.pre self.now.expr) (F.post self.now.expr) }
+        ensures { Reads (spec.cond_of self.now.limit (spec.expr self.now.below) cursor.old) result cursor.new }
+    {
+        cursor.skip();
+        let a = self.expr(cursor, 0)?;
+        cursor.expect(Sign::Then)?;
+        let b = self.expr(cursor, 0)?;
+        cursor.expect(Sign::Else)?;
+        let c = self.expr(cursor, 0)?;
+        let height = a.height.max(b.height.max(c.height));
+        let tree = ast::cond_of(self.alloc, a.tree, b.tree, c.tree)?;
+        self.node(cursor, opened(c.ending), height, tree)
+    }
+
+    /// The last arm of a CASE, behind its `[]`.
+    #[tactic(auto, unfolding(crate::specs::Reading::case_other, crate::specs::Reading::last_arm))]
+    pub fn case_other(
+        &self,
+        cursor: &mut Cursor<'_>,
+        arms: Read<Arms>,
+    ) -> Result<Read<Sub>, TextStop>
+        requires { Nests self.now.below (F.pre self.now.expr) (F.post self.now.expr) }
+        ensures { Reads (spec.case_other self.now.limit (spec.expr self.now.below) arms cursor.old) result cursor.new }
+    {
+        if is_case(arms.ending) {
+            return Err(cursor.refuse());
+        }
+        cursor.expect(Sign::Other)?;
+        cursor.expect(Sign::Arrow)?;
+        let a = self.expr(cursor, 0)?;
+        let height = arms.height.max(a.height);
+        let tree = ast::case_other(self.alloc, arms.tree, a.tree)?;
+        self.node(cursor, Ending::Case, height, tree)
+    }
+
+    /// The arms of a CASE.
+    #[tactic(auto, unfolding(crate::specs::Reading::case_form))]
+    pub fn case_form(&self, cursor: &mut Cursor<'_>) -> Result<Read<Sub>, TextStop>
+        requires { Nests self.now.below (F.pre self.now.expr) (F.post self.now.expr) }
+        ensures { Reads (spec.case_form self.now.limit (spec.expr self.now.below) cursor.old) result cursor.new }
+    {
+        cursor.skip();
+        let arms = self.arms(cursor)?;
+        if cursor.eat(Sign::Arm) {
+            return self.case_other(cursor, arms);
+        }
+        let tree = Sub::new(self.alloc, Expr::Case(arms.tree))?;
+        self.node(cursor, Ending::Case, arms.height, tree)
+    }
+
+    /// The definitions of a LET and what they are for.
+    #[tactic(auto, unfolding(crate::specs::Reading::let_in))]
+    pub fn let_in(&self, cursor: &mut Cursor<'_>) -> Result<Read<Sub>, TextStop>
+        requires { Nests self.now.below (F.pre self.now.expr) (F.post self.now.expr) }
+        ensures { Reads (spec.let_in self.now.limit (spec.expr self.now.below) cursor.old) result cursor.new }
+    {
+        cursor.skip();
+        let definitions = self.definitions(cursor)?;
+        cursor.expect(Sign::LetIn)?;
+        let a = self.expr(cursor, 0)?;
+        let height = definitions.height.max(a.height);
+        let tree = ast::let_in(self.alloc, definitions.tree, a.tree)?;
+        self.node(cursor, opened(a.ending), height, tree)
+    }
+
+    /// The names that stay unchanged.
+    #[tactic(auto, unfolding(crate::specs::Reading::unchanged))]
+    pub fn unchanged(&self, cursor: &mut Cursor<'_>) -> Result<Read<Sub>, TextStop>
+        requires { Nests self.now.below (F.pre self.now.expr) (F.post self.now.expr) }
+        ensures { Reads (spec.unchanged self.now.limit (spec.expr self.now.below) cursor.old) result cursor.new }
+    {
+        cursor.skip();
+        cursor.expect(Sign::AngleOpen)?;
+        let names = names(self.alloc, cursor)?;
+        cursor.expect(Sign::AngleClose)?;
+        self.leaf(cursor, Expr::Unchanged(names))
+    }
+
+    /// The leaf that the next token is.
+    #[tactic(auto, unfolding(crate::specs::Reading::leaf_at))]
+    pub fn leaf_at(&self, cursor: &mut Cursor<'_>, expr: Expr) -> Result<Read<Sub>, TextStop>
+        ensures { Reads (spec.leaf_at self.now.limit (spec.expr self.now.below) (tree expr) cursor.old) result cursor.new }
+    {
+        cursor.skip();
+        self.leaf(cursor, expr)
+    }
+
+    /// The name that the next token stands for.
+    fn name_at(&self, cursor: &mut Cursor<'_>, name: &[u8]) -> Result<Read<Sub>, TextStop>
+        ensures { Reads (spec.leaf_at self.now.limit (spec.expr self.now.below) (e.name name.now) cursor.old) result cursor.new }
+    {
+        let name = Text::from_slice(self.alloc, name)?;
+        self.leaf_at(cursor, Expr::Name(name))
+    }
+
+    /// A string.
+    #[tactic(auto, unfolding(crate::specs::Reading::text_form))]
+    pub fn text_form(&self, cursor: &mut Cursor<'_>) -> Result<Read<Sub>, TextStop>
+        ensures { Reads (spec.text_form self.now.limit (spec.expr self.now.below) cursor.old) result cursor.new }
+    {
+        let text = cursor.text(self.alloc)?;
+        self.leaf(cursor, Expr::Text(text))
+    }
+
+    /// An expression that begins with none of what opens without a node, without what goes on behind it.
+    #[tactic(auto, unfolding(crate::specs::Reading::primary))]
+    pub fn primary(&self, cursor: &mut Cursor<'_>) -> Result<Read<Sub>, TextStop>
+        requires { Nests self.now.below (F.pre self.now.expr) (F.post self.now.expr) }
+        ensures { Reads (spec.primary self.now.limit (spec.expr self.now.below) cursor.old) result cursor.new }
+    {
+        match cursor.begin() {
+            Lead::Name => self.named_form(cursor),
+            Lead::Number(number) => self.leaf_at(cursor, Expr::Number(number)),
+            Lead::Text => self.text_form(cursor),
+            Lead::Truth(truth) => self.leaf_at(cursor, Expr::Truth(truth)),
+            Lead::At => self.leaf_at(cursor, Expr::At),
+            Lead::Boolean => self.leaf_at(cursor, Expr::Word(Word::BooleanSet)),
+            Lead::Prefix(op) => self.prefixed(cursor, op),
+            Lead::Tuple => self.tuple(cursor),
+            Lead::Set => self.set(cursor),
+            Lead::Square => self.square_form(cursor),
+            Lead::Quantifier(quantifier) => self.quantified(cursor, quantifier),
+            Lead::Choose => self.choose(cursor),
+            Lead::If => self.cond_of(cursor),
+            Lead::Case => self.case_form(cursor),
+            Lead::Let => self.let_in(cursor),
+            Lead::Unchanged => self.unchanged(cursor),
+            Lead::Variable => self.name_at(cursor, b"$variable"),
+            Lead::Value => self.name_at(cursor, b"$value"),
+            Lead::None => Err(cursor.refuse()),
+        }
+    }
+}

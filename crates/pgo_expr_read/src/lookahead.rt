@@ -1,0 +1,285 @@
+// What the next tokens say of what may come.
+ghost use Rattle.std.specs.Prelude.{◌≡◌};
+ghost use Rattle.pgo_expr_read.specs.Lookahead as spec;
+
+use crate::sign::{Sign, code, code_of};
+use crate::table::Operator;
+use pgo_base::expr::{Infix, Prefix, Quantifier, Word};
+use pgo_lexer::symbol::{Bracket, Junction, Symbol};
+use pgo_lexer::token::{Lexeme, Token};
+
+/// How an expression may begin.
+#[derive(Clone, Copy)]
+pub enum Lead {
+    Name,
+    Number(i64),
+    Text,
+    Truth(bool),
+    At,
+    Boolean,
+    Prefix(Prefix),
+    Tuple,
+    Set,
+    Square,
+    Quantifier(Quantifier),
+    Choose,
+    If,
+    Case,
+    Let,
+    Unchanged,
+    /// `$variable`.
+    Variable,
+    /// `$value`.
+    Value,
+    None,
+}
+
+/// What opens an expression that makes no node of its own.
+#[derive(Clone, Copy)]
+pub enum Opener {
+    Round,
+    List(Junction),
+}
+
+/// How an expression may go on behind an operand.
+#[derive(Clone, Copy)]
+pub enum Next {
+    Operator(Operator),
+    Index,
+    Field,
+    /// Another arm of a CASE.
+    Arm,
+    /// `(` or `'`, which stand behind a name only.
+    Tight,
+    End,
+}
+
+/// What the first two tokens behind a `[` say of its form.
+#[derive(Clone, Copy)]
+pub enum Square {
+    Record,
+    RecordSet,
+    Function,
+    Other,
+}
+
+fn next_of_symbol(symbol: Symbol) -> Next
+    ensures { result ≡ spec.next_of_symbol symbol }
+{
+    match symbol {
+        Symbol::Infix(op) => Next::Operator(Operator::Infix(op)),
+        Symbol::Product => Next::Operator(Operator::Product),
+        Symbol::Open(Bracket::Square) => Next::Index,
+        Symbol::Open(Bracket::Round) => Next::Tight,
+        Symbol::Dot => Next::Field,
+        Symbol::Box => Next::Arm,
+        Symbol::Prime => Next::Tight,
+        _ => Next::End,
+    }
+}
+
+fn next_of(token: &Token) -> Next
+    ensures { result ≡ spec.next_of token.now }
+{
+    match token {
+        Token::Symbol(symbol) => next_of_symbol(*symbol),
+        _ => Next::End,
+    }
+}
+
+/// How the tokens go on behind an operand.
+pub fn after(rest: &[Lexeme]) -> Next
+    ensures { result ≡ spec.after (spec.tokens_of rest.now) }
+{
+    match rest {
+        [] => Next::End,
+        [lexeme, ..] => next_of(&lexeme.token),
+    }
+}
+
+fn lead_of_symbol(symbol: Symbol) -> Lead
+    ensures { result ≡ spec.lead_of_symbol symbol }
+{
+    match symbol {
+        Symbol::Truth(truth) => Lead::Truth(truth),
+        Symbol::At => Lead::At,
+        Symbol::Word(Word::BooleanSet) => Lead::Boolean,
+        Symbol::Infix(Infix::Subtract) => Lead::Prefix(Prefix::Minus),
+        // `-` is an infix symbol.
+        Symbol::Prefix(Prefix::Minus) => Lead::None,
+        Symbol::Prefix(op) => Lead::Prefix(op),
+        Symbol::Open(Bracket::Angle) => Lead::Tuple,
+        Symbol::Open(Bracket::Curly) => Lead::Set,
+        Symbol::Open(Bracket::Square) => Lead::Square,
+        Symbol::Quantifier(quantifier) => Lead::Quantifier(quantifier),
+        Symbol::Choose => Lead::Choose,
+        Symbol::If => Lead::If,
+        Symbol::Case => Lead::Case,
+        Symbol::Let => Lead::Let,
+        Symbol::Unchanged => Lead::Unchanged,
+        Symbol::Variable => Lead::Variable,
+        Symbol::Value => Lead::Value,
+        _ => Lead::None,
+    }
+}
+
+fn lead_of(token: &Token) -> Lead
+    ensures { result ≡ spec.lead_of token.now }
+{
+    match token {
+        Token::Name(_) => Lead::Name,
+        Token::Number(number) => Lead::Number(*number),
+        Token::Text(_) => Lead::Text,
+        Token::Symbol(symbol) => lead_of_symbol(*symbol),
+        _ => Lead::None,
+    }
+}
+
+/// How the tokens begin an expression.
+pub fn begin(rest: &[Lexeme]) -> Lead
+    ensures { result ≡ spec.begin (spec.tokens_of rest.now) }
+{
+    match rest {
+        [] => Lead::None,
+        [lexeme, ..] => lead_of(&lexeme.token),
+    }
+}
+
+fn opener_of(token: &Token) -> Option<Opener>
+    ensures { result ≡ spec.opener_of token.now }
+{
+    match token {
+        Token::Symbol(Symbol::Open(Bracket::Round)) => Some(Opener::Round),
+        Token::ListOpen(op) => Some(Opener::List(*op)),
+        _ => None,
+    }
+}
+
+/// Whether a parenthesis or a junction list begins.
+pub fn opens(rest: &[Lexeme]) -> Option<Opener>
+    ensures { result ≡ spec.opens (spec.tokens_of rest.now) }
+{
+    match rest {
+        [] => None,
+        [lexeme, ..] => opener_of(&lexeme.token),
+    }
+}
+
+fn square_of(token: &Token) -> Square
+    ensures { result ≡ spec.square_of token.now }
+{
+    match token {
+        Token::Symbol(Symbol::MapsTo) => Square::Record,
+        Token::Symbol(Symbol::Colon) => Square::RecordSet,
+        Token::Symbol(Symbol::Comma) => Square::Function,
+        Token::Symbol(Symbol::Infix(Infix::In)) => Square::Function,
+        _ => Square::Other,
+    }
+}
+
+fn is_name(token: &Token) -> bool
+    ensures { result ≡ spec.is_name token.now }
+{
+    match token {
+        Token::Name(_) => true,
+        _ => false,
+    }
+}
+
+/// Whether a name is next.
+pub fn sees_name(rest: &[Lexeme]) -> bool
+    ensures { result ≡ spec.sees_name (spec.tokens_of rest.now) }
+{
+    match rest {
+        [] => false,
+        [lexeme, ..] => is_name(&lexeme.token),
+    }
+}
+
+fn form_of_second(rest: &[Lexeme]) -> Square
+    ensures { result ≡ spec.form_of_second (spec.tokens_of rest.now) }
+{
+    match rest {
+        [] => Square::Other,
+        [second, ..] => square_of(&second.token),
+    }
+}
+
+/// What stands in a `[`.
+pub fn form_of_square(rest: &[Lexeme]) -> Square
+    ensures { result ≡ spec.form_of_square (spec.tokens_of rest.now) }
+{
+    match rest {
+        [] => Square::Other,
+        [first, behind @ ..] => {
+            if is_name(&first.token) {
+                form_of_second(behind)
+            } else {
+                Square::Other
+            }
+        }
+    }
+}
+
+/// Whether this sign is next.
+pub fn sees(rest: &[Lexeme], sign: Sign) -> bool
+    ensures { result ≡ spec.sees sign (spec.tokens_of rest.now) }
+{
+    match rest {
+        [] => false,
+        [lexeme, ..] => code_of(&lexeme.token) == code(sign),
+    }
+}
+
+/// Whether it is `$variable` or `$value`, which stand in a mapping macro alone.
+pub fn is_mapped(token: &Token) -> bool
+    ensures { result ≡ spec.is_mapped token.now }
+{
+    match token {
+        Token::Symbol(Symbol::Variable) | Token::Symbol(Symbol::Value) => true,
+        _ => false,
+    }
+}
+
+/// Whether the first two tokens are a name and `\in`.
+pub fn begins_binder(rest: &[Lexeme]) -> bool
+    ensures { result ≡ spec.begins_binder (spec.tokens_of rest.now) }
+{
+    match rest {
+        [] => false,
+        [first, behind @ ..] => is_name(&first.token) && sees(behind, Sign::In),
+    }
+}
+
+/// Whether a guarded arm of a CASE is next.
+pub fn sees_arm(rest: &[Lexeme]) -> bool
+    ensures { result ≡ spec.sees_arm (spec.tokens_of rest.now) }
+{
+    match rest {
+        [] => false,
+        [first, behind @ ..] => {
+            code_of(&first.token) == code(Sign::Arm) && !sees(behind, Sign::Other)
+        }
+    }
+}
+
+fn endless_of(token: &Token) -> Option<Word>
+    ensures { result ≡ spec.endless_of token.now }
+{
+    match token {
+        Token::Symbol(Symbol::Word(Word::Nat)) => Some(Word::Nat),
+        Token::Symbol(Symbol::Word(Word::Int)) => Some(Word::Int),
+        Token::Symbol(Symbol::Word(Word::StringSet)) => Some(Word::StringSet),
+        _ => None,
+    }
+}
+
+/// `Nat`, `Int` or `STRING`, where one of them is next.
+pub fn endless(rest: &[Lexeme]) -> Option<Word>
+    ensures { result ≡ spec.endless (spec.tokens_of rest.now) }
+{
+    match rest {
+        [] => None,
+        [lexeme, ..] => endless_of(&lexeme.token),
+    }
+}

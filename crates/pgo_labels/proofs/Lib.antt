@@ -1,0 +1,10 @@
+mod Rows
+pub mod Nesting
+pub mod Leasts
+pub mod SameNames
+pub mod Found
+pub mod Repeats
+pub mod Lasts
+pub mod Ends
+pub mod Mentioned
+pub mod Walks

@@ -1,0 +1,14 @@
+pub mod Least
+pub mod Inside
+pub mod Parts
+pub mod Labels
+pub mod Jumps
+pub mod Yields
+pub mod Lent
+pub mod NameSets
+pub mod ItemEnds
+pub mod Operands
+pub mod Mentions
+pub mod Rules
+pub mod Errors
+pub mod Refusal

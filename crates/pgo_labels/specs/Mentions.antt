@@ -1,0 +1,12 @@
+-- The name that an expression itself is.
+use Rattle.std.specs.Prelude.{Bool, List, [], ◌∷◌}
+use Rattle.std.specs.List.{list_any}
+use Rattle.pgo_base.specs.Lookup.{Name, same_name}
+use Rattle.pgo_base.specs.Tree.{Tree, name}
+
+abbrev pub own_name : Tree → List Name
+own_name (name x) = x ∷ []
+own_name _ = []
+
+abbrev pub is_name : Name → Tree → Bool
+is_name n t = list_any (same_name n) (own_name t)

@@ -1,0 +1,18 @@
+// The rules of labels.
+#![tactic(auto)]
+
+mod checker;
+pub mod errors;
+mod expressions;
+mod finding;
+mod items;
+mod jumps;
+mod name_set;
+mod names;
+mod operands;
+mod rules;
+#[cfg(test)]
+mod tests;
+mod yields;
+
+pub use checker::labels;

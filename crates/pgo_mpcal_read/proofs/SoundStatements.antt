@@ -1,0 +1,361 @@
+-- What is read of a statement is spelled so.
+use Rattle.std.proofs.Common.{◌≡◌, ℕ, zero, suc, ◌+◌, ◌<◌, max, Bool, true, false, ◌&&◌, List, [], ◌∷◌, ◌++◌, length, Some, refl, ap, sym, ◌∙◌, subst, arith, cond}
+use Rattle.std.proofs.lemmas.List.{append_assoc, append-nil}
+use Rattle.pgo_base.specs.Tree.{Tree}
+use Rattle.pgo_lexer.specs.declared.token.Lexeme.{Lexeme}
+use Rattle.pgo_syntax.specs.declared.assignment.Assignment.{Assignment}
+use Rattle.pgo_syntax.specs.Statement.{Statement, statements, labeled, guarded}
+use Rattle.pgo_syntax.specs.Statement as st
+use Rattle.pgo_mpcal_read.specs.declared.deep.Deep.{Deep}
+use Rattle.pgo_mpcal_read.specs.declared.depths.MacroDepth.{MacroDepth}
+use Rattle.pgo_mpcal_read.specs.declared.lead.Lead.{Lead}
+use Rattle.pgo_mpcal_read.specs.declared.lead.Lead.TheVariants as lead
+use Rattle.pgo_mpcal_read.specs.declared.sign.Sign.{Sign}
+use Rattle.pgo_mpcal_read.specs.declared.sign.Sign.TheVariants as sign
+use Rattle.pgo_mpcal_read.specs.Depths.{depth, depth_of, statements_depth, guarded_depth}
+use Rattle.pgo_mpcal_read.specs.Leads.{lead_of}
+use Rattle.pgo_mpcal_read.specs.Signs.{sees}
+use Rattle.pgo_mpcal_read.specs.Leaves.{Spot, at, word, placed, IsExpression, Items, InBrackets}
+use Rattle.pgo_mpcal_read.specs.Statements.{Spelled, IsBranch, ElseIfs, Ors, IsLabeled, Rows, IsBody, IsFairness, IsAwait, IsAssignment, IsWithName}
+use Rattle.pgo_mpcal_read.specs.Statements as s
+use Rattle.pgo_mpcal_read.specs.Reading.{Outcome, Parser, and_then, skip, expression, folded, items, in_brackets}
+use Rattle.pgo_mpcal_read.specs.ReadingStatements.{deep, assignment, with_name, skip_form, one_expression, goto_form, assign_all, assign_form, call_form, while_form, with_form, branch, sees_else_if, one_more_branch, last_else, if_form, one_more_or, either_form, form, any_form, statement}
+use Rattle.pgo_mpcal_read.proofs.Parts.{some_pair, bind_then, front_then, expect_then, mark_then, name_then, eaten_then}
+use Rattle.pgo_mpcal_read.proofs.Expressions.{sound_expression}
+use Rattle.pgo_mpcal_read.proofs.Lists.{sound_items, sound_in_brackets}
+use Rattle.pgo_mpcal_read.proofs.Lefts.{sound_assignment, sound_with_name}
+use Rattle.pgo_mpcal_read.proofs.SoundBlocks.{sound_block}
+use Rattle.pgo_mpcal_read.proofs.Good.{Stays, stays_closed, Good, SoundInner, inner_then, good_node, folded_over, shorter, sees_front}
+
+and_both : (a b : Bool) → (a && b) ≡ true → (a ≡ true) × (b ≡ true)
+and_both true b e = (refl, e)
+and_both false b e = cc
+
+and_first : (a b : Bool) → (a && b) ≡ false → a ≡ true → b ≡ false
+and_first true b e h = e
+and_first false b e h = cc
+
+is_false : (u x : Bool) → (u ≡ true → x ≡ false) → x ≡ true → u ≡ false
+is_false true x h e = let q = h refl in cc
+is_false false x h e = refl
+
+module _ (ms : List MacroDepth) (limit below : ℕ) (inner : Parser (Deep Statement)) (S : SoundInner ms below inner) where
+  pub sound_skip : SoundInner ms limit (skip_form ms limit inner)
+  unfolding skip_form
+  sound_skip i r rest got =
+      mark_then sign.Skip i _ _ _ got (λ p i1 e1 got.
+      good_node ms limit inner false false 0 (st.skip p.start) r (at p sign.Skip ∷ []) i i1 rest got e1 s.skip (omega arith) (stays_closed i1))
+
+  pub sound_one : (v : Sign) (made : ℕ → Tree → Statement) → ((p : Spot) (xs : List Lexeme) (e : Tree) → IsExpression xs e → Spelled false false (at p v ∷ xs) (made p.start e)) → ((p : ℕ) (e : Tree) → 0 + 1 ≡ depth ms (made p e))
+      → SoundInner ms limit (one_expression ms limit inner v made)
+  unfolding one_expression
+  sound_one v made spells one i r rest got =
+      mark_then v i _ _ _ got (λ p i1 e1 got.
+      front_then IsExpression expression sound_expression i1 _ _ _ got (λ xs e i2 e2 d got.
+      good_node ms limit inner false false 0 (made p.start e) r (at p v ∷ xs) i i2 rest got (e1 ∙ ap (λ z. at p v ∷ z) e2) (spells p xs e d) (one p.start e) (stays_closed i2)))
+
+  pub sound_goto : SoundInner ms limit (goto_form ms limit inner)
+  unfolding goto_form
+  sound_goto i r rest got =
+      mark_then sign.Goto i _ _ _ got (λ p i1 e1 got.
+      name_then i1 _ _ _ got (λ n x i2 e2 got.
+      good_node ms limit inner false false 0 (st.go_to p.start (placed n x)) r (at p sign.Goto ∷ (word n x ∷ [])) i i2 rest got (e1 ∙ ap (λ z. at p sign.Goto ∷ z) e2) s.go_to (omega arith) (stays_closed i2)))
+
+  assigned_all : (all : List Assignment) (xs i j : List Lexeme) (r : Deep Statement) (rest : List Lexeme) → i ≡ xs ++ j → Items IsAssignment sign.Bars xs all → assign_all ms limit inner all j ≡ Some (r, rest) → Good ms limit i r rest
+  assigned_all [] xs i j r rest e d got = cc
+  assigned_all (a ∷ as') xs i j r rest e d got = good_node ms limit inner false false 0 (st.assign a.left.name.place (a ∷ as')) r xs i j rest got e (s.assign d) (omega arith) (stays_closed j)
+
+  pub sound_assign : SoundInner ms limit (assign_form ms limit inner)
+  unfolding assign_form
+  sound_assign i r rest got =
+      front_then (Items IsAssignment sign.Bars) (items sign.Bars assignment) (sound_items IsAssignment sign.Bars assignment sound_assignment) i _ _ _ got (λ xs all i1 e1 d got.
+      assigned_all all xs i i1 r rest e1 d got)
+
+  pub sound_call : SoundInner ms limit (call_form ms limit inner)
+  unfolding call_form
+  sound_call i r rest got =
+      name_then i _ _ _ got (λ n x i1 e1 got.
+      front_then (InBrackets IsExpression) (in_brackets expression) (sound_in_brackets IsExpression expression sound_expression) i1 _ _ _ got (λ xs es i2 e2 d got.
+      good_node ms limit inner false false (depth_of ms x) (st.call_macro n.start (placed n x) es) r (word n x ∷ xs) i i2 rest got (e1 ∙ ap (λ z. word n x ∷ z) e2) (s.call_macro d) (omega arith) (stays_closed i2)))
+
+  -- `( .. ) ..` behind a word
+  bracketed : (p o c : Lexeme) (xs ys : List Lexeme) (i i1 i2 i3 i4 rest : List Lexeme) → i ≡ p ∷ i1 → i1 ≡ o ∷ i2 → i2 ≡ xs ++ i3 → i3 ≡ c ∷ i4 → i4 ≡ ys ++ rest → i ≡ (p ∷ (o ∷ (xs ++ (c ∷ ys)))) ++ rest
+  bracketed p o c xs ys i i1 i2 i3 i4 rest e1 e2 e3 e4 e5 =
+      e1 ∙ ap (λ z. p ∷ z) (e2 ∙ ap (λ z. o ∷ z) (e3 ∙ ap (λ z. xs ++ z) (e4 ∙ ap (λ z. c ∷ z) e5) ∙ sym (append_assoc xs (c ∷ ys) rest)))
+
+  pub sound_while : SoundInner ms limit (while_form ms limit inner)
+  unfolding while_form
+  sound_while i r rest got =
+      mark_then sign.While i _ _ _ got (λ p i1 e1 got.
+      expect_then sign.RoundOpen i1 _ _ _ got (λ o i2 e2 got.
+      front_then IsExpression expression sound_expression i2 _ _ _ got (λ xs e i3 e3 d got.
+      expect_then sign.RoundClose i3 _ _ _ got (λ c i4 e4 got.
+      inner_then ms below inner S i4 _ _ _ got (λ b i5 g got.
+      good_node ms limit inner g.opens_if g.opens_either b.depth (st.while_do p.start e b.part) r _ i i5 rest got
+      (bracketed (at p sign.While) (at o sign.RoundOpen) (at c sign.RoundClose) xs g.front i i1 i2 i3 i4 i5 e1 e2 e3 e4 g.split) (s.while_do c d g.spelled) (let x = g.depth in omega (arith, x)) g.stays)))))
+
+  pub sound_with : SoundInner ms limit (with_form ms limit inner)
+  unfolding with_form
+  sound_with i r rest got =
+      mark_then sign.With i _ _ _ got (λ p i1 e1 got.
+      expect_then sign.RoundOpen i1 _ _ _ got (λ o i2 e2 got.
+      front_then (Items IsWithName sign.Comma) (items sign.Comma with_name) (sound_items IsWithName sign.Comma with_name sound_with_name) i2 _ _ _ got (λ xs ns i3 e3 d got.
+      expect_then sign.RoundClose i3 _ _ _ got (λ c i4 e4 got.
+      inner_then ms below inner S i4 _ _ _ got (λ b i5 g got.
+      good_node ms limit inner g.opens_if g.opens_either b.depth (st.with_in p.start ns b.part) r _ i i5 rest got
+      (bracketed (at p sign.With) (at o sign.RoundOpen) (at c sign.RoundClose) xs g.front i i1 i2 i3 i4 i5 e1 e2 e3 e4 g.split) (s.with_in c d g.spelled) (let x = g.depth in omega (arith, x)) g.stays)))))
+
+  -- ---- `if`
+
+  record GoodBranch (i : List Lexeme) (r : Deep (ℕ × (Tree × Statement))) (rest : List Lexeme) : Type 0 where
+    opens_if : Bool
+    opens_either : Bool
+    front : List Lexeme
+    split : i ≡ front ++ rest
+    holds : IsBranch opens_if opens_either front r.part
+    depth : r.depth ≡ depth ms r.part.1.1
+    stays : Stays opens_if opens_either rest
+
+  sound_branch : (i : List Lexeme) (r : Deep (ℕ × (Tree × Statement))) (rest : List Lexeme) → branch ms limit inner i ≡ Some (r, rest) → GoodBranch i r rest
+  unfolding branch
+  sound_branch i r rest got =
+      mark_then sign.If i _ _ _ got (λ p i1 e1 got.
+      expect_then sign.RoundOpen i1 _ _ _ got (λ o i2 e2 got.
+      front_then IsExpression expression sound_expression i2 _ _ _ got (λ xs e i3 e3 d got.
+      expect_then sign.RoundClose i3 _ _ _ got (λ c i4 e4 got.
+      inner_then ms below inner S i4 _ _ _ got (λ b i5 g got.
+      let q = some_pair _ _ _ _ got in
+      let P : Deep (ℕ × (Tree × Statement)) → Type 0 = λ z. GoodBranch i z rest in
+      let Q : List Lexeme → Type 0 = λ z. Stays g.opens_if g.opens_either z in
+      subst P q.0 (record {
+        opens_if = g.opens_if;
+        opens_either = g.opens_either;
+        front = at p sign.If ∷ (at o sign.RoundOpen ∷ (xs ++ (at c sign.RoundClose ∷ g.front)));
+        split = bracketed (at p sign.If) (at o sign.RoundOpen) (at c sign.RoundClose) xs g.front i i1 i2 i3 i4 rest e1 e2 e3 e4 (g.split ∙ ap (λ z. g.front ++ z) q.1);
+        holds = s.branch c d g.spelled;
+        depth = g.depth;
+        stays = subst Q q.1 g.stays;
+      }))))))
+
+  record GoodElseIfs (u v : Bool) (i : List Lexeme) (acc res : Deep (List (ℕ × (Tree × Statement)))) (rest : List Lexeme) : Type 0 where
+    opens_if : Bool
+    opens_either : Bool
+    front : List Lexeme
+    others : List (ℕ × (Tree × Statement))
+    split : i ≡ front ++ rest
+    holds : ElseIfs u v opens_if opens_either front others
+    is : res.part ≡ acc.part ++ others
+    depth : res.depth ≡ max acc.depth (guarded_depth ms (guarded others))
+    stays : Stays opens_if opens_either rest
+
+  else_ifs_end : (u v : Bool) (acc res : Deep (List (ℕ × (Tree × Statement)))) (i rest : List Lexeme) → Stays u v i → ◌≡◌ {A = Outcome (Deep (List (ℕ × (Tree × Statement))))} (Some (acc, i)) (Some (res, rest)) → GoodElseIfs u v i acc res rest
+  else_ifs_end u v acc res i rest stays got =
+      let q = some_pair _ _ _ _ got in
+      let P : Deep (List (ℕ × (Tree × Statement))) → Type 0 = λ z. GoodElseIfs u v i acc z rest in
+      let Q : List Lexeme → Type 0 = λ z. Stays u v z in
+      subst P q.0 (record { opens_if = u; opens_either = v; front = []; others = []; split = q.1; holds = s.no_else_if; is = sym (append-nil acc.part); depth = omega arith; stays = subst Q q.1 stays })
+
+  else_ifs_by : (b : Bool) (n : ℕ) (u v : Bool) (acc res : Deep (List (ℕ × (Tree × Statement)))) (i rest : List Lexeme) → sees_else_if i ≡ b → Stays u v i
+      → ((w z : Bool) (next : Deep (List (ℕ × (Tree × Statement)))) (j : List Lexeme) → Stays w z j → folded sees_else_if (one_more_branch ms limit inner) n next j ≡ Some (res, rest) → GoodElseIfs w z j next res rest)
+      → cond b (and_then (one_more_branch ms limit inner acc i) (folded sees_else_if (one_more_branch ms limit inner) n)) (Some (acc, i)) ≡ Some (res, rest) → GoodElseIfs u v i acc res rest
+  unfolding one_more_branch
+  else_ifs_by true n u v acc res i rest goes stays go got =
+      bind_then (one_more_branch ms limit inner acc i) _ _ _ got (λ next j is got.
+      expect_then sign.Else i _ _ _ is (λ p i1 e1 is.
+      bind_then (branch ms limit inner i1) _ _ _ is (λ b i2 hb is.
+      let g = sound_branch i1 b i2 hb in
+      let q = some_pair _ _ _ _ is in
+      let Q : List Lexeme → Type 0 = λ z. Stays g.opens_if g.opens_either z in
+      let m = go g.opens_if g.opens_either next j (subst Q q.1 g.stays) got in
+      let closed = is_false u (sees sign.Else i) stays.no_else (and_both _ _ goes).0 in
+      let P : Bool → Type 0 = λ z. ElseIfs z v m.opens_if m.opens_either (at p sign.Else ∷ (g.front ++ m.front)) (b.part ∷ m.others) in
+      record {
+        opens_if = m.opens_if;
+        opens_either = m.opens_either;
+        front = at p sign.Else ∷ (g.front ++ m.front);
+        others = b.part ∷ m.others;
+        split = e1 ∙ ap (λ z. at p sign.Else ∷ z) (g.split ∙ ap (λ z. g.front ++ z) (q.1 ∙ m.split) ∙ sym (append_assoc g.front m.front rest));
+        holds = subst P (sym closed) (s.else_if g.holds m.holds);
+        is = m.is ∙ ap (λ (z : Deep (List (ℕ × (Tree × Statement)))). z.part ++ m.others) (sym q.0) ∙ append_assoc acc.part (b.part ∷ []) m.others;
+        depth = let x = m.depth in let y = g.depth in let z : next.depth ≡ max acc.depth b.depth = ap (λ (z : Deep (List (ℕ × (Tree × Statement)))). z.depth) (sym q.0) in omega (arith, x, y, z);
+        stays = m.stays;
+      })))
+  else_ifs_by false n u v acc res i rest goes stays go got = else_ifs_end u v acc res i rest stays got
+
+  sound_else_ifs : (n : ℕ) (u v : Bool) (acc res : Deep (List (ℕ × (Tree × Statement)))) (i rest : List Lexeme) → Stays u v i → folded sees_else_if (one_more_branch ms limit inner) n acc i ≡ Some (res, rest) → GoodElseIfs u v i acc res rest
+  unfolding folded
+  sound_else_ifs zero u v acc res i rest stays got = else_ifs_end u v acc res i rest stays got
+  sound_else_ifs (suc n) u v acc res i rest stays got = else_ifs_by (sees_else_if i) n u v acc res i rest refl stays (λ w z next j stays got. sound_else_ifs n w z next res j rest stays got) got
+
+  branch_falls : (acc next : Deep (List (ℕ × (Tree × Statement)))) (i j : List Lexeme) → sees_else_if i ≡ true → one_more_branch ms limit inner acc i ≡ Some (next, j) → length j < length i
+  unfolding one_more_branch
+  branch_falls acc next i j goes is =
+      expect_then sign.Else i _ _ _ is (λ p i1 e1 is.
+      bind_then (branch ms limit inner i1) _ _ _ is (λ b i2 hb is.
+      let g = sound_branch i1 b i2 hb in
+      let q = some_pair _ _ _ _ is in
+      shorter i g.front j (at p sign.Else) (e1 ∙ ap (λ z. at p sign.Else ∷ z) (g.split ∙ ap (λ z. g.front ++ z) q.1))))
+
+  pub sound_if : SoundInner ms limit (if_form ms limit inner)
+  unfolding if_form last_else
+  sound_if i r rest got =
+      bind_then (branch ms limit inner i) _ _ _ got (λ first i1 hb got.
+      let g = sound_branch i first i1 hb in
+      bind_then (folded sees_else_if (one_more_branch ms limit inner) (length i1) (deep first.depth (first.part ∷ [])) i1) _ _ _ got (λ bs i2 hs got.
+      let m = sound_else_ifs (length i1) g.opens_if g.opens_either (deep first.depth (first.part ∷ [])) bs i1 i2 g.stays hs in
+      let over = folded_over sees_else_if (one_more_branch ms limit inner) refl branch_falls (length i1) _ bs i1 i2 (omega arith) hs in
+      let high : bs.depth ≡ guarded_depth ms (guarded (first.part ∷ m.others)) = let x = m.depth in let y = g.depth in omega (arith, x, y) in
+      let B : List (ℕ × (Tree × Statement)) → Type 0 = λ z. bs.depth ≡ guarded_depth ms (guarded z) in
+      let whole : bs.depth ≡ guarded_depth ms (guarded bs.part) = subst B (sym m.is) high in
+      eaten_then sign.Else _ _ i2 _ _ got
+      (λ l i3 e3 got.
+      inner_then ms below inner S i3 _ _ _ got (λ b i4 h got.
+      let next : sees sign.Else i2 ≡ true = ap (sees sign.Else) e3 in
+      let closed = is_false m.opens_if (sees sign.Else i2) m.stays.no_else next in
+      let no_if : sees sign.If i3 ≡ false = ap (λ z. sees sign.If (skip z)) (sym e3) ∙ and_first _ _ over next in
+      let P : Bool → Type 0 = λ z. ElseIfs g.opens_if g.opens_either z m.opens_either m.front m.others in
+      let Q : List (ℕ × (Tree × Statement)) → Type 0 = λ z. Spelled h.opens_if h.opens_either (g.front ++ (m.front ++ (at l sign.Else ∷ h.front))) (st.if_else first.part.0 (guarded z) b.part) in
+      let no_if_front : sees sign.If h.front ≡ false = sees_front sign.If h.front i4 (ap (sees sign.If) (sym h.split) ∙ no_if) in
+      good_node ms limit inner h.opens_if h.opens_either (max bs.depth b.depth) (st.if_else first.part.0 (guarded bs.part) b.part) r (g.front ++ (m.front ++ (at l sign.Else ∷ h.front))) i i4 rest got
+      (g.split ∙ ap (λ z. g.front ++ z) (m.split ∙ ap (λ z. m.front ++ z) (e3 ∙ ap (λ z. at l sign.Else ∷ z) h.split) ∙ sym (append_assoc m.front (at l sign.Else ∷ h.front) i4)) ∙ sym (append_assoc g.front (m.front ++ (at l sign.Else ∷ h.front)) i4))
+      (subst Q (sym m.is) (s.if_else l g.holds (subst P closed m.holds) no_if_front h.spelled))
+      (let x = h.depth in omega (arith, whole, x)) h.stays))
+      (λ none got.
+      let Q : List (ℕ × (Tree × Statement)) → Type 0 = λ z. Spelled true m.opens_either (g.front ++ m.front) (st.if_then first.part.0 (guarded z)) in
+      good_node ms limit inner true m.opens_either bs.depth (st.if_then first.part.0 (guarded bs.part)) r (g.front ++ m.front) i i2 rest got
+      (g.split ∙ ap (λ z. g.front ++ z) m.split ∙ sym (append_assoc g.front m.front i2))
+      (subst Q (sym m.is) (s.if_then g.holds m.holds))
+      (omega (arith, whole)) (record { no_else = λ h. none; no_or = m.stays.no_or }))))
+
+  -- ---- `either`
+
+  record GoodOrs (u v : Bool) (i : List Lexeme) (acc res : Deep (List Statement)) (rest : List Lexeme) : Type 0 where
+    opens_if : Bool
+    opens_either : Bool
+    front : List Lexeme
+    others : List Statement
+    split : i ≡ front ++ rest
+    holds : Ors u v opens_if opens_either front others
+    is : res.part ≡ acc.part ++ others
+    depth : res.depth ≡ max acc.depth (statements_depth ms (statements others))
+    stays : Stays opens_if opens_either rest
+
+  ors_end : (u v : Bool) (acc res : Deep (List Statement)) (i rest : List Lexeme) → Stays u v i → ◌≡◌ {A = Outcome (Deep (List Statement))} (Some (acc, i)) (Some (res, rest)) → GoodOrs u v i acc res rest
+  ors_end u v acc res i rest stays got =
+      let q = some_pair _ _ _ _ got in
+      let P : Deep (List Statement) → Type 0 = λ z. GoodOrs u v i acc z rest in
+      let Q : List Lexeme → Type 0 = λ z. Stays u v z in
+      subst P q.0 (record { opens_if = u; opens_either = v; front = []; others = []; split = q.1; holds = s.no_or; is = sym (append-nil acc.part); depth = omega arith; stays = subst Q q.1 stays })
+
+  record NextOr (v : Bool) (i : List Lexeme) (acc next : Deep (List Statement)) (j : List Lexeme) : Type 0 where
+    spot : Spot
+    opens_if : Bool
+    opens_either : Bool
+    front : List Lexeme
+    part : Statement
+    split : i ≡ at spot sign.Or ∷ (front ++ j)
+    closed : v ≡ false
+    spelled : Spelled opens_if opens_either front part
+    is : next.part ≡ acc.part ++ part ∷ []
+    depth : next.depth ≡ max acc.depth (depth ms part)
+    stays : Stays opens_if opens_either j
+
+  sound_one_or : (u v : Bool) (acc next : Deep (List Statement)) (i j : List Lexeme) → Stays u v i → one_more_or ms limit inner acc i ≡ Some (next, j) → NextOr v i acc next j
+  unfolding one_more_or
+  sound_one_or u v acc next i j stays is =
+      expect_then sign.Or i _ _ _ is (λ p i1 e1 is.
+      inner_then ms below inner S i1 _ _ _ is (λ b i2 g is.
+      let q = some_pair _ _ _ _ is in
+      let Q : List Lexeme → Type 0 = λ z. Stays g.opens_if g.opens_either z in
+      record {
+        spot = p;
+        opens_if = g.opens_if;
+        opens_either = g.opens_either;
+        front = g.front;
+        part = b.part;
+        split = e1 ∙ ap (λ z. at p sign.Or ∷ z) (g.split ∙ ap (λ z. g.front ++ z) q.1);
+        closed = is_false v (sees sign.Or i) stays.no_or (ap (sees sign.Or) e1);
+        spelled = g.spelled;
+        is = ap (λ (z : Deep (List Statement)). z.part) (sym q.0);
+        depth = ap (λ (z : Deep (List Statement)). z.depth) (sym q.0) ∙ ap (λ z. max acc.depth z) g.depth;
+        stays = subst Q q.1 g.stays;
+      }))
+
+  ors_by : (b : Bool) (n : ℕ) (u v : Bool) (acc res : Deep (List Statement)) (i rest : List Lexeme) → Stays u v i
+      → ((w z : Bool) (next : Deep (List Statement)) (j : List Lexeme) → Stays w z j → folded (sees sign.Or) (one_more_or ms limit inner) n next j ≡ Some (res, rest) → GoodOrs w z j next res rest)
+      → cond b (and_then (one_more_or ms limit inner acc i) (folded (sees sign.Or) (one_more_or ms limit inner) n)) (Some (acc, i)) ≡ Some (res, rest) → GoodOrs u v i acc res rest
+  ors_by true n u v acc res i rest stays go got =
+      bind_then (one_more_or ms limit inner acc i) _ _ _ got (λ next j is got.
+      let g = sound_one_or u v acc next i j stays is in
+      let m = go g.opens_if g.opens_either next j g.stays got in
+      let P : Bool → Type 0 = λ z. Ors u z m.opens_if m.opens_either (at g.spot sign.Or ∷ (g.front ++ m.front)) (g.part ∷ m.others) in
+      record {
+        opens_if = m.opens_if;
+        opens_either = m.opens_either;
+        front = at g.spot sign.Or ∷ (g.front ++ m.front);
+        others = g.part ∷ m.others;
+        split = g.split ∙ ap (λ z. at g.spot sign.Or ∷ z) (ap (λ z. g.front ++ z) m.split ∙ sym (append_assoc g.front m.front rest));
+        holds = subst P (sym g.closed) (s.or_this g.spelled m.holds);
+        is = m.is ∙ ap (λ z. z ++ m.others) g.is ∙ append_assoc acc.part (g.part ∷ []) m.others;
+        depth = let x = m.depth in let y = g.depth in omega (arith, x, y);
+        stays = m.stays;
+      })
+  ors_by false n u v acc res i rest stays go got = ors_end u v acc res i rest stays got
+
+  sound_ors : (n : ℕ) (u v : Bool) (acc res : Deep (List Statement)) (i rest : List Lexeme) → Stays u v i → folded (sees sign.Or) (one_more_or ms limit inner) n acc i ≡ Some (res, rest) → GoodOrs u v i acc res rest
+  unfolding folded
+  sound_ors zero u v acc res i rest stays got = ors_end u v acc res i rest stays got
+  sound_ors (suc n) u v acc res i rest stays got = ors_by (sees sign.Or i) n u v acc res i rest stays (λ w z next j stays got. sound_ors n w z next res j rest stays got) got
+
+  or_falls : (acc next : Deep (List Statement)) (i j : List Lexeme) → sees sign.Or i ≡ true → one_more_or ms limit inner acc i ≡ Some (next, j) → length j < length i
+  or_falls acc next i j goes is =
+      let g = sound_one_or false false acc next i j (stays_closed i) is in
+      shorter i g.front j (at g.spot sign.Or) g.split
+
+  pub sound_either : SoundInner ms limit (either_form ms limit inner)
+  unfolding either_form
+  sound_either i r rest got =
+      mark_then sign.Either i _ _ _ got (λ p i1 e1 got.
+      inner_then ms below inner S i1 _ _ _ got (λ a i2 g got.
+      bind_then (one_more_or ms limit inner (deep a.depth (a.part ∷ [])) i2) _ _ _ got (λ two i3 h2 got.
+      let t = sound_one_or g.opens_if g.opens_either (deep a.depth (a.part ∷ [])) two i2 i3 g.stays h2 in
+      bind_then (folded (sees sign.Or) (one_more_or ms limit inner) (length i3) two i3) _ _ _ got (λ all i4 h3 got.
+      let m = sound_ors (length i3) t.opens_if t.opens_either two all i3 i4 t.stays h3 in
+      let over = folded_over (sees sign.Or) (one_more_or ms limit inner) refl or_falls (length i3) two all i3 i4 (omega arith) h3 in
+      let is : all.part ≡ a.part ∷ (t.part ∷ m.others) = m.is ∙ ap (λ z. z ++ m.others) t.is in
+      let P : Bool → Type 0 = λ z. Spelled g.opens_if z g.front a.part in
+      let Q : List Statement → Type 0 = λ z. Spelled m.opens_if true (at p sign.Either ∷ (g.front ++ (at t.spot sign.Or ∷ (t.front ++ m.front)))) (st.either_of p.start (statements z)) in
+      let H : List Statement → Type 0 = λ z. all.depth + 1 ≡ suc (statements_depth ms (statements z)) in
+      good_node ms limit inner m.opens_if true all.depth (st.either_of p.start (statements all.part)) r (at p sign.Either ∷ (g.front ++ (at t.spot sign.Or ∷ (t.front ++ m.front)))) i i4 rest got
+      (e1 ∙ ap (λ z. at p sign.Either ∷ z) (g.split ∙ ap (λ z. g.front ++ z) (t.split ∙ ap (λ z. at t.spot sign.Or ∷ z) (ap (λ z. t.front ++ z) m.split ∙ sym (append_assoc t.front m.front i4))) ∙ sym (append_assoc g.front (at t.spot sign.Or ∷ (t.front ++ m.front)) i4)))
+      (subst Q (sym is) (s.either_of t.spot (subst P t.closed g.spelled) t.spelled m.holds))
+      (subst H (sym is) (let x = m.depth in let y = t.depth in let z = g.depth in omega (arith, x, y, z)))
+      (record { no_else = m.stays.no_else; no_or = λ h. over })))))
+
+  -- ---- the statement
+
+  sound_lead : (l : Lead) → SoundInner ms limit (form ms limit inner l)
+  sound_lead lead.Skip = sound_skip
+  sound_lead lead.Assign = sound_assign
+  sound_lead lead.Call = sound_call
+  sound_lead lead.If = sound_if
+  sound_lead lead.While = sound_while
+  sound_lead lead.Either = sound_either
+  sound_lead lead.Await = sound_one sign.Await st.await_that (λ p xs e d. s.await_that s.await d) (λ p e. omega arith)
+  sound_lead lead.When = sound_one sign.When st.await_that (λ p xs e d. s.await_that s.when d) (λ p e. omega arith)
+  sound_lead lead.With = sound_with
+  sound_lead lead.Print = sound_one sign.Print st.print_out (λ p xs e d. s.print_out d) (λ p e. omega arith)
+  sound_lead lead.Assert = sound_one sign.Assert st.assert_that (λ p xs e d. s.assert_that d) (λ p e. omega arith)
+  sound_lead lead.Goto = sound_goto
+  sound_lead lead.Yield = sound_one sign.Yield st.yield_as (λ p xs e d. s.yield_as d) (λ p e. omega arith)
+  sound_lead lead.Block = sound_block ms limit below inner S
+  sound_lead lead.None = λ i r rest got. cc
+
+  pub sound_form : SoundInner ms limit (any_form ms limit inner)
+  unfolding any_form
+  sound_form i r rest got = sound_lead (lead_of i) i r rest got
+
+pub sound_statement : (ms : List MacroDepth) (limit : ℕ) → SoundInner ms limit (statement ms limit)
+unfolding statement
+sound_statement ms zero i r rest got = cc
+sound_statement ms (suc n) i r rest got = sound_form ms (suc n) n (statement ms n) (sound_statement ms n) i r rest got

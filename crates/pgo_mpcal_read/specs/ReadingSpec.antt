@@ -1,0 +1,192 @@
+-- The reader of a specification as functions on lists of tokens, in the shape of the code.
+use Rattle.std.specs.Prelude.{ℕ, zero, suc, ◌+◌, Bool, true, false, ◌&&◌, ◌||◌, if◌then◌else◌, nat_le, nat_eq, List, [], ◌∷◌, ◌++◌, length, Option, Some, None, codes}
+use Rattle.pgo_lexer.specs.declared.token.Lexeme.{Lexeme}
+use Rattle.pgo_lexer.specs.declared.token.Token.{Token}
+use Rattle.pgo_lexer.specs.declared.token.Token.TheVariants as t
+use Rattle.pgo_expr_read.specs.Kinds.{Name}
+use Rattle.pgo_model.specs.ValueText.{same_bytes}
+use Rattle.pgo_syntax.specs.declared.name.PlacedName.{PlacedName}
+use Rattle.pgo_syntax.specs.declared.archetype.Archetype.{Archetype}
+use Rattle.pgo_syntax.specs.declared.process.Process.{Process}
+use Rattle.pgo_syntax.specs.declared.spec.Spec.{Spec}
+use Rattle.pgo_syntax.specs.Statement.{labeled}
+use Rattle.pgo_mpcal_read.specs.declared.depths.MacroDepth.{MacroDepth}
+use Rattle.pgo_mpcal_read.specs.declared.header.Header.{Header}
+use Rattle.pgo_mpcal_read.specs.declared.sign.Sign.TheVariants as sign
+use Rattle.pgo_mpcal_read.specs.declared.standing.Standing.{Standing}
+use Rattle.pgo_mpcal_read.specs.declared.standing.Standing.TheVariants as standing
+use Rattle.pgo_mpcal_read.specs.declared.units.Units.{Units}
+use Rattle.pgo_mpcal_read.specs.Depths.{labeled_depth}
+use Rattle.pgo_mpcal_read.specs.Leaves.{most_depth}
+use Rattle.pgo_mpcal_read.specs.Reading.{◌>>=◌, ◌>>◌, Parser, Outcome, and_then, pure, skip, expect, name, sees_name, front_of, all_folded, behind, items}
+use Rattle.pgo_mpcal_read.specs.ReadingStatements.{goes_on}
+use Rattle.pgo_mpcal_read.specs.ReadingUnits.{definition, variables, define, macro_definition, mapping_macro, archetype, process}
+use Rattle.pgo_mpcal_read.specs.Signs.{is_sign, sees}
+use Rattle.pgo_mpcal_read.specs.Spells.{declarations_of}
+use Rattle.pgo_mpcal_read.specs.Units.{is_plain, may_stand_in_macro, all_are, no_units}
+
+-- ---- units
+
+-- what may stand there
+abbrev pub stands : Standing → Token → Bool
+stands standing.Plain = is_plain
+stands standing.Macro = may_stand_in_macro
+
+-- what was read of these tokens, where all of those that were read may stand there
+abbrev pub checked : {A : Type 0} → Standing → List Lexeme → Outcome A → Outcome A
+checked w i (Some p) = if all_are (stands w) (front_of i p.1) then Some p else None
+checked w i None = None
+
+-- where there is none yet
+abbrev pub if_absent : {A B : Type 0} → Option A → Outcome B → Outcome B
+if_absent None o = o
+if_absent (Some a) o = None
+
+unfoldable pub define_unit : Units → Parser Units
+define_unit b i = if_absent b.define (and_then (checked standing.Plain i (define i)) (λ ds. pure (record b { define = Some ds })))
+
+unfoldable pub macro_unit : Units → Parser Units
+macro_unit b i = and_then (checked standing.Macro i (macro_definition b.depths i)) (λ m. pure (record b { macros = b.macros ++ m.part ∷ []; depths = b.depths ++ record { name = m.part.name.name; depth = m.depth } ∷ [] }))
+
+unfoldable pub mapping_unit : Units → Parser Units
+mapping_unit b i = and_then (mapping_macro b.depths i) (λ m. pure (record b { mappings = b.mappings ++ m ∷ [] }))
+
+unfoldable pub archetype_unit : Units → Parser Units
+archetype_unit b i = and_then (checked standing.Plain i (archetype b.depths i)) (λ a. pure (record b { archetypes = b.archetypes ++ a ∷ [] }))
+
+unfoldable pub globals_unit : Units → Parser Units
+globals_unit b i = if_absent b.globals (and_then (checked standing.Plain i (variables i)) (λ ds. pure (record b { globals = Some ds })))
+
+unfoldable pub process_unit : Units → Parser Units
+process_unit b i = and_then (checked standing.Plain i (process i)) (λ q. pure (record b { processes = b.processes ++ q ∷ [] }))
+
+unfoldable pub unit : Units → Parser Units
+unit b i =
+    if sees sign.Define i then define_unit b i else if sees sign.Macro i then macro_unit b i else if sees sign.Mapping i then mapping_unit b i
+    else if sees sign.Archetype i then archetype_unit b i else if sees sign.Variables i then globals_unit b i
+    else if sees sign.Fair i || sees sign.Process i then process_unit b i else None
+
+unfoldable pub algorithm : Parser (PlacedName × Units)
+algorithm = do
+  x ← name
+  expect sign.CurlyOpen
+  us ← all_folded goes_on unit no_units
+  expect sign.CurlyClose
+  pure (x, us)
+
+-- ---- the header
+
+abbrev pub is_word : Name → Token → Bool
+is_word w (t.Name x) = same_bytes x w
+is_word w _ = false
+
+abbrev pub sees_word : Name → List Lexeme → Bool
+sees_word w [] = false
+sees_word w (l ∷ rest) = is_word w l.token
+
+unfoldable pub expect_word : Name → Parser (Unit {0})
+expect_word w = λ i. if sees_word w i then Some (tt, skip i) else None
+
+-- a `-` that begins at this offset
+abbrev pub sees_minus : (offset : ℕ) → List Lexeme → Bool
+sees_minus offset [] = false
+sees_minus offset (l ∷ rest) = is_sign sign.Minus l.token && nat_eq l.start offset
+
+-- where the next token ends
+abbrev pub stop_of : List Lexeme → ℕ
+stop_of [] = 0
+stop_of (l ∷ rest) = l.stop
+
+-- further dashes behind so many, which end at this offset
+unfoldable pub more_dashes : (turns count stop : ℕ) → Parser ℕ
+more_dashes zero count stop = pure count
+more_dashes (suc n) count stop = λ i. if sees_minus stop i then more_dashes n (count + 1) (stop_of i) (skip i) else Some (count, i)
+
+unfoldable pub dashes : Parser (Unit {0})
+dashes i =
+    if sees sign.Minus i then and_then (more_dashes (length (skip i)) 0 (stop_of i) (skip i)) (λ count rest. if nat_le 3 count then Some (tt, rest) else None) else None
+
+-- this word and a name behind it
+abbrev pub begins_list : Name → List Lexeme → Bool
+begins_list w i = sees_word w i && sees_name (skip i)
+
+unfoldable pub extends : Parser (List PlacedName)
+extends = λ i. if begins_list (codes "EXTENDS") i then items sign.Comma name (skip i) else Some ([], i)
+
+unfoldable pub title : Parser Header
+title = do
+  dashes
+  expect_word (codes "MODULE")
+  x ← name
+  dashes
+  es ← extends
+  pure (record { name = x; extends = es; constants = []; definitions = [] })
+
+unfoldable pub constants_part : Header → Parser Header
+constants_part h = do
+  first ← name
+  all ← behind sign.Comma name (h.constants ++ first ∷ [])
+  pure (record h { constants = all })
+
+unfoldable pub definition_part : Header → Parser Header
+definition_part h = do
+  d ← definition
+  pure (record h { definitions = h.definitions ++ d ∷ [] })
+
+unfoldable pub part : Header → Parser Header
+part h i = if begins_list (codes "CONSTANT") i || begins_list (codes "CONSTANTS") i then constants_part h (skip i) else definition_part h i
+
+abbrev pub some_left : List Lexeme → Bool
+some_left [] = false
+some_left (l ∷ rest) = true
+
+unfoldable pub header : Parser Header
+header = do
+  h ← title
+  all_folded some_left part h
+
+-- ---- the specification
+
+-- what was read of all tokens
+abbrev pub whole : {A : Type 0} → Outcome A → Option A
+whole (Some p) = if nat_eq (length p.1) 0 then Some p.0 else None
+whole None = None
+
+abbrev pub is_shallow : List MacroDepth → Archetype → Bool
+is_shallow ms a = nat_le (labeled_depth ms (labeled a.body)) most_depth
+
+abbrev pub are_shallow : List MacroDepth → List Archetype → Bool
+are_shallow ms [] = true
+are_shallow ms (a ∷ as') = is_shallow ms a && are_shallow ms as'
+
+abbrev pub if_some : {A B : Type 0} → Option A → (A → Option B) → Option B
+if_some (Some a) f = f a
+if_some None f = None
+
+abbrev pub has_process : List Process → Bool
+has_process [] = false
+has_process (q ∷ qs) = true
+
+unfoldable pub spec_of : Header → PlacedName × Units → Spec
+spec_of h a = record {
+  name = h.name;
+  extends = h.extends;
+  constants = h.constants;
+  definitions = h.definitions;
+  algorithm = a.0;
+  define = a.1.define;
+  macros = a.1.macros;
+  mappings = a.1.mappings;
+  archetypes = a.1.archetypes;
+  globals = declarations_of a.1.globals;
+  processes = a.1.processes;
+}
+
+unfoldable pub all_header : List Lexeme → Option Header
+all_header i = if_some (whole (header i)) (λ h. if all_are is_plain i then Some h else None)
+
+unfoldable pub all_algorithm : List Lexeme → Option (PlacedName × Units)
+all_algorithm i = if_some (whole (algorithm i)) (λ a. if has_process a.1.processes && are_shallow a.1.depths a.1.archetypes then Some a else None)
+
+unfoldable pub spec : (header algorithm : List Lexeme) → Option Spec
+spec hs xs = if_some (all_header hs) (λ h. if_some (all_algorithm xs) (λ a. Some (spec_of h a)))

@@ -1,0 +1,290 @@
+-- The reader of statements as functions on lists of tokens, in the shape of the code.
+use Rattle.std.specs.Prelude.{ℕ, zero, suc, ◌+◌, max, Bool, not, ◌&&◌, ◌||◌, if◌then◌else◌, nat_lt, List, [], ◌∷◌, ◌++◌, Option, Some, None, codes}
+use Rattle.pgo_base.specs.Tree.{Tree}
+use Rattle.pgo_lexer.specs.declared.token.Lexeme.{Lexeme}
+use Rattle.pgo_syntax.specs.declared.name.PlacedName.{PlacedName}
+use Rattle.pgo_syntax.specs.declared.assignment.Step.{Step}
+use Rattle.pgo_syntax.specs.declared.assignment.Step.TheVariants as step
+use Rattle.pgo_syntax.specs.declared.assignment.Left.{Left}
+use Rattle.pgo_syntax.specs.declared.assignment.Assignment.{Assignment}
+use Rattle.pgo_syntax.specs.declared.binding.Origin.{Origin}
+use Rattle.pgo_syntax.specs.declared.binding.Origin.TheVariants as origin
+use Rattle.pgo_syntax.specs.declared.binding.WithName.{WithName}
+use Rattle.pgo_syntax.specs.Statement.{Statement, statements, labeled, guarded}
+use Rattle.pgo_syntax.specs.Statement as st
+use Rattle.pgo_mpcal_read.specs.declared.deep.Deep.{Deep}
+use Rattle.pgo_mpcal_read.specs.declared.depths.MacroDepth.{MacroDepth}
+use Rattle.pgo_mpcal_read.specs.declared.lead.Lead.{Lead}
+use Rattle.pgo_mpcal_read.specs.declared.lead.Lead.TheVariants as lead
+use Rattle.pgo_mpcal_read.specs.declared.sign.Sign.{Sign}
+use Rattle.pgo_mpcal_read.specs.declared.sign.Sign.TheVariants as sign
+use Rattle.pgo_mpcal_read.specs.Depths.{depth_of}
+use Rattle.pgo_mpcal_read.specs.Leads.{lead_of}
+use Rattle.pgo_mpcal_read.specs.Signs.{sees}
+use Rattle.pgo_mpcal_read.specs.Reading.{◌>>=◌, ◌>>◌, Parser, Outcome, and_then, pure, skip, eat, expect, mark, name, sees_name, sees_second, expression, range, all_folded, items, in_brackets, row, ended}
+
+-- ---- assignments
+
+unfoldable pub index_step : Parser Step
+index_step = do
+  expect sign.SquareOpen
+  e ← expression
+  expect sign.SquareClose
+  pure (step.Index e)
+
+unfoldable pub field_step : Parser Step
+field_step = do
+  x ← name
+  pure (step.Field x.name)
+
+unfoldable pub path_step : Parser Step
+path_step = do
+  is_field ← eat sign.Dot
+  if is_field then field_step else index_step
+
+abbrev pub sees_step : List Lexeme → Bool
+sees_step i = sees sign.SquareOpen i || sees sign.Dot i
+
+-- `$variable` with its place
+unfoldable pub variable : Parser PlacedName
+variable = do
+  p ← mark sign.Variable
+  pure (record { name = codes "$variable"; place = p })
+
+unfoldable pub assigned : Parser PlacedName
+assigned = λ i. if sees sign.Variable i then variable i else name i
+
+unfoldable pub left : Parser Left
+left = do
+  x ← assigned
+  path ← row sees_step path_step
+  pure (record { name = x; path = path })
+
+unfoldable pub assignment : Parser Assignment
+assignment = do
+  l ← left
+  expect sign.Assign
+  e ← expression
+  pure (record { left = l; right = e })
+
+-- ---- where a name's value comes from
+
+unfoldable pub equals : Parser Origin
+equals = do
+  e ← expression
+  pure (origin.Equals e)
+
+unfoldable pub member : Parser Origin
+member = do
+  expect sign.In
+  e ← range
+  pure (origin.In e)
+
+unfoldable pub origin_of : Parser Origin
+origin_of = do
+  is_equal ← eat sign.Equal
+  if is_equal then equals else member
+
+unfoldable pub with_name : Parser WithName
+with_name = do
+  x ← name
+  o ← origin_of
+  pure (record { name = x; origin = o })
+
+-- ---- labels
+
+unfoldable pub fairness : List Lexeme → List Lexeme
+fairness i = if sees sign.Plus i || sees sign.Minus i then skip i else i
+
+unfoldable pub label : Parser (Option PlacedName)
+label = do
+  x ← name
+  expect sign.Colon
+  λ i. Some (Some x, fairness i)
+
+abbrev pub begins_label : List Lexeme → Bool
+begins_label i = sees_name i && sees_second sign.Colon i
+
+-- a label, where one is next
+unfoldable pub optional_label : Parser (Option PlacedName)
+optional_label = λ i. if begins_label i then label i else Some (None, i)
+
+-- ---- statements. `limit` is the greatest depth of the statement, and `inner` reads the statements in it.
+
+abbrev pub deep : {A : Type 0} → ℕ → A → Deep A
+deep h a = record { depth = h; part = a }
+
+-- one more of a list
+abbrev pub added : {A : Type 0} → Deep (List A) → Deep A → Deep (List A)
+added all r = deep (max all.depth r.depth) (all.part ++ r.part ∷ [])
+
+abbrev pub sees_else_if : List Lexeme → Bool
+sees_else_if i = sees sign.Else i && sees_second sign.If i
+
+-- what stands between a statement, which these tokens begin with, and the next one
+unfoldable pub row_ended : List Lexeme → List Lexeme → Option (List Lexeme)
+row_ended i rest = if sees sign.CurlyClose rest then Some rest else ended i rest
+
+abbrev pub goes_on : List Lexeme → Bool
+goes_on i = not (sees sign.CurlyClose i)
+
+-- one more of a list, where these tokens follow
+abbrev pub row_to : {A : Type 0} → Deep (List A) → Deep A → Option (List Lexeme) → Outcome (Deep (List A))
+row_to all r (Some rest) = Some (added all r, rest)
+row_to all r None = None
+
+module _ (ms : List MacroDepth) (limit : ℕ) (inner : Parser (Deep Statement)) where
+  -- a statement above others of at most this depth
+  unfoldable pub node : ℕ → Statement → Parser (Deep Statement)
+  node h s i = if nat_lt h limit then Some (deep (h + 1) s, i) else None
+
+  unfoldable pub skip_form : Parser (Deep Statement)
+  skip_form = do
+    p ← mark sign.Skip
+    node 0 (st.skip p)
+
+  -- a statement of one word and an expression
+  unfoldable pub one_expression : Sign → (ℕ → Tree → Statement) → Parser (Deep Statement)
+  one_expression v made = do
+    p ← mark v
+    e ← expression
+    node 0 (made p e)
+
+  unfoldable pub goto_form : Parser (Deep Statement)
+  goto_form = do
+    p ← mark sign.Goto
+    x ← name
+    node 0 (st.go_to p x)
+
+  abbrev pub assign_all : List Assignment → Parser (Deep Statement)
+  assign_all [] = λ i. None
+  assign_all (a ∷ as') = node 0 (st.assign a.left.name.place (a ∷ as'))
+
+  unfoldable pub assign_form : Parser (Deep Statement)
+  assign_form = do
+    all ← items sign.Bars assignment
+    assign_all all
+
+  unfoldable pub call_form : Parser (Deep Statement)
+  call_form = do
+    x ← name
+    es ← in_brackets expression
+    node (depth_of ms x.name) (st.call_macro x.place x es)
+
+  unfoldable pub while_form : Parser (Deep Statement)
+  while_form = do
+    p ← mark sign.While
+    expect sign.RoundOpen
+    e ← expression
+    expect sign.RoundClose
+    s ← inner
+    node s.depth (st.while_do p e s.part)
+
+  unfoldable pub with_form : Parser (Deep Statement)
+  with_form = do
+    p ← mark sign.With
+    expect sign.RoundOpen
+    ns ← items sign.Comma with_name
+    expect sign.RoundClose
+    s ← inner
+    node s.depth (st.with_in p ns s.part)
+
+  -- ---- `if`
+
+  unfoldable pub branch : Parser (Deep (ℕ × (Tree × Statement)))
+  branch = do
+    p ← mark sign.If
+    expect sign.RoundOpen
+    e ← expression
+    expect sign.RoundClose
+    s ← inner
+    pure (deep s.depth (p, (e, s.part)))
+
+  unfoldable pub one_more_branch : Deep (List (ℕ × (Tree × Statement))) → Parser (Deep (List (ℕ × (Tree × Statement))))
+  one_more_branch all = do
+    expect sign.Else
+    b ← branch
+    pure (added all b)
+
+  unfoldable pub last_else : ℕ → Deep (List (ℕ × (Tree × Statement))) → Parser (Deep Statement)
+  last_else p bs = do
+    s ← inner
+    node (max bs.depth s.depth) (st.if_else p (guarded bs.part) s.part)
+
+  unfoldable pub if_form : Parser (Deep Statement)
+  if_form = do
+    first ← branch
+    bs ← all_folded sees_else_if one_more_branch (deep first.depth (first.part ∷ []))
+    is_else ← eat sign.Else
+    if is_else then last_else first.part.0 bs else node bs.depth (st.if_then first.part.0 (guarded bs.part))
+
+  -- ---- `either`
+
+  unfoldable pub one_more_or : Deep (List Statement) → Parser (Deep (List Statement))
+  one_more_or all = do
+    expect sign.Or
+    s ← inner
+    pure (added all s)
+
+  unfoldable pub either_form : Parser (Deep Statement)
+  either_form = do
+    p ← mark sign.Either
+    first ← inner
+    two ← one_more_or (deep first.depth (first.part ∷ []))
+    all ← all_folded (sees sign.Or) one_more_or two
+    node all.depth (st.either_of p (statements all.part))
+
+  -- ---- blocks
+
+  unfoldable pub labeled_statement : Parser (Deep (Option PlacedName × Statement))
+  labeled_statement = do
+    l ← optional_label
+    s ← inner
+    pure (deep s.depth (l, s.part))
+
+  unfoldable pub one_more_row : Deep (List (Option PlacedName × Statement)) → Parser (Deep (List (Option PlacedName × Statement)))
+  one_more_row all i = and_then (labeled_statement i) (λ r rest. row_to all r (row_ended i rest))
+
+  unfoldable pub rows : Parser (Deep (List (Option PlacedName × Statement)))
+  rows = do
+    all ← all_folded goes_on one_more_row (deep 0 [])
+    expect sign.CurlyClose
+    pure all
+
+  unfoldable pub block_form : Parser (Deep Statement)
+  block_form = do
+    p ← mark sign.CurlyOpen
+    all ← rows
+    node all.depth (st.block p (labeled all.part))
+
+  unfoldable pub body : Parser (Deep (List (Option PlacedName × Statement)))
+  body = do
+    expect sign.CurlyOpen
+    rows
+
+  -- ---- the statement
+
+  abbrev pub form : Lead → Parser (Deep Statement)
+  form lead.Skip = skip_form
+  form lead.Assign = assign_form
+  form lead.Call = call_form
+  form lead.If = if_form
+  form lead.While = while_form
+  form lead.Either = either_form
+  form lead.Await = one_expression sign.Await st.await_that
+  form lead.When = one_expression sign.When st.await_that
+  form lead.With = with_form
+  form lead.Print = one_expression sign.Print st.print_out
+  form lead.Assert = one_expression sign.Assert st.assert_that
+  form lead.Goto = goto_form
+  form lead.Yield = one_expression sign.Yield st.yield_as
+  form lead.Block = block_form
+  form lead.None = λ i. None
+
+  unfoldable pub any_form : Parser (Deep Statement)
+  any_form i = form (lead_of i) i
+
+-- a statement of at most this depth, where these are the macros before it
+unfoldable pub statement : List MacroDepth → (limit : ℕ) → Parser (Deep Statement)
+statement ms zero = λ i. None
+statement ms (suc n) = any_form ms (suc n) (statement ms n)

@@ -1,0 +1,185 @@
+// Definitions and declarations.
+ghost use Rattle.std.specs.Prelude.{◌≡◌, [], ◌∷◌, ◌++◌};
+ghost use Rattle.pgo_mpcal_read.specs.Reading as reading;
+ghost use Rattle.pgo_mpcal_read.specs.Reading.{Reads, Passes};
+ghost use Rattle.pgo_mpcal_read.specs.ReadingUnits as spec;
+ghost use Rattle.pgo_mpcal_read.specs.declared.sign.Sign.TheVariants as sign;
+
+use crate::assignments::origin;
+use crate::cursor::Cursor;
+use crate::names::names;
+use crate::sign::Sign;
+use pgo_lexer::errors::TextStop;
+use pgo_lexer::token::Lexeme;
+use pgo_syntax::declaration::{Declaration, Declarations, Definition, Definitions};
+use pgo_syntax::name::{PlacedName, PlacedNames};
+use std::alloc::Global;
+
+/// A definition of this name without parameters, behind the name.
+#[tactic(auto, unfolding(crate::specs::ReadingUnits::without_params))]
+fn without_params(
+    alloc: Global,
+    cursor: &mut Cursor<'_>,
+    name: PlacedName,
+) -> Result<Definition, TextStop>
+    ensures { Reads (spec.without_params name cursor.old) result cursor.new }
+{
+    cursor.expect(Sign::Defines)?;
+    let body = cursor.expression(alloc)?;
+    let params = PlacedNames::new(alloc);
+    Ok(Definition { name, params, body })
+}
+
+/// A definition of this name with parameters, behind the `(`.
+#[tactic(auto, unfolding(crate::specs::ReadingUnits::with_params))]
+fn with_params(
+    alloc: Global,
+    cursor: &mut Cursor<'_>,
+    name: PlacedName,
+) -> Result<Definition, TextStop>
+    ensures { Reads (spec.with_params name cursor.old) result cursor.new }
+{
+    let params = names(alloc, cursor)?;
+    cursor.expect(Sign::RoundClose)?;
+    cursor.expect(Sign::Defines)?;
+    let body = cursor.expression(alloc)?;
+    Ok(Definition { name, params, body })
+}
+
+/// A definition.
+#[tactic(auto, unfolding(crate::specs::ReadingUnits::definition))]
+pub fn definition(alloc: Global, cursor: &mut Cursor<'_>) -> Result<Definition, TextStop>
+    ensures { Reads (spec.definition cursor.old) result cursor.new }
+{
+    let name = cursor.name(alloc)?;
+    if cursor.eat(Sign::RoundOpen) {
+        with_params(alloc, cursor, name)
+    } else {
+        without_params(alloc, cursor, name)
+    }
+}
+
+/// One more of them.
+#[tactic(auto, unfolding(crate::specs::Reading::one_more))]
+fn more_definitions(
+    alloc: Global,
+    cursor: &mut Cursor<'_>,
+    all: Definitions,
+) -> Result<Definitions, TextStop>
+    ensures { Reads (reading.one_more spec.definition all cursor.old) result cursor.new }
+{
+    let a = definition(alloc, cursor)?;
+    let mut list = all;
+    list.push(a)?;
+    Ok(list)
+}
+
+/// Definitions, as far as they go.
+pub fn definitions(alloc: Global, cursor: &mut Cursor<'_>) -> Result<Definitions, TextStop>
+    ensures { Reads (reading.row reading.sees_name spec.definition cursor.old) result cursor.new }
+{
+    let mut all = Definitions::new(alloc);
+    for _turn in 0..cursor.left() {
+        if !cursor.sees_name() {
+            return Ok(all);
+        }
+        all = more_definitions(alloc, cursor, all)?;
+    }
+    Ok(all)
+}
+
+/// A declaration.
+#[tactic(auto, unfolding(crate::specs::ReadingUnits::declaration, crate::specs::ReadingUnits::with_value))]
+fn declaration(alloc: Global, cursor: &mut Cursor<'_>) -> Result<Declaration, TextStop>
+    ensures { Reads (spec.declaration cursor.old) result cursor.new }
+{
+    let name = cursor.name(alloc)?;
+    if cursor.sees(Sign::Equal) || cursor.sees(Sign::In) {
+        let o = origin(alloc, cursor)?;
+        let initial = Some(o);
+        return Ok(Declaration { name, initial });
+    }
+    let initial = None;
+    Ok(Declaration { name, initial })
+}
+
+/// Goes past what stands between a declaration, which was read from `before` on, and the next one.
+#[tactic(auto, unfolding(crate::specs::ReadingUnits::declaration_ended))]
+fn end_declaration(cursor: &mut Cursor<'_>, before: &[Lexeme]) -> Result<(), TextStop>
+    ensures { Passes (spec.declaration_ended before.now cursor.old) result cursor.new }
+{
+    if cursor.sees(Sign::Comma) {
+        cursor.skip();
+        if cursor.sees_name() {
+            return Ok(());
+        }
+        return Err(cursor.refuse());
+    }
+    cursor.end(before)
+}
+
+/// One declaration more.
+#[tactic(auto, unfolding(crate::specs::ReadingUnits::one_more_declaration))]
+fn more_declarations(
+    alloc: Global,
+    cursor: &mut Cursor<'_>,
+    all: Declarations,
+) -> Result<Declarations, TextStop>
+    ensures { Reads (spec.one_more_declaration all cursor.old) result cursor.new }
+{
+    let before = cursor.rest();
+    let d = declaration(alloc, cursor)?;
+    end_declaration(cursor, before)?;
+    let mut list = all;
+    list.push(d)?;
+    Ok(list)
+}
+
+/// Further declarations, as far as they go.
+fn declarations_behind(
+    alloc: Global,
+    cursor: &mut Cursor<'_>,
+    first: Declarations,
+) -> Result<Declarations, TextStop>
+    ensures { Reads (reading.all_folded reading.sees_name spec.one_more_declaration first cursor.old) result cursor.new }
+{
+    let mut all = first;
+    for _turn in 0..cursor.left() {
+        if !cursor.sees_name() {
+            return Ok(all);
+        }
+        all = more_declarations(alloc, cursor, all)?;
+    }
+    Ok(all)
+}
+
+/// Declarations, one or more.
+#[tactic(auto, unfolding(crate::specs::ReadingUnits::declarations))]
+fn declarations(alloc: Global, cursor: &mut Cursor<'_>) -> Result<Declarations, TextStop>
+    ensures { Reads (spec.declarations cursor.old) result cursor.new }
+{
+    let none = Declarations::new(alloc);
+    let first = more_declarations(alloc, cursor, none)?;
+    declarations_behind(alloc, cursor, first)
+}
+
+/// `variables` and declarations.
+#[tactic(auto, unfolding(crate::specs::ReadingUnits::variables))]
+pub fn variables(alloc: Global, cursor: &mut Cursor<'_>) -> Result<Declarations, TextStop>
+    ensures { Reads (spec.variables cursor.old) result cursor.new }
+{
+    cursor.expect(Sign::Variables)?;
+    declarations(alloc, cursor)
+}
+
+/// The variables of an archetype, if it has some.
+#[tactic(auto, unfolding(crate::specs::ReadingUnits::locals))]
+pub fn locals(alloc: Global, cursor: &mut Cursor<'_>) -> Result<Declarations, TextStop>
+    ensures { Reads (spec.locals cursor.old) result cursor.new }
+{
+    if cursor.sees(Sign::Variables) {
+        variables(alloc, cursor)
+    } else {
+        Ok(Declarations::new(alloc))
+    }
+}

@@ -1,0 +1,297 @@
+// Statements that hold several others.
+ghost use Rattle.std.specs.Prelude.{◌≡◌, [], ◌∷◌, Some};
+ghost use Rattle.pgo_mpcal_read.specs.Nests.{Nests};
+ghost use Rattle.pgo_mpcal_read.specs.Reading as reading;
+ghost use Rattle.pgo_mpcal_read.specs.Reading.{Reads, Passes};
+ghost use Rattle.pgo_mpcal_read.specs.ReadingStatements as spec;
+ghost use Rattle.pgo_mpcal_read.specs.Signs.{sees};
+ghost use Rattle.pgo_mpcal_read.specs.declared.sign.Sign.TheVariants as sign;
+
+use crate::cursor::Cursor;
+use crate::deep::{Deep, at_depth, push_branch, push_row, push_statement};
+use crate::depths::MacroDepths;
+use crate::sign::Sign;
+use crate::statements::Statements;
+use pgo_base::expr::Sub;
+use pgo_lexer::errors::TextStop;
+use pgo_lexer::token::Lexeme;
+use pgo_syntax::name::PlacedName;
+use pgo_syntax::statement::{Alternatives, Block, Branches, Nested, Stmt};
+use std::alloc::Global;
+
+/// Whether an `else` and an `if` are next.
+fn sees_else_if(cursor: &Cursor<'_>) -> bool
+    ensures { result ≡ spec.sees_else_if cursor.now }
+{
+    cursor.sees(Sign::Else) && cursor.sees_second(Sign::If)
+}
+
+/// Goes past a label's `+` or `-`, if there is one.
+#[tactic(auto, unfolding(crate::specs::ReadingStatements::fairness))]
+fn fairness(cursor: &mut Cursor<'_>)
+    ensures { cursor.new ≡ spec.fairness cursor.old }
+{
+    if cursor.sees(Sign::Plus) || cursor.sees(Sign::Minus) {
+        cursor.skip();
+    }
+}
+
+/// A label.
+#[tactic(auto, unfolding(crate::specs::ReadingStatements::label))]
+fn label(alloc: Global, cursor: &mut Cursor<'_>) -> Result<Option<PlacedName>, TextStop>
+    ensures { Reads (spec.label cursor.old) result cursor.new }
+{
+    let name = cursor.name(alloc)?;
+    cursor.expect(Sign::Colon)?;
+    fairness(cursor);
+    Ok(Some(name))
+}
+
+/// A label, where one is next.
+#[tactic(auto, unfolding(crate::specs::ReadingStatements::optional_label))]
+fn optional_label(alloc: Global, cursor: &mut Cursor<'_>) -> Result<Option<PlacedName>, TextStop>
+    ensures { Reads (spec.optional_label cursor.old) result cursor.new }
+{
+    if cursor.sees_name() && cursor.sees_second(Sign::Colon) {
+        label(alloc, cursor)
+    } else {
+        Ok(None)
+    }
+}
+
+/// Goes past what stands between a statement of a block, which was read from `before` on, and the next one.
+#[tactic(auto, unfolding(crate::specs::ReadingStatements::row_ended))]
+fn end_row(cursor: &mut Cursor<'_>, before: &[Lexeme]) -> Result<(), TextStop>
+    ensures { Passes (spec.row_ended before.now cursor.old) result cursor.new }
+{
+    if cursor.sees(Sign::CurlyClose) {
+        Ok(())
+    } else {
+        cursor.end(before)
+    }
+}
+
+impl<
+    'k,
+    F: Fn(Global, &MacroDepths, &mut Cursor<'_>, u32) -> Result<Deep<Nested>, TextStop>,
+> Statements<'k, F> {
+    /// `if (e) s`, with its place.
+    #[tactic(auto, unfolding(crate::specs::ReadingStatements::branch))]
+    fn branch(&self, cursor: &mut Cursor<'_>) -> Result<Deep<(u32, (Sub, Nested))>, TextStop>
+        requires { Nests self.now.below (F.pre self.now.statement) (F.post self.now.statement) }
+        ensures { Reads (spec.branch self.now.macros.now self.now.limit (spec.statement self.now.macros.now self.now.below) cursor.old) result cursor.new }
+    {
+        let place = cursor.mark(Sign::If)?;
+        cursor.expect(Sign::RoundOpen)?;
+        let condition = cursor.expression(self.alloc)?;
+        cursor.expect(Sign::RoundClose)?;
+        let s = self.inner(cursor)?;
+        Ok(at_depth(s.depth, (place, (condition, s.part))))
+    }
+
+    /// `else` and one branch more.
+    #[tactic(auto, unfolding(crate::specs::ReadingStatements::one_more_branch))]
+    fn more_branches(
+        &self,
+        cursor: &mut Cursor<'_>,
+        all: Deep<Branches>,
+    ) -> Result<Deep<Branches>, TextStop>
+        requires { Nests self.now.below (F.pre self.now.statement) (F.post self.now.statement) }
+        ensures { Reads (spec.one_more_branch self.now.macros.now self.now.limit (spec.statement self.now.macros.now self.now.below) all cursor.old) result cursor.new }
+    {
+        cursor.expect(Sign::Else)?;
+        let b = self.branch(cursor)?;
+        Ok(push_branch(all, b)?)
+    }
+
+    /// Further branches, as far as they go.
+    fn branches_behind(
+        &self,
+        cursor: &mut Cursor<'_>,
+        first: Deep<Branches>,
+    ) -> Result<Deep<Branches>, TextStop>
+        requires { Nests self.now.below (F.pre self.now.statement) (F.post self.now.statement) }
+        ensures { Reads (reading.all_folded spec.sees_else_if (spec.one_more_branch self.now.macros.now self.now.limit (spec.statement self.now.macros.now self.now.below)) first cursor.old) result cursor.new }
+    {
+        let mut all = first;
+        for _turn in 0..cursor.left() {
+            if !sees_else_if(cursor) {
+                return Ok(all);
+            }
+            all = self.more_branches(cursor, all)?;
+        }
+        Ok(all)
+    }
+
+    /// The statement behind the last `else`.
+    #[tactic(auto, unfolding(crate::specs::ReadingStatements::last_else))]
+    fn last_else(
+        &self,
+        cursor: &mut Cursor<'_>,
+        place: u32,
+        branches: Deep<Branches>,
+    ) -> Result<Deep<Nested>, TextStop>
+        requires { Nests self.now.below (F.pre self.now.statement) (F.post self.now.statement) }
+        ensures { Reads (spec.last_else self.now.macros.now self.now.limit (spec.statement self.now.macros.now self.now.below) place branches cursor.old) result cursor.new }
+    {
+        let s = self.inner(cursor)?;
+        let depth = branches.depth.max(s.depth);
+        self.node(cursor, depth, Stmt::IfElse(place, branches.part, s.part))
+    }
+
+    /// `if`, with all that is its `else`.
+    #[tactic(auto, unfolding(crate::specs::ReadingStatements::if_form))]
+    pub fn if_form(&self, cursor: &mut Cursor<'_>) -> Result<Deep<Nested>, TextStop>
+        requires { Nests self.now.below (F.pre self.now.statement) (F.post self.now.statement) }
+        ensures { Reads (spec.if_form self.now.macros.now self.now.limit (spec.statement self.now.macros.now self.now.below) cursor.old) result cursor.new }
+    {
+        let first = self.branch(cursor)?;
+        let place = first.part.0;
+        let one = one_branch(self.alloc, first)?;
+        let all = self.branches_behind(cursor, one)?;
+        if cursor.eat(Sign::Else) {
+            return self.last_else(cursor, place, all);
+        }
+        self.node(cursor, all.depth, Stmt::If(place, all.part))
+    }
+
+    /// `or` and one statement more.
+    #[tactic(auto, unfolding(crate::specs::ReadingStatements::one_more_or))]
+    fn more_alternatives(
+        &self,
+        cursor: &mut Cursor<'_>,
+        all: Deep<Alternatives>,
+    ) -> Result<Deep<Alternatives>, TextStop>
+        requires { Nests self.now.below (F.pre self.now.statement) (F.post self.now.statement) }
+        ensures { Reads (spec.one_more_or self.now.macros.now self.now.limit (spec.statement self.now.macros.now self.now.below) all cursor.old) result cursor.new }
+    {
+        cursor.expect(Sign::Or)?;
+        let s = self.inner(cursor)?;
+        Ok(push_statement(all, s)?)
+    }
+
+    /// Further ones, as far as they go.
+    fn alternatives_behind(
+        &self,
+        cursor: &mut Cursor<'_>,
+        first: Deep<Alternatives>,
+    ) -> Result<Deep<Alternatives>, TextStop>
+        requires { Nests self.now.below (F.pre self.now.statement) (F.post self.now.statement) }
+        ensures { Reads (reading.all_folded (sees sign.Or) (spec.one_more_or self.now.macros.now self.now.limit (spec.statement self.now.macros.now self.now.below)) first cursor.old) result cursor.new }
+    {
+        let mut all = first;
+        for _turn in 0..cursor.left() {
+            if !cursor.sees(Sign::Or) {
+                return Ok(all);
+            }
+            all = self.more_alternatives(cursor, all)?;
+        }
+        Ok(all)
+    }
+
+    /// `either s or s ..`, two statements or more.
+    #[tactic(auto, unfolding(crate::specs::ReadingStatements::either_form))]
+    pub fn either_form(&self, cursor: &mut Cursor<'_>) -> Result<Deep<Nested>, TextStop>
+        requires { Nests self.now.below (F.pre self.now.statement) (F.post self.now.statement) }
+        ensures { Reads (spec.either_form self.now.macros.now self.now.limit (spec.statement self.now.macros.now self.now.below) cursor.old) result cursor.new }
+    {
+        let place = cursor.mark(Sign::Either)?;
+        let first = self.inner(cursor)?;
+        let one = one_statement(self.alloc, first)?;
+        let two = self.more_alternatives(cursor, one)?;
+        let all = self.alternatives_behind(cursor, two)?;
+        self.node(cursor, all.depth, Stmt::Either(place, all.part))
+    }
+
+    /// A statement with its label, if it has one.
+    #[tactic(auto, unfolding(crate::specs::ReadingStatements::labeled_statement))]
+    fn labeled_statement(
+        &self,
+        cursor: &mut Cursor<'_>,
+    ) -> Result<Deep<(Option<PlacedName>, Nested)>, TextStop>
+        requires { Nests self.now.below (F.pre self.now.statement) (F.post self.now.statement) }
+        ensures { Reads (spec.labeled_statement self.now.macros.now self.now.limit (spec.statement self.now.macros.now self.now.below) cursor.old) result cursor.new }
+    {
+        let label = optional_label(self.alloc, cursor)?;
+        let s = self.inner(cursor)?;
+        Ok(at_depth(s.depth, (label, s.part)))
+    }
+
+    /// One statement of a block more.
+    #[tactic(auto, unfolding(crate::specs::ReadingStatements::one_more_row))]
+    fn more_rows(&self, cursor: &mut Cursor<'_>, all: Deep<Block>) -> Result<Deep<Block>, TextStop>
+        requires { Nests self.now.below (F.pre self.now.statement) (F.post self.now.statement) }
+        ensures { Reads (spec.one_more_row self.now.macros.now self.now.limit (spec.statement self.now.macros.now self.now.below) all cursor.old) result cursor.new }
+    {
+        let before = cursor.rest();
+        let r = self.labeled_statement(cursor)?;
+        end_row(cursor, before)?;
+        Ok(push_row(all, r)?)
+    }
+
+    /// The statements of a block up to its `}`.
+    fn all_rows(&self, cursor: &mut Cursor<'_>) -> Result<Deep<Block>, TextStop>
+        requires { Nests self.now.below (F.pre self.now.statement) (F.post self.now.statement) }
+        ensures { Reads (reading.all_folded spec.goes_on (spec.one_more_row self.now.macros.now self.now.limit (spec.statement self.now.macros.now self.now.below)) (spec.deep 0 []) cursor.old) result cursor.new }
+    {
+        let mut all = at_depth(0, Block::new(self.alloc));
+        for _turn in 0..cursor.left() {
+            if cursor.sees(Sign::CurlyClose) {
+                return Ok(all);
+            }
+            all = self.more_rows(cursor, all)?;
+        }
+        Ok(all)
+    }
+
+    /// The statements of a block and its `}`.
+    #[tactic(auto, unfolding(crate::specs::ReadingStatements::rows))]
+    fn rows(&self, cursor: &mut Cursor<'_>) -> Result<Deep<Block>, TextStop>
+        requires { Nests self.now.below (F.pre self.now.statement) (F.post self.now.statement) }
+        ensures { Reads (spec.rows self.now.macros.now self.now.limit (spec.statement self.now.macros.now self.now.below) cursor.old) result cursor.new }
+    {
+        let all = self.all_rows(cursor)?;
+        cursor.expect(Sign::CurlyClose)?;
+        Ok(all)
+    }
+
+    /// A block.
+    #[tactic(auto, unfolding(crate::specs::ReadingStatements::block_form))]
+    pub fn block_form(&self, cursor: &mut Cursor<'_>) -> Result<Deep<Nested>, TextStop>
+        requires { Nests self.now.below (F.pre self.now.statement) (F.post self.now.statement) }
+        ensures { Reads (spec.block_form self.now.macros.now self.now.limit (spec.statement self.now.macros.now self.now.below) cursor.old) result cursor.new }
+    {
+        let place = cursor.mark(Sign::CurlyOpen)?;
+        let all = self.rows(cursor)?;
+        self.node(cursor, all.depth, Stmt::Block(place, all.part))
+    }
+
+    /// The block of a unit.
+    #[tactic(auto, unfolding(crate::specs::ReadingStatements::body))]
+    pub fn body(&self, cursor: &mut Cursor<'_>) -> Result<Deep<Block>, TextStop>
+        requires { Nests self.now.below (F.pre self.now.statement) (F.post self.now.statement) }
+        ensures { Reads (spec.body self.now.macros.now self.now.limit (spec.statement self.now.macros.now self.now.below) cursor.old) result cursor.new }
+    {
+        cursor.expect(Sign::CurlyOpen)?;
+        self.rows(cursor)
+    }
+}
+
+/// One branch.
+fn one_branch(alloc: Global, first: Deep<(u32, (Sub, Nested))>) -> Result<Deep<Branches>, TextStop>
+    ensures { reading.Makes (Some (spec.deep first.depth (first.part ∷ []))) result }
+{
+    let mut list = Branches::new(alloc);
+    let (place, (condition, nested)) = first.part;
+    list.push(place, condition, nested)?;
+    Ok(at_depth(first.depth, list))
+}
+
+/// One statement.
+fn one_statement(alloc: Global, first: Deep<Nested>) -> Result<Deep<Alternatives>, TextStop>
+    ensures { reading.Makes (Some (spec.deep first.depth (first.part ∷ []))) result }
+{
+    let mut list = Alternatives::new(alloc);
+    list.push(first.part)?;
+    Ok(at_depth(first.depth, list))
+}

@@ -1,0 +1,74 @@
+// Which tokens may stand in a unit.
+ghost use Rattle.std.specs.Prelude.{◌≡◌};
+ghost use Rattle.pgo_mpcal_read.specs.Reading.{Reads};
+ghost use Rattle.pgo_mpcal_read.specs.Reading as reading;
+ghost use Rattle.pgo_mpcal_read.specs.ReadingSpec as spec;
+ghost use Rattle.pgo_mpcal_read.specs.Standing.{IsAsSevere};
+ghost use Rattle.pgo_mpcal_read.specs.Units as units;
+
+use crate::cursor::Cursor;
+use crate::sign::{Sign, is_sign};
+use pgo_lexer::errors::TextStop;
+use pgo_lexer::token::{Lexeme, Token};
+
+/// Where tokens stand: `yield`, `$variable` and `$value` stand in mapping macros alone, and a macro has no `while` and no
+/// `goto`.
+#[derive(Clone, Copy, PartialEq, Eq)]
+pub enum Standing {
+    Plain,
+    Macro,
+}
+
+fn is_plain(token: &Token) -> bool
+    ensures { result ≡ units.is_plain token.now }
+{
+    !is_sign(Sign::Yield, token) && !is_sign(Sign::Variable, token) && !is_sign(Sign::Value, token)
+}
+
+fn may_stand(standing: Standing, token: &Token) -> bool
+    ensures { result ≡ spec.stands standing token.now }
+{
+    match standing {
+        Standing::Plain => is_plain(token),
+        Standing::Macro => {
+            is_plain(token) && !is_sign(Sign::While, token) && !is_sign(Sign::Goto, token)
+        }
+    }
+}
+
+/// Whether all of these tokens may stand there.
+pub fn all_may_stand(standing: Standing, tokens: &[Lexeme]) -> bool
+    ensures { result ≡ units.all_are (spec.stands standing) tokens.now }
+{
+    for lexeme in tokens {
+        if !may_stand(standing, &lexeme.token) {
+            return false;
+        }
+    }
+    true
+}
+
+/// The offset of the first of these tokens that may not stand there, or `end`.
+fn first_refused(standing: Standing, tokens: &[Lexeme], end: u64) -> u64 {
+    for lexeme in tokens {
+        if lexeme.start as u64 >= end {
+            return end;
+        }
+        if !may_stand(standing, &lexeme.token) {
+            return lexeme.start as u64;
+        }
+    }
+    end
+}
+
+/// The same error, with the offset of the first token before it that may not stand there.
+pub fn refused(standing: Standing, tokens: &[Lexeme], stop: TextStop) -> TextStop
+    ensures { IsAsSevere stop result }
+{
+    match stop {
+        TextStop::Syntax { offset } => TextStop::Syntax {
+            offset: first_refused(standing, tokens, offset),
+        },
+        TextStop::NoMemory => TextStop::NoMemory,
+    }
+}

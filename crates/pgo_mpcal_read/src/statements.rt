@@ -1,0 +1,235 @@
+// Statements.
+ghost use Rattle.std.specs.Prelude.{◌≡◌, [], ◌∷◌};
+ghost use Rattle.pgo_syntax.specs.Statement as st;
+ghost use Rattle.pgo_syntax.specs.StatementView.{statement};
+ghost use Rattle.pgo_mpcal_read.specs.Nests.{Nests};
+ghost use Rattle.pgo_mpcal_read.specs.Reading.{Reads};
+ghost use Rattle.pgo_mpcal_read.specs.ReadingStatements as spec;
+ghost use Rattle.pgo_mpcal_read.specs.declared.sign.Sign.TheVariants as sign;
+
+use crate::assignments::{assignments, with_names};
+use crate::cursor::Cursor;
+use crate::deep::{Deep, at_depth};
+use crate::depths::{MacroDepths, depth_of};
+use crate::lead::Lead;
+use crate::names::expressions_in_brackets;
+use crate::sign::Sign;
+use pgo_lexer::errors::TextStop;
+use pgo_syntax::statement::{Nested, Stmt};
+use std::alloc::Global;
+
+/// The rules that hold statements take the reader of those as a parameter, so that each is proved by itself.
+#[derive(Clone, Copy)]
+pub struct Statements<'k, F> {
+    pub alloc: Global,
+    /// The macros before.
+    pub macros: &'k MacroDepths,
+    /// The greatest depth of a statement.
+    pub limit: u32,
+    /// The greatest depth of the statements in it.
+    pub below: u32,
+    pub statement: F,
+}
+
+impl<
+    'k,
+    F: Fn(Global, &MacroDepths, &mut Cursor<'_>, u32) -> Result<Deep<Nested>, TextStop>,
+> Statements<'k, F> {
+    /// A statement in this one.
+    pub fn inner(&self, cursor: &mut Cursor<'_>) -> Result<Deep<Nested>, TextStop>
+        requires { Nests self.now.below (F.pre self.now.statement) (F.post self.now.statement) }
+        ensures { Reads (spec.statement self.now.macros.now self.now.below cursor.old) result cursor.new }
+    {
+        (self.statement)(self.alloc, self.macros, cursor, self.below)
+    }
+
+    /// A statement above others of at most this depth.
+    #[tactic(auto, unfolding(crate::specs::ReadingStatements::node))]
+    pub fn node(
+        &self,
+        cursor: &Cursor<'_>,
+        depth: u32,
+        made: Stmt,
+    ) -> Result<Deep<Nested>, TextStop>
+        ensures { Reads (spec.node self.now.macros.now self.now.limit (spec.statement self.now.macros.now self.now.below) depth (statement made) cursor.now) result cursor.now }
+    {
+        if depth >= self.limit {
+            return Err(cursor.refuse());
+        }
+        let nested = Nested::new(self.alloc, made)?;
+        Ok(at_depth(depth + 1, nested))
+    }
+
+    /// `skip`.
+    #[tactic(auto, unfolding(crate::specs::ReadingStatements::skip_form))]
+    fn skip_form(&self, cursor: &mut Cursor<'_>) -> Result<Deep<Nested>, TextStop>
+        ensures { Reads (spec.skip_form self.now.macros.now self.now.limit (spec.statement self.now.macros.now self.now.below) cursor.old) result cursor.new }
+    {
+        let place = cursor.mark(Sign::Skip)?;
+        self.node(cursor, 0, Stmt::Skip(place))
+    }
+
+    /// `await e`.
+    #[tactic(auto, unfolding(crate::specs::ReadingStatements::one_expression))]
+    fn await_form(&self, cursor: &mut Cursor<'_>) -> Result<Deep<Nested>, TextStop>
+        ensures { Reads (spec.one_expression self.now.macros.now self.now.limit (spec.statement self.now.macros.now self.now.below) sign.Await st.await_that cursor.old) result cursor.new }
+    {
+        let place = cursor.mark(Sign::Await)?;
+        let condition = cursor.expression(self.alloc)?;
+        self.node(cursor, 0, Stmt::Await(place, condition))
+    }
+
+    /// `when e`.
+    #[tactic(auto, unfolding(crate::specs::ReadingStatements::one_expression))]
+    fn when_form(&self, cursor: &mut Cursor<'_>) -> Result<Deep<Nested>, TextStop>
+        ensures { Reads (spec.one_expression self.now.macros.now self.now.limit (spec.statement self.now.macros.now self.now.below) sign.When st.await_that cursor.old) result cursor.new }
+    {
+        let place = cursor.mark(Sign::When)?;
+        let condition = cursor.expression(self.alloc)?;
+        self.node(cursor, 0, Stmt::Await(place, condition))
+    }
+
+    /// `print e`.
+    #[tactic(auto, unfolding(crate::specs::ReadingStatements::one_expression))]
+    fn print_form(&self, cursor: &mut Cursor<'_>) -> Result<Deep<Nested>, TextStop>
+        ensures { Reads (spec.one_expression self.now.macros.now self.now.limit (spec.statement self.now.macros.now self.now.below) sign.Print st.print_out cursor.old) result cursor.new }
+    {
+        let place = cursor.mark(Sign::Print)?;
+        let e = cursor.expression(self.alloc)?;
+        self.node(cursor, 0, Stmt::Print(place, e))
+    }
+
+    /// `assert e`.
+    #[tactic(auto, unfolding(crate::specs::ReadingStatements::one_expression))]
+    fn assert_form(&self, cursor: &mut Cursor<'_>) -> Result<Deep<Nested>, TextStop>
+        ensures { Reads (spec.one_expression self.now.macros.now self.now.limit (spec.statement self.now.macros.now self.now.below) sign.Assert st.assert_that cursor.old) result cursor.new }
+    {
+        let place = cursor.mark(Sign::Assert)?;
+        let condition = cursor.expression(self.alloc)?;
+        self.node(cursor, 0, Stmt::Assert(place, condition))
+    }
+
+    /// `yield e`.
+    #[tactic(auto, unfolding(crate::specs::ReadingStatements::one_expression))]
+    fn yield_form(&self, cursor: &mut Cursor<'_>) -> Result<Deep<Nested>, TextStop>
+        ensures { Reads (spec.one_expression self.now.macros.now self.now.limit (spec.statement self.now.macros.now self.now.below) sign.Yield st.yield_as cursor.old) result cursor.new }
+    {
+        let place = cursor.mark(Sign::Yield)?;
+        let e = cursor.expression(self.alloc)?;
+        self.node(cursor, 0, Stmt::Yield(place, e))
+    }
+
+    /// `goto l`.
+    #[tactic(auto, unfolding(crate::specs::ReadingStatements::goto_form))]
+    fn goto_form(&self, cursor: &mut Cursor<'_>) -> Result<Deep<Nested>, TextStop>
+        ensures { Reads (spec.goto_form self.now.macros.now self.now.limit (spec.statement self.now.macros.now self.now.below) cursor.old) result cursor.new }
+    {
+        let place = cursor.mark(Sign::Goto)?;
+        let label = cursor.name(self.alloc)?;
+        self.node(cursor, 0, Stmt::Goto(place, label))
+    }
+
+    /// Assignments. The place is that of the first name.
+    #[tactic(auto, unfolding(crate::specs::ReadingStatements::assign_form))]
+    fn assign_form(&self, cursor: &mut Cursor<'_>) -> Result<Deep<Nested>, TextStop>
+        ensures { Reads (spec.assign_form self.now.macros.now self.now.limit (spec.statement self.now.macros.now self.now.below) cursor.old) result cursor.new }
+    {
+        let all = assignments(self.alloc, cursor)?;
+        let place = match all.as_slice() {
+            [] => return Err(cursor.refuse()),
+            [first, ..] => first.left.name.place,
+        };
+        self.node(cursor, 0, Stmt::Assign(place, all))
+    }
+
+    /// A macro's call.
+    #[tactic(auto, unfolding(crate::specs::ReadingStatements::call_form, crate::specs::ReadingStatements::node))]
+    fn call_form(&self, cursor: &mut Cursor<'_>) -> Result<Deep<Nested>, TextStop>
+        ensures { Reads (spec.call_form self.now.macros.now self.now.limit (spec.statement self.now.macros.now self.now.below) cursor.old) result cursor.new }
+    {
+        let first = cursor.refuse();
+        let name = cursor.name(self.alloc)?;
+        let arguments = expressions_in_brackets(self.alloc, cursor)?;
+        let depth = depth_of(self.macros, &name.name);
+        if depth >= self.limit {
+            return Err(first);
+        }
+        let place = name.place;
+        self.node(cursor, depth, Stmt::Call(place, name, arguments))
+    }
+
+    /// `while (e) s`.
+    #[tactic(auto, unfolding(crate::specs::ReadingStatements::while_form))]
+    fn while_form(&self, cursor: &mut Cursor<'_>) -> Result<Deep<Nested>, TextStop>
+        requires { Nests self.now.below (F.pre self.now.statement) (F.post self.now.statement) }
+        ensures { Reads (spec.while_form self.now.macros.now self.now.limit (spec.statement self.now.macros.now self.now.below) cursor.old) result cursor.new }
+    {
+        let place = cursor.mark(Sign::While)?;
+        cursor.expect(Sign::RoundOpen)?;
+        let condition = cursor.expression(self.alloc)?;
+        cursor.expect(Sign::RoundClose)?;
+        let body = self.inner(cursor)?;
+        self.node(cursor, body.depth, Stmt::While(place, condition, body.part))
+    }
+
+    /// `with (v = e, w \in S) s`.
+    #[tactic(auto, unfolding(crate::specs::ReadingStatements::with_form))]
+    fn with_form(&self, cursor: &mut Cursor<'_>) -> Result<Deep<Nested>, TextStop>
+        requires { Nests self.now.below (F.pre self.now.statement) (F.post self.now.statement) }
+        ensures { Reads (spec.with_form self.now.macros.now self.now.limit (spec.statement self.now.macros.now self.now.below) cursor.old) result cursor.new }
+    {
+        let place = cursor.mark(Sign::With)?;
+        cursor.expect(Sign::RoundOpen)?;
+        let names = with_names(self.alloc, cursor)?;
+        cursor.expect(Sign::RoundClose)?;
+        let body = self.inner(cursor)?;
+        self.node(cursor, body.depth, Stmt::With(place, names, body.part))
+    }
+
+    /// A statement that doesn't stand in another one.
+    #[tactic(auto, unfolding(crate::specs::ReadingStatements::any_form))]
+    pub fn any_form(&self, cursor: &mut Cursor<'_>) -> Result<Deep<Nested>, TextStop>
+        requires { Nests self.now.below (F.pre self.now.statement) (F.post self.now.statement) }
+        ensures { Reads (spec.any_form self.now.macros.now self.now.limit (spec.statement self.now.macros.now self.now.below) cursor.old) result cursor.new }
+    {
+        match cursor.lead() {
+            Lead::Skip => self.skip_form(cursor),
+            Lead::Assign => self.assign_form(cursor),
+            Lead::Call => self.call_form(cursor),
+            Lead::If => self.if_form(cursor),
+            Lead::While => self.while_form(cursor),
+            Lead::Either => self.either_form(cursor),
+            Lead::Await => self.await_form(cursor),
+            Lead::When => self.when_form(cursor),
+            Lead::With => self.with_form(cursor),
+            Lead::Print => self.print_form(cursor),
+            Lead::Assert => self.assert_form(cursor),
+            Lead::Goto => self.goto_form(cursor),
+            Lead::Yield => self.yield_form(cursor),
+            Lead::Block => self.block_form(cursor),
+            Lead::None => Err(cursor.refuse()),
+        }
+    }
+}
+
+/// A statement of at most this depth, where these are the macros before it.
+pub fn statement(
+    alloc: Global,
+    macros: &MacroDepths,
+    cursor: &mut Cursor<'_>,
+    limit: u32,
+) -> Result<Deep<Nested>, TextStop>
+    ensures { Reads (spec.statement macros.now limit cursor.old) result cursor.new }
+{
+    if limit == 0 {
+        return Err(cursor.refuse());
+    }
+    Statements {
+        alloc,
+        macros,
+        limit,
+        below: limit - 1,
+        statement,
+    }
+    .any_form(cursor)
+}

@@ -1,0 +1,9 @@
+mod Among
+mod Answered
+mod Clashing
+mod Counts
+mod Heights
+mod Sorting
+mod StatementHeights
+mod StatementWalked
+mod Walked

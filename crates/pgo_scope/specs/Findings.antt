@@ -1,0 +1,37 @@
+-- What breaks a rule.
+use Rattle.std.specs.Prelude.{ℕ, Bool, if◌then◌else◌, nat_lt, List, [], ◌∷◌, ◌++◌, Option, Some, None, option_map}
+use Rattle.pgo_syntax.specs.declared.name.PlacedName.{PlacedName}
+use Rattle.pgo_scope.specs.declared.errors.ScopeError.{ScopeError}
+use Rattle.pgo_scope.specs.declared.finding.Finding.{Finding}
+use Rattle.pgo_scope.specs.declared.uses.Use.{Use}
+
+-- one finding where the test holds
+abbrev pub found_if : Bool → ℕ → ScopeError → List Finding
+found_if b p e = if b then record { place = p; error = e } ∷ [] else []
+
+-- these findings where the test holds
+abbrev pub found_where : Bool → List Finding → List Finding
+found_where b fs = if b then fs else []
+
+-- the findings of a rule about each name that stands in the text
+abbrev pub each_use : (Use → List Finding) → List Use → List Finding
+each_use f [] = []
+each_use f (u ∷ us) = f u ++ each_use f us
+
+-- the findings of a rule about each of these names
+abbrev pub each_name : (PlacedName → List Finding) → List PlacedName → List Finding
+each_name f [] = []
+each_name f (x ∷ xs) = f x ++ each_name f xs
+
+-- the first in the text of what was found so far and this; of one place, what was found so far
+abbrev pub earlier : Option Finding → Finding → Option Finding
+earlier None g = Some g
+earlier (Some f) g = if nat_lt g.place f.place then Some g else Some f
+
+abbrev pub first_of_all : Option Finding → List Finding → Option Finding
+first_of_all o [] = o
+first_of_all o (f ∷ fs) = first_of_all (earlier o f) fs
+
+-- the first one in the text; of one place, the one that is listed first
+abbrev pub earliest : List Finding → Option ScopeError
+earliest fs = option_map (λ f. f.error) (first_of_all None fs)

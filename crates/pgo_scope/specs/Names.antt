@@ -1,0 +1,39 @@
+-- Lists of names, and names with numbers.
+use Rattle.std.specs.Prelude.{ℕ, suc, Bool, true, false, ◌||◌, if◌then◌else◌, nat_lt, slice_get, List, [], ◌∷◌, Option, Some, None, option_map, is_some}
+use Rattle.pgo_base.specs.Lookup.{Name, same_name, find}
+
+abbrev pub is_member : Name → List Name → Bool
+is_member x [] = false
+is_member x (y ∷ ys) = if same_name x y then true else is_member x ys
+
+abbrev pub Rows : Type 0
+Rows = List (Name × ℕ)
+
+abbrev pub is_among : Name → Rows → Bool
+is_among x rows = is_some (find x rows)
+
+-- b, or the name is among these
+abbrev pub among_all : Bool → Rows → Name → Bool
+among_all b [] x = b
+among_all b (r ∷ rs) x = among_all (same_name x r.0 || b) rs x
+
+-- the place of the first of the name, from 0
+abbrev pub first_at : Name → Rows → Option ℕ
+first_at x [] = None
+first_at x (r ∷ rs) = if same_name x r.0 then Some 0 else option_map suc (first_at x rs)
+
+abbrev pub is_below : ℕ → Option ℕ → Bool
+is_below n None = false
+is_below n (Some i) = nat_lt i n
+
+-- the name is one of the first n
+abbrev pub is_earlier : ℕ → Name → Rows → Bool
+is_earlier n x rows = is_below n (first_at x rows)
+
+abbrev pub is_row : Name → Option (Name × ℕ) → Bool
+is_row x None = false
+is_row x (Some r) = same_name x r.0
+
+-- the name is that of the row in this place, from 0
+abbrev pub is_at : ℕ → Name → Rows → Bool
+is_at n x rows = is_row x (slice_get rows n)

@@ -1,0 +1,164 @@
+-- Rule 2: a name has two meanings.
+use Rattle.std.specs.Prelude.{ℕ, suc, Bool, true, false, not, ◌&&◌, ◌||◌, if◌then◌else◌, List, [], ◌∷◌, ◌++◌, Option, Some, None}
+use Rattle.pgo_base.specs.Tree.{Tree}
+use Rattle.pgo_base.specs.Lookup.{Name, same_name, find}
+use Rattle.pgo_model.specs.Written.{self_name, default_init_value}
+use Rattle.pgo_syntax.specs.declared.name.PlacedName.{PlacedName}
+use Rattle.pgo_syntax.specs.declared.macros.Macro.{Macro}
+use Rattle.pgo_syntax.specs.declared.spec.Spec.{Spec}
+use Rattle.pgo_scope.specs.declared.errors.ScopeError.TheVariants as errors
+use Rattle.pgo_scope.specs.declared.finding.Finding.{Finding}
+use Rattle.pgo_scope.specs.declared.tables.Tables.{Tables}
+use Rattle.pgo_scope.specs.declared.uses.Around.{Around}
+use Rattle.pgo_scope.specs.declared.uses.Home.{Home}
+use Rattle.pgo_scope.specs.declared.uses.Home.TheVariants as homes
+use Rattle.pgo_scope.specs.declared.uses.Form.{Form}
+use Rattle.pgo_scope.specs.declared.uses.Form.TheVariants as forms
+use Rattle.pgo_scope.specs.declared.uses.Use.{Use}
+use Rattle.pgo_scope.specs.Names.{Rows, is_among}
+use Rattle.pgo_scope.specs.Uses.{uses}
+use Rattle.pgo_scope.specs.Tables.{tables_of, operator_rows}
+use Rattle.pgo_scope.specs.AllUses.{all_uses, macro_uses, names_of}
+use Rattle.pgo_scope.specs.Heads.{shared_names, macro_names, mapping_names, archetype_names, process_names, unit_names}
+use Rattle.pgo_scope.specs.Findings.{found_if, each_use, each_name}
+use Rattle.pgo_scope.specs.TextOrder.{in_text_order}
+use Rattle.pgo_scope.specs.Unknown.{knows_self}
+
+-- each name that stands among those before it, which are rows with the number 0
+abbrev pub repeated : Rows → List PlacedName → List Finding
+repeated before [] = []
+repeated before (x ∷ xs) =
+    found_if (is_among x.name before) x.place (errors.Twice x.name) ++ repeated (before ++ (x.name, 0) ∷ []) xs
+
+abbrev pub repeated_in : List PlacedName → List Finding
+repeated_in xs = repeated [] (in_text_order (λ x. x.place) xs)
+
+-- first case, in the heads of units: constants, definitions and globals share one scope; macros, mapping macros,
+-- archetypes and processes have one each
+abbrev pub declared_twice : Spec → List Finding
+declared_twice s =
+    repeated_in (shared_names s)
+    ++ repeated_in (macro_names s.macros)
+    ++ repeated_in (mapping_names s.mappings)
+    ++ repeated_in (archetype_names s.archetypes)
+    ++ repeated_in (process_names s.processes)
+
+-- third case: the name of an operator, or `defaultInitValue`
+abbrev pub is_reserved : Name → Bool
+is_reserved x = is_among x operator_rows || same_name x default_init_value
+
+abbrev pub reserved_name : PlacedName → List Finding
+reserved_name x = found_if (is_reserved x.name) x.place (errors.Twice x.name)
+
+-- names that archetypes declare may be those of globals
+abbrev pub may_be_global : Home → Bool
+may_be_global (homes.Body j) = true
+may_be_global h = false
+
+-- the name hides one that is in scope where it is bound or declared
+abbrev pub hides : Tables → Use → Bool
+hides ts u =
+    u.inner || is_reserved u.name || is_among u.name ts.constants || is_among u.name ts.definitions
+    || (same_name u.name self_name && knows_self u.around.home)
+
+-- second case, and the first in the heads and bodies of units: a name that is bound or declared there
+abbrev pub hiding_of : Tables → Use → Form → Bool
+hiding_of ts u forms.Bound = hides ts u || is_among u.name ts.globals
+hiding_of ts u forms.Named = hides ts u || (is_among u.name ts.globals && not (may_be_global u.around.home))
+hiding_of ts u f = false
+
+abbrev pub hiding_use : Tables → Use → List Finding
+hiding_use ts u = found_if (hiding_of ts u u.form) u.around.place (errors.Twice u.name)
+
+-- fourth case: the names that may not stand in the argument of each parameter of a macro, as a test
+--
+-- These are the names that the macro's own expressions bind, and those that may not stand in an argument in which the
+-- parameter is handed on to another macro.
+abbrev pub Tests : Type 0
+Tests = List (Name × List (Name → Bool))
+
+-- a name stands there, bound or not
+abbrev pub stands_of : Name → Use → Form → Bool
+stands_of x u forms.Field = false
+stands_of x u f = same_name x u.name
+
+abbrev pub stands_in : Name → List Use → Bool
+stands_in x [] = false
+stands_in x (u ∷ us) = stands_of x u u.form || stands_in x us
+
+abbrev pub binds_of : Name → Use → Form → Bool
+binds_of x u forms.Bound = same_name x u.name
+binds_of x u f = false
+
+-- b, or one of these binds the name
+abbrev pub is_bound_in : Bool → List Use → Name → Bool
+is_bound_in b [] x = b
+is_bound_in b (u ∷ us) x = is_bound_in (binds_of x u u.form || b) us x
+
+abbrev pub or_none : Option (List (Name → Bool)) → List (Name → Bool)
+or_none None = []
+or_none (Some fs) = fs
+
+abbrev pub tests_of : Tests → Name → List (Name → Bool)
+tests_of known m = or_none (find m known)
+
+-- b, or x may not stand in this argument, in which p stands
+abbrev pub handed_at : Bool → (Name → Bool) → Around → Name → Tree → Name → Bool
+handed_at b f a p t x = if stands_in p (uses [] a t) then f x || b else b
+
+-- b, or x may not stand in one of these arguments in which p stands
+abbrev pub handed_on : Bool → List (Name → Bool) → Around → Name → List Tree → Name → Bool
+handed_on b [] a p ts x = b
+handed_on b (f ∷ fs) a p [] x = b
+handed_on b (f ∷ fs) a p (t ∷ ts) x = handed_on (handed_at b f a p t x) fs a p ts x
+
+abbrev pub calls_capture : Bool → Tests → Name → Use → Form → Name → Bool
+calls_capture b known p u (forms.Called ts) x = handed_on b (tests_of known u.name) u.around p ts x
+calls_capture b known p u f x = b
+
+-- b, or x may not stand where p is handed on by one of these
+abbrev pub some_capture : Bool → Tests → Name → List Use → Name → Bool
+some_capture b known p [] x = b
+some_capture b known p (u ∷ us) x = some_capture (calls_capture b known p u u.form x) known p us x
+
+abbrev pub parameter_test : Tests → List Use → Name → Name → Bool
+parameter_test known us p x = is_bound_in (some_capture false known p us x) us x
+
+abbrev pub parameter_tests : Tests → List Use → List Name → List (Name → Bool)
+parameter_tests known us [] = []
+parameter_tests known us (p ∷ ps) = parameter_test known us p ∷ parameter_tests known us ps
+
+abbrev pub captures_from : Tests → ℕ → List Macro → Tests
+captures_from known i [] = known
+captures_from known i (m ∷ ms) =
+    captures_from (known ++ (m.name.name, parameter_tests known (macro_uses i m) (names_of m.params)) ∷ []) (suc i) ms
+
+abbrev pub captures : List Macro → Tests
+captures ms = captures_from [] 0 ms
+
+-- the names of an argument that may not stand there
+abbrev pub captured_of : (Name → Bool) → Use → Form → List Finding
+captured_of f u forms.Field = []
+captured_of f u form = found_if (f u.name) u.around.place (errors.Twice u.name)
+
+abbrev pub captured_use : (Name → Bool) → Use → List Finding
+captured_use f u = captured_of f u u.form
+
+abbrev pub captured_in : List (Name → Bool) → Around → List Tree → List Finding
+captured_in [] a ts = []
+captured_in (f ∷ fs) a [] = []
+captured_in (f ∷ fs) a (t ∷ ts) = each_use (captured_use f) (uses [] a t) ++ captured_in fs a ts
+
+abbrev pub call_captures : Tests → Use → Form → List Finding
+call_captures known u (forms.Called ts) = captured_in (tests_of known u.name) u.around ts
+call_captures known u f = []
+
+abbrev pub capture_use : Tests → Use → List Finding
+capture_use known u = call_captures known u u.form
+
+abbrev pub names_twice : Spec → List Finding
+names_twice s =
+    declared_twice s
+    ++ each_name reserved_name (unit_names s)
+    ++ each_use (hiding_use (tables_of s)) (all_uses s)
+    ++ each_use (capture_use (captures s.macros)) (all_uses s)

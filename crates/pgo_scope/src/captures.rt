@@ -1,0 +1,290 @@
+// Rule 2, its fourth case: a name that a macro binds stands in an argument of a call of it.
+ghost use Rattle.std.specs.Prelude.{◌≡◌, ◌||◌, ◌++◌, map, IfOk};
+ghost use Rattle.pgo_base.specs.ExprView.{tree};
+ghost use Rattle.pgo_base.specs.Lookup.{Name};
+ghost use Rattle.pgo_scope.specs.AllUses.{names_of};
+ghost use Rattle.pgo_scope.specs.CaptureView.{see_test, see_captures};
+ghost use Rattle.pgo_scope.specs.Findings.{each_use};
+ghost use Rattle.pgo_scope.specs.Names.{is_among};
+ghost use Rattle.pgo_scope.specs.Twice as spec;
+
+use crate::finding::Finding;
+use crate::names::Names;
+use crate::twice::add_twice;
+use crate::unit_uses::add_macro;
+use crate::uses::{Around, Form, Use};
+use crate::walk::add_uses;
+use pgo_base::expr::Expr;
+use pgo_base::text::Text;
+use pgo_syntax::macros::Macro;
+use pgo_syntax::name::PlacedName;
+use std::alloc::{AllocError, Global};
+
+/// A macro, and for each of its parameters the names that may not stand in its argument.
+#[derive(Drop)]
+pub struct Captures {
+    pub name: Text,
+    pub tests: Vec<Names>,
+}
+
+/// Whether the name stands there, bound or not.
+fn stands_of(x: &Text, u: &Use) -> bool
+    ensures { result ≡ spec.stands_of x.now u.now u.now.form }
+{
+    match &u.form {
+        Form::Field => false,
+        _ => x.is(&u.name),
+    }
+}
+
+/// Whether the name stands among these.
+fn stands_in(x: &Text, uses: &[Use]) -> bool
+    ensures { result ≡ spec.stands_in x.now uses.now }
+{
+    for u in uses {
+        if stands_of(x, u) {
+            return true;
+        }
+    }
+    false
+}
+
+/// Adds the name where it is bound.
+fn add_bound_name(alloc: Global, u: &Use, names: &mut Names) -> Result<(), AllocError>
+    ensures { IfOk result (λ _. (x : Name) → is_among x names.new ≡ spec.binds_of x u.now u.now.form || is_among x names.old) }
+{
+    match &u.form {
+        Form::Bound => names.add(alloc, &u.name),
+        _ => Ok(()),
+    }
+}
+
+/// Adds the names that are bound among these.
+fn add_bound_names(alloc: Global, uses: &[Use], names: &mut Names) -> Result<(), AllocError>
+    ensures { IfOk result (λ _. (x : Name) → is_among x names.new ≡ spec.is_bound_in (is_among x names.old) uses.now x) }
+{
+    for u in uses {
+        add_bound_name(alloc, u, names)?;
+    }
+    Ok(())
+}
+
+/// The names that may not stand in the arguments of the macro of this name.
+fn tests_of<'a>(known: &'a [Captures], name: &Text) -> &'a [Names]
+    ensures { map see_test result.now ≡ spec.tests_of (map see_captures known.now) name.now }
+{
+    for k in known {
+        if name.is(&k.name) {
+            return k.tests.as_slice();
+        }
+    }
+    &[]
+}
+
+/// Adds the names that may not stand in this argument, where p stands in it.
+#[tactic(auto, using(crate::proofs::Among::all_is))]
+fn add_if_stands(
+    alloc: Global,
+    test: &Names,
+    around: Around,
+    p: &Text,
+    e: &Expr,
+    names: &mut Names,
+) -> Result<(), AllocError>
+    ensures { IfOk result (λ _. (x : Name) → is_among x names.new ≡ spec.handed_at (is_among x names.old) (see_test test.now) around p.now (tree e.now) x) }
+{
+    let mut uses = Vec::new(alloc);
+    add_uses(alloc, &[], around, e, &mut uses)?;
+    if stands_in(p, uses.as_slice()) {
+        names.add_all(alloc, test)?;
+    }
+    Ok(())
+}
+
+/// Adds the names that may not stand in one of these arguments in which p stands.
+fn add_handed_on(
+    alloc: Global,
+    tests: &[Names],
+    around: Around,
+    p: &Text,
+    args: &[Expr],
+    names: &mut Names,
+) -> Result<(), AllocError>
+    ensures { IfOk result (λ _. (x : Name) → is_among x names.new ≡ spec.handed_on (is_among x names.old) (map see_test tests.now) around p.now (map tree args.now) x) }
+{
+    for (i, test) in tests.iter().enumerate() {
+        let Some(e) = args.get(i) else {
+            return Ok(());
+        };
+        add_if_stands(alloc, test, around, p, e, names)?;
+    }
+    Ok(())
+}
+
+fn add_call(
+    alloc: Global,
+    known: &[Captures],
+    p: &Text,
+    u: &Use,
+    names: &mut Names,
+) -> Result<(), AllocError>
+    ensures { IfOk result (λ _. (x : Name) → is_among x names.new ≡ spec.calls_capture (is_among x names.old) (map see_captures known.now) p.now u.now u.now.form x) }
+{
+    match &u.form {
+        Form::Called(list) => {
+            let tests = tests_of(known, &u.name);
+            add_handed_on(alloc, tests, u.around, p, list.as_slice(), names)
+        }
+        _ => Ok(()),
+    }
+}
+
+/// Adds the names that may not stand where p is handed on to another macro.
+fn add_calls(
+    alloc: Global,
+    known: &[Captures],
+    p: &Text,
+    uses: &[Use],
+    names: &mut Names,
+) -> Result<(), AllocError>
+    ensures { IfOk result (λ _. (x : Name) → is_among x names.new ≡ spec.some_capture (is_among x names.old) (map see_captures known.now) p.now uses.now x) }
+{
+    for u in uses {
+        add_call(alloc, known, p, u, names)?;
+    }
+    Ok(())
+}
+
+/// The names that may not stand in the argument for the parameter p.
+fn parameter_test(
+    alloc: Global,
+    known: &[Captures],
+    uses: &[Use],
+    p: &Text,
+) -> Result<Names, AllocError>
+    ensures { IfOk result (λ names. (x : Name) → is_among x names ≡ spec.parameter_test (map see_captures known.now) uses.now p.now x) }
+{
+    let mut names = Names::new(alloc);
+    add_calls(alloc, known, p, uses, &mut names)?;
+    add_bound_names(alloc, uses, &mut names)?;
+    Ok(names)
+}
+
+/// The same for each parameter.
+fn parameter_tests(
+    alloc: Global,
+    known: &[Captures],
+    uses: &[Use],
+    params: &[PlacedName],
+) -> Result<Vec<Names>, AllocError>
+    ensures { IfOk result (λ v. map see_test v.items ≡ spec.parameter_tests (map see_captures known.now) uses.now (names_of params.now)) }
+{
+    let mut tests = Vec::new(alloc);
+    for p in params {
+        tests.push(parameter_test(alloc, known, uses, &p.name)?)?;
+    }
+    Ok(tests)
+}
+
+/// The same for each of these macros, each by those before it.
+pub fn known_captures(alloc: Global, list: &[Macro]) -> Result<Vec<Captures>, AllocError>
+    ensures { IfOk result (λ v. map see_captures v.items ≡ spec.captures list.now) }
+{
+    let mut known: Vec<Captures> = Vec::new(alloc);
+    for (i, m) in list.iter().enumerate() {
+        let mut uses = Vec::new(alloc);
+        add_macro(alloc, i, m, &mut uses)?;
+        let params = m.params.as_slice();
+        let tests = parameter_tests(alloc, known.as_slice(), uses.as_slice(), params)?;
+        let name = m.name.name.copy(alloc)?;
+        known.push(Captures { name, tests })?;
+    }
+    Ok(known)
+}
+
+fn add_captured_use(
+    alloc: Global,
+    test: &Names,
+    u: &Use,
+    out: &mut Vec<Finding>,
+) -> Result<(), AllocError>
+    ensures { IfOk result (λ _. out.new.items ≡ out.old.items ++ spec.captured_use (see_test test.now) u.now) }
+{
+    match &u.form {
+        Form::Field => Ok(()),
+        _ => {
+            if test.has(&u.name) {
+                add_twice(alloc, u.around.place, &u.name, out)?;
+            }
+            Ok(())
+        }
+    }
+}
+
+/// Adds the names among these that may not stand there.
+fn add_captured_uses(
+    alloc: Global,
+    test: &Names,
+    uses: &[Use],
+    out: &mut Vec<Finding>,
+) -> Result<(), AllocError>
+    ensures { IfOk result (λ _. out.new.items ≡ out.old.items ++ each_use (spec.captured_use (see_test test.now)) uses.now) }
+{
+    for u in uses {
+        add_captured_use(alloc, test, u, out)?;
+    }
+    Ok(())
+}
+
+/// Adds the names in these arguments that may not stand there.
+fn add_captured_in(
+    alloc: Global,
+    tests: &[Names],
+    around: Around,
+    args: &[Expr],
+    out: &mut Vec<Finding>,
+) -> Result<(), AllocError>
+    ensures { IfOk result (λ _. out.new.items ≡ out.old.items ++ spec.captured_in (map see_test tests.now) around (map tree args.now)) }
+{
+    for (i, test) in tests.iter().enumerate() {
+        let Some(e) = args.get(i) else {
+            return Ok(());
+        };
+        let mut uses = Vec::new(alloc);
+        add_uses(alloc, &[], around, e, &mut uses)?;
+        add_captured_uses(alloc, test, uses.as_slice(), out)?;
+    }
+    Ok(())
+}
+
+fn add_capture_use(
+    alloc: Global,
+    known: &[Captures],
+    u: &Use,
+    out: &mut Vec<Finding>,
+) -> Result<(), AllocError>
+    ensures { IfOk result (λ _. out.new.items ≡ out.old.items ++ spec.capture_use (map see_captures known.now) u.now) }
+{
+    match &u.form {
+        Form::Called(list) => {
+            let tests = tests_of(known, &u.name);
+            add_captured_in(alloc, tests, u.around, list.as_slice(), out)
+        }
+        _ => Ok(()),
+    }
+}
+
+/// Adds each name in an argument of a macro's call that may not stand there.
+pub fn add_capture_uses(
+    alloc: Global,
+    known: &[Captures],
+    uses: &[Use],
+    out: &mut Vec<Finding>,
+) -> Result<(), AllocError>
+    ensures { IfOk result (λ _. out.new.items ≡ out.old.items ++ each_use (spec.capture_use (map see_captures known.now)) uses.now) }
+{
+    for u in uses {
+        add_capture_use(alloc, known, u, out)?;
+    }
+    Ok(())
+}

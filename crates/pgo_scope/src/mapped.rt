@@ -1,0 +1,379 @@
+// Rule 6: a mapped parameter is read or assigned in a form in which it may not be.
+ghost use Rattle.std.specs.Prelude.{◌≡◌, suc, nat_eq, ◌++◌, map, option_map, IfOk};
+ghost use Rattle.pgo_base.specs.ExprView.{tree};
+ghost use Rattle.pgo_scope.specs.declared.errors.ScopeError.TheVariants as errors;
+ghost use Rattle.pgo_scope.specs.Findings.{each_use, found_if, found_where};
+ghost use Rattle.pgo_scope.specs.KnownView.{see_known, see_ways};
+ghost use Rattle.pgo_scope.specs.Mapped as spec;
+
+use crate::errors::ScopeError;
+use crate::finding::Finding;
+use crate::known::{Known, ParameterWays, add_left_uses, parameters_of, plainly, read_around};
+use crate::uses::{Around, Form, Home, Shape, Use};
+use crate::walk::add_uses;
+use crate::ways::{Ways, join, left_base, left_shape};
+use pgo_base::expr::Expr;
+use pgo_base::text::Text;
+use pgo_syntax::archetype::{Archetype, Extent, Parameter, ParameterKind};
+use pgo_syntax::process::{Argument, MappingClause, MappingTarget, Process};
+use pgo_syntax::spec::Spec;
+use std::alloc::{AllocError, Global};
+
+/// What a name of an archetype is to this rule: a parameter that is mapped as a whole or one element at a time, or
+/// neither.
+#[derive(Clone, Copy)]
+pub enum Mapped {
+    Unmapped,
+    AsWhole,
+    ByElement,
+}
+
+/// Whether the argument is this global.
+fn is_ref_to(g: &Text, argument: Option<&Argument>) -> bool
+    ensures { result ≡ spec.is_ref_to g.now (option_map (λ a. a.now) argument.entry) }
+{
+    match argument {
+        Some(Argument::Ref(x, _)) => g.is(&x.name),
+        _ => false,
+    }
+}
+
+/// Whether a clause with this target names the argument of this number, from 0.
+fn names_argument(number: usize, args: &[Argument], target: &MappingTarget) -> bool
+    ensures { result ≡ spec.names_argument number args.now target.now }
+{
+    match target {
+        MappingTarget::Argument { number: m, .. } => is_next(*m, number),
+        MappingTarget::Global { name, .. } => is_ref_to(&name.name, args.get(number)),
+    }
+}
+
+/// Whether m is one more than n.
+fn is_next(m: u64, n: usize) -> bool
+    ensures { result ≡ nat_eq m (suc n) }
+{
+    m > 0 && m - 1 == n as u64
+}
+
+fn some_clause(number: usize, args: &[Argument], clauses: &[MappingClause]) -> bool
+    ensures { result ≡ spec.some_clause number args.now clauses.now }
+{
+    for c in clauses {
+        if names_argument(number, args, &c.target) {
+            return true;
+        }
+    }
+    false
+}
+
+/// Whether a clause of some process of the archetype names the parameter of this number.
+fn some_process(archetype: &Text, number: usize, list: &[Process]) -> bool
+    ensures { result ≡ spec.some_process archetype.now number list.now }
+{
+    for p in list {
+        if archetype.is(&p.archetype.name)
+            && some_clause(number, p.arguments.as_slice(), p.clauses.as_slice())
+        {
+            return true;
+        }
+    }
+    false
+}
+
+fn mapped_kind(named: bool, kind: ParameterKind) -> Mapped
+    ensures { result ≡ spec.mapped_kind named kind }
+{
+    match kind {
+        ParameterKind::Value => Mapped::Unmapped,
+        ParameterKind::Ref(Extent::Element) => Mapped::ByElement,
+        ParameterKind::Ref(Extent::Whole) => {
+            if named {
+                Mapped::AsWhole
+            } else {
+                Mapped::Unmapped
+            }
+        }
+    }
+}
+
+/// What the name is among these parameters.
+fn mapped_among(archetype: &Text, list: &[Process], params: &[Parameter], x: &Text) -> Mapped
+    ensures { result ≡ spec.mapped_among archetype.now list.now 0 params.now x.now }
+{
+    for (n, p) in params.iter().enumerate() {
+        if x.is(&p.name.name) {
+            return mapped_kind(some_process(archetype, n, list), p.kind);
+        }
+    }
+    Mapped::Unmapped
+}
+
+fn mapped_of(list: &[Process], r: Option<&Archetype>, x: &Text) -> Mapped
+    ensures { result ≡ spec.mapped_of list.now (option_map (λ r. r.now) r.entry) x.now }
+{
+    match r {
+        Some(r) => mapped_among(&r.name.name, list, r.params.as_slice(), x),
+        None => Mapped::Unmapped,
+    }
+}
+
+/// What the name is there.
+fn mapped_in(s: &Spec, home: Home, x: &Text) -> Mapped
+    ensures { result ≡ spec.mapped_in s.now home x.now }
+{
+    match home {
+        Home::Body(j) => {
+            let archetype = s.archetypes.as_slice().get(j);
+            mapped_of(s.processes.as_slice(), archetype, x)
+        }
+        _ => Mapped::Unmapped,
+    }
+}
+
+fn wrong_read(around: Around, mapped: Mapped) -> bool
+    ensures { result ≡ spec.wrong_read around mapped }
+{
+    match mapped {
+        Mapped::Unmapped => false,
+        Mapped::AsWhole => around.hidden,
+        Mapped::ByElement => around.hidden || !around.indexed,
+    }
+}
+
+fn wrong_write(shape: Shape, mapped: Mapped) -> bool
+    ensures { result ≡ spec.wrong_write shape mapped }
+{
+    match (mapped, shape) {
+        (Mapped::Unmapped, _) => false,
+        (Mapped::AsWhole, Shape::Bare) => false,
+        (Mapped::AsWhole, _) => true,
+        (Mapped::ByElement, Shape::OneIndex) => false,
+        (Mapped::ByElement, _) => true,
+    }
+}
+
+/// Adds the parameter where it stands so.
+fn add_mapped(
+    alloc: Global,
+    wrong: bool,
+    place: u32,
+    x: &Text,
+    out: &mut Vec<Finding>,
+) -> Result<(), AllocError>
+    ensures { IfOk result (λ _. out.new.items ≡ out.old.items ++ found_if wrong place (errors.MappedReadHere x.now)) }
+{
+    if wrong {
+        let name = x.copy(alloc)?;
+        out.push(Finding {
+            place,
+            error: ScopeError::MappedReadHere { name },
+        })?;
+    }
+    Ok(())
+}
+
+fn add_mapped_read(
+    alloc: Global,
+    s: &Spec,
+    u: &Use,
+    out: &mut Vec<Finding>,
+) -> Result<(), AllocError>
+    ensures { IfOk result (λ _. out.new.items ≡ out.old.items ++ spec.mapped_read s.now u.now) }
+{
+    let wrong = wrong_read(u.around, mapped_in(s, u.around.home, &u.name));
+    add_mapped(alloc, wrong, u.around.place, &u.name, out)
+}
+
+fn add_mapped_write(
+    alloc: Global,
+    s: &Spec,
+    around: Around,
+    x: &Text,
+    shape: Shape,
+    out: &mut Vec<Finding>,
+) -> Result<(), AllocError>
+    ensures { IfOk result (λ _. out.new.items ≡ out.old.items ++ spec.mapped_write s.now around x.now shape) }
+{
+    let wrong = wrong_write(shape, mapped_in(s, around.home, x));
+    add_mapped(alloc, wrong, around.place, x, out)
+}
+
+fn add_read_use(alloc: Global, s: &Spec, u: &Use, out: &mut Vec<Finding>) -> Result<(), AllocError>
+    ensures { IfOk result (λ _. out.new.items ≡ out.old.items ++ spec.read_use s.now u.now) }
+{
+    match &u.form {
+        Form::Alone => add_mapped_read(alloc, s, u, out),
+        _ => Ok(()),
+    }
+}
+
+/// Adds what is wrong with the names that are read among these.
+fn add_read_uses(
+    alloc: Global,
+    s: &Spec,
+    uses: &[Use],
+    out: &mut Vec<Finding>,
+) -> Result<(), AllocError>
+    ensures { IfOk result (λ _. out.new.items ≡ out.old.items ++ each_use (spec.read_use s.now) uses.now) }
+{
+    for u in uses {
+        add_read_use(alloc, s, u, out)?;
+    }
+    Ok(())
+}
+
+/// Adds what is wrong with an argument where its parameter is read so, if it is.
+fn add_argument_read(
+    alloc: Global,
+    s: &Spec,
+    is: bool,
+    around: Around,
+    e: &Expr,
+    out: &mut Vec<Finding>,
+) -> Result<(), AllocError>
+    ensures { IfOk result (λ _. out.new.items ≡ out.old.items ++ found_where is (spec.argument_read s.now around around.hidden around.indexed (tree e.now))) }
+{
+    if !is {
+        return Ok(());
+    }
+    let mut uses = Vec::new(alloc);
+    add_uses(alloc, &[], around, e, &mut uses)?;
+    add_read_uses(alloc, s, uses.as_slice(), out)
+}
+
+fn add_base_written(
+    alloc: Global,
+    s: &Spec,
+    around: Around,
+    base: Option<&Text>,
+    shape: Shape,
+    out: &mut Vec<Finding>,
+) -> Result<(), AllocError>
+    ensures { IfOk result (λ _. out.new.items ≡ out.old.items ++ spec.base_written s.now around (option_map (λ x. x.now) base.entry) shape) }
+{
+    match base {
+        Some(x) => add_mapped_write(alloc, s, around, x, shape, out),
+        None => Ok(()),
+    }
+}
+
+/// Adds what is wrong with an argument where its parameter is assigned and this follows, if it is.
+fn add_argument_written(
+    alloc: Global,
+    s: &Spec,
+    is: bool,
+    around: Around,
+    shape: Shape,
+    e: &Expr,
+    out: &mut Vec<Finding>,
+) -> Result<(), AllocError>
+    ensures { IfOk result (λ _. out.new.items ≡ out.old.items ++ found_where is (spec.argument_written s.now around shape (tree e.now))) }
+{
+    if !is {
+        return Ok(());
+    }
+    let whole = join(left_shape(e), shape);
+    add_base_written(alloc, s, around, left_base(e), whole, out)?;
+    let mut uses = Vec::new(alloc);
+    add_left_uses(alloc, plainly(around), e, &mut uses)?;
+    add_read_uses(alloc, s, uses.as_slice(), out)
+}
+
+/// Adds what is wrong with an argument in the ways in which its parameter is read.
+fn add_argument_reads(
+    alloc: Global,
+    s: &Spec,
+    around: Around,
+    w: Ways,
+    e: &Expr,
+    out: &mut Vec<Finding>,
+) -> Result<(), AllocError>
+    ensures { IfOk result (λ _. out.new.items ≡ out.old.items ++ spec.argument_reads s.now around w (tree e.now)) }
+{
+    let plain = read_around(around, false, false);
+    let indexed = read_around(around, false, true);
+    let hidden = read_around(around, true, false);
+    let both = read_around(around, true, true);
+    add_argument_read(alloc, s, w.plain, plain, e, out)?;
+    add_argument_read(alloc, s, w.indexed, indexed, e, out)?;
+    add_argument_read(alloc, s, w.hidden, hidden, e, out)?;
+    add_argument_read(alloc, s, w.hidden_indexed, both, e, out)
+}
+
+/// Adds what is wrong with an argument in all the ways in which its parameter stands.
+fn add_argument(
+    alloc: Global,
+    s: &Spec,
+    around: Around,
+    w: Ways,
+    e: &Expr,
+    out: &mut Vec<Finding>,
+) -> Result<(), AllocError>
+    ensures { IfOk result (λ _. out.new.items ≡ out.old.items ++ spec.argument_findings s.now around w (tree e.now)) }
+{
+    add_argument_reads(alloc, s, around, w, e, out)?;
+    add_argument_written(alloc, s, w.bare, around, Shape::Bare, e, out)?;
+    add_argument_written(alloc, s, w.one_index, around, Shape::OneIndex, e, out)?;
+    add_argument_written(alloc, s, w.further, around, Shape::Further, e, out)
+}
+
+/// Adds what is wrong with the arguments of a call of a macro with these parameters.
+fn add_arguments(
+    alloc: Global,
+    s: &Spec,
+    around: Around,
+    params: &[ParameterWays],
+    args: &[Expr],
+    out: &mut Vec<Finding>,
+) -> Result<(), AllocError>
+    ensures { IfOk result (λ _. out.new.items ≡ out.old.items ++ spec.arguments_findings s.now around (map see_ways params.now) (map tree args.now)) }
+{
+    for (i, q) in params.iter().enumerate() {
+        let Some(e) = args.get(i) else {
+            return Ok(());
+        };
+        add_argument(alloc, s, around, q.ways, e, out)?;
+    }
+    Ok(())
+}
+
+fn add_mapped_use(
+    alloc: Global,
+    s: &Spec,
+    known: &[Known],
+    u: &Use,
+    out: &mut Vec<Finding>,
+) -> Result<(), AllocError>
+    ensures { IfOk result (λ _. out.new.items ≡ out.old.items ++ spec.mapped_use s.now (map see_known known.now) u.now) }
+{
+    match &u.form {
+        Form::Alone => {
+            if u.around.passed {
+                return Ok(());
+            }
+            add_mapped_read(alloc, s, u, out)
+        }
+        Form::Assigned(shape) => add_mapped_write(alloc, s, u.around, &u.name, *shape, out),
+        Form::Called(list) => {
+            let params = parameters_of(known, &u.name);
+            add_arguments(alloc, s, u.around, params, list.as_slice(), out)
+        }
+        _ => Ok(()),
+    }
+}
+
+/// Adds what breaks the rule among names in the text.
+pub fn add_mapped_uses(
+    alloc: Global,
+    s: &Spec,
+    known: &[Known],
+    uses: &[Use],
+    out: &mut Vec<Finding>,
+) -> Result<(), AllocError>
+    ensures { IfOk result (λ _. out.new.items ≡ out.old.items ++ each_use (spec.mapped_use s.now (map see_known known.now)) uses.now) }
+{
+    for u in uses {
+        add_mapped_use(alloc, s, known, u, out)?;
+    }
+    Ok(())
+}

@@ -1,0 +1,294 @@
+// What has a name in the written module.
+ghost use Rattle.std.specs.Prelude.{◌≡◌, [], ◌∷◌, ◌++◌, map, option_map, IfOk};
+ghost use Rattle.pgo_base.specs.Lookup.{find};
+ghost use Rattle.pgo_scope.specs.AllUses.{variable_names};
+ghost use Rattle.pgo_scope.specs.PieceView.{placed_names};
+ghost use Rattle.pgo_scope.specs.OwnView.{see_own};
+ghost use Rattle.pgo_scope.specs.TextOrder.{in_text_order};
+ghost use Rattle.pgo_scope.specs.Clash as spec;
+
+use crate::heads::shared_names;
+use crate::names::Names;
+use crate::unit_uses::add_archetype;
+use crate::uses::{Form, Use};
+use pgo_base::text::Text;
+use pgo_syntax::archetype::{Archetype, Parameter, ParameterKind};
+use pgo_syntax::declaration::Declaration;
+use pgo_syntax::name::PlacedName;
+use pgo_syntax::process::Process;
+use pgo_syntax::spec::Spec;
+use std::alloc::{AllocError, Global};
+
+/// A thing that has a name in the written module.
+#[derive(Drop)]
+pub struct Thing {
+    /// the name that it has there
+    pub written: Text,
+    /// as which it is shown
+    pub shown: Text,
+    pub place: u32,
+    /// whether it is a name that an expression binds, or a definition's parameter
+    pub bound: bool,
+}
+
+/// The names that an archetype's processes write.
+#[derive(Drop)]
+pub struct Own {
+    pub name: Text,
+    pub names: Vec<Text>,
+}
+
+/// The names that each module has.
+const FIXED: [&[u8]; 8] = [
+    b"vars",
+    b"ProcSet",
+    b"Init",
+    b"Next",
+    b"Spec",
+    b"Terminating",
+    b"pc",
+    b"self",
+];
+
+/// Adds a thing that is written with its own name.
+fn add_itself(
+    alloc: Global,
+    bound: bool,
+    x: &Text,
+    place: u32,
+    out: &mut Vec<Thing>,
+) -> Result<(), AllocError>
+    ensures { IfOk result (λ _. out.new.items ≡ out.old.items ++ spec.itself bound x.now place ∷ []) }
+{
+    let written = x.copy(alloc)?;
+    let shown = x.copy(alloc)?;
+    out.push(Thing {
+        written,
+        shown,
+        place,
+        bound,
+    })?;
+    Ok(())
+}
+
+fn add_words(alloc: Global, words: &[&[u8]], out: &mut Vec<Thing>) -> Result<(), AllocError>
+    ensures { IfOk result (λ _. out.new.items ≡ out.old.items ++ spec.fixed_things (map (λ w. w.now) words.now)) }
+{
+    for word in words {
+        let name = Text::from_slice(alloc, word)?;
+        add_itself(alloc, false, &name, 0, out)?;
+    }
+    Ok(())
+}
+
+/// Adds the fixed names.
+fn add_fixed(alloc: Global, out: &mut Vec<Thing>) -> Result<(), AllocError>
+    ensures { IfOk result (λ _. out.new.items ≡ out.old.items ++ spec.fixed_things spec.fixed_names) }
+{
+    add_words(alloc, &FIXED, out)
+}
+
+fn add_shared(alloc: Global, list: &[&PlacedName], out: &mut Vec<Thing>) -> Result<(), AllocError>
+    ensures { IfOk result (λ _. out.new.items ≡ out.old.items ++ spec.shared_things (placed_names list.now)) }
+{
+    for x in list {
+        add_itself(alloc, false, &x.name, x.place, out)?;
+    }
+    Ok(())
+}
+
+fn add_bound_thing(alloc: Global, u: &Use, out: &mut Vec<Thing>) -> Result<(), AllocError>
+    ensures { IfOk result (λ _. out.new.items ≡ out.old.items ++ spec.bound_thing u.now u.now.form) }
+{
+    match &u.form {
+        Form::Bound => add_itself(alloc, true, &u.name, u.around.place, out),
+        _ => Ok(()),
+    }
+}
+
+fn add_bound_things(alloc: Global, uses: &[Use], out: &mut Vec<Thing>) -> Result<(), AllocError>
+    ensures { IfOk result (λ _. out.new.items ≡ out.old.items ++ spec.bound_things uses.now) }
+{
+    for u in uses {
+        add_bound_thing(alloc, u, out)?;
+    }
+    Ok(())
+}
+
+fn add_value_name(alloc: Global, p: &Parameter, out: &mut Vec<Text>) -> Result<(), AllocError>
+    ensures { IfOk result (λ _. out.new.items ≡ out.old.items ++ spec.value_names (p.now ∷ [])) }
+{
+    match p.kind {
+        ParameterKind::Value => {
+            out.push(p.name.name.copy(alloc)?)?;
+            Ok(())
+        }
+        ParameterKind::Ref(_) => Ok(()),
+    }
+}
+
+fn add_value_names(alloc: Global, list: &[Parameter], out: &mut Vec<Text>) -> Result<(), AllocError>
+    ensures { IfOk result (λ _. out.new.items ≡ out.old.items ++ spec.value_names list.now) }
+{
+    for p in list {
+        add_value_name(alloc, p, out)?;
+    }
+    Ok(())
+}
+
+fn add_variable_names(
+    alloc: Global,
+    list: &[Declaration],
+    out: &mut Vec<Text>,
+) -> Result<(), AllocError>
+    ensures { IfOk result (λ _. out.new.items ≡ out.old.items ++ variable_names list.now) }
+{
+    for d in list {
+        out.push(d.name.name.copy(alloc)?)?;
+    }
+    Ok(())
+}
+
+/// The name where it is a label that is not among those before it.
+fn new_label<'a>(before: &Names, u: &'a Use) -> Option<&'a Text>
+    ensures { option_map (λ l. l.now) result ≡ spec.new_label before.now u.now u.now.form }
+{
+    match &u.form {
+        Form::Label => {
+            if before.has(&u.name) {
+                None
+            } else {
+                Some(&u.name)
+            }
+        }
+        _ => None,
+    }
+}
+
+/// Adds the labels among these, each once.
+fn add_labels(alloc: Global, uses: &[Use], out: &mut Vec<Text>) -> Result<(), AllocError>
+    ensures { IfOk result (λ _. out.new.items ≡ out.old.items ++ spec.labels_from [] uses.now) }
+{
+    let mut before = Names::new(alloc);
+    for u in uses {
+        if let Some(l) = new_label(&before, u) {
+            out.push(l.copy(alloc)?)?;
+            before.push(alloc, l, 0)?;
+        }
+    }
+    Ok(())
+}
+
+/// What the processes of an archetype of this number write.
+fn own_names(alloc: Global, number: usize, r: &Archetype) -> Result<Vec<Text>, AllocError>
+    ensures { IfOk result (λ v. v.items ≡ spec.own_names number r.now) }
+{
+    let mut names = Vec::new(alloc);
+    add_value_names(alloc, r.params.as_slice(), &mut names)?;
+    add_variable_names(alloc, r.locals.as_slice(), &mut names)?;
+    let mut uses = Vec::new(alloc);
+    add_archetype(alloc, number, r, &mut uses)?;
+    add_labels(alloc, uses.as_slice(), &mut names)?;
+    Ok(names)
+}
+
+fn own_rows(alloc: Global, list: &[Archetype]) -> Result<Vec<Own>, AllocError>
+    ensures { IfOk result (λ v. map see_own v.items ≡ spec.own_rows 0 list.now) }
+{
+    let mut rows = Vec::new(alloc);
+    for (i, r) in list.iter().enumerate() {
+        let name = r.name.name.copy(alloc)?;
+        let names = own_names(alloc, i, r)?;
+        rows.push(Own { name, names })?;
+    }
+    Ok(rows)
+}
+
+/// What the processes of the archetype of this name write.
+fn own_of<'a>(rows: &'a [Own], name: &Text) -> &'a [Text]
+    ensures { result.now ≡ spec.or_none (find name.now (map see_own rows.now)) }
+{
+    for row in rows {
+        if name.is(&row.name) {
+            return row.names.as_slice();
+        }
+    }
+    &[]
+}
+
+/// Two names with this byte between them.
+fn joined(alloc: Global, first: &Text, byte: u8, second: &Text) -> Result<Text, AllocError>
+    ensures { IfOk result (λ t. t ≡ first.now ++ (byte ∷ []) ++ second.now) }
+{
+    let mut bytes = Vec::from_slice(alloc, first.as_bytes())?;
+    bytes.push(byte)?;
+    bytes.extend_from_slice(second.as_bytes())?;
+    Ok(Text::from_bytes(bytes))
+}
+
+fn own_thing(alloc: Global, p: &Process, l: &Text) -> Result<Thing, AllocError>
+    ensures { IfOk result (λ t. t ≡ spec.own_thing p.now l.now) }
+{
+    Ok(Thing {
+        written: joined(alloc, &p.name.name, b'_', l)?,
+        shown: joined(alloc, &p.name.name, b'.', l)?,
+        place: p.name.place,
+        bound: false,
+    })
+}
+
+fn add_own_things(
+    alloc: Global,
+    p: &Process,
+    names: &[Text],
+    out: &mut Vec<Thing>,
+) -> Result<(), AllocError>
+    ensures { IfOk result (λ _. out.new.items ≡ out.old.items ++ spec.own_things p.now names.now) }
+{
+    for l in names {
+        out.push(own_thing(alloc, p, l)?)?;
+    }
+    Ok(())
+}
+
+fn add_process_things(
+    alloc: Global,
+    rows: &[Own],
+    list: &[Process],
+    out: &mut Vec<Thing>,
+) -> Result<(), AllocError>
+    ensures { IfOk result (λ _. out.new.items ≡ out.old.items ++ spec.process_things (map see_own rows.now) list.now) }
+{
+    for p in list {
+        add_itself(alloc, false, &p.name.name, p.name.place, out)?;
+        add_own_things(alloc, p, own_of(rows, &p.archetype.name), out)?;
+    }
+    Ok(())
+}
+
+/// These things in the order of the text.
+fn sorted(list: Vec<Thing>) -> Result<Vec<Thing>, AllocError>
+    ensures { IfOk result (λ v. v.items ≡ in_text_order (λ t. t.place) list.items) }
+{
+    let mut list = list;
+    list.sort_by_key(|t| t.place)?;
+    Ok(list)
+}
+
+/// All things: the fixed names, and then the others in the order of the text.
+pub fn things(alloc: Global, s: &Spec, uses: &[Use]) -> Result<Vec<Thing>, AllocError>
+    ensures { IfOk result (λ v. v.items ≡ spec.things_with s.now uses.now) }
+{
+    let mut placed = Vec::new(alloc);
+    let shared = shared_names(alloc, s)?;
+    add_shared(alloc, shared.as_slice(), &mut placed)?;
+    add_bound_things(alloc, uses, &mut placed)?;
+    let rows = own_rows(alloc, s.archetypes.as_slice())?;
+    add_process_things(alloc, rows.as_slice(), s.processes.as_slice(), &mut placed)?;
+    let mut all = Vec::new(alloc);
+    add_fixed(alloc, &mut all)?;
+    for t in sorted(placed)? {
+        all.push(t)?;
+    }
+    Ok(all)
+}

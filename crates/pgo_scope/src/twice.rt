@@ -1,0 +1,201 @@
+// Rule 2: a name has two meanings, but for macros' arguments.
+ghost use Rattle.std.specs.Prelude.{◌≡◌, [], ◌∷◌, ◌++◌, IfOk};
+ghost use Rattle.pgo_scope.specs.declared.errors.ScopeError.TheVariants as errors;
+ghost use Rattle.pgo_scope.specs.Findings.{each_use, each_name};
+ghost use Rattle.pgo_scope.specs.Heads as heads;
+ghost use Rattle.pgo_scope.specs.PieceView.{placed_names};
+ghost use Rattle.pgo_scope.specs.TextOrder.{in_text_order};
+ghost use Rattle.pgo_scope.specs.Twice as spec;
+
+use crate::errors::ScopeError;
+use crate::finding::Finding;
+use crate::heads::{
+    add_archetype_names, add_macro_names, add_mapping_names, add_process_names, shared_names,
+};
+use crate::names::Names;
+use crate::tables::Tables;
+use crate::unknown::knows_self;
+use crate::uses::{Form, Home, Use};
+use crate::words::{is_default, is_self, operator_count};
+use pgo_base::text::Text;
+use pgo_syntax::name::PlacedName;
+use pgo_syntax::spec::Spec;
+use std::alloc::{AllocError, Global};
+
+/// These names in the order of the text.
+fn sorted<'a>(list: Vec<&'a PlacedName>) -> Result<Vec<&'a PlacedName>, AllocError>
+    ensures { IfOk result (λ v. placed_names v.items ≡ in_text_order (λ x. x.place) (placed_names list.entry.items)) }
+{
+    let mut list = list;
+    list.sort_by_key(|x| x.place)?;
+    Ok(list)
+}
+
+/// Adds a name that has another meaning already.
+pub fn add_twice(
+    alloc: Global,
+    place: u32,
+    x: &Text,
+    out: &mut Vec<Finding>,
+) -> Result<(), AllocError>
+    ensures { IfOk result (λ _. out.new.items ≡ out.old.items ++ record { place = place; error = errors.Twice x.now } ∷ []) }
+{
+    let name = x.copy(alloc)?;
+    out.push(Finding {
+        place,
+        error: ScopeError::Twice { name },
+    })?;
+    Ok(())
+}
+
+/// Adds each of these names that stands before among them.
+fn add_repeated(
+    alloc: Global,
+    list: &[&PlacedName],
+    out: &mut Vec<Finding>,
+) -> Result<(), AllocError>
+    ensures { IfOk result (λ _. out.new.items ≡ out.old.items ++ spec.repeated [] (placed_names list.now)) }
+{
+    let mut before = Names::new(alloc);
+    for x in list {
+        if before.has(&x.name) {
+            add_twice(alloc, x.place, &x.name, out)?;
+        }
+        before.push(alloc, &x.name, 0)?;
+    }
+    Ok(())
+}
+
+/// Adds each of these names that stands before among them in the text.
+fn add_repeated_in(
+    alloc: Global,
+    list: Vec<&PlacedName>,
+    out: &mut Vec<Finding>,
+) -> Result<(), AllocError>
+    ensures { IfOk result (λ _. out.new.items ≡ out.old.items ++ spec.repeated_in (placed_names list.entry.items)) }
+{
+    let list = sorted(list)?;
+    add_repeated(alloc, list.as_slice(), out)
+}
+
+fn add_repeated_shared(alloc: Global, s: &Spec, out: &mut Vec<Finding>) -> Result<(), AllocError>
+    ensures { IfOk result (λ _. out.new.items ≡ out.old.items ++ spec.repeated_in (heads.shared_names s.now)) }
+{
+    let names = shared_names(alloc, s)?;
+    add_repeated_in(alloc, names, out)
+}
+
+fn add_repeated_macros(alloc: Global, s: &Spec, out: &mut Vec<Finding>) -> Result<(), AllocError>
+    ensures { IfOk result (λ _. out.new.items ≡ out.old.items ++ spec.repeated_in (heads.macro_names s.now.macros)) }
+{
+    let mut names = Vec::new(alloc);
+    add_macro_names(&mut names, s)?;
+    add_repeated_in(alloc, names, out)
+}
+
+fn add_repeated_mappings(alloc: Global, s: &Spec, out: &mut Vec<Finding>) -> Result<(), AllocError>
+    ensures { IfOk result (λ _. out.new.items ≡ out.old.items ++ spec.repeated_in (heads.mapping_names s.now.mappings)) }
+{
+    let mut names = Vec::new(alloc);
+    add_mapping_names(&mut names, s)?;
+    add_repeated_in(alloc, names, out)
+}
+
+fn add_repeated_archetypes(
+    alloc: Global,
+    s: &Spec,
+    out: &mut Vec<Finding>,
+) -> Result<(), AllocError>
+    ensures { IfOk result (λ _. out.new.items ≡ out.old.items ++ spec.repeated_in (heads.archetype_names s.now.archetypes)) }
+{
+    let mut names = Vec::new(alloc);
+    add_archetype_names(&mut names, s)?;
+    add_repeated_in(alloc, names, out)
+}
+
+fn add_repeated_processes(alloc: Global, s: &Spec, out: &mut Vec<Finding>) -> Result<(), AllocError>
+    ensures { IfOk result (λ _. out.new.items ≡ out.old.items ++ spec.repeated_in (heads.process_names s.now.processes)) }
+{
+    let mut names = Vec::new(alloc);
+    add_process_names(&mut names, s)?;
+    add_repeated_in(alloc, names, out)
+}
+
+/// Adds what is declared twice in the heads of units.
+pub fn add_declared_twice(alloc: Global, s: &Spec, out: &mut Vec<Finding>) -> Result<(), AllocError>
+    ensures { IfOk result (λ _. out.new.items ≡ out.old.items ++ spec.declared_twice s.now) }
+{
+    add_repeated_shared(alloc, s, out)?;
+    add_repeated_macros(alloc, s, out)?;
+    add_repeated_mappings(alloc, s, out)?;
+    add_repeated_archetypes(alloc, s, out)?;
+    add_repeated_processes(alloc, s, out)
+}
+
+/// Whether the name is an operator's, or `defaultInitValue`.
+fn is_reserved(x: &Text) -> bool
+    ensures { result ≡ spec.is_reserved x.now }
+{
+    operator_count(x).is_some() || is_default(x)
+}
+
+/// Adds each of these names that is an operator's, or `defaultInitValue`.
+pub fn add_reserved(
+    alloc: Global,
+    list: &[&PlacedName],
+    out: &mut Vec<Finding>,
+) -> Result<(), AllocError>
+    ensures { IfOk result (λ _. out.new.items ≡ out.old.items ++ each_name spec.reserved_name (placed_names list.now)) }
+{
+    for x in list {
+        if is_reserved(&x.name) {
+            add_twice(alloc, x.place, &x.name, out)?;
+        }
+    }
+    Ok(())
+}
+
+/// Whether names that are declared there may be those of globals.
+fn may_be_global(home: Home) -> bool
+    ensures { result ≡ spec.may_be_global home }
+{
+    matches!(home, Home::Body(_))
+}
+
+/// Whether the name hides one that is in scope where it is bound or declared.
+fn hides(t: &Tables, u: &Use) -> bool
+    ensures { result ≡ spec.hides t.now u.now }
+{
+    u.inner
+        || is_reserved(&u.name)
+        || t.constants.has(&u.name)
+        || t.definitions.has(&u.name)
+        || (is_self(&u.name) && knows_self(u.around.home))
+}
+
+fn is_hiding(t: &Tables, u: &Use) -> bool
+    ensures { result ≡ spec.hiding_of t.now u.now u.now.form }
+{
+    match &u.form {
+        Form::Bound => hides(t, u) || t.globals.has(&u.name),
+        Form::Named => { hides(t, u) || (t.globals.has(&u.name) && !may_be_global(u.around.home)) }
+        _ => false,
+    }
+}
+
+/// Adds each name that is bound or declared in a unit and hides another.
+pub fn add_hiding(
+    alloc: Global,
+    t: &Tables,
+    uses: &[Use],
+    out: &mut Vec<Finding>,
+) -> Result<(), AllocError>
+    ensures { IfOk result (λ _. out.new.items ≡ out.old.items ++ each_use (spec.hiding_use t.now) uses.now) }
+{
+    for u in uses {
+        if is_hiding(t, u) {
+            add_twice(alloc, u.around.place, &u.name, out)?;
+        }
+    }
+    Ok(())
+}

@@ -1,0 +1,234 @@
+// Rule 1: a name has no meaning at its place.
+ghost use Rattle.std.specs.Prelude.{◌≡◌, ◌++◌, IfOk};
+ghost use Rattle.pgo_scope.specs.Findings.{each_use};
+ghost use Rattle.pgo_scope.specs.Unknown as spec;
+ghost use Rattle.pgo_scope.specs.Names.{is_member};
+ghost use Rattle.pgo_scope.specs.AllUses.{parameter_names, variable_names};
+
+use crate::errors::ScopeError;
+use crate::finding::Finding;
+use crate::names::Names;
+use crate::tables::Tables;
+use crate::uses::{Form, Home, Use};
+use crate::words::{is_default, is_self, operator_count};
+use pgo_base::text::Text;
+use pgo_syntax::archetype::{Archetype, Parameter};
+use pgo_syntax::declaration::Declaration;
+use pgo_syntax::name::PlacedName;
+use pgo_syntax::process::{Argument, MappingClause, MappingTarget, Process};
+use std::alloc::{AllocError, Global};
+
+/// Whether the name has a meaning everywhere.
+fn is_constant(t: &Tables, x: &Text) -> bool
+    ensures { result ≡ spec.is_constant t.now x.now }
+{
+    t.constants.has(x) || operator_count(x).is_some() || is_default(x)
+}
+
+/// Whether the name has a meaning everywhere but in definitions and in initial values.
+fn is_common(t: &Tables, x: &Text) -> bool
+    ensures { result ≡ spec.is_common t.now x.now }
+{
+    is_constant(t, x) || t.definitions.has(x) || t.globals.has(x)
+}
+
+/// Whether one of these has the name.
+fn is_parameter(list: &[Parameter], x: &Text) -> bool
+    ensures { result ≡ is_member x.now (parameter_names list.now) }
+{
+    for p in list {
+        if x.is(&p.name.name) {
+            return true;
+        }
+    }
+    false
+}
+
+/// Whether one of these has the name.
+pub fn is_variable(list: &[Declaration], x: &Text) -> bool
+    ensures { result ≡ is_member x.now (variable_names list.now) }
+{
+    for d in list {
+        if x.is(&d.name.name) {
+            return true;
+        }
+    }
+    false
+}
+
+/// Whether the archetype of this number has a parameter or a local variable of the name.
+fn is_own(rs: &[Archetype], number: usize, x: &Text) -> bool
+    ensures { result ≡ spec.is_own rs.now number x.now }
+{
+    match rs.get(number) {
+        Some(r) => is_parameter(r.params.as_slice(), x) || is_variable(r.locals.as_slice(), x),
+        None => false,
+    }
+}
+
+/// Whether `self` is known there.
+pub fn knows_self(home: Home) -> bool
+    ensures { result ≡ spec.knows_self home }
+{
+    match home {
+        Home::Definition(_) | Home::Global(_) | Home::InitialSet(_) | Home::Process => false,
+        Home::Macro(_) | Home::Mapping | Home::Initial(_) | Home::Body(_) | Home::Argument => true,
+    }
+}
+
+/// Whether the name has a meaning there that nothing around it gives it.
+fn means(t: &Tables, rs: &[Archetype], home: Home, x: &Text) -> bool
+    ensures { result ≡ spec.means t.now rs.now home x.now }
+{
+    match home {
+        Home::Definition(i) => is_constant(t, x)
+            || t.definitions.is_earlier(i, x)
+            || t.globals.has(x),
+        Home::Global(i) => !t.globals.is_at(i, x) && is_common(t, x),
+        Home::Macro(_) => is_common(t, x) || is_self(x),
+        Home::Mapping => is_common(t, x) || is_self(x),
+        Home::Initial(j) => !is_own(rs, j, x) && (is_common(t, x) || is_self(x)),
+        Home::InitialSet(j) => !is_own(rs, j, x) && is_common(t, x),
+        Home::Body(_) => is_common(t, x) || is_self(x),
+        Home::Process => is_common(t, x),
+        Home::Argument => is_common(t, x) || is_self(x),
+    }
+}
+
+/// Whether a macro of the name may be called there.
+fn may_call(t: &Tables, home: Home, x: &Text) -> bool
+    ensures { result ≡ spec.may_call t.now home x.now }
+{
+    match home {
+        Home::Macro(i) => t.macros.is_earlier(i, x),
+        _ => t.macros.has(x),
+    }
+}
+
+/// Whether the name has no meaning where it stands.
+fn is_unknown(t: &Tables, rs: &[Archetype], u: &Use) -> bool
+    ensures { result ≡ spec.is_unknown t.now rs.now u.now u.now.form }
+{
+    match &u.form {
+        Form::Alone | Form::Applied(_) | Form::Assigned(_) => {
+            !u.inner && !means(t, rs, u.around.home, &u.name)
+        }
+        Form::Called(_) => !may_call(t, u.around.home, &u.name),
+        Form::Bound | Form::Named | Form::Field | Form::Label | Form::Target => false,
+    }
+}
+
+/// Adds what breaks the rule among names in the text.
+pub fn add_unknown_uses(
+    alloc: Global,
+    t: &Tables,
+    rs: &[Archetype],
+    uses: &[Use],
+    out: &mut Vec<Finding>,
+) -> Result<(), AllocError>
+    ensures { IfOk result (λ _. out.new.items ≡ out.old.items ++ each_use (spec.unknown_use t.now rs.now) uses.now) }
+{
+    for u in uses {
+        if is_unknown(t, rs, u) {
+            let name = u.name.copy(alloc)?;
+            out.push(Finding {
+                place: u.around.place,
+                error: ScopeError::Unknown { name },
+            })?;
+        }
+    }
+    Ok(())
+}
+
+/// Adds a name in the head of a process that is not one of these.
+fn add_unknown_in(
+    alloc: Global,
+    names: &Names,
+    x: &PlacedName,
+    out: &mut Vec<Finding>,
+) -> Result<(), AllocError>
+    ensures { IfOk result (λ _. out.new.items ≡ out.old.items ++ spec.unknown_in names.now x.now) }
+{
+    if !names.has(&x.name) {
+        let name = x.name.copy(alloc)?;
+        out.push(Finding {
+            place: x.place,
+            error: ScopeError::Unknown { name },
+        })?;
+    }
+    Ok(())
+}
+
+fn add_unknown_argument(
+    alloc: Global,
+    t: &Tables,
+    argument: &Argument,
+    out: &mut Vec<Finding>,
+) -> Result<(), AllocError>
+    ensures { IfOk result (λ _. out.new.items ≡ out.old.items ++ spec.unknown_argument t.now argument.now) }
+{
+    match argument {
+        Argument::Value(_, _) => Ok(()),
+        Argument::Ref(x, _) => add_unknown_in(alloc, &t.globals, x, out),
+    }
+}
+
+fn add_unknown_target(
+    alloc: Global,
+    t: &Tables,
+    target: &MappingTarget,
+    out: &mut Vec<Finding>,
+) -> Result<(), AllocError>
+    ensures { IfOk result (λ _. out.new.items ≡ out.old.items ++ spec.unknown_target t.now target.now) }
+{
+    match target {
+        MappingTarget::Global { name, .. } => add_unknown_in(alloc, &t.globals, name, out),
+        MappingTarget::Argument { .. } => Ok(()),
+    }
+}
+
+fn add_unknown_arguments(
+    alloc: Global,
+    t: &Tables,
+    list: &[Argument],
+    out: &mut Vec<Finding>,
+) -> Result<(), AllocError>
+    ensures { IfOk result (λ _. out.new.items ≡ out.old.items ++ spec.unknown_arguments t.now list.now) }
+{
+    for argument in list {
+        add_unknown_argument(alloc, t, argument, out)?;
+    }
+    Ok(())
+}
+
+fn add_unknown_clauses(
+    alloc: Global,
+    t: &Tables,
+    list: &[MappingClause],
+    out: &mut Vec<Finding>,
+) -> Result<(), AllocError>
+    ensures { IfOk result (λ _. out.new.items ≡ out.old.items ++ spec.unknown_clauses t.now list.now) }
+{
+    for clause in list {
+        add_unknown_target(alloc, t, &clause.target, out)?;
+        add_unknown_in(alloc, &t.mappings, &clause.mapping, out)?;
+    }
+    Ok(())
+}
+
+/// Adds what breaks the rule in the heads of processes.
+pub fn add_unknown_heads(
+    alloc: Global,
+    t: &Tables,
+    list: &[Process],
+    out: &mut Vec<Finding>,
+) -> Result<(), AllocError>
+    ensures { IfOk result (λ _. out.new.items ≡ out.old.items ++ spec.unknown_heads t.now list.now) }
+{
+    for p in list {
+        add_unknown_in(alloc, &t.archetypes, &p.archetype, out)?;
+        add_unknown_arguments(alloc, t, p.arguments.as_slice(), out)?;
+        add_unknown_clauses(alloc, t, p.clauses.as_slice(), out)?;
+    }
+    Ok(())
+}

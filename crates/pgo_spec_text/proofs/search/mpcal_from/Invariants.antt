@@ -1,0 +1,7 @@
+-- What the loop keeps: the bytes that are left give the same.
+use Rattle.std.proofs.Common.{◌≡◌, drop}
+use Rattle.pgo_spec_text.specs.Searching.{mpcal_from}
+use Rattle.pgo_spec_text.proofs.search.mpcal_from.Given as goal
+
+abbrev pub invariant-loop-i : goal.invariant-loop-i
+invariant-loop-i l = mpcal_from l.bytes ≡ mpcal_from (drop l.i l.bytes)

@@ -1,0 +1,3 @@
+pub mod SpecText
+pub mod Searching
+pub mod Cutting
