@@ -142,12 +142,12 @@ pub none_right : {A : Type 0} (xs ys : List A) → xs ++ ys ≡ [] → ys ≡ []
 none_right [] ys h = h
 none_right (x ∷ xs) ys h = absurd (cc)
 
-all_at : {A : Type 0} (P : A → Type 0) (x : A) (xs : List A) → AllByRecursion P xs → IsAmong x xs → P x
+pub all_at : {A : Type 0} (P : A → Type 0) (x : A) (xs : List A) → AllByRecursion P xs → IsAmong x xs → P x
 all_at P x [] a h = absurd h
 all_at P x (y ∷ ys) a (inl e) = subst P (sym e) a.0
 all_at P x (y ∷ ys) a (inr h) = all_at P x ys a.1 h
 
-turned : (x y : Name) → same_name x y ≡ false → same_name y x ≡ false
+pub turned : (x y : Name) → same_name x y ≡ false → same_name y x ≡ false
 turned x y h = go (same_name y x) refl
   where
     go : (b : Bool) → same_name y x ≡ b → same_name y x ≡ false

@@ -5,8 +5,6 @@ use Rattle.std.specs.List.{filter_map, flat_map}
 use Rattle.pgo_base.specs.Data.{Data, string}
 use Rattle.pgo_base.specs.Lookup.{Name, Vars, same_name, find}
 use Rattle.pgo_base.specs.Tree.{Tree}
-use Rattle.pgo_base.specs.View.{data_of}
-use Rattle.pgo_base.specs.ValueCode.{value_from}
 use Rattle.pgo_base.specs.declared.module.Defined.{Defined}
 use Rattle.pgo_model.specs.Machine.{nth}
 use Rattle.pgo_model.specs.Names.{same_name-self}
@@ -22,11 +20,10 @@ use Rattle.pgo_syntax.specs.declared.declaration.Declaration.{Declaration}
 use Rattle.pgo_syntax.specs.declared.process.Argument.{Argument}
 use Rattle.pgo_syntax.specs.declared.process.Argument.TheVariants as arguments
 use Rattle.pgo_syntax.specs.declared.process.MappingClause.{MappingClause}
-use Rattle.pgo_syntax.specs.declared.process.Process.{Process}
 use Rattle.pgo_syntax.specs.declared.spec.Spec.{Spec}
 use Rattle.pgo_bind.specs.declared.errors.BindError.{BindError}
-use Rattle.pgo_bind.specs.Values.{Start, Begins, defs_of, value_at, global_start, local_start, argument_start, start_of_value, beginning}
-use Rattle.pgo_bind.specs.Runs.{Run, Handed, archetype_named, run_with, run_of, runs_of, run_ids, all_ids, target_of, binding_of, bindings_of}
+use Rattle.pgo_bind.specs.Values.{defs_of, value_at, local_start, argument_start, start_of_value, beginning}
+use Rattle.pgo_bind.specs.Runs.{Run, Handed, archetype_named, run_with, run_of, runs_of, run_ids, target_of, binding_of, bindings_of}
 use Rattle.pgo_bind.specs.BoundOf.{GlobalStart, global_of, globals_of, global_value, places_of, places_of_run, instance_at, instances_of, first_place, first_places, first_label, first_label_in, expression_of, own_argument, own_start, locals_of, function_at, start_of, bound_of}
 use Rattle.pgo_bind.specs.Refusals.{is_run, archetypes_run, constants_refused, heads_refused, bind_refusal}
 use Rattle.pgo_bind.specs.Answers.{Answers}
@@ -91,18 +88,24 @@ module _ (s : Spec) (ds : List Defined) (w : WellNamed s) (h : heads_refused s.a
   none : Unrefused s.archetypes ds rs gs
   none = unrefused s.archetypes ds rs gs h
 
-  at_name : (x : Name) (v : Data) → IsAmong (x, v) start → find x start ≡ Some v
+  pub at_name : (x : Name) (v : Data) → IsAmong (x, v) start → find x start ≡ Some v
   at_name x v a = found_among x v start (subst AreDifferent (sym (start_names s ds)) w.variables_differ) a
+
+  pub at_global : (d : Declaration) → IsAmong d s.globals → find d.name.name start ≡ Some (beginning (global_of ds rs d).start)
+  at_global d a =
+      let g = global_of ds rs d in
+      let among = among_map (global_of ds rs) d s.globals a in
+      let there = among_left (global_value g) (map global_value gs ++ ((pc, first_places rs) ∷ [])) (flat_map (locals_of ds) rs) (among_left (global_value g) (map global_value gs) ((pc, first_places rs) ∷ []) (among_map global_value g gs among)) in
+      at_name d.name.name (beginning g.start) there
 
   pub of_global : (d : Declaration) → IsAmong d s.globals → (v : Data) × (find d.name.name start ≡ Some v) × StartsAs ds d.initial v
   of_global d a =
       let g = global_of ds rs d in
       let among = among_map (global_of ds rs) d s.globals a in
       let b = global_begins s.archetypes ds rs gs none g among in
-      let there = among_left (global_value g) (map global_value gs ++ ((pc, first_places rs) ∷ [])) (flat_map (locals_of ds) rs) (among_left (global_value g) (map global_value gs) ((pc, first_places rs) ∷ []) (among_map global_value g gs among)) in
-      (b.0, at_name d.name.name (beginning g.start) there ∙ ap (λ st. Some (beginning st)) b.1, starts_as ds d.initial b.0 b.1)
+      (b.0, at_global d a ∙ ap (λ st. Some (beginning st)) b.1, starts_as ds d.initial b.0 b.1)
 
-  at_pc : find pc start ≡ Some (first_places rs)
+  pub at_pc : find pc start ≡ Some (first_places rs)
   at_pc = at_name pc (first_places rs) (among_left (pc, first_places rs) (map global_value gs ++ ((pc, first_places rs) ∷ [])) (flat_map (locals_of ds) rs) (among_right (pc, first_places rs) (map global_value gs) ((pc, first_places rs) ∷ []) (inl refl)))
 
   pub of_place : (z : Run × Data) → IsAmong z (places_of rs) → value_in start pc z.1 ≡ Some (string (first_label z.0))
@@ -111,25 +114,35 @@ module _ (s : Spec) (ds : List Defined) (w : WellNamed s) (h : heads_refused s.a
       ∙ apply_on z.1 (map first_place (places_of rs))
       ∙ first_at (places_of rs) z.0 z.1 (subst StandOnce (sym (ids_of_places rs)) none.once) a
 
+  pub at_own : (r : Run) (x : Name) (v : Data) → IsAmong r rs → IsAmong (x, v) (locals_of ds r) → find x start ≡ Some v
+  at_own r x v a l =
+      at_name x v (among_right (x, v) (map global_value gs ++ ((pc, first_places rs) ∷ [])) (flat_map (locals_of ds) rs) (among_flat_map (locals_of ds) r (x, v) rs a l))
+
   of_own : (r : Run) (x : Name) (f : Data → Data) (id : Data) → IsAmong r rs → IsAmong (x, function_at f (run_ids r)) (locals_of ds r) → IsAmong id (run_ids r) → value_in start x id ≡ Some (f id)
   of_own r x f id a l i =
-      let there = among_right (x, function_at f (run_ids r)) (map global_value gs ++ ((pc, first_places rs) ∷ [])) (flat_map (locals_of ds) rs) (among_flat_map (locals_of ds) r (x, function_at f (run_ids r)) rs a l) in
-      ap (option_and_then (λ g. apply g id)) (at_name x (function_at f (run_ids r)) there) ∙ apply_at f id (run_ids r) i
+      ap (option_and_then (λ g. apply g id)) (at_own r x (function_at f (run_ids r)) a l) ∙ apply_at f id (run_ids r) i
+
+  pub own_local_there : (r : Run) (d : Declaration) → IsAmong d r.archetype.locals → IsAmong (own_start ds r d) (locals_of ds r)
+  own_local_there r d l =
+      among_right (own_start ds r d) (filter_map (own_argument ds r) r.handed) (map (own_start ds r) r.archetype.locals) (among_map (own_start ds r) d r.archetype.locals l)
 
   pub of_local : (r : Run) (d : Declaration) (id : Data) → IsAmong r rs → IsAmong d r.archetype.locals → IsAmong id (run_ids r) → (v : Data) × (value_in start (written r.process.name.name d.name.name) id ≡ Some v) × StartsAt ds d.initial id v
   of_local r d id a l i =
       let b = local_begins s.archetypes ds rs gs none r d id a (run_archetype s ds r a) l i in
-      let own = among_right (own_start ds r d) (filter_map (own_argument ds r) r.handed) (map (own_start ds r) r.archetype.locals) (among_map (own_start ds r) d r.archetype.locals l) in
-      (b.0, of_own r (written r.process.name.name d.name.name) (λ k. beginning (local_start ds d.initial k)) id a own i ∙ ap (λ st. Some (beginning st)) b.1, starts_at ds d.initial id b.0 b.1)
+      (b.0, of_own r (written r.process.name.name d.name.name) (λ k. beginning (local_start ds d.initial k)) id a (own_local_there r d l) i ∙ ap (λ st. Some (beginning st)) b.1, starts_at ds d.initial id b.0 b.1)
+
+  pub own_argument_there : (r : Run) (k : Handed) (e : Tree) → IsAmong k r.handed → expression_of k.argument ≡ Some e → IsAmong (written r.process.name.name k.parameter.name.name, function_at (λ q. beginning (argument_start ds e q)) (run_ids r)) (locals_of ds r)
+  own_argument_there r k e l x =
+      let name = written r.process.name.name k.parameter.name.name in
+      let f : Data → Data = λ q. beginning (argument_start ds e q) in
+      let is : own_argument ds r k ≡ Some (name, function_at f (run_ids r)) = ap (option_map (λ t. (name, function_at (λ q. beginning (argument_start ds t q)) (run_ids r)))) x in
+      among_left (name, function_at f (run_ids r)) (filter_map (own_argument ds r) r.handed) (map (own_start ds r) r.archetype.locals) (among_filter_map (own_argument ds r) k (name, function_at f (run_ids r)) r.handed l is)
 
   pub of_argument : (r : Run) (k : Handed) (e : Tree) (id : Data) → IsAmong r rs → IsAmong k r.handed → expression_of k.argument ≡ Some e → IsAmong id (run_ids r) → (v : Data) × (value_in start (written r.process.name.name k.parameter.name.name) id ≡ Some v) × (value_at ds id e ≡ Some v)
   of_argument r k e id a l x i =
       let b = argument_begins s.archetypes ds rs gs none r k e id a l x i in
       let name = written r.process.name.name k.parameter.name.name in
-      let f : Data → Data = λ q. beginning (argument_start ds e q) in
-      let is : own_argument ds r k ≡ Some (name, function_at f (run_ids r)) = ap (option_map (λ t. (name, function_at (λ q. beginning (argument_start ds t q)) (run_ids r)))) x in
-      let own = among_left (name, function_at f (run_ids r)) (filter_map (own_argument ds r) r.handed) (map (own_start ds r) r.archetype.locals) (among_filter_map (own_argument ds r) k (name, function_at f (run_ids r)) r.handed l is) in
-      (b.0, of_own r name f id a own i ∙ ap (λ o. Some (beginning (start_of_value o))) b.1, b.1)
+      (b.0, of_own r name (λ q. beginning (argument_start ds e q)) id a (own_argument_there r k e l x) i ∙ ap (λ o. Some (beginning (start_of_value o))) b.1, b.1)
 
   pub instance_from : (i : Instance) (n : ℕ) → nth (instances_of s rs) n ≡ Some i → (r : Run) × IsAmong r rs × ((id : Data) × IsAmong id (run_ids r) × (IsAmong (r, id) (places_of rs) × ((m : ℕ) × (i ≡ instance_at s m (r, id)))))
   instance_from i n q =

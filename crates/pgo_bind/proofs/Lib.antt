@@ -13,3 +13,11 @@ pub mod UniqueIds
 pub mod Unrefused
 pub mod Declared
 pub mod Places
+pub mod KnownParts
+pub mod Keyed
+pub mod Depths
+pub mod Different
+pub mod ElementStarts
+pub mod SoundStart
+pub mod SoundResources
+pub mod SoundBound

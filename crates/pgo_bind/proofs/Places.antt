@@ -31,10 +31,10 @@ use Rattle.pgo_bind.proofs.UniqueIds.{StandOnce, id_in, ids_of_places}
 use Rattle.pgo_bind.proofs.Unrefused.{Unrefused, unrefused}
 use Rattle.pgo_bind.proofs.Declared.{mapped_some, instance_from, at_instance}
 
-some_is : {A : Type 0} (x y : A) → Some x ≡ Some y → x ≡ y
+pub some_is : {A : Type 0} (x y : A) → Some x ≡ Some y → x ≡ y
 some_is x y e = cc
 
-nth_from : {A B : Type 0} (f : ℕ → A → B) (k n : ℕ) (xs : List A) (y : B) → nth (numbered f k xs) n ≡ Some y → (x : A) × (nth xs n ≡ Some x) × ((m : ℕ) × (m ≡ k + n) × (y ≡ f m x))
+pub nth_from : {A B : Type 0} (f : ℕ → A → B) (k n : ℕ) (xs : List A) (y : B) → nth (numbered f k xs) n ≡ Some y → (x : A) × (nth xs n ≡ Some x) × ((m : ℕ) × (m ≡ k + n) × (y ≡ f m x))
 nth_from f k n [] y h = absurd (cc)
 nth_from f k zero (x ∷ xs) y h = (x, refl, (k, let e : k ≡ k + 0 = omega arith in e, sym (some_is (f k x) y h)))
 nth_from f k (suc n) (x ∷ xs) y h =
@@ -53,7 +53,7 @@ once_nth (x ∷ xs) zero (suc m) a b s h g e = absurd (s.0 (subst (λ z. IsAmong
 once_nth (x ∷ xs) (suc n) zero a b s h g e = absurd (s.0 (subst (λ z. IsAmong z xs) (e ∙ sym (some_is x b g)) (among_nth a xs n h)))
 once_nth (x ∷ xs) (suc n) (suc m) a b s h g e = ap suc (once_nth xs n m a b s.1 h g e)
 
-nth_among : {A : Type 0} (x : A) (xs : List A) → IsAmong x xs → (n : ℕ) × (nth xs n ≡ Some x)
+pub nth_among : {A : Type 0} (x : A) (xs : List A) → IsAmong x xs → (n : ℕ) × (nth xs n ≡ Some x)
 nth_among x [] h = absurd h
 nth_among x (y ∷ ys) (inl e) = (0, ap Some (sym e))
 nth_among x (y ∷ ys) (inr h) = let r = nth_among x ys h in (suc r.0, r.1)

@@ -1,5 +1,5 @@
 -- What holds of a specification that is not refused.
-use Rattle.std.proofs.Common.{◌≡◌, ℕ, Bool, true, false, ◌||◌, if◌then◌else◌, nat_lt, List, [], ◌∷◌, ◌++◌, ◌≤◌, length, arith, map, Option, Some, None, option_map, option_and_then, refl, ap, sym, ◌∙◌, subst}
+use Rattle.std.proofs.Common.{◌≡◌, ℕ, Bool, true, false, if◌then◌else◌, nat_lt, List, [], ◌∷◌, ◌++◌, ◌≤◌, length, arith, Option, Some, None, option_map, option_and_then, refl, ap, sym, ◌∙◌, subst}
 use Rattle.std.proofs.lemmas.Bool.Decides.{nat_tests}
 use Rattle.std.specs.List.{filter_map, flat_map}
 use Rattle.pgo_base.specs.Data.{Data}
@@ -7,7 +7,7 @@ use Rattle.pgo_base.specs.Lookup.{Name}
 use Rattle.pgo_base.specs.Tree.{Tree}
 use Rattle.pgo_base.specs.ValueCode.{value_from}
 use Rattle.pgo_base.specs.declared.module.Defined.{Defined}
-use Rattle.pgo_model.specs.Operators.{members_of, is_member, contains, same_data}
+use Rattle.pgo_model.specs.Operators.{members_of, is_member, contains}
 use Rattle.pgo_syntax.specs.declared.archetype.Archetype.{Archetype}
 use Rattle.pgo_syntax.specs.declared.binding.Origin.{Origin}
 use Rattle.pgo_syntax.specs.declared.binding.Origin.TheVariants.{Equals, In}
@@ -19,7 +19,7 @@ use Rattle.pgo_bind.specs.declared.initial.Lack.TheVariants.{NoSet, NoMember}
 use Rattle.pgo_bind.specs.Values.{Start, Missing, Empty, Begins, closed_value, value_at, start_of_value, start_of_members, start_in, default_start, global_start, local_start, argument_start, beginning, is_empty, is_unset}
 use Rattle.pgo_bind.specs.Runs.{Run, Handed, run_ids, is_some_item, all_ids}
 use Rattle.pgo_bind.specs.BoundOf.{GlobalStart, expression_of, all_parts}
-use Rattle.pgo_bind.specs.Refusals.{first, more_than, first_placed, earlier, where_true, at_place, bad_mappings, ids_shared, ids_unknown, instances_past, resources_past, values_unset, sets_empty, ids_refused, starts_refused, heads_refused, or_next, unset_global, empty_global, lacking, archetypes_run, lacking_in, lacking_local, lacks, lacks_in, local_set, unset_in_run, unset_local, unset_handed, unset_argument, is_unset_at, is_value_unset, is_some_unset, is_closed_unset, is_unset_somewhere}
+use Rattle.pgo_bind.specs.Refusals.{first, more_than, first_placed, earlier, where_true, at_place, bad_mappings, ids_shared, ids_unknown, instances_past, resources_past, values_unset, sets_empty, ids_refused, starts_refused, heads_refused, or_next, unset_global, empty_global, lacking, archetypes_run, lacking_in, lacking_local, lacks, lacks_in, local_set, unset_in_run, unset_local, unset_handed, unset_argument, is_unset_at, is_value_unset, is_some_unset, is_closed_unset}
 use Rattle.pgo_bind.specs.Declares.{StartsAs, StartsAt}
 use Rattle.pgo_bind.proofs.Passing.{none_first, none_next}
 use Rattle.pgo_bind.proofs.Among.{IsAmong, none_any, none_filter_map, none_flat_map, none_left, none_right}
@@ -46,7 +46,7 @@ placed_empty (x ∷ xs) h = absurd (go (first_placed xs) h)
     go None g = cc
     go (Some y) g = one (nat_lt y.0 x.0) y g
 
-where_false : {A : Type 0} (b : Bool) (x : A) → where_true b x ≡ None → b ≡ false
+pub where_false : {A : Type 0} (b : Bool) (x : A) → where_true b x ≡ None → b ≡ false
 where_false true x h = absurd (cc)
 where_false false x h = refl
 
@@ -59,7 +59,9 @@ few_of limit n h = go (nat_lt limit n) refl h
 
 -- what nothing refused says of identifiers and starts
 pub record Unrefused (as' : List Archetype) (ds : List Defined) (rs : List Run) (gs : List GlobalStart) : Type 0 where
+  pub mappings : bad_mappings gs rs ≡ []
   pub once : StandOnce (all_ids rs)
+  pub known : ids_unknown rs ≡ []
   pub few_ids : length (all_ids rs) ≤ 64
   pub few_parts : length (all_parts gs) ≤ 1024
   pub unset : values_unset as' ds rs gs ≡ []
@@ -67,17 +69,21 @@ pub record Unrefused (as' : List Archetype) (ds : List Defined) (rs : List Run) 
 
 pub unrefused : (as' : List Archetype) (ds : List Defined) (rs : List Run) (gs : List GlobalStart) → heads_refused as' ds rs gs ≡ None → Unrefused as' ds rs gs
 unrefused as' ds rs gs h =
+    let fitting = none_first (option_map (λ p. errors.BadMapping p.0 p.1) (first (bad_mappings gs rs))) (or_next (ids_refused rs) (starts_refused as' ds rs gs)) h in
     let rest = none_next (option_map (λ p. errors.BadMapping p.0 p.1) (first (bad_mappings gs rs))) (or_next (ids_refused rs) (starts_refused as' ds rs gs)) h in
     let ids = none_first (ids_refused rs) (starts_refused as' ds rs gs) rest in
     let starts = none_next (ids_refused rs) (starts_refused as' ds rs gs) rest in
     let shared = none_first (option_map (λ id. errors.SameId (value_from id)) (first (ids_shared rs))) (or_next (option_map errors.IdsNoValue (first (ids_unknown rs))) (option_map errors.TooManyInstances (first (instances_past rs)))) ids in
+    let unknown = none_first (option_map errors.IdsNoValue (first (ids_unknown rs))) (option_map errors.TooManyInstances (first (instances_past rs))) (none_next (option_map (λ id. errors.SameId (value_from id)) (first (ids_shared rs))) (or_next (option_map errors.IdsNoValue (first (ids_unknown rs))) (option_map errors.TooManyInstances (first (instances_past rs)))) ids) in
     let many = none_next (option_map errors.IdsNoValue (first (ids_unknown rs))) (option_map errors.TooManyInstances (first (instances_past rs))) (none_next (option_map (λ id. errors.SameId (value_from id)) (first (ids_shared rs))) (or_next (option_map errors.IdsNoValue (first (ids_unknown rs))) (option_map errors.TooManyInstances (first (instances_past rs)))) ids) in
     let parts = none_first (option_map errors.TooManyResources (first (resources_past gs))) (or_next (option_map (λ p. errors.InitNoValue p.1) (first_placed (values_unset as' ds rs gs))) (option_map (λ p. errors.InitEmpty p.1) (first_placed (sets_empty as' ds rs gs)))) starts in
     let initial = none_next (option_map errors.TooManyResources (first (resources_past gs))) (or_next (option_map (λ p. errors.InitNoValue p.1) (first_placed (values_unset as' ds rs gs))) (option_map (λ p. errors.InitEmpty p.1) (first_placed (sets_empty as' ds rs gs)))) starts in
     let values = none_first (option_map (λ p. errors.InitNoValue p.1) (first_placed (values_unset as' ds rs gs))) (option_map (λ p. errors.InitEmpty p.1) (first_placed (sets_empty as' ds rs gs))) initial in
     let sets = none_next (option_map (λ p. errors.InitNoValue p.1) (first_placed (values_unset as' ds rs gs))) (option_map (λ p. errors.InitEmpty p.1) (first_placed (sets_empty as' ds rs gs))) initial in
     record {
+      mappings = first_empty (bad_mappings gs rs) (mapped_none (λ p. errors.BadMapping p.0 p.1) (first (bad_mappings gs rs)) fitting);
       once = once_of (all_ids rs) (first_empty (ids_shared rs) (mapped_none (λ id. errors.SameId (value_from id)) (first (ids_shared rs)) shared));
+      known = first_empty (ids_unknown rs) (mapped_none errors.IdsNoValue (first (ids_unknown rs)) unknown);
       few_ids = few_of 64 (length (all_ids rs)) (mapped_none errors.TooManyInstances (first (instances_past rs)) many);
       few_parts = few_of 1024 (length (all_parts gs)) (mapped_none errors.TooManyResources (first (resources_past gs)) parts);
       unset = placed_empty (values_unset as' ds rs gs) (mapped_none (λ p. errors.InitNoValue p.1) (first_placed (values_unset as' ds rs gs)) values);
@@ -125,10 +131,13 @@ some_item : (id : Data) (ids : List Data) → IsAmong id ids → is_some_item id
 some_item id [] h = absurd h
 some_item id (x ∷ xs) h = refl
 
-value_set : (ds : List Defined) (e : Tree) (id : Data) (ids : List Data) → IsAmong id ids → is_value_unset ds e ids ≡ false → (v : Data) × (value_at ds id e ≡ Some v)
-value_set ds e id ids a h =
+pub set_at : (ds : List Defined) (e : Tree) (id : Data) (ids : List Data) → IsAmong id ids → is_value_unset ds e ids ≡ false → is_unset 255 (argument_start ds e id) ≡ false
+set_at ds e id ids a h =
     let some = sym (ap (λ b. if b then is_some_unset ds e ids else is_closed_unset ds e) (some_item id ids a)) ∙ h in
-    value_begins 255 (value_at ds id e) (none_any (λ i. is_unset 255 (argument_start ds e i)) id ids some a)
+    none_any (λ i. is_unset 255 (argument_start ds e i)) id ids some a
+
+value_set : (ds : List Defined) (e : Tree) (id : Data) (ids : List Data) → IsAmong id ids → is_value_unset ds e ids ≡ false → (v : Data) × (value_at ds id e ≡ Some v)
+value_set ds e id ids a h = value_begins 255 (value_at ds id e) (set_at ds e id ids a h)
 
 local_set_begins : (ds : List Defined) (o : Option Origin) (id : Data) (ids : List Data) → IsAmong id ids → is_unset_at ds o ids ≡ false → lacks_in NoMember (local_set ds o) ≡ false → (v : Data) × (local_start ds o id ≡ Begins v)
 local_set_begins ds None id ids a h g = (beginning default_start, refl)
@@ -142,7 +151,7 @@ module _ (as' : List Archetype) (ds : List Defined) (rs : List Run) (gs : List G
       let empty = none_filter_map empty_global g gs (none_left (filter_map empty_global gs) (lacking as' ds rs NoMember) u.empty) a in
       begins 256 g.start (where_false (is_unset 256 g.start) (at_place g.declaration.name) unset) (where_false (is_empty g.start) (at_place g.declaration.name) empty)
 
-  in_run : (r : Run) → IsAmong r rs → unset_in_run ds r ≡ []
+  pub in_run : (r : Run) → IsAmong r rs → unset_in_run ds r ≡ []
   in_run r a = none_flat_map (unset_in_run ds) r rs (none_right (lacking as' ds rs NoSet) (flat_map (unset_in_run ds) rs) (none_right (filter_map unset_global gs) (lacking as' ds rs NoSet ++ flat_map (unset_in_run ds) rs) u.unset)) a
 
   pub local_begins : (r : Run) (d : Declaration) (id : Data) → IsAmong r rs → IsAmong r.archetype (archetypes_run as' rs) → IsAmong d r.archetype.locals → IsAmong id (run_ids r) → (v : Data) × (local_start ds d.initial id ≡ Begins v)
@@ -154,7 +163,7 @@ module _ (as' : List Archetype) (ds : List Defined) (rs : List Run) (gs : List G
       (where_false (is_unset_at ds d.initial (run_ids r)) (at_place d.name) unset)
       (where_false (lacks_in NoMember (local_set ds d.initial)) (at_place d.name) empty)
 
-  value_unset : (r : Run) (x : Name) (e : Tree) (b : Argument) → expression_of b ≡ Some e → unset_argument ds r x b ≡ None → is_value_unset ds e (run_ids r) ≡ false
+  pub value_unset : (r : Run) (x : Name) (e : Tree) (b : Argument) → expression_of b ≡ Some e → unset_argument ds r x b ≡ None → is_value_unset ds e (run_ids r) ≡ false
   value_unset r x e (arguments.Ref g f) h n = absurd (cc)
   value_unset r x e (arguments.Value place t) h n =
       subst (λ o. is_value_unset ds (some_or e o) (run_ids r) ≡ false) h (where_false (is_value_unset ds t (run_ids r)) (place, x) n)

@@ -1,12 +1,13 @@
 // A specification bound to constants.
 ghost use Rattle.std.specs.Prelude.{◌≡◌, ◌≤◌, length, map, IfOk};
+ghost use Rattle.pgo_model.specs.State.{AllValues};
 ghost use Rattle.pgo_bind.specs.Answers.{Answers, Passes};
 ghost use Rattle.pgo_bind.specs.BoundOf as specs;
 ghost use Rattle.pgo_bind.specs.BoundOf.{bound_of, bound_with};
 ghost use Rattle.pgo_bind.specs.Refusals.{bind_refusal, constants_refused, ids_refused, starts_refused, heads_refused};
 ghost use Rattle.pgo_bind.specs.Declares.{Declares};
 ghost use Rattle.pgo_bind.specs.Runs as processes;
-ghost use Rattle.pgo_bind.specs.Sound.{AreAtLabels, IsNumbered, WellNamed};
+ghost use Rattle.pgo_bind.specs.Sound.{AreAtLabels, IsNumbered, Sound, WellNamed};
 ghost use Rattle.pgo_bind.specs.Views.{run_view, global_view};
 
 use crate::constants::{constants_declared, constants_given};
@@ -16,6 +17,7 @@ use crate::globals::{GlobalStart, all_parts, globals_of, resources_of};
 use crate::identifiers::{all_ids, few_instances, few_resources, ids_differ, ids_known};
 use crate::initial::{sets_filled, values_set};
 use crate::instances::instances_of;
+use crate::known::known_state;
 use crate::runs::{Run, runs_of};
 use crate::start::start_of;
 use crate::values::definitions;
@@ -87,12 +89,14 @@ fn made(
 ) -> Result<Bound, AllocError>
     requires few_instances { length (processes.all_ids (map run_view runs.now)) ≤ 64 }
     requires few_resources { length (specs.all_parts (map global_view globals.now)) ≤ 1024 }
-    ensures { IfOk result (λ b. b ≡ bound_with spec.now defs (map run_view runs.now) (map global_view globals.now)) }
+    ensures bound { IfOk result (λ b. b ≡ bound_with spec.now defs (map run_view runs.now) (map global_view globals.now)) }
+    ensures values { IfOk result (λ b. AllValues b.start) }
 {
     let instances = instances_of(alloc, spec, runs)?;
     let parts = all_parts(alloc, globals)?;
     let resources = resources_of(alloc, parts.as_slice())?;
     let start = start_of(alloc, &defs, runs, globals)?;
+    known_state(&start);
     Ok(Bound {
         spec: spec.copy(alloc)?,
         defs,
@@ -110,7 +114,8 @@ fn bound(
     runs: &[Run<'_>],
     globals: &[GlobalStart<'_>],
 ) -> Result<Bound, BindError>
-    ensures { Answers (heads_refused spec.now.archetypes defs (map run_view runs.now) (map global_view globals.now)) (bound_with spec.now defs (map run_view runs.now) (map global_view globals.now)) result }
+    ensures answers { Answers (heads_refused spec.now.archetypes defs (map run_view runs.now) (map global_view globals.now)) (bound_with spec.now defs (map run_view runs.now) (map global_view globals.now)) result }
+    ensures values { IfOk result (λ b. AllValues b.start) }
 {
     heads_fit(alloc, spec.archetypes.as_slice(), &defs, runs, globals)?;
     let bound = made(alloc, spec, defs, runs, globals)?;
@@ -119,7 +124,8 @@ fn bound(
 
 /// The bound system, or why it is refused.
 fn answered(alloc: Global, spec: &Spec, consts: &Consts) -> Result<Bound, BindError>
-    ensures { Answers (bind_refusal spec.now consts.now) (bound_of spec.now consts.now) result }
+    ensures answers { Answers (bind_refusal spec.now consts.now) (bound_of spec.now consts.now) result }
+    ensures values { IfOk result (λ b. AllValues b.start) }
 {
     constants_fit(alloc, spec, consts)?;
     let defs = definitions(alloc, spec, consts)?;
@@ -139,6 +145,9 @@ fn answered(alloc: Global, spec: &Spec, consts: &Consts) -> Result<Bound, BindEr
 /// - `declared`: the start is a declared one, where the specification's names are as they must be.
 /// - `at_labels`: then each instance starts at a label of its process.
 /// - `numbered`: instances and resources are numbered from 0, are no more than the limits, and identifiers differ.
+/// - `sound`: where the specification's names are as they must be, the bound system is sound: besides `at_labels` and
+///   `numbered` its start is a state, its resources differ and are no component of an instance, and the domain of each
+///   global that is bound by element is the indices of its resources.
 ///
 /// Source: Modular PlusCal for instances and mapping; the numbering, the limits and the least member that a variable
 /// starts with are this project's choice.
@@ -147,6 +156,7 @@ pub fn bind(alloc: Global, spec: &Spec, consts: &Consts) -> Result<Bound, BindEr
     ensures declared { WellNamed spec.now → IfOk result (λ b. Declares b b.start) }
     ensures at_labels { WellNamed spec.now → IfOk result AreAtLabels }
     ensures numbered { IfOk result IsNumbered }
+    ensures sound { WellNamed spec.now → IfOk result Sound }
 {
     answered(alloc, spec, consts)
 }

@@ -10,6 +10,7 @@ mod identifiers;
 mod initial;
 mod instances;
 mod kinds;
+mod known;
 mod mapping;
 mod mentions;
 mod operands;

@@ -6,6 +6,4 @@ pub mod checker;
 mod definitions;
 pub mod errors;
 mod states;
-#[cfg(test)]
-mod tests;
 pub mod verdict;

@@ -316,6 +316,3 @@ pub fn read_counter(alloc: Global, text: &[u8]) -> Result<Counter, ReadStop>
 {
     read(alloc, text)
 }
-
-#[cfg(test)]
-mod tests;

@@ -22,8 +22,6 @@ mod paths;
 mod quantifiers;
 mod scope;
 mod states;
-#[cfg(test)]
-mod tests;
 mod truths;
 mod updates;
 mod words;

@@ -12,5 +12,3 @@ pub mod reader;
 pub mod sign;
 mod stack;
 pub mod table;
-#[cfg(test)]
-mod tests;

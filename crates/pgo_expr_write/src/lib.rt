@@ -8,7 +8,5 @@ mod lists;
 mod operators;
 mod parts;
 mod strings;
-#[cfg(test)]
-mod tests;
 mod words;
 pub mod write;

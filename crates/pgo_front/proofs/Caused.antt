@@ -1,5 +1,5 @@
 -- Which status each cause gives: by exclusion of the others, from what each status says.
-use Rattle.std.proofs.Common.{◌≡◌, ◌≤◌, ◌<◌, ◌⊎◌, inl, inr, ℕ, List, length, Option, Some, IfSome, refl, sym, ◌∙◌, ap, subst, arith}
+use Rattle.std.proofs.Common.{◌≡◌, ◌≤◌, ◌<◌, ◌⊎◌, inl, inr, ℕ, suc, List, [], ◌∷◌, length, codes, Option, Some, IfSome, refl, sym, ◌∙◌, ap, subst, arith}
 use Rattle.pgo_io.specs.Faults.{Rose}
 use Rattle.pgo_base.specs.Data.{Data}
 use Rattle.pgo_base.specs.Lookup.{Name}
@@ -11,10 +11,11 @@ use Rattle.pgo_check.specs.declared.verdict.Verdict.{Verdict}
 use Rattle.pgo_log_text.specs.ReadBundle.{IsReadBundle, IsNoBundle}
 use Rattle.pgo_front.specs.declared.status.Status.{Status}
 use Rattle.pgo_front.specs.declared.status.Status.TheVariants as status
-use Rattle.pgo_front.specs.Turns.{AsksCheck}
+use Rattle.pgo_front.specs.Constants.{AreConstants}
+use Rattle.pgo_front.specs.Turns.{AsksStep, AsksCheck}
 use Rattle.pgo_front.specs.Spells.{Spells, most_bytes}
 use Rattle.pgo_front.specs.Verdicts.{most_bundle_bytes, IsRunVerdict, IsBadVerdict}
-use Rattle.pgo_front.specs.Answers.{AsksNothing, AsksSomeStep, SpellsNothing, Asked, WritesBundle, Checked, WritesVerdict, EndsWell, WritesPrefix, Stops, IsRefusal, OrNoMemory, IsToldToStep, IsToldToCheck}
+use Rattle.pgo_front.specs.Answers.{AsksNothing, AsksSomeStep, IsNotRun, IsRefused, Asked, WritesBundle, Checked, WritesVerdict, EndsWell, WritesPrefix, Stops, IsRefusal, OrNoMemory, IsToldToStep, IsToldToCheck}
 use Rattle.pgo_front.proofs.Judging.{run_is_not_bad, no_run_is_not_run}
 
 -- what an input told is what holds of its text
@@ -27,16 +28,35 @@ not_short long short = omega (arith, long, short)
 not_short_bundle : {n : ℕ} → most_bundle_bytes < n → n ≤ most_bundle_bytes → ⊥
 not_short_bundle long short = omega (arith, long, short)
 
-spells_none : {words : List (List ℕ)} {text : List ℕ} {n : ℕ} {written : List ℕ} → SpellsNothing text → Asked words text n written → ⊥
-spells_none nothing asked = nothing asked.spec asked.spells
-
 -- words that ask for turns ask for no check
 not_both : {words : List (List ℕ)} → AsksSomeStep words → AsksCheck words → ⊥
-not_both step check = let e : 3 ≡ 1 = ap length (sym step.1.words_are ∙ check) in omega (arith, e)
+not_both step check = longer _ step.2.rest (sym step.2.words_are ∙ check)
+  where
+    longer : (list : List ℕ) (rest : List (List ℕ)) → codes "step" ∷ codes "--turns" ∷ list ∷ rest ≡ codes "check" ∷ [] → ⊥
+    longer list rest e = let n : suc (suc (suc (length rest))) ≡ 1 = ap length e in omega (arith, n)
+
+-- words that may ask for turns without constants ask for no constants
+no_constants : {words : List (List ℕ)} {ts us : List ℕ} {cs : List (Name × Data)} → AsksStep words ts [] → AsksStep words us cs → cs ≡ []
+no_constants {words} {ts} {us} {cs} a b = none b.rest cs (nothing a.rest a.constants.each) b.constants.each
+  where
+    nothing : (ws : List (List ℕ)) → AreConstants ws [] → b.rest ≡ []
+    nothing [] each = same b.list b.rest a.list (sym b.words_are ∙ a.words_are ∙ ap (λ r. codes "step" ∷ codes "--turns" ∷ a.list ∷ r) (empty a.rest a.constants.each))
+      where
+        empty : (ws : List (List ℕ)) → AreConstants ws [] → ws ≡ []
+        empty [] h = refl
+        empty (w ∷ ws) h = absurd h
+
+        same : (l : List ℕ) (r : List (List ℕ)) (k : List ℕ) → codes "step" ∷ codes "--turns" ∷ l ∷ r ≡ codes "step" ∷ codes "--turns" ∷ k ∷ [] → r ≡ []
+        same l r k e = cc
+    nothing (w ∷ ws) each = absurd each
+
+    none : (ws : List (List ℕ)) (ds : List (Name × Data)) → ws ≡ [] → AreConstants ws ds → ds ≡ []
+    none ws [] e each = refl
+    none ws (d ∷ ds) e each = absurd (subst (λ vs. AreConstants vs (d ∷ ds)) e each)
 
 -- words that ask for something don't ask for nothing
 pub some_or_check : {words : List (List ℕ)} → AsksSomeStep words ⊎ AsksCheck words → AsksNothing words → ⊥
-some_or_check (inl a) nothing = nothing.0 a.0 a.1
+some_or_check (inl a) nothing = nothing.0 a.0 a.1 a.2
 some_or_check (inr a) nothing = nothing.1 a
 
 module _ (words : List (List ℕ)) (input : Option (List ℕ)) (before now : ℕ) (out_before out_now : ℕ) (old new : Option (List ℕ)) where
@@ -74,7 +94,7 @@ module _ (words : List (List ℕ)) (input : Option (List ℕ)) (before now : ℕ
   usage_comes status.BadBundle h nothing = absurd (some_or_check (inr (h.stopped tt).0) nothing)
   usage_comes status.NoMemory h nothing = inr refl
 
-  module _ (turns text : List ℕ) (told : IsToldToStep words input turns text) (read : Rose before now → ⊥) where
+  module _ (turns text : List ℕ) (consts : List (Name × Data)) (told : IsToldToStep words input turns consts text) (read : Rose before now → ⊥) where
     abbrev Run : Type 0
     Run = (n : ℕ) × (written : List ℕ) × Asked words text n written
 
@@ -82,7 +102,7 @@ module _ (words : List (List ℕ)) (input : Option (List ℕ)) (before now : ℕ
     ran_asked n h = let g = at_told input text _ told.told h.1 in (n, g.0, g.1)
 
     no_check : {A : Type 0} → AsksCheck words → A
-    no_check check = absurd (not_both (turns, told.asks) check)
+    no_check check = absurd (not_both (turns, consts, told.asks) check)
 
     fine_asked : EndsWell words input old new → Run
     fine_asked (inl h) = ran_asked 0 h
@@ -92,21 +112,26 @@ module _ (words : List (List ℕ)) (input : Option (List ℕ)) (before now : ℕ
     fault_asked (inl h) = let g = at_told input text _ told.told h.1 in (g.0, g.1, g.2)
     fault_asked (inr h) = no_check h.0
 
-    refused_text : AsksSomeStep words × IfSome input (λ t. (length t ≤ most_bytes) × SpellsNothing t) → (length text ≤ most_bytes) × SpellsNothing text
-    refused_text h = at_told input text (λ t. (length t ≤ most_bytes) × SpellsNothing t) told.told h.1
+    refused_text : AsksSomeStep words × IfSome input (IsRefused words) → IsRefused words text
+    refused_text h = at_told input text (IsRefused words) told.told h.1
+
+    -- what was run isn't refused
+    not_refused : {n : ℕ} {written : List ℕ} → IsNotRun text consts → Asked words text n written → ⊥
+    not_refused (inl nothing) asked = nothing asked.spec asked.spells
+    not_refused (inr some) asked = some (no_constants asked.asks told.asks)
 
     long_text : Stops words input before now status.TooLong → most_bytes < length text
     long_text (inl h) = at_told input text (λ t. most_bytes < length t) told.told h.1
     long_text (inr h) = no_check h.0
 
     not_usage : AsksNothing words → ⊥
-    not_usage nothing = nothing.0 turns told.asks
+    not_usage nothing = nothing.0 turns consts told.asks
 
     -- a text that is too long
     pub too_long_comes : (s : Status) → Says s → most_bytes < length text → OrNoMemory s status.TooLong
     too_long_comes status.Fine h long = absurd (not_short long (fine_asked (h.fine refl)).2.short)
     too_long_comes status.Usage h long = absurd (not_usage (h.stopped tt))
-    too_long_comes status.SpecRefused h long = absurd (not_short long (refused_text (h.stopped tt)).0)
+    too_long_comes status.SpecRefused h long = absurd (not_short long (refused_text (h.stopped tt)).short)
     too_long_comes status.ReadFault h long = absurd (read (h.stopped tt).1)
     too_long_comes status.WriteFault h long = absurd (not_short long (fault_asked (h.prefix refl)).2.short)
     too_long_comes status.TooLong h long = inl refl
@@ -115,32 +140,39 @@ module _ (words : List (List ℕ)) (input : Option (List ℕ)) (before now : ℕ
     too_long_comes status.BadBundle h long = no_check (h.stopped tt).0
     too_long_comes status.NoMemory h long = inr refl
 
-    -- a text that spells nothing
-    pub refused_comes : (s : Status) → Says s → length text ≤ most_bytes → SpellsNothing text → OrNoMemory s status.SpecRefused
-    refused_comes status.Fine h short nothing = absurd (spells_none nothing (fine_asked (h.fine refl)).2)
+    -- a text that isn't run
+    pub refused_comes : (s : Status) → Says s → length text ≤ most_bytes → IsNotRun text consts → OrNoMemory s status.SpecRefused
+    refused_comes status.Fine h short nothing = absurd (not_refused nothing (fine_asked (h.fine refl)).2)
     refused_comes status.Usage h short nothing = absurd (not_usage (h.stopped tt))
     refused_comes status.SpecRefused h short nothing = inl refl
     refused_comes status.ReadFault h short nothing = absurd (read (h.stopped tt).1)
-    refused_comes status.WriteFault h short nothing = absurd (spells_none nothing (fault_asked (h.prefix refl)).2)
+    refused_comes status.WriteFault h short nothing = absurd (not_refused nothing (fault_asked (h.prefix refl)).2)
     refused_comes status.TooLong h short nothing = absurd (not_short (long_text (h.stopped tt)) short)
-    refused_comes status.Spent h short nothing = absurd (spells_none nothing (ran_asked 21 (h.spent refl)).2)
+    refused_comes status.Spent h short nothing = absurd (not_refused nothing (ran_asked 21 (h.spent refl)).2)
     refused_comes status.NotARun h short nothing = no_check (h.not_a_run refl).0
     refused_comes status.BadBundle h short nothing = no_check (h.stopped tt).0
     refused_comes status.NoMemory h short nothing = inr refl
 
-    -- a text that spells a specification
-    pub run_comes : (s : Status) → Says s → (Rose out_before out_now → ⊥) → length text ≤ most_bytes → (spec : Spec) → Spells text spec
+    -- a text that spells a specification, without constants
+    runs_text : consts ≡ [] → (spec : Spec) → Spells text spec → IsRefused words text → ⊥
+    runs_text none spec spells r = by_reason r.not_run
+      where
+        by_reason : IsNotRun text r.consts → ⊥
+        by_reason (inl nothing) = nothing spec spells
+        by_reason (inr some) = some (no_constants (subst (AsksStep words turns) none told.asks) r.asks)
+
+    pub run_comes : consts ≡ [] → (s : Status) → Says s → (Rose out_before out_now → ⊥) → length text ≤ most_bytes → (spec : Spec) → Spells text spec
         → (s ≡ status.Fine) ⊎ OrNoMemory s status.Spent
-    run_comes status.Fine h wrote short spec spells = inl refl
-    run_comes status.Usage h wrote short spec spells = absurd (not_usage (h.stopped tt))
-    run_comes status.SpecRefused h wrote short spec spells = absurd ((refused_text (h.stopped tt)).1 spec spells)
-    run_comes status.ReadFault h wrote short spec spells = absurd (read (h.stopped tt).1)
-    run_comes status.WriteFault h wrote short spec spells = absurd (wrote (h.write_fault refl))
-    run_comes status.TooLong h wrote short spec spells = absurd (not_short (long_text (h.stopped tt)) short)
-    run_comes status.Spent h wrote short spec spells = inr (inl refl)
-    run_comes status.NotARun h wrote short spec spells = no_check (h.not_a_run refl).0
-    run_comes status.BadBundle h wrote short spec spells = no_check (h.stopped tt).0
-    run_comes status.NoMemory h wrote short spec spells = inr (inr refl)
+    run_comes none status.Fine h wrote short spec spells = inl refl
+    run_comes none status.Usage h wrote short spec spells = absurd (not_usage (h.stopped tt))
+    run_comes none status.SpecRefused h wrote short spec spells = absurd (runs_text none spec spells (refused_text (h.stopped tt)))
+    run_comes none status.ReadFault h wrote short spec spells = absurd (read (h.stopped tt).1)
+    run_comes none status.WriteFault h wrote short spec spells = absurd (wrote (h.write_fault refl))
+    run_comes none status.TooLong h wrote short spec spells = absurd (not_short (long_text (h.stopped tt)) short)
+    run_comes none status.Spent h wrote short spec spells = inr (inl refl)
+    run_comes none status.NotARun h wrote short spec spells = no_check (h.not_a_run refl).0
+    run_comes none status.BadBundle h wrote short spec spells = no_check (h.stopped tt).0
+    run_comes none status.NoMemory h wrote short spec spells = inr (inr refl)
 
   module _ (text : List ℕ) (told : IsToldToCheck words input text) (read : Rose before now → ⊥) where
     no_step : {A : Type 0} → AsksSomeStep words → A

@@ -13,6 +13,7 @@ pub mod CounterRun
 pub mod TurnLists
 pub mod ItemReads
 pub mod ListReads
+pub mod ConstantWords
 pub mod StepWords
 pub mod CoreLists
 pub mod CoreSteps

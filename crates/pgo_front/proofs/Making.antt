@@ -1,28 +1,44 @@
 -- What a command made, and what came to the output of it.
-use Rattle.std.proofs.Common.{◌≡◌, ◌≤◌, inl, inr, ℕ, List, length, Option, Some, None, IfSome, Result, Ok, Err, IfOk, sym, ◌∙◌, ap, subst, arith}
+use Rattle.std.proofs.Common.{◌≡◌, ◌≤◌, ◌⊎◌, inl, inr, ℕ, nat_eq, true, List, [], ◌∷◌, length, map, Option, Some, None, IfSome, Result, Ok, Err, IfOk, sym, ◌∙◌, ap, subst, arith}
 use Rattle.pgo_io.specs.Sink.{Grows, GrowsByPrefix}
+use Rattle.pgo_base.specs.Data.{Data}
+use Rattle.pgo_base.specs.Lookup.{Name}
+use Rattle.pgo_base.specs.View.{named_data}
+use Rattle.pgo_base.specs.declared.value.Value.{Value}
 use Rattle.pgo_model.specs.ModuleText.{flatten}
 use Rattle.pgo_check.specs.declared.verdict.Verdict.{Verdict}
 use Rattle.pgo_check.specs.declared.verdict.Verdict.TheVariants.{Run, Bad}
 use Rattle.pgo_log_text.specs.ReadBundle.{IsNoBundle}
 use Rattle.pgo_front.specs.declared.made.Made.{Made}
+use Rattle.pgo_front.specs.declared.ended.Ended.{Ended}
 use Rattle.pgo_front.specs.declared.status.Status.{Status}
 use Rattle.pgo_front.specs.declared.status.Status.TheVariants as status
 use Rattle.pgo_front.specs.Turns.{AsksStep, AsksCheck}
 use Rattle.pgo_front.specs.Spells.{most_bytes}
 use Rattle.pgo_front.specs.Statuses.{number_of}
 use Rattle.pgo_front.specs.Verdicts.{IsRunVerdict, IsBadVerdict, most_bundle_bytes}
-use Rattle.pgo_front.specs.Answers.{AsksSomeStep, SpellsNothing, Asked, WritesBundle, WritesVerdict, EndsWell, WritesPrefix, Stops}
+use Rattle.pgo_front.specs.Answers.{AsksSomeStep, IsNotRun, Asked, WritesBundle, WritesVerdict, EndsWell, WritesPrefix}
 use Rattle.pgo_front.specs.Makes.{IsStepStatus, IsVerdictStatus, MakesOf, MakesAsked, MakesJudged, MakesVerdict, StopsAt, StopsStep, StopsJudging, StopsCheck}
+
+-- a list without an item gives no constant
+pub none_there : (xs : List (Name × Value)) (consts : List (Name × Data)) → map named_data xs ≡ consts → true ≡ nat_eq (length xs) 0 → consts ≡ []
+none_there [] consts e h = sym e
+none_there (x ∷ xs) consts e h = absurd (grind (arith, h))
 
 -- ---- why a command stopped
 
+-- a refusal of a text that isn't run
+pub refused_at : (text : List ℕ) (consts : List (Name × Data)) (s : Status) → IsNotRun text consts → (s ≡ status.SpecRefused) ⊎ (s ≡ status.NoMemory)
+    → StopsAt text consts s
+refused_at text consts s h (inl e) = inl (e, h)
+refused_at text consts s h (inr e) = inr e
+
 -- of a text that stopped a step, of the input that it came from
-pub stops_step : (input : Option (List ℕ)) (before now : ℕ) (text : List ℕ) (s : Status)
-    → IfSome input (λ bs. text ≡ bs) → length text ≤ most_bytes → StopsAt text s → StopsStep input before now s
-stops_step None before now text s told short (inl h) = inl (h.0, tt)
-stops_step (Some bs) before now text s told short (inl h) = inl (h.0, subst (λ bs. (length bs ≤ most_bytes) × SpellsNothing bs) told (short, h.1))
-stops_step input before now text s told short (inr e) = inr (inr (inr e))
+pub stops_step : (consts : List (Name × Data)) (input : Option (List ℕ)) (before now : ℕ) (text : List ℕ) (s : Status)
+    → IfSome input (λ bs. text ≡ bs) → length text ≤ most_bytes → StopsAt text consts s → StopsStep consts input before now s
+stops_step consts None before now text s told short (inl h) = inl (h.0, tt)
+stops_step consts (Some bs) before now text s told short (inl h) = inl (h.0, subst (λ bs. (length bs ≤ most_bytes) × IsNotRun bs consts) told (short, h.1))
+stops_step consts input before now text s told short (inr e) = inr (inr (inr e))
 
 pub stops_check : (input : Option (List ℕ)) (before now : ℕ) (text : List ℕ) (s : Status)
     → IfSome input (λ bs. text ≡ bs) → length text ≤ most_bundle_bytes → StopsJudging text s → StopsCheck input before now s
@@ -30,28 +46,13 @@ stops_check None before now text s told short (inl h) = inl (h.0, tt)
 stops_check (Some bs) before now text s told short (inl h) = inl (h.0, subst (λ bs. (length bs ≤ most_bundle_bytes) × IsNoBundle bs) told (short, h.1))
 stops_check input before now text s told short (inr e) = inr (inr (inr e))
 
--- of a step that stopped, of the words that asked for it
-pub step_stops : (words : List (List ℕ)) (input : Option (List ℕ)) (before now : ℕ) (s : Status) → AsksSomeStep words → StopsStep input before now s
-    → Stops words input before now s
-step_stops words input before now s asks (inl h) = subst (Stops words input before now) (sym h.0) (asks, h.1)
-step_stops words input before now s asks (inr (inl h)) = subst (Stops words input before now) (sym h.0) (inl asks, h.1)
-step_stops words input before now s asks (inr (inr (inl h))) = subst (Stops words input before now) (sym h.0) (inl (asks, h.1))
-step_stops words input before now s asks (inr (inr (inr e))) = subst (Stops words input before now) (sym e) tt
-
-pub check_stops : (words : List (List ℕ)) (input : Option (List ℕ)) (before now : ℕ) (s : Status) → AsksCheck words → StopsCheck input before now s
-    → Stops words input before now s
-check_stops words input before now s asks (inl h) = subst (Stops words input before now) (sym h.0) (asks, h.1)
-check_stops words input before now s asks (inr (inl h)) = subst (Stops words input before now) (sym h.0) (inr asks, h.1)
-check_stops words input before now s asks (inr (inr (inl h))) = subst (Stops words input before now) (sym h.0) (inr (asks, h.1))
-check_stops words input before now s asks (inr (inr (inr e))) = subst (Stops words input before now) (sym e) tt
-
 -- ---- what a command made
 
 -- of a text, of the input that it came from
-pub makes_step : (input : Option (List ℕ)) (turns text : List ℕ) (m : Made)
-    → IfSome input (λ bs. text ≡ bs) → length text ≤ most_bytes → MakesOf text turns m → IfSome input (λ bs. (length bs ≤ most_bytes) × MakesOf bs turns m)
-makes_step None turns text m told short h = tt
-makes_step (Some bs) turns text m told short h = subst (λ bs. (length bs ≤ most_bytes) × MakesOf bs turns m) told (short, h)
+pub makes_step : (input : Option (List ℕ)) (turns : List ℕ) (consts : List (Name × Data)) (text : List ℕ) (m : Made)
+    → IfSome input (λ bs. text ≡ bs) → length text ≤ most_bytes → MakesOf text turns consts m → IfSome input (λ bs. (length bs ≤ most_bytes) × MakesOf bs turns consts m)
+makes_step None turns consts text m told short h = tt
+makes_step (Some bs) turns consts text m told short h = subst (λ bs. (length bs ≤ most_bytes) × MakesOf bs turns consts m) told (short, h)
 
 pub makes_check : (input : Option (List ℕ)) (text : List ℕ) (m : Made)
     → IfSome input (λ bs. text ≡ bs) → length text ≤ most_bundle_bytes → MakesJudged text m → IfSome input (λ bs. (length bs ≤ most_bundle_bytes) × MakesJudged bs m)
@@ -59,21 +60,21 @@ makes_check None text m told short h = tt
 makes_check (Some bs) text m told short h = subst (λ bs. (length bs ≤ most_bundle_bytes) × MakesJudged bs m) told (short, h)
 
 -- of the words that asked for it
-pub step_asked : (words : List (List ℕ)) (input : Option (List ℕ)) (turns : List ℕ) (m : Made) → AsksStep words turns → IsStepStatus m
-    → IfSome input (λ text. (length text ≤ most_bytes) × MakesOf text turns m) → MakesAsked words input m
-step_asked words None turns m asks either h = inl ((turns, asks), either, tt)
-step_asked words (Some text) turns m asks either h =
-    inl ((turns, asks), either, record { turns = turns; spec = h.1.0; asks = asks; short = h.0; spells = h.1.1; ran = h.1.2 })
+pub step_asked : (words : List (List ℕ)) (input : Option (List ℕ)) (turns : List ℕ) (consts : List (Name × Data)) (m : Made) → AsksStep words turns consts → IsStepStatus m
+    → IfSome input (λ text. (length text ≤ most_bytes) × MakesOf text turns consts m) → MakesAsked words input m
+step_asked words None turns consts m asks either h = inl ((turns, consts, asks), either, tt)
+step_asked words (Some text) turns consts m asks either h =
+    inl ((turns, consts, asks), either, record { turns = turns; spec = h.1.1; asks = subst (AsksStep words turns) h.1.0 asks; short = h.0; spells = h.1.2; ran = h.1.3 })
 
 pub check_asked : (words : List (List ℕ)) (input : Option (List ℕ)) (m : Made) → AsksCheck words → IsVerdictStatus m
     → IfSome input (λ text. (length text ≤ most_bundle_bytes) × MakesJudged text m) → MakesAsked words input m
 check_asked words None m asks either h = inr (asks, either, tt)
 check_asked words (Some text) m asks either h = inr (asks, either, (h.1.0, (h.0, h.1.1), h.1.2))
 
-pub step_made : (words : List (List ℕ)) (input : Option (List ℕ)) (turns : List ℕ) (r : Result Made Status) → AsksStep words turns → IfOk r IsStepStatus
-    → IfOk r (λ m. IfSome input (λ text. (length text ≤ most_bytes) × MakesOf text turns m)) → IfOk r (MakesAsked words input)
-step_made words input turns (Ok m) asks either h = step_asked words input turns m asks either h
-step_made words input turns (Err s) asks either h = tt
+pub step_made : (words : List (List ℕ)) (input : Option (List ℕ)) (turns : List ℕ) (consts : List (Name × Data)) (r : Result Made Ended) → AsksStep words turns consts
+    → IfOk r IsStepStatus → IfOk r (λ m. IfSome input (λ text. (length text ≤ most_bytes) × MakesOf text turns consts m)) → IfOk r (MakesAsked words input)
+step_made words input turns consts (Ok m) asks either h = step_asked words input turns consts m asks either h
+step_made words input turns consts (Err e) asks either h = tt
 
 -- ---- what came to the output
 

@@ -2,7 +2,10 @@
 use Rattle.std.specs.Prelude.{◌≡◌, ◌≤◌, ◌<◌, ◌⊎◌, ℕ, List, [], length, Option, Some, IfSome}
 use Rattle.pgo_io.specs.Faults.{Rose}
 use Rattle.pgo_io.specs.Sink.{Grows, GrowsByPrefix}
+use Rattle.pgo_base.specs.Data.{Data}
+use Rattle.pgo_base.specs.Lookup.{Name}
 use Rattle.pgo_model.specs.Spec.{Spec}
+use Rattle.pgo_accept.specs.Refusals.{RefusedWith}
 use Rattle.pgo_check.specs.declared.verdict.Verdict.{Verdict}
 use Rattle.pgo_front.specs.declared.status.Status.{Status}
 use Rattle.pgo_front.specs.declared.status.Status.TheVariants as status
@@ -15,25 +18,45 @@ use Rattle.pgo_front.specs.Verdicts.{Judged, IsRunVerdict, verdict_line, most_bu
 
 -- ---- words
 
--- the words ask for the turns of some list
+-- the words ask for the turns of some list, with some constants
 abbrev pub AsksSomeStep : List (List ℕ) → Type 0
-AsksSomeStep words = (turns : List ℕ) × AsksStep words turns
+AsksSomeStep words = (turns : List ℕ) × (consts : List (Name × Data)) × AsksStep words turns consts
 
 -- the words ask for nothing that there is
 abbrev pub AsksNothing : List (List ℕ) → Type 0
-AsksNothing words = ((turns : List ℕ) → AsksStep words turns → ⊥) × (AsksCheck words → ⊥)
+AsksNothing words = ((turns : List ℕ) (consts : List (Name × Data)) → AsksStep words turns consts → ⊥) × (AsksCheck words → ⊥)
 
 -- ---- the command `step`
 
--- the text spells no specification
+-- the text spells no specification of the counter form
 abbrev pub SpellsNothing : List ℕ → Type 0
 SpellsNothing text = (spec : Spec) → Spells text spec → ⊥
 
--- the words ask for turns, the text spells a specification, and its run under them gives these bytes and this status
+-- the text isn't run with these constants: it isn't of the counter form, or there are constants
+abbrev pub IsNotRun : (text : List ℕ) (consts : List (Name × Data)) → Type 0
+IsNotRun text consts = SpellsNothing text ⊎ (consts ≡ [] → ⊥)
+
+-- the same of the constants that the words ask for
+pub record IsRefused (words : List (List ℕ)) (text : List ℕ) : Type 0 where
+  pub turns : List ℕ
+  pub consts : List (Name × Data)
+  pub asks : AsksStep words turns consts
+  pub short : length text ≤ most_bytes
+  pub not_run : IsNotRun text consts
+
+-- the line that refuses the text with the constants that the words ask for
+pub record RefusedBy (words : List (List ℕ)) (text line : List ℕ) : Type 0 where
+  pub turns : List ℕ
+  pub consts : List (Name × Data)
+  pub asks : AsksStep words turns consts
+  pub refused : RefusedWith text consts line
+
+-- the words ask for turns and no constants, the text spells a specification, and its run under them gives these bytes and
+-- this status
 pub record Asked (words : List (List ℕ)) (text : List ℕ) (number : ℕ) (written : List ℕ) : Type 0 where
   pub turns : List ℕ
   pub spec : Spec
-  pub asks : AsksStep words turns
+  pub asks : AsksStep words turns []
   pub short : length text ≤ most_bytes
   pub spells : Spells text spec
   pub ran : Ran spec turns number written
@@ -77,7 +100,7 @@ WritesPrefix words input old new = WritesBundlePrefix words input old new ⊎ Wr
 -- why a command that wrote nothing stopped
 abbrev pub Stops : List (List ℕ) → (input : Option (List ℕ)) → (faults_before faults_now : ℕ) → Status → Type 0
 Stops words input before now status.Usage = AsksNothing words
-Stops words input before now status.SpecRefused = AsksSomeStep words × IfSome input (λ text. (length text ≤ most_bytes) × SpellsNothing text)
+Stops words input before now status.SpecRefused = AsksSomeStep words × IfSome input (IsRefused words)
 Stops words input before now status.BadBundle = AsksCheck words × IfSome input (λ text. (length text ≤ most_bundle_bytes) × IsNoBundle text)
 Stops words input before now status.ReadFault = (AsksSomeStep words ⊎ AsksCheck words) × Rose before now
 Stops words input before now status.TooLong =
@@ -123,13 +146,17 @@ IsAtEnd old new = IfSome old (λ _. new ≡ Some [])
 abbrev pub OrNoMemory : Status → Status → Type 0
 OrNoMemory s expected = (s ≡ expected) ⊎ (s ≡ status.NoMemory)
 
--- the error output has grown by the line of the status
+-- the error output has grown by the line of the status, where it has one
 abbrev pub SaysLine : Status → (old new : Option (List ℕ)) → Type 0
 SaysLine s old new = IfSome (line_of s) (λ l. Grows old new l)
 
--- the words ask for these turns, and the input tells this text
-pub record IsToldToStep (words : List (List ℕ)) (input : Option (List ℕ)) (turns : List ℕ) (text : List ℕ) : Type 0 where
-  pub asks : AsksStep words turns
+-- the error output has grown by a line, and where the input told its text, that line refuses it
+abbrev pub SaysRefusal : List (List ℕ) → (input old new : Option (List ℕ)) → Type 0
+SaysRefusal words input old new = (line : List ℕ) × Grows old new line × IfSome input (λ text. RefusedBy words text line)
+
+-- the words ask for these turns and constants, and the input tells this text
+pub record IsToldToStep (words : List (List ℕ)) (input : Option (List ℕ)) (turns : List ℕ) (consts : List (Name × Data)) (text : List ℕ) : Type 0 where
+  pub asks : AsksStep words turns consts
   pub told : input ≡ Some text
 
 -- the words ask for a check, and the input tells this text

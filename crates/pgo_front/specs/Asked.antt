@@ -1,5 +1,8 @@
 -- That a list of turns is the only one that a text, or the words, ask for.
 use Rattle.std.specs.Prelude.{◌≡◌, ◌≤◌, ◌+◌, ◌++◌, ℕ, Bool, true, false, List, length, Option, Some, None}
+use Rattle.pgo_base.specs.Data.{Data}
+use Rattle.pgo_base.specs.Lookup.{Name}
+use Rattle.pgo_front.specs.Constants.{Constants}
 use Rattle.pgo_front.specs.Turns.{Item, TurnList, AsksStep, most_turns}
 
 -- an item's turns stand behind the old ones, where they are few enough; no other turns would do
@@ -14,10 +17,21 @@ abbrev pub SpelledOnly : List ℕ → Option (List ℕ) → Type 0
 SpelledOnly bs None = (ts : List ℕ) → TurnList bs ts → length ts ≤ most_turns → ⊥
 SpelledOnly bs (Some us) = TurnList bs us × (length us ≤ most_turns) × ((ts : List ℕ) → TurnList bs ts → length ts ≤ most_turns → ts ≡ us)
 
--- the words ask for these turns and for no others
-abbrev pub AsksOnly : List (List ℕ) → Option (List ℕ) → Type 0
-AsksOnly words None = (ts : List ℕ) → AsksStep words ts → ⊥
-AsksOnly words (Some us) = AsksStep words us × ((ts : List ℕ) → AsksStep words ts → ts ≡ us)
+-- a list of turns, and the words of constants behind it
+pub record Rest (list : List ℕ) (words : List (List ℕ)) (turns : List ℕ) (consts : List (Name × Data)) : Type 0 where
+  pub spells : TurnList list turns
+  pub few : length turns ≤ most_turns
+  pub constants : Constants words consts
+
+-- the list and the words behind it give these turns and constants, and no others
+abbrev pub SpellsRest : (list : List ℕ) (words : List (List ℕ)) → Option (List ℕ × List (Name × Data)) → Type 0
+SpellsRest list words None = (ts : List ℕ) (cs : List (Name × Data)) → Rest list words ts cs → ⊥
+SpellsRest list words (Some p) = Rest list words p.0 p.1 × ((ts : List ℕ) (cs : List (Name × Data)) → Rest list words ts cs → (ts ≡ p.0) × (cs ≡ p.1))
+
+-- the words ask for these turns and constants, and for no others
+abbrev pub AsksOnly : List (List ℕ) → Option (List ℕ × List (Name × Data)) → Type 0
+AsksOnly words None = (ts : List ℕ) (cs : List (Name × Data)) → AsksStep words ts cs → ⊥
+AsksOnly words (Some p) = AsksStep words p.0 p.1 × ((ts : List ℕ) (cs : List (Name × Data)) → AsksStep words ts cs → (ts ≡ p.0) × (cs ≡ p.1))
 
 -- what is read so far, and what is left, are the text's turns together
 pub record ReadsOn (bs read rest : List ℕ) : Type 0 where

@@ -1,4 +1,5 @@
 pub mod CounterRuns
+pub mod Constants
 pub mod Turns
 pub mod Asked
 pub mod Items

@@ -1,6 +1,8 @@
 -- What the parts of a command make of a text and of a counter.
-use Rattle.std.specs.Prelude.{◌≡◌, ◌≤◌, ◌<◌, ◌⊎◌, ℕ, List, length, Option, Some, None, IfSome}
+use Rattle.std.specs.Prelude.{◌≡◌, ◌≤◌, ◌<◌, ◌⊎◌, ℕ, List, [], length, Option, Some, None, IfSome}
 use Rattle.pgo_io.specs.Faults.{Rose}
+use Rattle.pgo_base.specs.Data.{Data}
+use Rattle.pgo_base.specs.Lookup.{Name}
 use Rattle.pgo_model.specs.Spec.{Spec}
 use Rattle.pgo_model.specs.ModuleText.{flatten}
 use Rattle.pgo_check.specs.declared.verdict.Verdict.{Verdict}
@@ -16,12 +18,12 @@ use Rattle.pgo_front.specs.Statuses.{number_of}
 use Rattle.pgo_front.specs.Headline.{Ran}
 use Rattle.pgo_log_text.specs.ReadBundle.{IsNoBundle}
 use Rattle.pgo_front.specs.Verdicts.{Judged, verdict_line, most_bundle_bytes}
-use Rattle.pgo_front.specs.Answers.{Asked, AsksSomeStep, AsksNothing, SpellsNothing, Checked}
+use Rattle.pgo_front.specs.Answers.{Asked, AsksSomeStep, AsksNothing, IsNotRun, Checked}
 
 -- what the words ask for
 abbrev pub AsksFor : List (List ℕ) → Option Request → Type 0
 AsksFor words None = AsksNothing words
-AsksFor words (Some (Step turns)) = AsksStep words turns
+AsksFor words (Some (Step turns consts)) = AsksStep words turns consts
 AsksFor words (Some Check) = AsksCheck words
 
 -- why the input was not read to its end, or was too long
@@ -36,19 +38,24 @@ StopsReading limit input before now s =
 abbrev pub IsStepStatus : Made → Type 0
 IsStepStatus m = (m.status ≡ status.Fine) ⊎ (m.status ≡ status.Spent)
 
--- the text spells a specification, and this is what its run under the turns gives
-abbrev pub MakesOf : (text turns : List ℕ) → Made → Type 0
-MakesOf text turns m = (spec : Spec) × Spells text spec × Ran spec turns (number_of m.status) (flatten m.lines)
+-- there are no constants, the text spells a specification, and this is what its run under the turns gives
+abbrev pub MakesOf : (text turns : List ℕ) → List (Name × Data) → Made → Type 0
+MakesOf text turns consts m = (consts ≡ []) × (spec : Spec) × Spells text spec × Ran spec turns (number_of m.status) (flatten m.lines)
 
 -- the text is refused, or there was no memory
-abbrev pub StopsAt : (text : List ℕ) → Status → Type 0
-StopsAt text s = ((s ≡ status.SpecRefused) × SpellsNothing text) ⊎ (s ≡ status.NoMemory)
+abbrev pub StopsAt : (text : List ℕ) → List (Name × Data) → Status → Type 0
+StopsAt text consts s = ((s ≡ status.SpecRefused) × IsNotRun text consts) ⊎ (s ≡ status.NoMemory)
 
 -- why a step of this input stopped
-abbrev pub StopsStep : (input : Option (List ℕ)) → (faults_before faults_now : ℕ) → Status → Type 0
-StopsStep input before now s =
-    ((s ≡ status.SpecRefused) × IfSome input (λ text. (length text ≤ most_bytes) × SpellsNothing text))
+abbrev pub StopsStep : List (Name × Data) → (input : Option (List ℕ)) → (faults_before faults_now : ℕ) → Status → Type 0
+StopsStep consts input before now s =
+    ((s ≡ status.SpecRefused) × IfSome input (λ text. (length text ≤ most_bytes) × IsNotRun text consts))
     ⊎ StopsReading most_bytes input before now s
+
+-- a line comes with a refused specification alone, and says of its text what R says
+abbrev pub HasLine : (input : Option (List ℕ)) → (R : (text line : List ℕ) → Type 0) → Status → Option (List ℕ) → Type 0
+HasLine input R s None = s ≡ status.SpecRefused → ⊥
+HasLine input R s (Some l) = (s ≡ status.SpecRefused) × IfSome input (λ text. R text l)
 
 -- ---- the command `check`
 

@@ -15,10 +15,11 @@ number_of status.NotARun = 30
 number_of status.BadBundle = 31
 number_of status.NoMemory = 40
 
+-- the line of the error output, where the status alone says it: that of a refused specification says what refused it
 abbrev pub line_of : Status → Option (List ℕ)
 line_of status.Fine = None
 line_of status.Usage = Some (codes "pgo: usage\n")
-line_of status.SpecRefused = Some (codes "pgo: not built\n")
+line_of status.SpecRefused = None
 line_of status.ReadFault = Some (codes "pgo: read fault\n")
 line_of status.WriteFault = Some (codes "pgo: write fault\n")
 line_of status.TooLong = Some (codes "pgo: too long\n")
@@ -26,3 +27,16 @@ line_of status.Spent = None
 line_of status.NotARun = None
 line_of status.BadBundle = Some (codes "pgo: not built\n")
 line_of status.NoMemory = Some (codes "pgo: no memory\n")
+
+-- the command did its work
+abbrev pub IsSilent : Status → Type 0
+IsSilent status.Fine = Unit {0}
+IsSilent status.Spent = Unit {0}
+IsSilent status.NotARun = Unit {0}
+IsSilent status.Usage = ⊥
+IsSilent status.SpecRefused = ⊥
+IsSilent status.BadBundle = ⊥
+IsSilent status.ReadFault = ⊥
+IsSilent status.WriteFault = ⊥
+IsSilent status.TooLong = ⊥
+IsSilent status.NoMemory = ⊥

@@ -1,5 +1,8 @@
--- The words of a command: `step --turns LIST`, or `check`.
+-- The words of a command: `step --turns LIST` and constants, or `check`.
 use Rattle.std.specs.Prelude.{◌≡◌, ◌≤◌, ◌<◌, ◌^◌, ℕ, List, [], ◌∷◌, ◌++◌, length, replicate, codes, decimal}
+use Rattle.pgo_base.specs.Data.{Data}
+use Rattle.pgo_base.specs.Lookup.{Name}
+use Rattle.pgo_front.specs.Constants.{Constants}
 
 -- `k`, or `k*n` for n turns of k; digits without sign or leading zeros
 pub data Item : List ℕ → List ℕ → Type 0 where
@@ -14,12 +17,14 @@ pub data TurnList : List ℕ → List ℕ → Type 0 where
 abbrev pub most_turns : ℕ
 most_turns = 1000000
 
--- the words ask for these turns
-pub record AsksStep (words : List (List ℕ)) (turns : List ℕ) : Type 0 where
+-- the words ask for these turns, with these values of constants
+pub record AsksStep (words : List (List ℕ)) (turns : List ℕ) (consts : List (Name × Data)) : Type 0 where
   pub list : List ℕ
-  pub words_are : words ≡ codes "step" ∷ codes "--turns" ∷ list ∷ []
+  pub rest : List (List ℕ)
+  pub words_are : words ≡ codes "step" ∷ codes "--turns" ∷ list ∷ rest
   pub spells : TurnList list turns
   pub few : length turns ≤ most_turns
+  pub constants : Constants rest consts
 
 -- the words ask for the check of a bundle
 abbrev pub AsksCheck : List (List ℕ) → Type 0

@@ -1,5 +1,5 @@
 // The top call: words and bytes in, bytes and a status out.
-ghost use Rattle.std.specs.Prelude.{◌≡◌, ◌≤◌, ◌<◌, ◌⊎◌, ℕ, List, length, None, IfOk, IfErr, OnOk, OnErr};
+ghost use Rattle.std.specs.Prelude.{◌≡◌, ◌≤◌, ◌<◌, ◌⊎◌, ℕ, List, [], length, None, IfSome, IfOk, IfErr, OnOk, OnErr};
 ghost use Rattle.pgo_io.specs.Faults.{Rose};
 ghost use Rattle.pgo_io.specs.Sink.{Grows, GrowsByPrefix};
 ghost use Rattle.pgo_base.specs.Data.{Data};
@@ -11,12 +11,13 @@ ghost use Rattle.pgo_model.specs.Log.{Log};
 ghost use Rattle.pgo_model.specs.IsRun.{IsRun};
 ghost use Rattle.pgo_log_text.specs.ReadBundle.{IsReadBundle, IsNoBundle};
 ghost use Rattle.pgo_front.specs.Spells.{Spells, most_bytes};
-ghost use Rattle.pgo_front.specs.Statuses.{line_of};
+ghost use Rattle.pgo_front.specs.Statuses.{line_of, IsSilent};
 ghost use Rattle.pgo_front.specs.Verdicts.{most_bundle_bytes, IsBadVerdict};
-ghost use Rattle.pgo_front.specs.Answers.{AsksNothing, SpellsNothing, EndsWell, WritesBundle, WritesVerdict, WritesPrefix, Stops, IsRefusal, ReadsAll, IsAtEnd, OrNoMemory, SaysLine, IsToldToStep, IsToldToCheck};
-ghost use Rattle.pgo_front.specs.Makes.{MakesAsked};
+ghost use Rattle.pgo_front.specs.Answers.{AsksNothing, IsNotRun, RefusedBy, EndsWell, WritesBundle, WritesVerdict, WritesPrefix, Stops, IsRefusal, ReadsAll, IsAtEnd, OrNoMemory, SaysLine, SaysRefusal, IsToldToStep, IsToldToCheck};
+ghost use Rattle.pgo_front.specs.Makes.{MakesAsked, HasLine};
 
 use crate::check::make_check;
+use crate::ended::Ended;
 use crate::made::Made;
 use crate::status::Status;
 use crate::step::make_step;
@@ -29,9 +30,9 @@ use pgo_io::write_all::write_all;
 use pgo_module_write::line::Lines;
 use std::alloc::Global;
 
-/// Runs the command that the words ask for: `step --turns LIST`, with a specification as its input and the bundle of its
-/// run as its output, or `check`, with a bundle as its input and the verdict on its log as its output, one line,
-/// `run steps` or `bad at why`.
+/// Runs the command that the words ask for: `step --turns LIST` and then constants, `NAME=value` each, with a specification
+/// as its input and the bundle of its run as its output, or `check`, with a bundle as its input and the verdict on its log
+/// as its output, one line, `run steps` or `bad at why`.
 ///
 /// The words come first, then the input is read to its end, then the text is read, then the run or the check is made,
 /// and only then is the output written, line by line. A refusal puts its one line on `err`, whose faults change no status. The
@@ -53,11 +54,12 @@ pub fn pgo<S: Source, O: Sink, E: Sink>(
 
     // Each cause has its status, or there is no memory.
     ensures usage { AsksNothing words.now → OrNoMemory result Status.Usage }
-    ensures too_long { (turns text : List ℕ) → IsToldToStep words.now (S.left input.old) turns text → ¬ Rose (S.faults input.old) (S.faults input.new) →
+    ensures too_long { (turns text : List ℕ) (consts : List (Name × Data)) → IsToldToStep words.now (S.left input.old) turns consts text → ¬ Rose (S.faults input.old) (S.faults input.new) →
         most_bytes < length text → OrNoMemory result Status.TooLong }
-    ensures refused { (turns text : List ℕ) → IsToldToStep words.now (S.left input.old) turns text → ¬ Rose (S.faults input.old) (S.faults input.new) →
-        length text ≤ most_bytes → SpellsNothing text → OrNoMemory result Status.SpecRefused }
-    ensures runs { (turns text : List ℕ) (spec : Spec) → IsToldToStep words.now (S.left input.old) turns text →
+    ensures refused { (turns text : List ℕ) (consts : List (Name × Data)) → IsToldToStep words.now (S.left input.old) turns consts text →
+        ¬ Rose (S.faults input.old) (S.faults input.new) →
+        length text ≤ most_bytes → IsNotRun text consts → OrNoMemory result Status.SpecRefused }
+    ensures runs { (turns text : List ℕ) (spec : Spec) → IsToldToStep words.now (S.left input.old) turns [] text →
         ¬ Rose (S.faults input.old) (S.faults input.new) → ¬ Rose (O.faults out.old) (O.faults out.new) →
         length text ≤ most_bytes → Spells text spec → (result ≡ Status.Fine) ⊎ OrNoMemory result Status.Spent }
 
@@ -77,41 +79,53 @@ pub fn pgo<S: Source, O: Sink, E: Sink>(
     ensures unread { AsksNothing words.now → input.new ≡ input.old }
     ensures ended { ReadsAll result → IsAtEnd (S.left input.old) (S.left input.new) }
     ensures says { ¬ Rose (E.faults err.old) (E.faults err.new) → SaysLine result (E.held err.old) (E.held err.new) }
-    ensures silent { line_of result ≡ None → err.new ≡ err.old }
+    ensures says_refusal { result ≡ Status.SpecRefused → ¬ Rose (E.faults err.old) (E.faults err.new) →
+        SaysRefusal words.now (S.left input.old) (E.held err.old) (E.held err.new) }
+    ensures silent { IsSilent result → err.new ≡ err.old }
 {
-    let status = run(alloc, words, input, out);
-    say(err, status);
-    status
+    let ended = run(alloc, words, input, out);
+    say(err, &ended);
+    ended.status
 }
 
 /// Puts the line of a refusal on the error output.
-fn say<E: Sink>(err: &mut E, status: Status)
-    ensures says { ¬ Rose (E.faults err.old) (E.faults err.new) → SaysLine status (E.held err.old) (E.held err.new) }
-    ensures silent { line_of status ≡ None → err.new ≡ err.old }
+fn say<E: Sink>(err: &mut E, ended: &Ended)
+    ensures says { ¬ Rose (E.faults err.old) (E.faults err.new) → SaysLine ended.now.status (E.held err.old) (E.held err.new) }
+    ensures says_refusal { line_of ended.now.status ≡ None → ¬ Rose (E.faults err.old) (E.faults err.new) →
+        IfSome ended.now.line (λ l. Grows (E.held err.old) (E.held err.new) l) }
+    ensures silent { line_of ended.now.status ≡ None → ended.now.line ≡ None → err.new ≡ err.old }
 {
-    if let Some(line) = status.line() {
-        let _ = write_all(err, line);
+    match ended.status.line() {
+        Some(line) => {
+            let _ = write_all(err, line);
+        }
+        None => {
+            if let Some(line) = &ended.line {
+                let _ = write_all(err, line.as_bytes());
+            }
+        }
     }
 }
 
 /// The command, without its line on the error output.
-fn run<S: Source, O: Sink>(alloc: Global, words: &[Word], input: &mut S, out: &mut O) -> Status
-    ensures fine { result ≡ Status.Fine → EndsWell words.now (S.left input.old) (O.held out.old) (O.held out.new) }
-    ensures spent { result ≡ Status.Spent → WritesBundle words.now (S.left input.old) 21 (O.held out.old) (O.held out.new) }
-    ensures not_a_run { result ≡ Status.NotARun → WritesVerdict words.now (S.left input.old) IsBadVerdict (O.held out.old) (O.held out.new) }
-    ensures stopped { IsRefusal result → Stops words.now (S.left input.old) (S.faults input.old) (S.faults input.new) result }
-    ensures write_fault { result ≡ Status.WriteFault → Rose (O.faults out.old) (O.faults out.new) }
-    ensures prefix { result ≡ Status.WriteFault → WritesPrefix words.now (S.left input.old) (O.held out.old) (O.held out.new) }
-    ensures kept { IsRefusal result → out.new ≡ out.old }
+fn run<S: Source, O: Sink>(alloc: Global, words: &[Word], input: &mut S, out: &mut O) -> Ended
+    ensures fine { result.status ≡ Status.Fine → EndsWell words.now (S.left input.old) (O.held out.old) (O.held out.new) }
+    ensures spent { result.status ≡ Status.Spent → WritesBundle words.now (S.left input.old) 21 (O.held out.old) (O.held out.new) }
+    ensures not_a_run { result.status ≡ Status.NotARun → WritesVerdict words.now (S.left input.old) IsBadVerdict (O.held out.old) (O.held out.new) }
+    ensures stopped { IsRefusal result.status → Stops words.now (S.left input.old) (S.faults input.old) (S.faults input.new) result.status }
+    ensures line { HasLine (S.left input.old) (RefusedBy words.now) result.status result.line }
+    ensures write_fault { result.status ≡ Status.WriteFault → Rose (O.faults out.old) (O.faults out.new) }
+    ensures prefix { result.status ≡ Status.WriteFault → WritesPrefix words.now (S.left input.old) (O.held out.old) (O.held out.new) }
+    ensures kept { IsRefusal result.status → out.new ≡ out.old }
     ensures unread { AsksNothing words.now → input.new ≡ input.old }
-    ensures ended { ReadsAll result → IsAtEnd (S.left input.old) (S.left input.new) }
+    ensures ended { ReadsAll result.status → IsAtEnd (S.left input.old) (S.left input.new) }
 {
     match make(alloc, words, input) {
         Ok(made) => match write_lines(out, &made.lines) {
-            Ok(()) => made.status,
-            Err(_) => Status::WriteFault,
+            Ok(()) => Ended::as_status(made.status),
+            Err(_) => Ended::as_status(Status::WriteFault),
         },
-        Err(status) => status,
+        Err(ended) => ended,
     }
 }
 
@@ -129,18 +143,24 @@ fn write_lines<O: Sink>(out: &mut O, lines: &Lines) -> Result<(), Failed>
 }
 
 /// Makes the output that the words ask for, from all of the input.
-fn make<S: Source>(alloc: Global, words: &[Word], input: &mut S) -> Result<Made, Status>
+fn make<S: Source>(alloc: Global, words: &[Word], input: &mut S) -> Result<Made, Ended>
     ensures ok { IfOk result (MakesAsked words.now (S.left input.old)) }
-    ensures err { IfErr result (Stops words.now (S.left input.old) (S.faults input.old) (S.faults input.new)) }
-    ensures refusal { IfErr result IsRefusal }
+    ensures err { IfErr result (λ e. Stops words.now (S.left input.old) (S.faults input.old) (S.faults input.new) e.status) }
+    ensures line { IfErr result (λ e. HasLine (S.left input.old) (RefusedBy words.now) e.status e.line) }
+    ensures refusal { IfErr result (λ e. IsRefusal e.status) }
     ensures unread { AsksNothing words.now → input.new ≡ input.old }
     ensures ended { OnOk result (IsAtEnd (S.left input.old) (S.left input.new)) }
-    ensures ended_refused { IfErr result (λ s. ReadsAll s → IsAtEnd (S.left input.old) (S.left input.new)) }
+    ensures ended_refused { IfErr result (λ e. ReadsAll e.status → IsAtEnd (S.left input.old) (S.left input.new)) }
 {
     match read_words(alloc, words) {
-        Ok(Some(Request::Step(turns))) => make_step(alloc, turns.as_slice(), input),
-        Ok(Some(Request::Check)) => make_check(alloc, input),
-        Ok(None) => Err(Status::Usage),
-        Err(_) => Err(Status::NoMemory),
+        Ok(Some(Request::Step(turns, consts))) => {
+            make_step(alloc, turns.as_slice(), &consts, input)
+        }
+        Ok(Some(Request::Check)) => match make_check(alloc, input) {
+            Ok(made) => Ok(made),
+            Err(status) => Err(Ended::as_status(status)),
+        },
+        Ok(None) => Err(Ended::as_status(Status::Usage)),
+        Err(_) => Err(Ended::as_status(Status::NoMemory)),
     }
 }

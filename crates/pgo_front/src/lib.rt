@@ -4,13 +4,13 @@
 mod bundle_writer;
 mod check;
 mod command;
+mod constants;
+mod ended;
 mod input;
 mod instance;
 mod made;
 mod status;
 mod step;
-#[cfg(test)]
-mod tests;
 mod words;
 
 pub use command::pgo;

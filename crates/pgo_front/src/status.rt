@@ -9,7 +9,7 @@ pub enum Status {
     Fine,
     /// The words ask for nothing that there is.
     Usage,
-    /// The text is no specification that is built today.
+    /// The text spells no specification, or one that is refused or isn't built yet.
     SpecRefused,
     /// The input failed.
     ReadFault,
@@ -46,14 +46,15 @@ impl Status {
         }
     }
 
-    /// The line that a refusal puts on the error output; none where the command did its work.
+    /// The line that a refusal puts on the error output; none where the command did its work, and none where a specification
+    /// is refused, whose line says what refused it.
     pub fn line(self) -> Option<&'static [u8]>
         ensures { option_map (λ l. l.now) result ≡ line_of self }
     {
         match self {
-            Status::Fine | Status::Spent | Status::NotARun => None,
+            Status::Fine | Status::Spent | Status::NotARun | Status::SpecRefused => None,
             Status::Usage => Some(b"pgo: usage\n"),
-            Status::SpecRefused | Status::BadBundle => Some(b"pgo: not built\n"),
+            Status::BadBundle => Some(b"pgo: not built\n"),
             Status::ReadFault => Some(b"pgo: read fault\n"),
             Status::WriteFault => Some(b"pgo: write fault\n"),
             Status::TooLong => Some(b"pgo: too long\n"),

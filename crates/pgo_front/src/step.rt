@@ -1,5 +1,5 @@
 // The command `step`: a specification is run under a list of turns.
-ghost use Rattle.std.specs.Prelude.{◌≡◌, ◌≤◌, length, IfOk, IfErr, IfSome, OnOk};
+ghost use Rattle.std.specs.Prelude.{◌≡◌, ◌≤◌, ◌⊎◌, length, Some, IfOk, IfErr, IfSome, OnOk};
 ghost use Rattle.pgo_model.specs.ModuleText.{flatten};
 ghost use Rattle.pgo_counter.specs.Counters.{spec_of};
 ghost use Rattle.pgo_counter.specs.WellNamed.{IsCounter};
@@ -7,13 +7,17 @@ ghost use Rattle.pgo_front.specs.Spells.{most_bytes};
 ghost use Rattle.pgo_front.specs.Statuses.{number_of};
 ghost use Rattle.pgo_front.specs.Headline.{Ran};
 ghost use Rattle.pgo_front.specs.Answers.{IsAtEnd, ReadsAll};
-ghost use Rattle.pgo_front.specs.Makes.{IsStepStatus, MakesOf, StopsAt, StopsStep};
+ghost use Rattle.pgo_accept.specs.Refusals.{RefusedWith};
+ghost use Rattle.pgo_front.specs.Makes.{IsStepStatus, MakesOf, StopsAt, StopsStep, HasLine};
 
 use crate::bundle_writer::{bundle, is_done};
+use crate::ended::Ended;
 use crate::input::read_input;
 use crate::instance::run_turns;
 use crate::made::Made;
 use crate::status::Status;
+use pgo_accept::accept::refusal_line;
+use pgo_base::consts::Consts;
 use pgo_counter::counter::Counter;
 use pgo_counter_read::reader::{ReadStop, read_counter};
 use pgo_io::source::Source;
@@ -22,31 +26,54 @@ use std::alloc::{AllocError, Global};
 /// The most bytes of a specification.
 const MOST_BYTES: u64 = 1_048_576;
 
-/// Makes the bundle of a run, under these turns, of the specification that the input spells.
-pub fn make_step<S: Source>(alloc: Global, turns: &[u32], input: &mut S) -> Result<Made, Status>
-    ensures ok { IfOk result (λ m. IfSome (S.left input.old) (λ text. (length text ≤ most_bytes) × MakesOf text turns.now m)) }
+/// Makes the bundle of a run, under these turns and with these constants, of the specification that the input spells.
+pub fn make_step<S: Source>(
+    alloc: Global,
+    turns: &[u32],
+    consts: &Consts,
+    input: &mut S,
+) -> Result<Made, Ended>
+    ensures ok { IfOk result (λ m. IfSome (S.left input.old) (λ text. (length text ≤ most_bytes) × MakesOf text turns.now consts.now m)) }
     ensures either { IfOk result IsStepStatus }
-    ensures err { IfErr result (StopsStep (S.left input.old) (S.faults input.old) (S.faults input.new)) }
+    ensures err { IfErr result (λ e. StopsStep consts.now (S.left input.old) (S.faults input.old) (S.faults input.new) e.status) }
+    ensures line { IfErr result (λ e. HasLine (S.left input.old) (λ text l. RefusedWith text consts.now l) e.status e.line) }
     ensures ended { OnOk result (IsAtEnd (S.left input.old) (S.left input.new)) }
-    ensures ended_refused { IfErr result (λ s. ReadsAll s → IsAtEnd (S.left input.old) (S.left input.new)) }
+    ensures ended_refused { IfErr result (λ e. ReadsAll e.status → IsAtEnd (S.left input.old) (S.left input.new)) }
 {
-    let text = read_input(alloc, input, MOST_BYTES)?;
-    make_from(alloc, turns, text.as_slice())
+    match read_input(alloc, input, MOST_BYTES) {
+        Ok(text) => make_from(alloc, turns, consts, text.as_slice()),
+        Err(status) => Err(Ended::as_status(status)),
+    }
 }
 
 /// Makes the bundle of a run of the specification that the text spells.
-fn make_from(alloc: Global, turns: &[u32], text: &[u8]) -> Result<Made, Status>
-    ensures ok { IfOk result (MakesOf text.now turns.now) }
+fn make_from(alloc: Global, turns: &[u32], consts: &Consts, text: &[u8]) -> Result<Made, Ended>
+    ensures ok { IfOk result (MakesOf text.now turns.now consts.now) }
     ensures either { IfOk result IsStepStatus }
-    ensures err { IfErr result (StopsAt text.now) }
+    ensures err { IfErr result (λ e. StopsAt text.now consts.now e.status) }
+    ensures line { IfErr result (λ e. HasLine (Some text.now) (λ t l. RefusedWith t consts.now l) e.status e.line) }
 {
+    if !consts.as_slice().is_empty() {
+        return Err(refused(alloc, consts, text));
+    }
     match read_counter(alloc, text) {
         Ok(counter) => match make_run(alloc, &counter, turns) {
             Ok(made) => Ok(made),
-            Err(_) => Err(Status::NoMemory),
+            Err(_) => Err(Ended::as_status(Status::NoMemory)),
         },
-        Err(ReadStop::NotCounter) => Err(Status::SpecRefused),
-        Err(ReadStop::NoMemory) => Err(Status::NoMemory),
+        Err(ReadStop::NotCounter) => Err(refused(alloc, consts, text)),
+        Err(ReadStop::NoMemory) => Err(Ended::as_status(Status::NoMemory)),
+    }
+}
+
+/// The refusal of a text that isn't run with these constants.
+fn refused(alloc: Global, consts: &Consts, text: &[u8]) -> Ended
+    ensures status { (result.status ≡ Status.SpecRefused) ⊎ (result.status ≡ Status.NoMemory) }
+    ensures line { HasLine (Some text.now) (λ t l. RefusedWith t consts.now l) result.status result.line }
+{
+    match refusal_line(alloc, text, consts) {
+        Ok(line) => Ended::with_line(line),
+        Err(_) => Ended::as_status(Status::NoMemory),
     }
 }
 

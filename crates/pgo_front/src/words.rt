@@ -3,10 +3,12 @@ ghost use Rattle.std.specs.Prelude.{◌≡◌, ◌↔◌, ◌<◌, ◌≤◌, �
 ghost use Rattle.pgo_front.specs.Turns.{Item, TurnList, AsksStep, AsksCheck, most_turns};
 ghost use Rattle.pgo_front.specs.Cuts.{Cuts};
 ghost use Rattle.pgo_front.specs.Items.{ReadsItem, ReadsSingle, ReadsRepeated, turns_of};
-ghost use Rattle.pgo_front.specs.Asked.{SpelledOnly, AsksOnly, AddsItem};
+ghost use Rattle.pgo_front.specs.Asked.{SpelledOnly, SpellsRest, AsksOnly, AddsItem};
 ghost use Rattle.pgo_front.specs.Makes.{AsksFor};
 
+use crate::constants::read_constants;
 use itoa::Buffer;
+use pgo_base::consts::Consts;
 use pgo_base::word::Word;
 use std::alloc::{AllocError, Global};
 use std::marker::Model;
@@ -34,7 +36,7 @@ fn number(text: &str) -> Option<u32>
 }
 
 /// The parts of a text before and behind the first place of a byte below 128.
-fn cut(text: &str, at: char) -> Option<(&str, &str)>
+pub fn cut(text: &str, at: char) -> Option<(&str, &str)>
     requires { at < 128 }
     ensures { Cuts at text.now result }
 {
@@ -130,8 +132,8 @@ fn read_list(alloc: Global, text: &str) -> Result<Option<Turns>, AllocError>
 /// What the words of a command ask for.
 #[derive(Drop)]
 pub enum Request {
-    /// A run under these turns.
-    Step(Turns),
+    /// A run under these turns, with these values of constants.
+    Step(Turns, Consts),
     /// The check of a bundle.
     Check,
 }
@@ -144,7 +146,7 @@ pub fn read_words(alloc: Global, words: &[Word]) -> Result<Option<Request>, Allo
         return Ok(Some(Request::Check));
     }
     match read_step(alloc, words)? {
-        Some(turns) => Ok(Some(Request::Step(turns))),
+        Some((turns, consts)) => Ok(Some(Request::Step(turns, consts))),
         None => Ok(None),
     }
 }
@@ -156,14 +158,37 @@ fn is_check(words: &[Word]) -> bool
     words.len() == 1 && words[0].as_str() == "check"
 }
 
-/// The turns that the words `step --turns LIST` ask for; none where the words are others.
-fn read_step(alloc: Global, words: &[Word]) -> Result<Option<Turns>, AllocError>
+/// The turns and the constants that the words `step --turns LIST` and then `NAME=value` each ask for; none where the words
+/// are others.
+fn read_step(alloc: Global, words: &[Word]) -> Result<Option<(Turns, Consts)>, AllocError>
     ensures { IfOk result (λ o. AsksOnly words.now o) }
 {
-    if words.len() != 3 || words[0].as_str() != "step" || words[1].as_str() != "--turns" {
-        return Ok(None);
+    match words {
+        [command, option, list, constants @ ..] => {
+            if command.as_str() != "step" || option.as_str() != "--turns" {
+                return Ok(None);
+            }
+            read_rest(alloc, list.as_str(), constants)
+        }
+        _ => Ok(None),
     }
-    read_list(alloc, words[2].as_str())
+}
+
+/// The turns of a list and the constants of the words behind it; none where one of them isn't there.
+fn read_rest(
+    alloc: Global,
+    list: &str,
+    constants: &[Word],
+) -> Result<Option<(Turns, Consts)>, AllocError>
+    ensures { IfOk result (λ o. SpellsRest list.now constants.now o) }
+{
+    let Some(turns) = read_list(alloc, list)? else {
+        return Ok(None);
+    };
+    match read_constants(alloc, constants)? {
+        Some(consts) => Ok(Some((turns, consts))),
+        None => Ok(None),
+    }
 }
 
 /// The turns of a list, in order: the number of an instance each.

@@ -8,6 +8,4 @@ pub mod source;
 pub mod standard;
 pub mod sure_sink;
 pub mod sure_source;
-#[cfg(test)]
-mod tests;
 pub mod write_all;

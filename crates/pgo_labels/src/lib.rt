@@ -11,8 +11,6 @@ mod name_set;
 mod names;
 mod operands;
 mod rules;
-#[cfg(test)]
-mod tests;
 mod yields;
 
 pub use checker::labels;

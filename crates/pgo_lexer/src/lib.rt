@@ -14,7 +14,5 @@ mod stack;
 mod string;
 pub mod symbol;
 mod table;
-#[cfg(test)]
-mod tests;
 pub mod token;
 pub mod tokenizer;

@@ -1,11 +1,11 @@
 // The program: the words of the command line and the standard streams, handed to `pgo`.
 #![tactic(auto)]
 
-ghost use Rattle.std.specs.Prelude.{◌≡◌, None, IfOk, IsOk, IsErr};
+ghost use Rattle.std.specs.Prelude.{◌≡◌, IfOk, IsOk, IsErr};
 ghost use Rattle.std.specs.Process.{exit_status};
 ghost use Rattle.pgo_io.specs.Faults.{Rose};
-ghost use Rattle.pgo_front.specs.Statuses.{number_of, line_of};
-ghost use Rattle.pgo_front.specs.Answers.{AsksNothing, EndsWell, WritesBundle, WritesVerdict, Stops, IsRefusal, OrNoMemory, SaysLine};
+ghost use Rattle.pgo_front.specs.Statuses.{number_of, IsSilent};
+ghost use Rattle.pgo_front.specs.Answers.{AsksNothing, EndsWell, WritesBundle, WritesVerdict, Stops, IsRefusal, OrNoMemory, SaysLine, SaysRefusal};
 ghost use Rattle.pgo_front.specs.Verdicts.{IsBadVerdict};
 ghost use Rattle.pgo_main.specs.Arguments.{words_behind_name, words_of, LacksMemory, LacksText};
 
@@ -59,7 +59,9 @@ fn run<S: Source, O: Sink, E: Sink>(
     ensures unread { AsksNothing (words_of arguments) → input.new ≡ input.old }
     ensures no_memory { LacksMemory arguments → result ≡ Status.NoMemory }
     ensures says { ¬ Rose (E.faults err.old) (E.faults err.new) → SaysLine result (E.held err.old) (E.held err.new) }
-    ensures silent { line_of result ≡ None → err.new ≡ err.old }
+    ensures says_refusal { result ≡ Status.SpecRefused → ¬ Rose (E.faults err.old) (E.faults err.new) →
+        SaysRefusal (words_of arguments) (S.left input.old) (E.held err.old) (E.held err.new) }
+    ensures silent { IsSilent result → err.new ≡ err.old }
 {
     match words(alloc, arguments) {
         Ok(words) => pgo(alloc, words.as_slice(), input, out, err),

@@ -6,5 +6,3 @@ mod compare;
 pub mod errors;
 mod finder;
 pub mod module_reader;
-#[cfg(test)]
-mod tests;

@@ -11,5 +11,3 @@ pub mod powers;
 pub mod ranges;
 pub mod sequences;
 pub mod set_operators;
-#[cfg(test)]
-mod tests;

@@ -4,5 +4,3 @@
 mod cut;
 pub mod parts;
 mod search;
-#[cfg(test)]
-mod tests;

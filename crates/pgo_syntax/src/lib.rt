@@ -12,5 +12,3 @@ pub mod process;
 pub mod records;
 pub mod spec;
 pub mod statement;
-#[cfg(test)]
-mod tests;

@@ -10,7 +10,5 @@ pub mod laws;
 pub mod read;
 mod small;
 mod stop;
-#[cfg(test)]
-mod tests;
-mod words;
+pub mod words;
 pub mod write;

@@ -1,6 +1,7 @@
 -- The words that `pgo` is given are those of the arguments.
 use Rattle.std.proofs.Common.{◌≡◌, subst, ◌∙◌}
-use Rattle.pgo_front.specs.Answers.{AsksNothing, OrNoMemory, Stops, IsRefusal, EndsWell}
+use Rattle.pgo_io.specs.Faults.{Rose}
+use Rattle.pgo_front.specs.Answers.{AsksNothing, OrNoMemory, Stops, IsRefusal, EndsWell, SaysRefusal}
 use Rattle.pgo_front.specs.declared.status.Status.TheVariants as status
 use Rattle.pgo_main.proofs.run.Goals as goal
 
@@ -24,3 +25,9 @@ returns-in-Ok-clause-fine g c =
     subst
     (λ ws. c.pgo.result ≡ status.Fine → EndsWell ws (g.S.Source.left c.args.input.now) (g.O.Sink.held c.args.out.now) (g.O.Sink.held c.pgo.new.out))
     (c.as_slice.ensures.value ∙ c.in-Ok.ensures.words) c.pgo.ensures.fine
+
+pub returns-in-Ok-clause-says_refusal : goal.returns-in-Ok-clause-says_refusal
+returns-in-Ok-clause-says_refusal g c =
+    subst
+    (λ ws. c.pgo.result ≡ status.SpecRefused → (Rose (g.E.Sink.faults c.args.err.now) (g.E.Sink.faults c.pgo.new.err) → ⊥) → SaysRefusal ws (g.S.Source.left c.args.input.now) (g.E.Sink.held c.args.err.now) (g.E.Sink.held c.pgo.new.err))
+    (c.as_slice.ensures.value ∙ c.in-Ok.ensures.words) c.pgo.ensures.says_refusal

@@ -1,51 +1,52 @@
+use Rattle.std.proofs.Common.{[], refl}
 use Rattle.pgo_front.proofs.Caused.{usage_comes, too_long_comes, refused_comes, run_comes, too_long_bundle_comes, no_bundle_comes, is_run_comes, is_no_run_comes}
 use Rattle.pgo_front.proofs.command.pgo.Goals as goal
 
 pub returns-clause-usage : goal.returns-clause-usage
 returns-clause-usage g c =
-    let e = c.run-status.ensures in
-    usage_comes c.args.words.now (g.S.Source.left c.args.input.now) _ _ _ _ _ _ c.run-status.result
+    let e = c.run-ended.ensures in
+    usage_comes c.args.words.now (g.S.Source.left c.args.input.now) _ _ _ _ _ _ c.run-ended.result.status
     (record { fine = e.fine; spent = e.spent; not_a_run = e.not_a_run; stopped = e.stopped; write_fault = e.write_fault; prefix = e.prefix })
 
 pub returns-clause-too_long : goal.returns-clause-too_long
-returns-clause-too_long g c turns text told read =
-    let e = c.run-status.ensures in
-    too_long_comes c.args.words.now (g.S.Source.left c.args.input.now) _ _ _ _ _ _ turns text told read c.run-status.result
+returns-clause-too_long g c turns text consts told read =
+    let e = c.run-ended.ensures in
+    too_long_comes c.args.words.now (g.S.Source.left c.args.input.now) _ _ _ _ _ _ turns text consts told read c.run-ended.result.status
     (record { fine = e.fine; spent = e.spent; not_a_run = e.not_a_run; stopped = e.stopped; write_fault = e.write_fault; prefix = e.prefix })
 
 pub returns-clause-refused : goal.returns-clause-refused
-returns-clause-refused g c turns text told read =
-    let e = c.run-status.ensures in
-    refused_comes c.args.words.now (g.S.Source.left c.args.input.now) _ _ _ _ _ _ turns text told read c.run-status.result
+returns-clause-refused g c turns text consts told read =
+    let e = c.run-ended.ensures in
+    refused_comes c.args.words.now (g.S.Source.left c.args.input.now) _ _ _ _ _ _ turns text consts told read c.run-ended.result.status
     (record { fine = e.fine; spent = e.spent; not_a_run = e.not_a_run; stopped = e.stopped; write_fault = e.write_fault; prefix = e.prefix })
 
 pub returns-clause-runs : goal.returns-clause-runs
 returns-clause-runs g c turns text spec told read wrote short spells =
-    let e = c.run-status.ensures in
-    run_comes c.args.words.now (g.S.Source.left c.args.input.now) _ _ _ _ _ _ turns text told read c.run-status.result
+    let e = c.run-ended.ensures in
+    run_comes c.args.words.now (g.S.Source.left c.args.input.now) _ _ _ _ _ _ turns text [] told read refl c.run-ended.result.status
     (record { fine = e.fine; spent = e.spent; not_a_run = e.not_a_run; stopped = e.stopped; write_fault = e.write_fault; prefix = e.prefix })
     wrote short spec spells
 
 pub returns-clause-no_bundle : goal.returns-clause-no_bundle
 returns-clause-no_bundle g c text told read =
-    let e = c.run-status.ensures in
-    no_bundle_comes c.args.words.now (g.S.Source.left c.args.input.now) _ _ _ _ _ _ text told read c.run-status.result
+    let e = c.run-ended.ensures in
+    no_bundle_comes c.args.words.now (g.S.Source.left c.args.input.now) _ _ _ _ _ _ text told read c.run-ended.result.status
     (record { fine = e.fine; spent = e.spent; not_a_run = e.not_a_run; stopped = e.stopped; write_fault = e.write_fault; prefix = e.prefix })
 
 pub returns-clause-too_long_bundle : goal.returns-clause-too_long_bundle
 returns-clause-too_long_bundle g c text told read =
-    let e = c.run-status.ensures in
-    too_long_bundle_comes c.args.words.now (g.S.Source.left c.args.input.now) _ _ _ _ _ _ text told read c.run-status.result
+    let e = c.run-ended.ensures in
+    too_long_bundle_comes c.args.words.now (g.S.Source.left c.args.input.now) _ _ _ _ _ _ text told read c.run-ended.result.status
     (record { fine = e.fine; spent = e.spent; not_a_run = e.not_a_run; stopped = e.stopped; write_fault = e.write_fault; prefix = e.prefix })
 
 pub returns-clause-is_run : goal.returns-clause-is_run
 returns-clause-is_run g c text m consts l told read wrote short bundle run =
-    let e = c.run-status.ensures in
-    is_run_comes c.args.words.now (g.S.Source.left c.args.input.now) _ _ _ _ _ _ text told read m consts l bundle wrote short c.run-status.result
+    let e = c.run-ended.ensures in
+    is_run_comes c.args.words.now (g.S.Source.left c.args.input.now) _ _ _ _ _ _ text told read m consts l bundle wrote short c.run-ended.result.status
     (record { fine = e.fine; spent = e.spent; not_a_run = e.not_a_run; stopped = e.stopped; write_fault = e.write_fault; prefix = e.prefix }) run
 
 pub returns-clause-is_no_run : goal.returns-clause-is_no_run
 returns-clause-is_no_run g c text m consts l told read wrote short bundle none =
-    let e = c.run-status.ensures in
-    is_no_run_comes c.args.words.now (g.S.Source.left c.args.input.now) _ _ _ _ _ _ text told read m consts l bundle wrote short c.run-status.result
+    let e = c.run-ended.ensures in
+    is_no_run_comes c.args.words.now (g.S.Source.left c.args.input.now) _ _ _ _ _ _ text told read m consts l bundle wrote short c.run-ended.result.status
     (record { fine = e.fine; spent = e.spent; not_a_run = e.not_a_run; stopped = e.stopped; write_fault = e.write_fault; prefix = e.prefix }) none

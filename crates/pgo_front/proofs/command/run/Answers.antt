@@ -1,3 +1,4 @@
+use Rattle.std.proofs.Common.{sym, ◌∙◌}
 use Rattle.pgo_front.proofs.Making.{into_fault, fine_to, spent_to, not_a_run_to}
 use Rattle.pgo_front.proofs.command.run.Goals as goal
 
@@ -7,12 +8,12 @@ returns-in-Ok-clause-prefix g c e =
 
 pub returns-in-Ok-write_lines-clause-fine : goal.returns-in-Ok-write_lines-clause-fine
 returns-in-Ok-write_lines-clause-fine g c e =
-    fine_to c.args.words.now (g.S.Source.left c.args.input.now) _ _ c.in-Ok.made e c.in-Ok.ensures.ok c.in-Ok-write_lines.ensures.all
+    fine_to c.args.words.now (g.S.Source.left c.args.input.now) _ _ c.in-Ok.made (sym c.as_status.ensures.status ∙ e) c.in-Ok.ensures.ok c.in-Ok-write_lines.ensures.all
 
 pub returns-in-Ok-write_lines-clause-spent : goal.returns-in-Ok-write_lines-clause-spent
 returns-in-Ok-write_lines-clause-spent g c e =
-    spent_to c.args.words.now (g.S.Source.left c.args.input.now) _ _ c.in-Ok.made e c.in-Ok.ensures.ok c.in-Ok-write_lines.ensures.all
+    spent_to c.args.words.now (g.S.Source.left c.args.input.now) _ _ c.in-Ok.made (sym c.as_status.ensures.status ∙ e) c.in-Ok.ensures.ok c.in-Ok-write_lines.ensures.all
 
 pub returns-in-Ok-write_lines-clause-not_a_run : goal.returns-in-Ok-write_lines-clause-not_a_run
 returns-in-Ok-write_lines-clause-not_a_run g c e =
-    not_a_run_to c.args.words.now (g.S.Source.left c.args.input.now) _ _ c.in-Ok.made e c.in-Ok.ensures.ok c.in-Ok-write_lines.ensures.all
+    not_a_run_to c.args.words.now (g.S.Source.left c.args.input.now) _ _ c.in-Ok.made (sym c.as_status.ensures.status ∙ e) c.in-Ok.ensures.ok c.in-Ok-write_lines.ensures.all

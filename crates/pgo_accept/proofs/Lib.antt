@@ -1,0 +1,10 @@
+pub mod Accepted
+pub mod Counted
+pub mod FirstLabels
+pub mod Fitting
+pub mod Heads
+pub mod Refused
+mod Rows
+pub mod Unbroken
+pub mod Variables
+pub mod WrittenOnce

@@ -1,0 +1,7 @@
+// The tests of whole specifications and of the commands, one module for each crate.
+#![tactic(auto)]
+
+#[cfg(test)]
+mod accept;
+#[cfg(test)]
+mod front;
