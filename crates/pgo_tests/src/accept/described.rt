@@ -2,7 +2,7 @@
 use pgo_base::text::Text;
 use pgo_base::value::Value;
 use pgo_module_write::line::Line;
-use pgo_module_write::line::Piece::{Bytes, Name, Number};
+use pgo_module_write::line::Piece::Number;
 use pgo_syntax::archetype::Extent;
 use pgo_syntax::bound::{Binding, Bound, Instance, Mapping, Resource, Target};
 use pgo_value_text::write::write_value;
@@ -56,25 +56,27 @@ fn push_mapping(lines: &mut Vec<u8>, mapping: &Option<Mapping>) -> Result<(), Al
     }
 }
 
+/// A number in decimal digits.
+fn push_number(lines: &mut Vec<u8>, alloc: Global, number: u32) -> Result<(), AllocError> {
+    let digits = Line::of(alloc, &[Number(number as u64)])?;
+    lines.extend_from_slice(digits.as_bytes())
+}
+
 /// `instance 0 1 P A`: number, identifier, process and archetype; then a line for each binding.
 fn push_instance(
     lines: &mut Vec<u8>,
     alloc: Global,
     instance: &Instance,
 ) -> Result<(), AllocError> {
-    let id = text_of(alloc, &instance.id)?;
-    let pieces = [
-        Bytes(b"instance "),
-        Number(instance.number as u64),
-        Bytes(b" "),
-        Name(&id),
-        Bytes(b" "),
-        Name(&instance.process),
-        Bytes(b" "),
-        Name(&instance.archetype.name.name),
-        Bytes(b"\n"),
-    ];
-    lines.extend_from_slice(Line::of(alloc, &pieces)?.as_bytes())?;
+    lines.extend_from_slice(b"instance ")?;
+    push_number(lines, alloc, instance.number)?;
+    lines.push(b' ')?;
+    lines.extend_from_slice(text_of(alloc, &instance.id)?.as_bytes())?;
+    lines.push(b' ')?;
+    lines.extend_from_slice(instance.process.as_bytes())?;
+    lines.push(b' ')?;
+    lines.extend_from_slice(instance.archetype.name.name.as_bytes())?;
+    lines.push(b'\n')?;
     for binding in instance.bindings.as_slice() {
         push_binding(lines, binding)?;
     }
@@ -87,13 +89,10 @@ fn push_resource(
     alloc: Global,
     resource: &Resource,
 ) -> Result<(), AllocError> {
-    let pieces = [
-        Bytes(b"resource "),
-        Number(resource.number as u64),
-        Bytes(b" "),
-        Name(&resource.global),
-    ];
-    lines.extend_from_slice(Line::of(alloc, &pieces)?.as_bytes())?;
+    lines.extend_from_slice(b"resource ")?;
+    push_number(lines, alloc, resource.number)?;
+    lines.push(b' ')?;
+    lines.extend_from_slice(resource.global.as_bytes())?;
     if let Some(index) = &resource.index {
         lines.push(b'[')?;
         lines.extend_from_slice(text_of(alloc, index)?.as_bytes())?;

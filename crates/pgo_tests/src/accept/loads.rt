@@ -29,13 +29,13 @@ const HEAD: &str = "\
 const TAIL: &str = "}\n*)\n====\n";
 
 /// `fair process (Ping1 = 1) == ..`, with these words before the first and the second number, and behind them.
-fn push_processes(
+fn push_processes<'x>(
     text: &mut Vec<u8>,
     alloc: Global,
     pairs: u64,
-    before: &str,
-    between: &str,
-    behind: &str,
+    before: &'x str,
+    between: &'x str,
+    behind: &'x str,
 ) -> Result<(), AllocError> {
     for j in 1..=pairs {
         let pieces = [
