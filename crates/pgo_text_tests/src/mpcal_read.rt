@@ -482,7 +482,15 @@ fn an_else_belongs_to_the_nearest_if(rt: HostRuntime) -> Result<(), Fail> {
     Ok(())
 }
 
-/// The names that the first statement assigns, and their places.
+/// The first byte, and 0 where there is none.
+fn first_byte(bytes: &[u8]) -> u8 {
+    match bytes {
+        [] => 0,
+        [first, ..] => *first,
+    }
+}
+
+/// The first bytes of the names that the first statement assigns, and their places.
 fn assigned(alloc: Global, body: &[u8]) -> Result<Vec<(u8, u32)>, AllocError> {
     let mut names = Vec::new(alloc);
     let text = joined(alloc, BODY, body, BEHIND)?;
@@ -490,7 +498,7 @@ fn assigned(alloc: Global, body: &[u8]) -> Result<Vec<(u8, u32)>, AllocError> {
         if let Some(Stmt::Assign(_, list)) = first_statement(&spec) {
             for a in list.as_slice() {
                 let place = a.left.name.place.saturating_sub(BODY.len() as u32);
-                names.push((a.left.name.name.as_bytes()[0], place))?;
+                names.push((first_byte(a.left.name.name.as_bytes()), place))?;
             }
         }
     }
