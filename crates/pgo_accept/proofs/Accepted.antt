@@ -6,11 +6,11 @@ use Rattle.pgo_base.specs.Data.{Data}
 use Rattle.pgo_base.specs.Lookup.{Name}
 use Rattle.pgo_syntax.specs.declared.process.Process.{Process}
 use Rattle.pgo_syntax.specs.declared.spec.Spec.{Spec}
-use Rattle.pgo_scope.specs.AllUses.{all_uses}
+use Rattle.pgo_uses.specs.AllUses.{all_uses}
+use Rattle.pgo_uses.specs.Tables.{tables_of}
 use Rattle.pgo_scope.specs.Arity.{arity_use, arity_heads}
 use Rattle.pgo_scope.specs.Findings.{each_use}
 use Rattle.pgo_scope.specs.Refusal.{scope_refusal}
-use Rattle.pgo_scope.specs.Tables.{tables_of}
 use Rattle.pgo_scope.specs.Unknown.{unknown_use, unknown_heads}
 use Rattle.pgo_labels.specs.declared.finding.Finding.{Finding}
 use Rattle.pgo_labels.specs.Refusal.{label_refusal}

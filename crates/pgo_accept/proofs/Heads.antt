@@ -6,13 +6,13 @@ use Rattle.pgo_model.specs.Machine.{nth}
 use Rattle.pgo_syntax.specs.declared.name.PlacedName.{PlacedName}
 use Rattle.pgo_syntax.specs.declared.archetype.Archetype.{Archetype}
 use Rattle.pgo_syntax.specs.declared.process.Process.{Process}
+use Rattle.pgo_uses.specs.declared.tables.Tables.{Tables}
+use Rattle.pgo_uses.specs.Names.{Rows, is_among}
+use Rattle.pgo_uses.specs.Tables.{archetype_rows}
 use Rattle.pgo_scope.specs.declared.errors.ScopeError.{ScopeError}
 use Rattle.pgo_scope.specs.declared.errors.ScopeError.TheVariants as errors
 use Rattle.pgo_scope.specs.declared.finding.Finding.{Finding}
-use Rattle.pgo_scope.specs.declared.tables.Tables.{Tables}
-use Rattle.pgo_scope.specs.Names.{Rows, is_among}
 use Rattle.pgo_scope.specs.Findings.{found_if}
-use Rattle.pgo_scope.specs.Tables.{archetype_rows}
 use Rattle.pgo_scope.specs.Unknown.{unknown_in, unknown_arguments, unknown_clauses, unknown_heads}
 use Rattle.pgo_scope.specs.Arity.{or_number, wrong_number, arity_heads}
 use Rattle.pgo_bind.specs.Runs.{archetype_named}

@@ -13,10 +13,10 @@ use Rattle.pgo_syntax.specs.declared.process.Argument.{Argument}
 use Rattle.pgo_syntax.specs.declared.process.Argument.TheVariants as arguments
 use Rattle.pgo_syntax.specs.declared.process.Process.{Process}
 use Rattle.pgo_syntax.specs.declared.spec.Spec.{Spec}
+use Rattle.pgo_uses.specs.AllUses.{all_uses, archetype_uses, variable_names}
+use Rattle.pgo_uses.specs.Heads.{declared_names, definition_names, shared_names}
+use Rattle.pgo_uses.specs.Tables.{all_definitions}
 use Rattle.pgo_scope.specs.declared.things.Thing.{Thing}
-use Rattle.pgo_scope.specs.AllUses.{all_uses, archetype_uses, variable_names}
-use Rattle.pgo_scope.specs.Heads.{declared_names, definition_names, shared_names}
-use Rattle.pgo_scope.specs.Tables.{all_definitions}
 use Rattle.pgo_scope.specs.TextOrder.{in_text_order}
 use Rattle.pgo_scope.specs.Clash.{fixed_names, fixed_things, shared_things, bound_things, value_names, labels_from, own_names, own_rows, or_none, own_things, process_things, things_with, name_clashes}
 use Rattle.pgo_bind.specs.Runs.{Handed, handed_from, archetype_named}

@@ -5,7 +5,6 @@ pub mod Placed
 pub mod Firsts
 pub mod Ordered
 pub mod Passing
-pub mod Mentioned
 pub mod Among
 pub mod Lookups
 pub mod StartNames

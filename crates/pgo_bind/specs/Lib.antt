@@ -5,8 +5,6 @@ pub mod Refusals
 pub mod Answers
 pub mod Views
 pub mod Kinds
-pub mod Operands
-pub mod Mentions
 pub mod State
 pub mod Declares
 pub mod Sound

@@ -33,7 +33,7 @@ use Rattle.pgo_bind.specs.declared.initial.Lack.TheVariants.{NoSet, NoMember}
 use Rattle.pgo_bind.specs.declared.kinds.Kind.{Kind}
 use Rattle.pgo_bind.specs.declared.kinds.Kind.TheVariants.{Unbound, AsWhole, ByElement}
 use Rattle.pgo_model.specs.Written.{self_name}
-use Rattle.pgo_bind.specs.Mentions.{mentions}
+use Rattle.pgo_operands.specs.Mentions.{mentions}
 use Rattle.pgo_bind.specs.Values.{Start, Missing, Empty, Begins, is_empty, is_unset, given_value, defs_of, argument_start, start_in, default_start, start_of_value, closed_value}
 use Rattle.pgo_bind.specs.Runs.{Run, Handed, runs_of, run_ids, all_ids, has_ids, is_some_item, speaking, kind_of}
 use Rattle.pgo_bind.specs.BoundOf.{GlobalStart, globals_of, all_parts}

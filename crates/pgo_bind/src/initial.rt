@@ -12,7 +12,6 @@ ghost use Rattle.pgo_bind.specs.declared.errors.BindError.TheVariants as errors;
 
 use crate::errors::BindError;
 use crate::globals::GlobalStart;
-use crate::mentions::mentions;
 use crate::runs::{Handed, Run};
 use crate::values::{
     Start, argument_start, closed_value, default_value, is_unset, start_in, start_of_value,
@@ -21,6 +20,7 @@ use pgo_base::expr::Expr;
 use pgo_base::module::Defs;
 use pgo_base::text::Text;
 use pgo_base::value::Value;
+use pgo_operands::mentions::mentions;
 use pgo_syntax::archetype::Archetype;
 use pgo_syntax::binding::Origin;
 use pgo_syntax::declaration::Declaration;

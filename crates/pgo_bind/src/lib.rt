@@ -12,8 +12,6 @@ mod instances;
 mod kinds;
 mod known;
 mod mapping;
-mod mentions;
-mod operands;
 mod runs;
 mod start;
 mod values;

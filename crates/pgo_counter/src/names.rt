@@ -5,56 +5,9 @@ ghost use Rattle.pgo_counter.specs.WellNamed as spec;
 ghost use Rattle.pgo_counter.specs.CounterModules.{module_names, has_module_names};
 
 use crate::counter::Counter;
+use pgo_words::bytes::{is_digit, is_letter};
+use pgo_words::names::{is_one_of, is_reserved};
 use std::alloc::{AllocError, Global};
-
-/// The words that are no names.
-const RESERVED: [&[u8]; 45] = [
-    b"TRUE",
-    b"FALSE",
-    b"BOOLEAN",
-    b"STRING",
-    b"Nat",
-    b"Int",
-    b"SUBSET",
-    b"UNION",
-    b"DOMAIN",
-    b"EXCEPT",
-    b"UNCHANGED",
-    b"CHOOSE",
-    b"IF",
-    b"THEN",
-    b"ELSE",
-    b"CASE",
-    b"OTHER",
-    b"LET",
-    b"IN",
-    b"define",
-    b"macro",
-    b"mapping",
-    b"read",
-    b"write",
-    b"archetype",
-    b"variable",
-    b"variables",
-    b"fair",
-    b"process",
-    b"instance",
-    b"ref",
-    b"via",
-    b"skip",
-    b"if",
-    b"else",
-    b"while",
-    b"either",
-    b"or",
-    b"await",
-    b"when",
-    b"with",
-    b"print",
-    b"assert",
-    b"goto",
-    b"yield",
-];
 
 /// The names that a written module has already, and the operators of the standard modules that expressions have here.
 const TAKEN: [&[u8]; 18] = [
@@ -81,48 +34,10 @@ const TAKEN: [&[u8]; 18] = [
 /// The most bytes of a name.
 const MOST_BYTES: usize = 128;
 
-/// Whether the bytes are the same.
-pub fn same_bytes(a: &[u8], b: &[u8]) -> bool
-    ensures { result ≡ text.same_bytes a.now b.now }
-{
-    a == b
-}
-
-/// Whether the word is one of these.
-fn is_one_of(word: &[u8], words: &[&[u8]]) -> bool
-    ensures { result ≡ text.is_one_of word.now (map (λ w. w.now) words.now) }
-{
-    for w in words {
-        if same_bytes(word, w) {
-            return true;
-        }
-    }
-    false
-}
-
-/// Whether the word is no name because the language has it.
-pub fn is_reserved(word: &[u8]) -> bool
-    ensures { result ≡ text.is_one_of word.now text.reserved_words }
-{
-    is_one_of(word, &RESERVED)
-}
-
 fn is_taken(word: &[u8]) -> bool
     ensures { result ≡ text.is_one_of word.now spec.taken_names }
 {
     is_one_of(word, &TAKEN)
-}
-
-pub fn is_letter(b: u8) -> bool
-    ensures { result ≡ text.is_letter b }
-{
-    b.is_ascii_alphabetic()
-}
-
-pub fn is_digit(b: u8) -> bool
-    ensures { result ≡ text.is_digit b }
-{
-    b.is_ascii_digit()
 }
 
 fn begins_with_letter(word: &[u8]) -> bool

@@ -7,7 +7,8 @@ ghost use Rattle.pgo_counter_read.specs.Lexing as spec;
 
 use crate::token::{Lexeme, Token};
 use pgo_base::text::Text;
-use pgo_counter::names::same_bytes;
+use pgo_words::bytes::is_word_byte;
+use pgo_words::names::same_bytes;
 use std::alloc::{AllocError, Global};
 
 /// A token, and how many bytes spell it.
@@ -21,12 +22,6 @@ fn is_blank(b: u8) -> bool
     ensures { result ≡ tokens.is_blank b }
 {
     b == b' ' || b == b'\t' || b == b'\r'
-}
-
-fn is_word_byte(b: u8) -> bool
-    ensures { result ≡ text.is_word_byte b }
-{
-    b.is_ascii_alphabetic() || b.is_ascii_digit() || b == b'_'
 }
 
 /// How many word bytes stand at the front.

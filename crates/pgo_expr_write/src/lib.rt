@@ -7,6 +7,4 @@ pub mod laws;
 mod lists;
 mod operators;
 mod parts;
-mod strings;
-mod words;
 pub mod write;

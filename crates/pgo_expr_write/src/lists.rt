@@ -6,8 +6,8 @@ ghost use Rattle.pgo_expr_write.specs.Parts.{see};
 ghost use Rattle.pgo_expr_write.specs.Pieces as spec;
 
 use crate::parts::{Part, add, add_between};
-use crate::words::is_field;
 use pgo_base::expr::{Arms, Binders, Expr, Exprs, Named, Names, Update, Updates};
+use pgo_words::names::is_name;
 use std::alloc::AllocError;
 
 /// Adds expressions with a word between them.
@@ -113,7 +113,7 @@ fn add_index<'a>(parts: &mut Vec<Part<'a>>, e: &'a Expr) -> Result<(), AllocErro
 {
     match e {
         Expr::Text(s) => {
-            if is_field(s.as_bytes()) {
+            if is_name(s.as_bytes()) {
                 add(parts, &[Part::Bytes(b"."), Part::Name(s)])
             } else {
                 add_bracketed(parts, e)

@@ -12,9 +12,9 @@ use crate::errors::NoMemory;
 use crate::forms::parts_of;
 use crate::laws::canonical_text_is_read_back;
 use crate::parts::Part;
-use crate::strings::{push_integer, push_string};
 use pgo_base::expr::Expr;
 use pgo_base::text::Text;
+use pgo_words::strings::{push_integer, push_string};
 use std::alloc::{AllocError, Global};
 
 /// The canonical text of an expression: each application of an operator and each open form stands in `( )`, the

@@ -6,5 +6,4 @@ pub mod Found
 pub mod Repeats
 pub mod Lasts
 pub mod Ends
-pub mod Mentioned
 pub mod Walks

@@ -7,8 +7,6 @@ pub mod Yields
 pub mod Lent
 pub mod NameSets
 pub mod ItemEnds
-pub mod Operands
-pub mod Mentions
 pub mod Rules
 pub mod Errors
 pub mod Refusal

@@ -2,8 +2,8 @@
 use Rattle.std.specs.Prelude.{Bool, true, false, ◌||◌, ◌&&◌, not, codes, List, [], ◌∷◌, ◌++◌, map, flat_map}
 use Rattle.std.specs.List.{list_any}
 use Rattle.pgo_base.specs.Tree.{Tree}
-use Rattle.pgo_base.specs.Lookup.{Name, same_name}
-use Rattle.pgo_model.specs.Occurrences.{names_in}
+use Rattle.pgo_base.specs.Lookup.{Name}
+use Rattle.pgo_operands.specs.Mentions.{mentions}
 use Rattle.pgo_syntax.specs.declared.assignment.Step.{Step}
 use Rattle.pgo_syntax.specs.declared.assignment.Step.TheVariants.{Index, Field}
 use Rattle.pgo_syntax.specs.declared.binding.Origin.{Origin}
@@ -89,9 +89,6 @@ expressions (go_to p l) = []
 expressions (call_macro p m es) = es
 expressions (yield_as p e) = e ∷ []
 expressions (block p ls) = []
-
-abbrev pub mentions : Name → Tree → Bool
-mentions n e = list_any (same_name n) (names_in e)
 
 -- whether the name stands in an expression of these statements
 abbrev pub are_about : Name → List Item → Bool

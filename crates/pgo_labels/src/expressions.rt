@@ -1,17 +1,16 @@
 // The expressions of statements, and whether a name stands in them.
-ghost use Rattle.std.specs.Prelude.{◌≡◌, [], ◌∷◌, ◌++◌, true, false, map, flat_map, IfOk};
-ghost use Rattle.std.specs.List.{list_any};
+ghost use Rattle.std.specs.Prelude.{◌≡◌, [], ◌∷◌, ◌++◌, map, flat_map, IfOk};
 ghost use Rattle.pgo_base.specs.ExprView.{tree};
 ghost use Rattle.pgo_syntax.specs.Statement.{guarded};
 ghost use Rattle.pgo_syntax.specs.StatementView.{statement};
-ghost use Rattle.pgo_labels.specs.Mentions as names;
-ghost use Rattle.pgo_labels.specs.Operands.{lent_trees};
+ghost use Rattle.pgo_operands.specs.Operands.{lent_trees};
 ghost use Rattle.pgo_labels.specs.Parts.{see};
 ghost use Rattle.pgo_labels.specs.Yields as spec;
 
 use crate::items::Item;
-use crate::operands::{members, one_part, operands};
 use pgo_base::expr::Expr;
+use pgo_operands::mentions::any_mentions;
+use pgo_operands::operands::{members, one_part};
 use pgo_syntax::assignment::{Assignments, Path, Step};
 use pgo_syntax::binding::{Origin, WithNames};
 use pgo_syntax::statement::{Branches, Stmt};
@@ -94,41 +93,6 @@ fn expressions<'a>(alloc: Global, s: &'a Stmt) -> Result<Vec<&'a Expr>, AllocErr
         Stmt::Yield(_, e) => one_part(alloc, e),
         _ => Ok(Vec::new(alloc)),
     }
-}
-
-/// Whether an expression is this name.
-fn is_name(name: &[u8], e: &Expr) -> bool
-    ensures { result ≡ names.is_name name.now (tree e.now) }
-{
-    match e {
-        Expr::Name(x) => name.cmp(x.as_bytes()).is_eq(),
-        _ => false,
-    }
-}
-
-/// Whether a name stands in an expression.
-#[cycle(mentions)]
-fn mentions(alloc: Global, name: &[u8], e: &Expr) -> Result<bool, AllocError>
-    ensures { IfOk result (λ b. b ≡ spec.mentions name.now (tree e.now)) }
-{
-    if is_name(name, e) {
-        return Ok(true);
-    }
-    let parts = operands(alloc, e)?;
-    any_mentions(alloc, name, parts.as_slice())
-}
-
-/// Whether a name stands in one of these expressions.
-#[cycle(mentions)]
-fn any_mentions(alloc: Global, name: &[u8], list: &[&Expr]) -> Result<bool, AllocError>
-    ensures { IfOk result (λ b. b ≡ list_any (spec.mentions name.now) (lent_trees list.now)) }
-{
-    for one in list {
-        if mentions(alloc, name, one)? {
-            return Ok(true);
-        }
-    }
-    Ok(false)
 }
 
 /// Whether a name stands in an expression of these statements.

@@ -9,7 +9,6 @@ mod items;
 mod jumps;
 mod name_set;
 mod names;
-mod operands;
 mod rules;
 mod yields;
 

@@ -6,10 +6,10 @@ ghost use Rattle.pgo_log_text.specs.Bytes as spec;
 ghost use Rattle.pgo_log_text.specs.Parsers.{Reads, ReadsAs};
 
 use crate::errors::LogStop;
-use crate::names::{is_read_name, is_word_byte};
 use crate::numbers::{natural_of, negative, positive};
 use pgo_base::text::Text;
-use pgo_counter::names::is_digit;
+use pgo_words::bytes::{is_digit, is_word_byte};
+use pgo_words::names::is_name;
 use std::alloc::Global;
 use std::marker::Model;
 
@@ -126,7 +126,7 @@ impl<'a> Cursor<'a> {
         let length = word_length(self.rest);
         let word = &self.rest[..length];
         self.rest = &self.rest[length..];
-        if is_read_name(word) {
+        if is_name(word) {
             Ok(Text::from_slice(alloc, word)?)
         } else {
             Err(LogStop::BadLog)

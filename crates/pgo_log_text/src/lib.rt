@@ -8,7 +8,6 @@ mod entry;
 pub mod errors;
 mod field;
 mod lines;
-mod names;
 mod numbers;
 #[cfg(test)]
 mod tests;

@@ -2,8 +2,8 @@
 ghost use Rattle.std.specs.Prelude.{◌≡◌, ◌≤◌, ◌++◌, List, ℕ, length, IfSome, IfNone};
 ghost use Rattle.pgo_model.specs.ModuleText.{flatten};
 
-use pgo_counter::names::same_bytes;
 use pgo_module_write::line::Line;
+use pgo_words::names::same_bytes;
 
 /// How many bytes at the front are the same.
 fn common_length(a: &[u8], b: &[u8]) -> usize

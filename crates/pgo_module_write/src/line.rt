@@ -1,11 +1,11 @@
 // The lines of a text, and how a line is put together from its pieces.
 ghost use Rattle.std.specs.Prelude.{◌≡◌, ◌≤◌, ◌^◌, ◌∷◌, ◌++◌, [], List, ℕ, length, decimal, IfOk, IfSome, IfNone};
-ghost use Rattle.pgo_model.specs.ValueText.{escaped, all_escaped, string_text};
 ghost use Rattle.pgo_model.specs.ModuleText.{line, flatten};
 ghost use Rattle.pgo_module_write.specs.Pieces.{piece_text, pieces_text, rows_lines};
 
 use itoa::Buffer;
 use pgo_base::text::Text;
+use pgo_words::strings::push_string;
 use std::alloc::{AllocError, Global};
 use std::marker::Model;
 
@@ -49,40 +49,6 @@ impl Model for Lines {
     ghost view = { λ ls. ls.list.items };
 }
 
-/// Adds a byte of a string as it is written there.
-fn push_escaped(bytes: &mut Vec<u8>, byte: u8) -> Result<(), AllocError>
-    ensures { IfOk result (λ _. bytes.new.items ≡ bytes.old.items ++ escaped byte) }
-{
-    match byte {
-        b'"' => bytes.extend_from_slice(b"\\\"")?,
-        b'\\' => bytes.extend_from_slice(b"\\\\")?,
-        b'\n' => bytes.extend_from_slice(b"\\n")?,
-        b'\t' => bytes.extend_from_slice(b"\\t")?,
-        _ => bytes.push(byte)?,
-    }
-    Ok(())
-}
-
-/// Adds the bytes of a string with its escapes.
-fn push_all_escaped(bytes: &mut Vec<u8>, text: &[u8]) -> Result<(), AllocError>
-    ensures { IfOk result (λ _. bytes.new.items ≡ bytes.old.items ++ all_escaped text.now) }
-{
-    for byte in text {
-        push_escaped(bytes, *byte)?;
-    }
-    Ok(())
-}
-
-/// Adds a string as a value.
-fn push_quoted(bytes: &mut Vec<u8>, text: &Text) -> Result<(), AllocError>
-    ensures { IfOk result (λ _. bytes.new.items ≡ bytes.old.items ++ string_text text.now) }
-{
-    bytes.push(b'"')?;
-    push_all_escaped(bytes, text.as_bytes())?;
-    bytes.push(b'"')?;
-    Ok(())
-}
-
 /// Adds a number in decimal digits.
 fn push_number(bytes: &mut Vec<u8>, number: u64) -> Result<(), AllocError>
     ensures { IfOk result (λ _. bytes.new.items ≡ bytes.old.items ++ decimal number) }
@@ -98,7 +64,7 @@ fn push_piece(bytes: &mut Vec<u8>, piece: Piece) -> Result<(), AllocError>
     match piece {
         Piece::Bytes(text) => bytes.extend_from_slice(text),
         Piece::Name(text) => bytes.extend_from_slice(text.as_bytes()),
-        Piece::Quoted(text) => push_quoted(bytes, text),
+        Piece::Quoted(text) => push_string(bytes, text.as_bytes()),
         Piece::Number(number) => push_number(bytes, number),
         Piece::Part(line) => bytes.extend_from_slice(line.as_bytes()),
     }

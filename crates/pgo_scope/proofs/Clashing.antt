@@ -3,13 +3,13 @@ use Rattle.std.proofs.Common.{◌≡◌, ◌<◌, ◌+◌, ℕ, zero, suc, take,
 use Rattle.std.specs.Prelude.{if◌then◌else◌}
 use Rattle.std.proofs.lemmas.List.{append-nil}
 use Rattle.pgo_base.specs.Lookup.{same_name}
+use Rattle.pgo_uses.specs.Names.{Rows, is_among}
+use Rattle.pgo_uses.proofs.Among.{among_cons}
 use Rattle.pgo_scope.specs.declared.errors.ScopeError.TheVariants as errors
 use Rattle.pgo_scope.specs.declared.finding.Finding.{Finding}
 use Rattle.pgo_scope.specs.declared.things.Thing.{Thing}
-use Rattle.pgo_scope.specs.Names.{Rows, is_among}
 use Rattle.pgo_scope.specs.Clash.{clash, clash_with}
 use Rattle.pgo_scope.specs.Seen.{any_rows, unbound_row, unbound_rows, may_clash}
-use Rattle.pgo_scope.proofs.Among.{among_cons}
 
 pub any_more : (ts : List Thing) (t : Thing) → any_rows (ts ++ t ∷ []) ≡ any_rows ts ++ (t.written, 0) ∷ []
 any_more [] t = refl

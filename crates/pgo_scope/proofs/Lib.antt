@@ -1,9 +1,5 @@
-mod Among
 mod Answered
 mod Clashing
-mod Counts
-mod Heights
+mod Doubled
+mod Only
 mod Sorting
-mod StatementHeights
-mod StatementWalked
-mod Walked

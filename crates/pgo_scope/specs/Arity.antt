@@ -3,15 +3,15 @@ use Rattle.std.specs.Prelude.{ℕ, not, if◌then◌else◌, nat_eq, List, [], �
 use Rattle.pgo_base.specs.Lookup.{Name, find}
 use Rattle.pgo_syntax.specs.declared.process.Process.{Process}
 use Rattle.pgo_syntax.specs.declared.spec.Spec.{Spec}
+use Rattle.pgo_uses.specs.declared.tables.Tables.{Tables}
+use Rattle.pgo_uses.specs.declared.uses.Form.{Form}
+use Rattle.pgo_uses.specs.declared.uses.Form.TheVariants as forms
+use Rattle.pgo_uses.specs.declared.uses.Use.{Use}
+use Rattle.pgo_uses.specs.Names.{Rows}
+use Rattle.pgo_uses.specs.Tables.{tables_of, operator_rows}
+use Rattle.pgo_uses.specs.AllUses.{all_uses}
 use Rattle.pgo_scope.specs.declared.errors.ScopeError.TheVariants as errors
 use Rattle.pgo_scope.specs.declared.finding.Finding.{Finding}
-use Rattle.pgo_scope.specs.declared.tables.Tables.{Tables}
-use Rattle.pgo_scope.specs.declared.uses.Form.{Form}
-use Rattle.pgo_scope.specs.declared.uses.Form.TheVariants as forms
-use Rattle.pgo_scope.specs.declared.uses.Use.{Use}
-use Rattle.pgo_scope.specs.Names.{Rows}
-use Rattle.pgo_scope.specs.Tables.{tables_of, operator_rows}
-use Rattle.pgo_scope.specs.AllUses.{all_uses}
 use Rattle.pgo_scope.specs.Findings.{found_if, each_use}
 
 -- one of these, and else the other

@@ -7,17 +7,17 @@ use Rattle.pgo_syntax.specs.declared.archetype.Archetype.{Archetype}
 use Rattle.pgo_syntax.specs.declared.archetype.Parameter.{Parameter}
 use Rattle.pgo_syntax.specs.declared.archetype.ParameterKind.TheVariants as kinds
 use Rattle.pgo_syntax.specs.declared.spec.Spec.{Spec}
+use Rattle.pgo_uses.specs.declared.uses.Home.{Home}
+use Rattle.pgo_uses.specs.declared.uses.Home.TheVariants as homes
+use Rattle.pgo_uses.specs.declared.uses.Form.{Form}
+use Rattle.pgo_uses.specs.declared.uses.Form.TheVariants as forms
+use Rattle.pgo_uses.specs.declared.uses.Use.{Use}
+use Rattle.pgo_uses.specs.Names.{is_member}
+use Rattle.pgo_uses.specs.Tables.{variable_name}
+use Rattle.pgo_uses.specs.AllUses.{all_uses, names_of, variable_names}
 use Rattle.pgo_scope.specs.declared.errors.ScopeError.TheVariants as errors
 use Rattle.pgo_scope.specs.declared.finding.Finding.{Finding}
-use Rattle.pgo_scope.specs.declared.uses.Home.{Home}
-use Rattle.pgo_scope.specs.declared.uses.Home.TheVariants as homes
-use Rattle.pgo_scope.specs.declared.uses.Form.{Form}
-use Rattle.pgo_scope.specs.declared.uses.Form.TheVariants as forms
-use Rattle.pgo_scope.specs.declared.uses.Use.{Use}
 use Rattle.pgo_scope.specs.declared.ways.Ways.{Ways}
-use Rattle.pgo_scope.specs.Names.{is_member}
-use Rattle.pgo_scope.specs.Tables.{variable_name}
-use Rattle.pgo_scope.specs.AllUses.{all_uses, names_of, variable_names}
 use Rattle.pgo_scope.specs.Findings.{found_if, found_where, each_use}
 use Rattle.pgo_scope.specs.Ways.{Known, known_macros, parameters_of, is_assigned, left_base}
 

@@ -1,7 +1,7 @@
 -- The names that may not stand in arguments, as they lie in memory.
 use Rattle.std.specs.Prelude.{Bool, List, map}
 use Rattle.pgo_base.specs.Lookup.{Name}
-use Rattle.pgo_scope.specs.Names.{Rows, is_among}
+use Rattle.pgo_uses.specs.Names.{Rows, is_among}
 use Rattle.pgo_scope.specs.declared.captures.Captures.{Captures}
 
 abbrev pub see_test : Rows → Name → Bool

@@ -14,15 +14,15 @@ use Rattle.pgo_syntax.specs.declared.archetype.Parameter.{Parameter}
 use Rattle.pgo_syntax.specs.declared.archetype.ParameterKind.TheVariants as kinds
 use Rattle.pgo_syntax.specs.declared.process.Process.{Process}
 use Rattle.pgo_syntax.specs.declared.spec.Spec.{Spec}
+use Rattle.pgo_uses.specs.declared.uses.Form.{Form}
+use Rattle.pgo_uses.specs.declared.uses.Form.TheVariants as forms
+use Rattle.pgo_uses.specs.declared.uses.Use.{Use}
+use Rattle.pgo_uses.specs.Names.{Rows, is_among}
+use Rattle.pgo_uses.specs.AllUses.{all_uses, archetype_uses, variable_names}
+use Rattle.pgo_uses.specs.Heads.{shared_names}
 use Rattle.pgo_scope.specs.declared.errors.ScopeError.TheVariants as errors
 use Rattle.pgo_scope.specs.declared.finding.Finding.{Finding}
-use Rattle.pgo_scope.specs.declared.uses.Form.{Form}
-use Rattle.pgo_scope.specs.declared.uses.Form.TheVariants as forms
-use Rattle.pgo_scope.specs.declared.uses.Use.{Use}
 use Rattle.pgo_scope.specs.declared.things.Thing.{Thing}
-use Rattle.pgo_scope.specs.Names.{Rows, is_among}
-use Rattle.pgo_scope.specs.AllUses.{all_uses, archetype_uses, variable_names}
-use Rattle.pgo_scope.specs.Heads.{shared_names}
 use Rattle.pgo_scope.specs.TextOrder.{in_text_order}
 
 abbrev pub fixed_names : List Name

@@ -1,15 +1,15 @@
 -- Rule 4: a global's name stands where it is not a `ref` argument or in a mapping clause, and means the global.
 use Rattle.std.specs.Prelude.{Bool, not, ◌&&◌, false, List}
 use Rattle.pgo_syntax.specs.declared.spec.Spec.{Spec}
+use Rattle.pgo_uses.specs.declared.tables.Tables.{Tables}
+use Rattle.pgo_uses.specs.declared.uses.Form.{Form}
+use Rattle.pgo_uses.specs.declared.uses.Form.TheVariants as forms
+use Rattle.pgo_uses.specs.declared.uses.Use.{Use}
+use Rattle.pgo_uses.specs.Names.{is_among}
+use Rattle.pgo_uses.specs.Tables.{tables_of}
+use Rattle.pgo_uses.specs.AllUses.{all_uses}
 use Rattle.pgo_scope.specs.declared.errors.ScopeError.TheVariants as errors
 use Rattle.pgo_scope.specs.declared.finding.Finding.{Finding}
-use Rattle.pgo_scope.specs.declared.tables.Tables.{Tables}
-use Rattle.pgo_scope.specs.declared.uses.Form.{Form}
-use Rattle.pgo_scope.specs.declared.uses.Form.TheVariants as forms
-use Rattle.pgo_scope.specs.declared.uses.Use.{Use}
-use Rattle.pgo_scope.specs.Names.{is_among}
-use Rattle.pgo_scope.specs.Tables.{tables_of}
-use Rattle.pgo_scope.specs.AllUses.{all_uses}
 use Rattle.pgo_scope.specs.Findings.{found_if, each_use}
 
 -- a name that nothing around it gives a meaning; as a label or behind `goto` it means the label

@@ -1,14 +1,3 @@
-pub mod Names
-pub mod Indexed
-pub mod Uses
-pub mod Pieces
-pub mod PieceView
-pub mod StatementUses
-pub mod StatementPieces
-pub mod StatementPieceView
-pub mod Tables
-pub mod AllUses
-pub mod Heads
 pub mod Findings
 pub mod TextOrder
 pub mod Unknown

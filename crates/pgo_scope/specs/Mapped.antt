@@ -14,21 +14,21 @@ use Rattle.pgo_syntax.specs.declared.process.MappingTarget.TheVariants as target
 use Rattle.pgo_syntax.specs.declared.process.MappingClause.{MappingClause}
 use Rattle.pgo_syntax.specs.declared.process.Process.{Process}
 use Rattle.pgo_syntax.specs.declared.spec.Spec.{Spec}
+use Rattle.pgo_uses.specs.declared.uses.Around.{Around}
+use Rattle.pgo_uses.specs.declared.uses.Home.{Home}
+use Rattle.pgo_uses.specs.declared.uses.Home.TheVariants as homes
+use Rattle.pgo_uses.specs.declared.uses.Form.{Form}
+use Rattle.pgo_uses.specs.declared.uses.Form.TheVariants as forms
+use Rattle.pgo_uses.specs.declared.uses.Shape.{Shape}
+use Rattle.pgo_uses.specs.declared.uses.Shape.TheVariants.{Bare, OneIndex, Further}
+use Rattle.pgo_uses.specs.declared.uses.Use.{Use}
+use Rattle.pgo_uses.specs.Uses.{uses, inside}
+use Rattle.pgo_uses.specs.AllUses.{all_uses}
 use Rattle.pgo_scope.specs.declared.errors.ScopeError.TheVariants as errors
 use Rattle.pgo_scope.specs.declared.finding.Finding.{Finding}
-use Rattle.pgo_scope.specs.declared.uses.Around.{Around}
-use Rattle.pgo_scope.specs.declared.uses.Home.{Home}
-use Rattle.pgo_scope.specs.declared.uses.Home.TheVariants as homes
-use Rattle.pgo_scope.specs.declared.uses.Form.{Form}
-use Rattle.pgo_scope.specs.declared.uses.Form.TheVariants as forms
-use Rattle.pgo_scope.specs.declared.uses.Shape.{Shape}
-use Rattle.pgo_scope.specs.declared.uses.Shape.TheVariants.{Bare, OneIndex, Further}
-use Rattle.pgo_scope.specs.declared.uses.Use.{Use}
 use Rattle.pgo_scope.specs.declared.mapped.Mapped.{Mapped}
 use Rattle.pgo_scope.specs.declared.mapped.Mapped.TheVariants.{Unmapped, AsWhole, ByElement}
 use Rattle.pgo_scope.specs.declared.ways.Ways.{Ways}
-use Rattle.pgo_scope.specs.Uses.{uses, inside}
-use Rattle.pgo_scope.specs.AllUses.{all_uses}
 use Rattle.pgo_scope.specs.Findings.{found_if, found_where, each_use}
 use Rattle.pgo_scope.specs.Ways.{Known, known_macros, parameters_of, join, left_base, left_shape, left_uses}
 

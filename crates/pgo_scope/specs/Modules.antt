@@ -3,9 +3,9 @@ use Rattle.std.specs.Prelude.{not, List, [], ◌∷◌, codes}
 use Rattle.pgo_base.specs.Lookup.{Name}
 use Rattle.pgo_syntax.specs.declared.name.PlacedName.{PlacedName}
 use Rattle.pgo_syntax.specs.declared.spec.Spec.{Spec}
+use Rattle.pgo_uses.specs.Names.{is_member}
 use Rattle.pgo_scope.specs.declared.errors.ScopeError.TheVariants as errors
 use Rattle.pgo_scope.specs.declared.finding.Finding.{Finding}
-use Rattle.pgo_scope.specs.Names.{is_member}
 use Rattle.pgo_scope.specs.Findings.{found_if, each_name}
 
 abbrev pub modules : List Name

@@ -1,7 +1,7 @@
 -- The written names of things that were met, by which most clashes are ruled out.
 use Rattle.std.specs.Prelude.{Bool, if◌then◌else◌, List, [], ◌∷◌, ◌++◌}
+use Rattle.pgo_uses.specs.Names.{Rows, is_among}
 use Rattle.pgo_scope.specs.declared.things.Thing.{Thing}
-use Rattle.pgo_scope.specs.Names.{Rows, is_among}
 
 -- those of all things
 abbrev pub any_rows : List Thing → Rows

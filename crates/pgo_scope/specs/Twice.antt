@@ -6,20 +6,20 @@ use Rattle.pgo_model.specs.Written.{self_name, default_init_value}
 use Rattle.pgo_syntax.specs.declared.name.PlacedName.{PlacedName}
 use Rattle.pgo_syntax.specs.declared.macros.Macro.{Macro}
 use Rattle.pgo_syntax.specs.declared.spec.Spec.{Spec}
+use Rattle.pgo_uses.specs.declared.tables.Tables.{Tables}
+use Rattle.pgo_uses.specs.declared.uses.Around.{Around}
+use Rattle.pgo_uses.specs.declared.uses.Home.{Home}
+use Rattle.pgo_uses.specs.declared.uses.Home.TheVariants as homes
+use Rattle.pgo_uses.specs.declared.uses.Form.{Form}
+use Rattle.pgo_uses.specs.declared.uses.Form.TheVariants as forms
+use Rattle.pgo_uses.specs.declared.uses.Use.{Use}
+use Rattle.pgo_uses.specs.Names.{Rows, is_among}
+use Rattle.pgo_uses.specs.Uses.{uses}
+use Rattle.pgo_uses.specs.Tables.{tables_of, operator_rows}
+use Rattle.pgo_uses.specs.AllUses.{all_uses, macro_uses, names_of}
+use Rattle.pgo_uses.specs.Heads.{shared_names, macro_names, mapping_names, archetype_names, process_names, unit_names}
 use Rattle.pgo_scope.specs.declared.errors.ScopeError.TheVariants as errors
 use Rattle.pgo_scope.specs.declared.finding.Finding.{Finding}
-use Rattle.pgo_scope.specs.declared.tables.Tables.{Tables}
-use Rattle.pgo_scope.specs.declared.uses.Around.{Around}
-use Rattle.pgo_scope.specs.declared.uses.Home.{Home}
-use Rattle.pgo_scope.specs.declared.uses.Home.TheVariants as homes
-use Rattle.pgo_scope.specs.declared.uses.Form.{Form}
-use Rattle.pgo_scope.specs.declared.uses.Form.TheVariants as forms
-use Rattle.pgo_scope.specs.declared.uses.Use.{Use}
-use Rattle.pgo_scope.specs.Names.{Rows, is_among}
-use Rattle.pgo_scope.specs.Uses.{uses}
-use Rattle.pgo_scope.specs.Tables.{tables_of, operator_rows}
-use Rattle.pgo_scope.specs.AllUses.{all_uses, macro_uses, names_of}
-use Rattle.pgo_scope.specs.Heads.{shared_names, macro_names, mapping_names, archetype_names, process_names, unit_names}
 use Rattle.pgo_scope.specs.Findings.{found_if, each_use, each_name}
 use Rattle.pgo_scope.specs.TextOrder.{in_text_order}
 use Rattle.pgo_scope.specs.Unknown.{knows_self}

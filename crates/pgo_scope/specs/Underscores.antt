@@ -3,11 +3,11 @@ use Rattle.std.specs.Prelude.{Bool, false, ◌&&◌, ◌||◌, nat_eq, List, [],
 use Rattle.pgo_base.specs.Lookup.{Name}
 use Rattle.pgo_syntax.specs.declared.name.PlacedName.{PlacedName}
 use Rattle.pgo_syntax.specs.declared.spec.Spec.{Spec}
+use Rattle.pgo_uses.specs.declared.uses.Use.{Use}
+use Rattle.pgo_uses.specs.Heads.{head_names}
+use Rattle.pgo_uses.specs.AllUses.{all_uses}
 use Rattle.pgo_scope.specs.declared.errors.ScopeError.TheVariants as errors
 use Rattle.pgo_scope.specs.declared.finding.Finding.{Finding}
-use Rattle.pgo_scope.specs.declared.uses.Use.{Use}
-use Rattle.pgo_scope.specs.Heads.{head_names}
-use Rattle.pgo_scope.specs.AllUses.{all_uses}
 use Rattle.pgo_scope.specs.Findings.{found_if, each_use, each_name}
 
 -- two `_`, one behind the other

@@ -15,17 +15,17 @@ use Rattle.pgo_syntax.specs.declared.process.MappingTarget.TheVariants as target
 use Rattle.pgo_syntax.specs.declared.process.MappingClause.{MappingClause}
 use Rattle.pgo_syntax.specs.declared.process.Process.{Process}
 use Rattle.pgo_syntax.specs.declared.spec.Spec.{Spec}
+use Rattle.pgo_uses.specs.declared.tables.Tables.{Tables}
+use Rattle.pgo_uses.specs.declared.uses.Home.{Home}
+use Rattle.pgo_uses.specs.declared.uses.Home.TheVariants.{Definition, Global, Macro, Mapping, Initial, InitialSet, Body, Process as InProcess, Argument as InArgument}
+use Rattle.pgo_uses.specs.declared.uses.Form.{Form}
+use Rattle.pgo_uses.specs.declared.uses.Form.TheVariants as forms
+use Rattle.pgo_uses.specs.declared.uses.Use.{Use}
+use Rattle.pgo_uses.specs.Names.{Rows, is_member, is_among, is_earlier, is_at}
+use Rattle.pgo_uses.specs.Tables.{tables_of, operator_rows}
+use Rattle.pgo_uses.specs.AllUses.{all_uses, parameter_names, variable_names}
 use Rattle.pgo_scope.specs.declared.errors.ScopeError.TheVariants as errors
 use Rattle.pgo_scope.specs.declared.finding.Finding.{Finding}
-use Rattle.pgo_scope.specs.declared.tables.Tables.{Tables}
-use Rattle.pgo_scope.specs.declared.uses.Home.{Home}
-use Rattle.pgo_scope.specs.declared.uses.Home.TheVariants.{Definition, Global, Macro, Mapping, Initial, InitialSet, Body, Process as InProcess, Argument as InArgument}
-use Rattle.pgo_scope.specs.declared.uses.Form.{Form}
-use Rattle.pgo_scope.specs.declared.uses.Form.TheVariants as forms
-use Rattle.pgo_scope.specs.declared.uses.Use.{Use}
-use Rattle.pgo_scope.specs.Names.{Rows, is_member, is_among, is_earlier, is_at}
-use Rattle.pgo_scope.specs.Tables.{tables_of, operator_rows}
-use Rattle.pgo_scope.specs.AllUses.{all_uses, parameter_names, variable_names}
 use Rattle.pgo_scope.specs.Findings.{found_if, each_use}
 
 -- constants, operators and `defaultInitValue` have a meaning everywhere

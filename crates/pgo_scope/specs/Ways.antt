@@ -10,15 +10,15 @@ use Rattle.std.specs.Prelude.{ℕ, suc, Bool, true, false, not, ◌&&◌, ◌||�
 use Rattle.pgo_base.specs.Tree.{Tree, name, index, field, Trees, no_trees, more_trees}
 use Rattle.pgo_base.specs.Lookup.{Name, same_name, find}
 use Rattle.pgo_syntax.specs.declared.macros.Macro.{Macro}
-use Rattle.pgo_scope.specs.declared.uses.Around.{Around}
-use Rattle.pgo_scope.specs.declared.uses.Shape.{Shape}
-use Rattle.pgo_scope.specs.declared.uses.Shape.TheVariants.{Bare, OneIndex, Further}
-use Rattle.pgo_scope.specs.declared.uses.Form.{Form}
-use Rattle.pgo_scope.specs.declared.uses.Form.TheVariants as forms
-use Rattle.pgo_scope.specs.declared.uses.Use.{Use}
+use Rattle.pgo_uses.specs.declared.uses.Around.{Around}
+use Rattle.pgo_uses.specs.declared.uses.Shape.{Shape}
+use Rattle.pgo_uses.specs.declared.uses.Shape.TheVariants.{Bare, OneIndex, Further}
+use Rattle.pgo_uses.specs.declared.uses.Form.{Form}
+use Rattle.pgo_uses.specs.declared.uses.Form.TheVariants as forms
+use Rattle.pgo_uses.specs.declared.uses.Use.{Use}
+use Rattle.pgo_uses.specs.Uses.{uses, inside}
+use Rattle.pgo_uses.specs.AllUses.{macro_uses, names_of}
 use Rattle.pgo_scope.specs.declared.ways.Ways.{Ways}
-use Rattle.pgo_scope.specs.Uses.{uses, inside}
-use Rattle.pgo_scope.specs.AllUses.{macro_uses, names_of}
 
 -- what follows a left side that itself goes on in the first way
 abbrev pub join : Shape → Shape → Shape

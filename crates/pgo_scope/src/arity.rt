@@ -5,12 +5,12 @@ ghost use Rattle.pgo_scope.specs.Arity as spec;
 
 use crate::errors::ScopeError;
 use crate::finding::Finding;
-use crate::names::Names;
-use crate::tables::Tables;
-use crate::uses::{Form, Use};
 use crate::words::operator_count;
 use pgo_base::text::Text;
 use pgo_syntax::process::Process;
+use pgo_uses::names::Names;
+use pgo_uses::tables::Tables;
+use pgo_uses::uses::{Form, Use};
 use std::alloc::{AllocError, Global};
 
 /// How many arguments the name takes where it stands.

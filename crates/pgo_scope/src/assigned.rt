@@ -1,18 +1,17 @@
 // Rule 5: what may not be assigned is assigned.
 ghost use Rattle.std.specs.Prelude.{◌≡◌, [], ◌∷◌, ◌++◌, map, option_map, IfOk};
+ghost use Rattle.pgo_uses.specs.AllUses.{names_of};
+ghost use Rattle.pgo_uses.specs.Names.{is_member};
 ghost use Rattle.pgo_scope.specs.declared.errors.ScopeError.TheVariants as errors;
 ghost use Rattle.pgo_base.specs.ExprView.{tree};
-ghost use Rattle.pgo_scope.specs.AllUses.{names_of};
 ghost use Rattle.pgo_scope.specs.Findings.{each_use};
 ghost use Rattle.pgo_scope.specs.KnownView.{see_known, see_ways};
-ghost use Rattle.pgo_scope.specs.Names.{is_member};
 ghost use Rattle.pgo_scope.specs.Assigned as spec;
 
 use crate::errors::ScopeError;
 use crate::finding::Finding;
 use crate::known::{Known, ParameterWays, parameters_of};
 use crate::unknown::is_variable;
-use crate::uses::{Form, Home, Use};
 use crate::ways::left_base;
 use crate::words::is_word;
 use pgo_base::expr::Expr;
@@ -21,6 +20,7 @@ use pgo_syntax::archetype::{Archetype, Parameter, ParameterKind};
 use pgo_syntax::macros::Macro;
 use pgo_syntax::name::PlacedName;
 use pgo_syntax::spec::Spec;
+use pgo_uses::uses::{Form, Home, Use};
 use std::alloc::{AllocError, Global};
 
 /// Whether this is a `ref` parameter of the name.

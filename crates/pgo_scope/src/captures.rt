@@ -2,22 +2,22 @@
 ghost use Rattle.std.specs.Prelude.{◌≡◌, ◌||◌, ◌++◌, map, IfOk};
 ghost use Rattle.pgo_base.specs.ExprView.{tree};
 ghost use Rattle.pgo_base.specs.Lookup.{Name};
-ghost use Rattle.pgo_scope.specs.AllUses.{names_of};
+ghost use Rattle.pgo_uses.specs.AllUses.{names_of};
+ghost use Rattle.pgo_uses.specs.Names.{is_among};
 ghost use Rattle.pgo_scope.specs.CaptureView.{see_test, see_captures};
 ghost use Rattle.pgo_scope.specs.Findings.{each_use};
-ghost use Rattle.pgo_scope.specs.Names.{is_among};
 ghost use Rattle.pgo_scope.specs.Twice as spec;
 
 use crate::finding::Finding;
-use crate::names::Names;
 use crate::twice::add_twice;
-use crate::unit_uses::add_macro;
-use crate::uses::{Around, Form, Use};
-use crate::walk::add_uses;
 use pgo_base::expr::Expr;
 use pgo_base::text::Text;
 use pgo_syntax::macros::Macro;
 use pgo_syntax::name::PlacedName;
+use pgo_uses::names::Names;
+use pgo_uses::unit_uses::add_macro;
+use pgo_uses::uses::{Around, Form, Use};
+use pgo_uses::walk::add_uses;
 use std::alloc::{AllocError, Global};
 
 /// A macro, and for each of its parameters the names that may not stand in its argument.

@@ -5,8 +5,8 @@ ghost use Rattle.pgo_scope.specs.Clash as spec;
 
 use crate::errors::ScopeError;
 use crate::finding::Finding;
-use crate::names::Names;
 use crate::things::Thing;
+use pgo_uses::names::Names;
 use std::alloc::{AllocError, Global};
 
 /// Whether the things have one written name, and aren't both bound.

@@ -5,8 +5,8 @@ ghost use Rattle.pgo_scope.specs.Globals as spec;
 
 use crate::errors::ScopeError;
 use crate::finding::Finding;
-use crate::tables::Tables;
-use crate::uses::{Form, Use};
+use pgo_uses::tables::Tables;
+use pgo_uses::uses::{Form, Use};
 use std::alloc::{AllocError, Global};
 
 /// Whether the name means a global.

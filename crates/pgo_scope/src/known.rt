@@ -1,14 +1,11 @@
 // What is known of macros: the ways in which their parameters stand in them.
 ghost use Rattle.std.specs.Prelude.{◌≡◌, [], ◌++◌, map, option_map, IfOk};
 ghost use Rattle.pgo_base.specs.ExprView.{tree};
-ghost use Rattle.pgo_scope.specs.Uses.{inside};
-ghost use Rattle.pgo_scope.specs.AllUses.{names_of};
+ghost use Rattle.pgo_uses.specs.Uses.{inside};
+ghost use Rattle.pgo_uses.specs.AllUses.{names_of};
 ghost use Rattle.pgo_scope.specs.KnownView.{see_known, see_ways};
 ghost use Rattle.pgo_scope.specs.Ways as spec;
 
-use crate::unit_uses::add_macro;
-use crate::uses::{Around, Form, Shape, Use};
-use crate::walk::add_uses;
 use crate::ways::{
     Ways, either_way, join, left_base, left_shape, no_ways, only, read_way, reads, write_way,
 };
@@ -16,6 +13,9 @@ use pgo_base::expr::Expr;
 use pgo_base::text::Text;
 use pgo_syntax::macros::Macro;
 use pgo_syntax::name::PlacedName;
+use pgo_uses::unit_uses::add_macro;
+use pgo_uses::uses::{Around, Form, Shape, Use};
+use pgo_uses::walk::add_uses;
 use std::alloc::{AllocError, Global};
 
 /// A parameter with the ways in which it stands.

@@ -9,14 +9,14 @@ ghost use Rattle.pgo_scope.specs.Mapped as spec;
 use crate::errors::ScopeError;
 use crate::finding::Finding;
 use crate::known::{Known, ParameterWays, add_left_uses, parameters_of, plainly, read_around};
-use crate::uses::{Around, Form, Home, Shape, Use};
-use crate::walk::add_uses;
 use crate::ways::{Ways, join, left_base, left_shape};
 use pgo_base::expr::Expr;
 use pgo_base::text::Text;
 use pgo_syntax::archetype::{Archetype, Extent, Parameter, ParameterKind};
 use pgo_syntax::process::{Argument, MappingClause, MappingTarget, Process};
 use pgo_syntax::spec::Spec;
+use pgo_uses::uses::{Around, Form, Home, Shape, Use};
+use pgo_uses::walk::add_uses;
 use std::alloc::{AllocError, Global};
 
 /// What a name of an archetype is to this rule: a parameter that is mapped as a whole or one element at a time, or

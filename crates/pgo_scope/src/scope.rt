@@ -1,6 +1,7 @@
 // Whether the names of a specification keep the rules.
 ghost use Rattle.std.specs.Prelude.{◌≡◌, [], ◌∷◌, IfOk};
-ghost use Rattle.pgo_scope.specs.AllUses as whole;
+ghost use Rattle.pgo_uses.specs.AllUses as whole;
+ghost use Rattle.pgo_uses.specs.Tables as declared_spec;
 ghost use Rattle.pgo_scope.specs.Arity.{wrong_arities};
 ghost use Rattle.pgo_scope.specs.Assigned.{wrong_assignments};
 ghost use Rattle.pgo_scope.specs.Clash.{name_clashes};
@@ -9,12 +10,10 @@ ghost use Rattle.pgo_scope.specs.Globals.{globals_inside};
 ghost use Rattle.pgo_scope.specs.Mapped.{mapped_here};
 ghost use Rattle.pgo_scope.specs.Modules as modules_spec;
 ghost use Rattle.pgo_scope.specs.Refusal.{first_broken, scope_refusal, Answers};
-ghost use Rattle.pgo_scope.specs.Tables as declared_spec;
 ghost use Rattle.pgo_scope.specs.Twice.{names_twice};
 ghost use Rattle.pgo_scope.specs.Underscores.{double_underscores};
 ghost use Rattle.pgo_scope.specs.Unknown.{unknown_names};
 
-use crate::all_uses::all_uses;
 use crate::arity::{add_arity_heads, add_arity_uses};
 use crate::assigned::add_assigned_uses;
 use crate::captures::{add_capture_uses, known_captures};
@@ -22,17 +21,18 @@ use crate::clash::add_clashes;
 use crate::errors::ScopeError;
 use crate::finding::earliest;
 use crate::globals::add_global_uses;
-use crate::heads::{head_names, unit_names};
 use crate::known::known_macros;
 use crate::mapped::add_mapped_uses;
 use crate::modules::unknown_modules;
-use crate::tables::{Tables, tables_of};
 use crate::things::things;
 use crate::twice::{add_declared_twice, add_hiding, add_reserved};
 use crate::underscores::{add_double_names, add_double_uses};
 use crate::unknown::{add_unknown_heads, add_unknown_uses};
-use crate::uses::Use;
 use pgo_syntax::spec::Spec;
+use pgo_uses::all_uses::all_uses;
+use pgo_uses::heads::{head_names, unit_names};
+use pgo_uses::tables::{Tables, tables_of};
+use pgo_uses::uses::Use;
 use std::alloc::{AllocError, Global};
 
 /// Whether the names of this specification keep the rules. `Err` says which rule is broken, the first in the order of

@@ -1,22 +1,22 @@
 // What has a name in the written module.
 ghost use Rattle.std.specs.Prelude.{◌≡◌, [], ◌∷◌, ◌++◌, map, option_map, IfOk};
 ghost use Rattle.pgo_base.specs.Lookup.{find};
-ghost use Rattle.pgo_scope.specs.AllUses.{variable_names};
-ghost use Rattle.pgo_scope.specs.PieceView.{placed_names};
+ghost use Rattle.pgo_uses.specs.AllUses.{variable_names};
+ghost use Rattle.pgo_uses.specs.PieceView.{placed_names};
 ghost use Rattle.pgo_scope.specs.OwnView.{see_own};
 ghost use Rattle.pgo_scope.specs.TextOrder.{in_text_order};
 ghost use Rattle.pgo_scope.specs.Clash as spec;
 
-use crate::heads::shared_names;
-use crate::names::Names;
-use crate::unit_uses::add_archetype;
-use crate::uses::{Form, Use};
 use pgo_base::text::Text;
 use pgo_syntax::archetype::{Archetype, Parameter, ParameterKind};
 use pgo_syntax::declaration::Declaration;
 use pgo_syntax::name::PlacedName;
 use pgo_syntax::process::Process;
 use pgo_syntax::spec::Spec;
+use pgo_uses::heads::shared_names;
+use pgo_uses::names::Names;
+use pgo_uses::unit_uses::add_archetype;
+use pgo_uses::uses::{Form, Use};
 use std::alloc::{AllocError, Global};
 
 /// A thing that has a name in the written module.

@@ -1,25 +1,25 @@
 // Rule 2: a name has two meanings, but for macros' arguments.
 ghost use Rattle.std.specs.Prelude.{◌≡◌, [], ◌∷◌, ◌++◌, IfOk};
+ghost use Rattle.pgo_uses.specs.Heads as heads;
+ghost use Rattle.pgo_uses.specs.PieceView.{placed_names};
 ghost use Rattle.pgo_scope.specs.declared.errors.ScopeError.TheVariants as errors;
 ghost use Rattle.pgo_scope.specs.Findings.{each_use, each_name};
-ghost use Rattle.pgo_scope.specs.Heads as heads;
-ghost use Rattle.pgo_scope.specs.PieceView.{placed_names};
 ghost use Rattle.pgo_scope.specs.TextOrder.{in_text_order};
 ghost use Rattle.pgo_scope.specs.Twice as spec;
 
 use crate::errors::ScopeError;
 use crate::finding::Finding;
-use crate::heads::{
-    add_archetype_names, add_macro_names, add_mapping_names, add_process_names, shared_names,
-};
-use crate::names::Names;
-use crate::tables::Tables;
 use crate::unknown::knows_self;
-use crate::uses::{Form, Home, Use};
 use crate::words::{is_default, is_self, operator_count};
 use pgo_base::text::Text;
 use pgo_syntax::name::PlacedName;
 use pgo_syntax::spec::Spec;
+use pgo_uses::heads::{
+    add_archetype_names, add_macro_names, add_mapping_names, add_process_names, shared_names,
+};
+use pgo_uses::names::Names;
+use pgo_uses::tables::Tables;
+use pgo_uses::uses::{Form, Home, Use};
 use std::alloc::{AllocError, Global};
 
 /// These names in the order of the text.

@@ -5,9 +5,9 @@ ghost use Rattle.pgo_scope.specs.Underscores as spec;
 
 use crate::errors::ScopeError;
 use crate::finding::Finding;
-use crate::uses::Use;
 use crate::words::has_double_underscore;
 use pgo_syntax::name::PlacedName;
+use pgo_uses::uses::Use;
 use std::alloc::{AllocError, Global};
 
 /// Adds what breaks the rule among names in the text.

@@ -1,21 +1,21 @@
 // Rule 1: a name has no meaning at its place.
 ghost use Rattle.std.specs.Prelude.{◌≡◌, ◌++◌, IfOk};
+ghost use Rattle.pgo_uses.specs.Names.{is_member};
+ghost use Rattle.pgo_uses.specs.AllUses.{parameter_names, variable_names};
 ghost use Rattle.pgo_scope.specs.Findings.{each_use};
 ghost use Rattle.pgo_scope.specs.Unknown as spec;
-ghost use Rattle.pgo_scope.specs.Names.{is_member};
-ghost use Rattle.pgo_scope.specs.AllUses.{parameter_names, variable_names};
 
 use crate::errors::ScopeError;
 use crate::finding::Finding;
-use crate::names::Names;
-use crate::tables::Tables;
-use crate::uses::{Form, Home, Use};
 use crate::words::{is_default, is_self, operator_count};
 use pgo_base::text::Text;
 use pgo_syntax::archetype::{Archetype, Parameter};
 use pgo_syntax::declaration::Declaration;
 use pgo_syntax::name::PlacedName;
 use pgo_syntax::process::{Argument, MappingClause, MappingTarget, Process};
+use pgo_uses::names::Names;
+use pgo_uses::tables::Tables;
+use pgo_uses::uses::{Form, Home, Use};
 use std::alloc::{AllocError, Global};
 
 /// Whether the name has a meaning everywhere.

@@ -4,9 +4,9 @@ ghost use Rattle.pgo_base.specs.ExprView.{tree};
 ghost use Rattle.pgo_base.specs.Tree.{trees};
 ghost use Rattle.pgo_scope.specs.Ways as spec;
 
-use crate::uses::{Form, Shape, Use};
 use pgo_base::expr::{Expr, Exprs};
 use pgo_base::text::Text;
+use pgo_uses::uses::{Form, Shape, Use};
 
 /// The ways in which a name stands in a body: whether it stands so somewhere.
 #[derive(Clone, Copy)]

@@ -2,9 +2,9 @@
 ghost use Rattle.std.specs.Prelude.{◌≡◌, map};
 ghost use Rattle.pgo_base.specs.Lookup.{same_name, find};
 ghost use Rattle.pgo_model.specs.Written.{self_name, default_init_value};
-ghost use Rattle.pgo_scope.specs.Names.{is_member};
+ghost use Rattle.pgo_uses.specs.Names.{is_member};
+ghost use Rattle.pgo_uses.specs.Tables.{operator_rows};
 ghost use Rattle.pgo_scope.specs.Modules.{modules};
-ghost use Rattle.pgo_scope.specs.Tables.{operator_rows};
 ghost use Rattle.pgo_scope.specs.Underscores.{has_double};
 ghost use Rattle.pgo_scope.specs.Doubles.{double_behind};
 

@@ -7,9 +7,10 @@ ghost use Rattle.pgo_value_text.specs.Parsers.{ReadsAs};
 use crate::cursor::Cursor;
 use crate::integer::{negative, positive};
 use crate::stop::Stop;
-use crate::words::{are_digits, is_name, same_bytes};
+use crate::words::are_digits;
 use pgo_base::text::Text;
 use pgo_base::value::Value;
+use pgo_words::names::{is_name, same_bytes};
 use std::alloc::{AllocError, Global};
 
 /// The value that a word spells.

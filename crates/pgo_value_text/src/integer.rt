@@ -3,7 +3,8 @@ ghost use Rattle.std.specs.Prelude.{◌≡◌};
 ghost use Rattle.pgo_value_text.specs.IsValueText as text;
 ghost use Rattle.pgo_value_text.specs.Reading as spec;
 
-use crate::words::{are_digits, is_digit};
+use crate::words::are_digits;
+use pgo_words::bytes::is_digit;
 
 /// The number that digits spell, leading zeros among them, where it has 64 bits.
 #[tactic(auto, unfolding(crate::specs::Reading::natural_from))]

@@ -10,5 +10,5 @@ pub mod laws;
 pub mod read;
 mod small;
 mod stop;
-pub mod words;
+mod words;
 pub mod write;

@@ -1,16 +1,15 @@
 // The canonical text of a value.
 ghost use Rattle.std.specs.Prelude.{◌≡◌, ◌++◌, ◌+◌, codes, map, IfOk};
-ghost use Rattle.std.specs.Fmt.{signed_decimal};
 ghost use Rattle.pgo_base.specs.Data.{pairs};
 ghost use Rattle.pgo_base.specs.View.{data_of, pair_of};
 ghost use Rattle.pgo_model.specs.ValueText as spec;
 ghost use Rattle.pgo_value_text.specs.Writing as writing;
 
 use crate::errors::NoMemory;
-use crate::words::is_name;
-use itoa::Buffer;
 use pgo_base::text::Text;
 use pgo_base::value::Value;
+use pgo_words::names::is_name;
+use pgo_words::strings::{push_integer, push_string};
 use std::alloc::{AllocError, Global};
 
 /// The canonical text of a value.
@@ -24,48 +23,6 @@ pub fn write_value(alloc: Global, value: &Value) -> Result<Text, NoMemory>
     let mut bytes = Vec::new(alloc);
     push_value(&mut bytes, value)?;
     Ok(Text::from_bytes(bytes))
-}
-
-/// Adds a byte of a string as it is written there.
-fn push_escaped(bytes: &mut Vec<u8>, byte: u8) -> Result<(), AllocError>
-    ensures { IfOk result (λ _. bytes.new.items ≡ bytes.old.items ++ spec.escaped byte) }
-{
-    match byte {
-        b'"' => bytes.extend_from_slice(b"\\\"")?,
-        b'\\' => bytes.extend_from_slice(b"\\\\")?,
-        b'\n' => bytes.extend_from_slice(b"\\n")?,
-        b'\t' => bytes.extend_from_slice(b"\\t")?,
-        _ => bytes.push(byte)?,
-    }
-    Ok(())
-}
-
-/// Adds the bytes of a string with its escapes.
-fn push_all_escaped(bytes: &mut Vec<u8>, text: &[u8]) -> Result<(), AllocError>
-    ensures { IfOk result (λ _. bytes.new.items ≡ bytes.old.items ++ spec.all_escaped text.now) }
-{
-    for byte in text {
-        push_escaped(bytes, *byte)?;
-    }
-    Ok(())
-}
-
-/// Adds a string in its quotes.
-fn push_string(bytes: &mut Vec<u8>, text: &[u8]) -> Result<(), AllocError>
-    ensures { IfOk result (λ _. bytes.new.items ≡ bytes.old.items ++ spec.string_text text.now) }
-{
-    bytes.push(b'"')?;
-    push_all_escaped(bytes, text)?;
-    bytes.push(b'"')?;
-    Ok(())
-}
-
-/// Adds an integer in decimal digits.
-fn push_integer(bytes: &mut Vec<u8>, z: i64) -> Result<(), AllocError>
-    ensures { IfOk result (λ _. bytes.new.items ≡ bytes.old.items ++ signed_decimal z) }
-{
-    let mut buffer = Buffer::new();
-    bytes.extend_from_slice(buffer.format(z).as_bytes())
 }
 
 /// Whether a key is this number.

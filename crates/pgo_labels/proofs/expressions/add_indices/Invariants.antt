@@ -1,6 +1,6 @@
 -- What is made and what is left are the whole.
 use Rattle.std.proofs.Common.{◌≡◌, ◌++◌, drop}
-use Rattle.pgo_labels.specs.Operands.{lent_trees}
+use Rattle.pgo_operands.specs.Operands.{lent_trees}
 use Rattle.pgo_labels.specs.Yields as spec
 use Rattle.pgo_labels.proofs.expressions.add_indices.Given as goal
 

@@ -3,7 +3,7 @@ use Rattle.std.proofs.Common.{◌≡◌, ◌++◌, ◌∷◌, [], List, drop}
 use Rattle.std.specs.Prelude.{flat_map}
 use Rattle.pgo_base.specs.Tree.{Tree}
 use Rattle.pgo_syntax.specs.declared.assignment.Assignment.{Assignment}
-use Rattle.pgo_labels.specs.Operands.{lent_trees}
+use Rattle.pgo_operands.specs.Operands.{lent_trees}
 use Rattle.pgo_labels.specs.Yields as spec
 use Rattle.pgo_labels.proofs.expressions.assigned.Given as goal
 

@@ -2,7 +2,7 @@
 use Rattle.std.proofs.Common.{◌≡◌, ◌++◌, map, drop}
 use Rattle.pgo_syntax.specs.Statement.{guarded}
 use Rattle.pgo_syntax.specs.StatementView.{branch_parts}
-use Rattle.pgo_labels.specs.Operands.{lent_trees}
+use Rattle.pgo_operands.specs.Operands.{lent_trees}
 use Rattle.pgo_labels.specs.Yields as spec
 use Rattle.pgo_labels.proofs.expressions.conditions.Given as goal
 

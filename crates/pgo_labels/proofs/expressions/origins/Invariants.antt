@@ -2,7 +2,7 @@
 use Rattle.std.proofs.Common.{◌≡◌, ◌++◌, map, drop}
 use Rattle.pgo_base.specs.Tree.{Tree}
 use Rattle.pgo_syntax.specs.declared.binding.WithName.{WithName}
-use Rattle.pgo_labels.specs.Operands.{lent_trees}
+use Rattle.pgo_operands.specs.Operands.{lent_trees}
 use Rattle.pgo_labels.specs.Yields as spec
 use Rattle.pgo_labels.proofs.expressions.origins.Given as goal
 

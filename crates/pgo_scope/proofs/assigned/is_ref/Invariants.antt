@@ -1,6 +1,6 @@
 -- What the loop keeps: what is made and what is left are the whole.
 use Rattle.std.proofs.Common.{◌≡◌, drop}
-use Rattle.pgo_scope.specs.Names.{is_member}
+use Rattle.pgo_uses.specs.Names.{is_member}
 use Rattle.pgo_scope.specs.Assigned.{ref_names}
 use Rattle.pgo_scope.proofs.assigned.is_ref.Given as goal
 

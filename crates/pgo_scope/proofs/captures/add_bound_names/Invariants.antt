@@ -1,7 +1,7 @@
 -- What the loop keeps: what is made and what is left are the whole.
 use Rattle.std.proofs.Common.{◌≡◌, drop}
 use Rattle.pgo_base.specs.Lookup.{Name}
-use Rattle.pgo_scope.specs.Names.{is_among}
+use Rattle.pgo_uses.specs.Names.{is_among}
 use Rattle.pgo_scope.specs.Twice.{is_bound_in}
 use Rattle.pgo_scope.proofs.captures.add_bound_names.Given as goal
 

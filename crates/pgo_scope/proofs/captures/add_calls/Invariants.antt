@@ -1,7 +1,7 @@
 -- What the loop keeps: what is made and what is left are the whole.
 use Rattle.std.proofs.Common.{◌≡◌, map, drop}
 use Rattle.pgo_base.specs.Lookup.{Name}
-use Rattle.pgo_scope.specs.Names.{is_among}
+use Rattle.pgo_uses.specs.Names.{is_among}
 use Rattle.pgo_scope.specs.CaptureView.{see_captures}
 use Rattle.pgo_scope.specs.Twice.{some_capture}
 use Rattle.pgo_scope.proofs.captures.add_calls.Given as goal

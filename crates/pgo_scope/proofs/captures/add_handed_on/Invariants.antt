@@ -2,7 +2,7 @@
 use Rattle.std.proofs.Common.{◌≡◌, map, drop}
 use Rattle.pgo_base.specs.ExprView.{tree}
 use Rattle.pgo_base.specs.Lookup.{Name}
-use Rattle.pgo_scope.specs.Names.{is_among}
+use Rattle.pgo_uses.specs.Names.{is_among}
 use Rattle.pgo_scope.specs.CaptureView.{see_test}
 use Rattle.pgo_scope.specs.Twice.{handed_on}
 use Rattle.pgo_scope.proofs.captures.add_handed_on.Given as goal

@@ -1,6 +1,6 @@
 -- What the loop keeps: what is made and what is left are the whole.
 use Rattle.std.proofs.Common.{◌≡◌, ◌++◌, map, drop}
-use Rattle.pgo_scope.specs.AllUses.{names_of}
+use Rattle.pgo_uses.specs.AllUses.{names_of}
 use Rattle.pgo_scope.specs.CaptureView.{see_test, see_captures}
 use Rattle.pgo_scope.specs.Twice.{parameter_tests}
 use Rattle.pgo_scope.proofs.captures.parameter_tests.Given as goal

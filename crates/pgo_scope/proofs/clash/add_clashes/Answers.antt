@@ -1,6 +1,6 @@
 use Rattle.std.proofs.Common.{rules, ◌≡◌, ◌+◌, [], ◌∷◌, ◌++◌, take, ap, sym, ◌∙◌, arith}
 use Rattle.std.proofs.lemmas.Grind.{common_steps}
-use Rattle.pgo_scope.specs.Names.{Rows}
+use Rattle.pgo_uses.specs.Names.{Rows}
 use Rattle.pgo_scope.specs.Seen.{any_rows, unbound_row, unbound_rows}
 use Rattle.pgo_scope.proofs.Clashing.{any_more, unbound_more, take_more}
 use Rattle.pgo_scope.proofs.clash.add_clashes.Goals as goal

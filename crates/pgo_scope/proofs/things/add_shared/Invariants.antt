@@ -1,6 +1,6 @@
 -- What the loop keeps: what is made and what is left are the whole.
 use Rattle.std.proofs.Common.{◌≡◌, ◌++◌, drop}
-use Rattle.pgo_scope.specs.PieceView.{placed_names}
+use Rattle.pgo_uses.specs.PieceView.{placed_names}
 use Rattle.pgo_scope.specs.Clash.{shared_things}
 use Rattle.pgo_scope.proofs.things.add_shared.Given as goal
 

@@ -1,6 +1,6 @@
 -- What the loop keeps: what is made and what is left are the whole.
 use Rattle.std.proofs.Common.{◌≡◌, ◌++◌, drop}
-use Rattle.pgo_scope.specs.AllUses.{variable_names}
+use Rattle.pgo_uses.specs.AllUses.{variable_names}
 use Rattle.pgo_scope.proofs.things.add_variable_names.Given as goal
 
 abbrev pub invariant-loop-d : goal.invariant-loop-d

@@ -1,6 +1,6 @@
 use Rattle.std.proofs.Common.{rules, of_calls, ap, ◌∙◌}
 use Rattle.std.proofs.lemmas.List.Sorted.{IsNonDecreasingBy-from_sort_by_key, answers_always}
-use Rattle.pgo_scope.specs.PieceView.{placed_names}
+use Rattle.pgo_uses.specs.PieceView.{placed_names}
 use Rattle.pgo_scope.proofs.Sorting.{sorted_is, in_order_map}
 use Rattle.pgo_scope.proofs.twice.sorted.Goals as goal
 

@@ -1,7 +1,7 @@
 -- What the loop keeps: what is left decides as the whole does.
 use Rattle.std.proofs.Common.{◌≡◌, drop}
-use Rattle.pgo_scope.specs.Names.{is_member}
-use Rattle.pgo_scope.specs.AllUses.{parameter_names}
+use Rattle.pgo_uses.specs.Names.{is_member}
+use Rattle.pgo_uses.specs.AllUses.{parameter_names}
 use Rattle.pgo_scope.proofs.unknown.is_parameter.Given as goal
 
 abbrev pub invariant-loop-p : goal.invariant-loop-p

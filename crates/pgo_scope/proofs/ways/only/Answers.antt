@@ -1,5 +1,5 @@
 use Rattle.std.proofs.Common.{sym, arith}
-use Rattle.pgo_scope.proofs.Counts.{not_only}
+use Rattle.pgo_scope.proofs.Only.{not_only}
 use Rattle.pgo_scope.proofs.ways.only.Goals as goal
 
 pub returns-else-items-eq1 : goal.returns-else-items-eq1

@@ -1,6 +1,6 @@
 -- What the loop keeps: what is left decides as the whole does.
 use Rattle.std.proofs.Common.{◌≡◌, map, drop}
-use Rattle.pgo_scope.specs.Names.{is_member}
+use Rattle.pgo_uses.specs.Names.{is_member}
 use Rattle.pgo_scope.proofs.words.is_one_of.Given as goal
 
 abbrev pub invariant-loop-word : goal.invariant-loop-word

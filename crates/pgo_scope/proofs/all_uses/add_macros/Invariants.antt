@@ -1,7 +1,0 @@
--- What the loop keeps: what is made and what is left are the whole.
-use Rattle.std.proofs.Common.{◌≡◌, ◌++◌, drop}
-use Rattle.pgo_scope.specs.AllUses.{macros_uses}
-use Rattle.pgo_scope.proofs.all_uses.add_macros.Given as goal
-
-abbrev pub invariant-loop-i : goal.invariant-loop-i
-invariant-loop-i l = l.out.items ++ macros_uses l.i (drop l.i l.list) ≡ l.initial.out.items ++ macros_uses 0 l.list

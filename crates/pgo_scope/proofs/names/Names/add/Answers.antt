@@ -1,7 +1,0 @@
-use Rattle.std.proofs.Common.{ap, ◌∙◌}
-use Rattle.pgo_scope.specs.Names.{is_among}
-use Rattle.pgo_scope.proofs.Among.{among_push}
-use Rattle.pgo_scope.proofs.names.Names.add.Goals as goal
-
-pub returns : goal.returns
-returns c = λ x. ap (is_among x) c.in_ok-push.ensures ∙ among_push x c.args.self.now (c.args.name.now, 0)

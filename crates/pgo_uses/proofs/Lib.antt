@@ -1,0 +1,7 @@
+pub mod Among
+mod Counts
+mod Heights
+mod Indexing
+mod StatementHeights
+mod StatementWalked
+mod Walked

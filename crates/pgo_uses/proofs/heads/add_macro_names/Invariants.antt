@@ -1,0 +1,8 @@
+-- What the loop keeps: what is made and what is left are the whole.
+use Rattle.std.proofs.Common.{◌≡◌, ◌++◌, drop}
+use Rattle.pgo_uses.specs.PieceView.{placed_names}
+use Rattle.pgo_uses.specs.Heads.{macro_names}
+use Rattle.pgo_uses.proofs.heads.add_macro_names.Given as goal
+
+abbrev pub invariant-loop-m : goal.invariant-loop-m
+invariant-loop-m l = placed_names l.out.items ++ macro_names (drop l.m-index l.m-items) ≡ placed_names l.initial.out.items ++ macro_names l.m-items

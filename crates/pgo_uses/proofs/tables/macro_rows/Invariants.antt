@@ -1,0 +1,7 @@
+-- What the loop keeps: what is made and what is left are the whole.
+use Rattle.std.proofs.Common.{◌≡◌, ◌++◌, drop}
+use Rattle.pgo_uses.specs.Tables.{macro_rows}
+use Rattle.pgo_uses.proofs.tables.macro_rows.Given as goal
+
+abbrev pub invariant-loop-m : goal.invariant-loop-m
+invariant-loop-m l = l.names ++ macro_rows (drop l.m-index l.m-items) ≡ macro_rows l.list

@@ -1,0 +1,144 @@
+// Names that are declared, each with a number.
+ghost use Rattle.std.specs.Prelude.{◌≡◌, ◌||◌, [], ◌∷◌, ◌++◌, IfOk, IfErr};
+ghost use Rattle.pgo_base.specs.Lookup.{Name, same_name, find};
+ghost use Rattle.pgo_uses.specs.Indexed.{found_in, after_note, number_at};
+ghost use Rattle.pgo_uses.specs.Names.{first_at, is_among, among_all, is_earlier, is_at};
+
+use pgo_base::text::Text;
+use std::alloc::{AllocError, Global};
+use std::collections::BTreeMap;
+use std::marker::Model;
+
+/// Names in order, each with a number, as that of its parameters. A name is found without going over the list.
+#[derive(Drop)]
+pub struct Names {
+    list: Vec<(Text, usize)>,
+    index: BTreeMap<Vec<u8>, usize>,
+}
+
+impl Model for Names {
+    ghost use Rattle.std.specs.Prelude.{List, ℕ};
+
+    ghost Value = { List (List ℕ × ℕ) };
+
+    ghost use Rattle.pgo_uses.specs.Indexed.{IsIndexed};
+
+    ghost view = { λ n. n.list.items };
+
+    ghost invariant = { λ n. IsIndexed (λ k. k.items) n.list.items n.index.entries };
+}
+
+impl Names {
+    /// No name.
+    pub fn new(alloc: Global) -> Names
+        ensures { result ≡ [] }
+    {
+        Names {
+            list: Vec::new(alloc),
+            index: BTreeMap::new(alloc),
+        }
+    }
+
+    /// One name more, at the end, with its number.
+    pub fn push(&mut self, alloc: Global, name: &Text, number: usize) -> Result<(), AllocError>
+        ensures { IfOk result (λ _. self.new ≡ self.old ++ (name.now, number) ∷ []) }
+    {
+        let copy = name.copy(alloc)?;
+        let key = Vec::from_slice(alloc, name.as_bytes())?;
+        self.list.reserve(1)?;
+        let place = self.list.as_slice().len();
+        note(&mut self.index, key, place)?;
+        self.list.push_reserved((copy, number));
+        Ok(())
+    }
+
+    /// The place of the first of this name, from 0.
+    pub fn position(&self, name: &Text) -> Option<usize>
+        ensures { result ≡ first_at name.now self.now }
+    {
+        self.index.get(name.as_bytes()).copied()
+    }
+
+    /// The number of the one in this place.
+    fn number_at(&self, place: Option<usize>) -> Option<usize>
+        ensures { result ≡ number_at self.now place }
+    {
+        match place {
+            Some(i) => match self.list.get(i) {
+                Some(row) => Some(row.1),
+                None => None,
+            },
+            None => None,
+        }
+    }
+
+    /// The number of the first of this name.
+    pub fn find(&self, name: &Text) -> Option<usize>
+        ensures { result ≡ find name.now self.now }
+    {
+        self.number_at(self.position(name))
+    }
+
+    /// Whether this is the name of one of the first so many.
+    pub fn is_earlier(&self, count: usize, name: &Text) -> bool
+        ensures { result ≡ is_earlier count name.now self.now }
+    {
+        match self.position(name) {
+            Some(i) => i < count,
+            None => false,
+        }
+    }
+
+    /// Whether this is the name in this place, from 0.
+    pub fn is_at(&self, place: usize, name: &Text) -> bool
+        ensures { result ≡ is_at place name.now self.now }
+    {
+        match self.list.get(place) {
+            Some(row) => name.is(&row.0),
+            None => false,
+        }
+    }
+
+    /// Whether there is one of this name.
+    pub fn has(&self, name: &Text) -> bool
+        ensures { result ≡ is_among name.now self.now }
+    {
+        self.find(name).is_some()
+    }
+
+    /// The name, where there is none of it yet, with the number 0.
+    #[tactic(auto, using(crate::proofs::Among::among_push, crate::proofs::Among::among_there))]
+    pub fn add(&mut self, alloc: Global, name: &Text) -> Result<(), AllocError>
+        ensures { IfOk result (λ _. (x : Name) → is_among x self.new ≡ same_name x name.now || is_among x self.old) }
+    {
+        if self.has(name) {
+            return Ok(());
+        }
+        self.push(alloc, name, 0)?;
+        Ok(())
+    }
+
+    /// The names of the other, where there are none of them yet.
+    pub fn add_all(&mut self, alloc: Global, other: &Names) -> Result<(), AllocError>
+        ensures { IfOk result (λ _. (x : Name) → is_among x self.new ≡ among_all (is_among x self.old) other.now x) }
+    {
+        for row in &other.list {
+            self.add(alloc, &row.0)?;
+        }
+        Ok(())
+    }
+}
+
+/// Notes the place of this name, where none is noted.
+fn note(index: &mut BTreeMap<Vec<u8>, usize>, name: Vec<u8>, place: usize) -> Result<(), AllocError>
+    ensures noted { IfOk result (λ _. (x : Name) → found_in (λ k. k.items) index.new.entries x ≡ after_note name.items place (found_in (λ k. k.items) index.old.entries name.items) x (found_in (λ k. k.items) index.old.entries x)) }
+    ensures same { IfErr result (λ _. index.new.entries ≡ index.old.entries) }
+{
+    if index.contains_key(name.as_slice()) {
+        return Ok(());
+    }
+    match index.insert(name, place) {
+        Ok(_) => Ok(()),
+        Err(_) => Err(AllocError),
+    }
+}
