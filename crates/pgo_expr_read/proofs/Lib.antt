@@ -5,6 +5,7 @@ pub mod Lengths
 pub mod Parts
 pub mod Measures
 pub mod Turns
+pub mod Levels
 pub mod Good
 pub mod SoundForms
 pub mod Sound
@@ -16,3 +17,4 @@ pub mod ReachBrackets
 pub mod Complete
 pub mod Exact
 pub mod Ranges
+pub mod Plain

@@ -8,4 +8,5 @@ pub mod Parsers
 pub mod Reading
 pub mod Nests
 pub mod Fronts
+pub mod Stops
 pub mod Texts

@@ -375,18 +375,11 @@ impl<F: Fn(Global, &mut Cursor<'_>, u32, u8) -> Result<Read<Sub>, TextStop>> Gra
     }
 
     /// The last arm of a CASE, behind its `[]`.
-    #[tactic(auto, unfolding(crate::specs::Reading::case_other, crate::specs::Reading::last_arm))]
-    pub fn case_other(
-        &self,
-        cursor: &mut Cursor<'_>,
-        arms: Read<Arms>,
-    ) -> Result<Read<Sub>, TextStop>
+    #[tactic(auto, unfolding(crate::specs::Reading::last_arm))]
+    pub fn last_arm(&self, cursor: &mut Cursor<'_>, arms: Read<Arms>) -> Result<Read<Sub>, TextStop>
         requires { Nests self.now.below (F.pre self.now.expr) (F.post self.now.expr) }
-        ensures { Reads (spec.case_other self.now.limit (spec.expr self.now.below) arms cursor.old) result cursor.new }
+        ensures { Reads (spec.last_arm self.now.limit (spec.expr self.now.below) arms cursor.old) result cursor.new }
     {
-        if is_case(arms.ending) {
-            return Err(cursor.refuse());
-        }
         cursor.expect(Sign::Other)?;
         cursor.expect(Sign::Arrow)?;
         let a = self.expr(cursor, 0)?;
@@ -395,16 +388,20 @@ impl<F: Fn(Global, &mut Cursor<'_>, u32, u8) -> Result<Read<Sub>, TextStop>> Gra
         self.node(cursor, Ending::Case, height, tree)
     }
 
-    /// The arms of a CASE.
-    #[tactic(auto, unfolding(crate::specs::Reading::case_form))]
+    /// The arms of a CASE. Behind an arm that ends in a CASE no `[]` stands.
+    #[tactic(auto, unfolding(crate::specs::Reading::case_form, crate::specs::Reading::case_other))]
     pub fn case_form(&self, cursor: &mut Cursor<'_>) -> Result<Read<Sub>, TextStop>
         requires { Nests self.now.below (F.pre self.now.expr) (F.post self.now.expr) }
         ensures { Reads (spec.case_form self.now.limit (spec.expr self.now.below) cursor.old) result cursor.new }
     {
         cursor.skip();
         let arms = self.arms(cursor)?;
+        let stop = cursor.refuse();
         if cursor.eat(Sign::Arm) {
-            return self.case_other(cursor, arms);
+            if is_case(arms.ending) {
+                return Err(stop);
+            }
+            return self.last_arm(cursor, arms);
         }
         let tree = Sub::new(self.alloc, Expr::Case(arms.tree))?;
         self.node(cursor, Ending::Case, arms.height, tree)

@@ -11,4 +11,5 @@ pub mod read;
 pub mod reader;
 pub mod sign;
 mod stack;
+pub mod stops;
 pub mod table;

@@ -12,11 +12,11 @@ ghost use Rattle.pgo_expr_read.specs.Reading.{Reads, Makes};
 use crate::ast;
 use crate::cursor::Cursor;
 use crate::grammar::Grammar;
-use crate::lookahead::{Next, Opener};
+use crate::lookahead::{Lead, Next, Opener};
 use crate::read::{Ending, Read, closed, left_height, raised};
 use crate::sign::Sign;
 use crate::stack::Openers;
-use crate::table::{Form, Operator, form_low, low, right_least, takes_left};
+use crate::table::{Form, Operator, form_low, low, prefix_least, right_least, takes_left};
 use pgo_base::expr::{Exprs, Infix, Sub};
 use pgo_lexer::errors::TextStop;
 use pgo_lexer::symbol::Junction;
@@ -293,8 +293,14 @@ impl<F: Fn(Global, &mut Cursor<'_>, u32, u8) -> Result<Read<Sub>, TextStop>> Gra
         requires { Nests self.now.below (F.pre self.now.expr) (F.post self.now.expr) }
         ensures { Reads (spec.level self.now.limit (spec.expr self.now.below) least cursor.old) result cursor.new }
     {
-        let openers = openers(self.alloc, cursor)?;
         let stop = cursor.refuse();
+        // A prefix operator is refused by its own level, before its operand is read.
+        if let Lead::Prefix(op) = cursor.begin() {
+            if prefix_least(op) < least {
+                return Err(stop);
+            }
+        }
+        let openers = openers(self.alloc, cursor)?;
         let first = self.primary(cursor)?;
         let r = self.closes(cursor, openers, first)?;
         if least <= form_low(r.form) {

@@ -1,5 +1,5 @@
 // The reader of expressions.
-ghost use Rattle.std.specs.Prelude.{◌≡◌, ◌≤◌, ◌++◌, ℕ, List, Some, IfOk};
+ghost use Rattle.std.specs.Prelude.{◌≡◌, ◌≤◌, ◌++◌, ℕ, List, Some, IfOk, IfErr, length, not};
 ghost use Rattle.pgo_base.specs.ExprView.{tree};
 ghost use Rattle.pgo_base.specs.Tree.{Tree};
 ghost use Rattle.pgo_lexer.specs.declared.token.Token.{Token};
@@ -14,15 +14,21 @@ ghost use Rattle.pgo_expr_read.specs.Lookahead.{tokens_of};
 ghost use Rattle.pgo_expr_read.specs.Reading as spec;
 ghost use Rattle.pgo_expr_read.specs.Reading.{Reads, MakesAs, made};
 ghost use Rattle.pgo_expr_read.specs.Spells.{Spelled, Range};
-ghost use Rattle.pgo_expr_read.specs.Texts.{SpellsText, IsOrNoMemory};
+ghost use Rattle.pgo_expr_read.specs.Stops.{IsAsSevere, IsKeptIf, IsWithin};
+ghost use Rattle.pgo_expr_read.specs.Texts.{SpellsText, IsOrNoMemory, most_tokens};
+ghost use Rattle.pgo_lexer.specs.declared.token.Lexeme.{Lexeme};
+ghost use Rattle.pgo_lexer.specs.Tokenized as lexer;
+ghost use Rattle.pgo_lexer.specs.Tokenized.{Tokenized};
 
 use crate::cursor::Cursor;
 use crate::grammar::Grammar;
 use crate::lookahead::is_mapped;
 use crate::read::Read;
+use crate::stops::within;
 use pgo_base::expr::{Expr, Sub};
+use pgo_lexer::before::{Before, tokens_before};
 use pgo_lexer::errors::TextStop;
-use pgo_lexer::token::Lexeme;
+use pgo_lexer::token::{Lexeme, Tokens};
 use pgo_lexer::tokenizer::{one_list_of_tokens, tokens};
 use std::alloc::Global;
 
@@ -100,26 +106,75 @@ fn mapped_offset(tokens: &[Lexeme], end: u64) -> u64 {
     end
 }
 
-/// Why a text with a token that can't stand at this offset isn't read.
-fn refused(read: Result<Expr, TextStop>, offset: u64) -> TextStop {
-    match read {
-        Err(TextStop::Syntax { offset: other }) => TextStop::Syntax {
+/// The same error, at this offset if that comes first.
+fn at_first(stop: TextStop, offset: u64) -> TextStop
+    ensures { IsAsSevere stop result }
+{
+    match stop {
+        TextStop::Syntax { offset: other } => TextStop::Syntax {
             offset: offset.min(other),
         },
-        Err(TextStop::NoMemory) => TextStop::NoMemory,
-        Ok(_) => TextStop::Syntax { offset },
+        TextStop::NoMemory => TextStop::NoMemory,
+    }
+}
+
+/// What was read of a text of its own, in which no `$variable` and no `$value` stands.
+fn only_plain(read: Result<Expr, TextStop>, tokens: &[Lexeme], end: u64) -> Result<Expr, TextStop>
+    ensures { IsKeptIf read (not (look.has_mapped (tokens_of tokens.now))) result }
+{
+    if !has_mapped(tokens) {
+        return read;
+    }
+    let offset = mapped_offset(tokens, end);
+    match read {
+        Ok(_) => Err(TextStop::Syntax { offset }),
+        Err(stop) => Err(at_first(stop, offset)),
     }
 }
 
 /// The expression that all of the tokens of a text of its own spell.
+#[tactic(auto, using(crate::proofs::Plain::plain_makes))]
 fn all_plain(alloc: Global, tokens: &[Lexeme], end: u64, limit: u32) -> Result<Expr, TextStop>
     ensures { MakesAs tree (spec.all_plain limit (tokens_of tokens.now)) result }
 {
     let read = all(alloc, tokens, end, limit);
-    if has_mapped(tokens) {
-        return Err(refused(read, mapped_offset(tokens, end)));
+    only_plain(read, tokens, end)
+}
+
+/// The first fault of a text that has one among its tokens at an offset: a token before it that can't stand at its place, or
+/// this one.
+fn first_fault(alloc: Global, text: &[u8], offset: u64, limit: u32) -> TextStop {
+    match tokens_before(alloc, text, offset as usize) {
+        Ok(Before { tokens, fault }) => {
+            let end = fault as u64;
+            match all_plain(alloc, tokens.as_slice(), end, limit) {
+                Ok(_) => TextStop::at(fault),
+                Err(stop) => at_first(stop, end),
+            }
+        }
+        Err(_) => TextStop::NoMemory,
     }
-    read
+}
+
+/// The tokens of a text.
+fn tokens_of_text(alloc: Global, text: &[u8], height: u32) -> Result<Tokens, TextStop>
+    ensures found { IfOk result (λ ts. Tokenized most_tokens text.now ts) }
+    ensures only { (ts : List Lexeme) → Tokenized most_tokens text.now ts → lexer.IsOrNoMemory result ts }
+{
+    match tokens(alloc, text, MOST_TOKENS) {
+        Ok(marked) => Ok(marked),
+        Err(TextStop::Syntax { offset }) => Err(first_fault(alloc, text, offset, height)),
+        Err(TextStop::NoMemory) => Err(TextStop::NoMemory),
+    }
+}
+
+/// The expression that a text spells.
+fn read_text(alloc: Global, text: &[u8], height: u32) -> Result<Expr, TextStop>
+    ensures found { IfOk result (λ e. SpellsText height text.now (tree e)) }
+    ensures only { (a : Tree) → SpellsText height text.now a → IsOrNoMemory result a }
+{
+    let marked = tokens_of_text(alloc, text, height)?;
+    all_plain(alloc, marked.as_slice(), text.len() as u64, height)
 }
 
 /// The one expression that a text spells ("Specifying Systems" has the forms; the table of operators, what stands in which
@@ -133,9 +188,12 @@ pub fn read_expr(alloc: Global, text: &[u8], height: u32) -> Result<Expr, TextSt
     ensures found { IfOk result (λ e. SpellsText height text.now (tree e)) }
     // What the text spells is answered, unless memory runs out. So `Syntax` comes only where it spells nothing.
     ensures only { (a : Tree) → SpellsText height text.now a → IsOrNoMemory result a }
+    ensures within { IfErr result (IsWithin (length text.now)) }
 {
-    let marked = tokens(alloc, text, MOST_TOKENS)?;
-    all_plain(alloc, marked.as_slice(), text.len() as u64, height)
+    match read_text(alloc, text, height) {
+        Ok(e) => Ok(e),
+        Err(stop) => Err(within(stop, text.len())),
+    }
 }
 
 /// A text spells at most one expression.

@@ -11,7 +11,7 @@ use crate::token::{Lexeme, Tokens};
 use std::alloc::Global;
 
 /// The most bytes of a text whose columns can be counted; no memory holds as many.
-const MOST_BYTES: usize = 1152921504606846976;
+pub const MOST_BYTES: usize = 1152921504606846976;
 
 /// The piece that the rest of a text begins with, which stands at an offset.
 fn next_piece(alloc: Global, rest: &[u8], at: usize) -> Result<Piece, TextStop>

@@ -1,6 +1,7 @@
 // The tokens of a text, with the marks of its junction lists.
 #![tactic(auto)]
 
+pub mod before;
 pub mod bytes;
 pub mod comment;
 pub mod errors;

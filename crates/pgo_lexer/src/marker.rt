@@ -33,7 +33,7 @@ fn mark_at(mark: Token, bullet: &Lexeme) -> Lexeme
 }
 
 /// The mark behind a list.
-fn list_close() -> Lexeme
+pub fn list_close() -> Lexeme
     ensures { result ≡ layout.list_close }
 {
     Lexeme {
@@ -102,6 +102,7 @@ impl Marker {
         Ok(())
     }
 
+    /// Ends the innermost bracket. It stays open where another bracket ends.
     fn close(&mut self, bracket: Bracket, lexeme: Lexeme) -> Result<(), TextStop>
         ensures { Gives (spec.close_by bracket lexeme self.old.out self.old.frames) (ok_as self.new result) }
     {
@@ -111,7 +112,11 @@ impl Marker {
                 self.after_operand = true;
                 Ok(())
             }
-            _ => Err(TextStop::at(lexeme.start)),
+            Some(frame) => {
+                self.frames.push(frame)?;
+                Err(TextStop::at(lexeme.start))
+            }
+            None => Err(TextStop::at(lexeme.start)),
         }
     }
 

@@ -19,3 +19,4 @@ pub mod Dashes
 pub mod Exact
 pub mod Spelled
 pub mod Deeper
+pub mod Checked

@@ -5,10 +5,10 @@ pub mod Depths
 pub mod Units
 pub mod Spells
 pub mod Leads
+pub mod Places
 pub mod Reading
 pub mod ReadingStatements
 pub mod ReadingUnits
-pub mod Standing
 pub mod Shallow
 pub mod ReadingSpec
 pub mod Nests

@@ -2,6 +2,7 @@
 ghost use Rattle.std.specs.Prelude.{◌≡◌, Some, length};
 ghost use Rattle.pgo_mpcal_read.specs.Leads as leads;
 ghost use Rattle.pgo_mpcal_read.specs.Leaves as leaves;
+ghost use Rattle.pgo_mpcal_read.specs.Places.{IsFarIfNoMemory};
 ghost use Rattle.pgo_mpcal_read.specs.Signs as signs;
 ghost use Rattle.pgo_model.specs.ValueText.{same_bytes};
 ghost use Rattle.pgo_mpcal_read.specs.Reading as spec;
@@ -50,9 +51,10 @@ fn offset(rest: &[Lexeme], end: u64) -> u64 {
     end
 }
 
-/// A place in a text. No text of 4 GiB or more is read.
+/// A place in a text. No token at 4 GiB or behind it is read.
 fn place_of(start: usize) -> Result<u32, TextStop>
-    ensures { Makes (Some start) result }
+    ensures value { Makes (Some start) result }
+    ensures far { IsFarIfNoMemory start result }
 {
     match u32::try_from(start) {
         Ok(place) => Ok(place),
@@ -310,7 +312,8 @@ impl<'a> Cursor<'a> {
 
     /// The place of the next token.
     pub fn place(&self) -> Result<u32, TextStop>
-        ensures { Makes (Some (spec.place self.now)) result }
+        ensures value { Makes (Some (spec.place self.now)) result }
+        ensures far { IsFarIfNoMemory (spec.place self.now) result }
     {
         match self.rest {
             [] => Ok(0),

@@ -1,6 +1,10 @@
 // The reader of specifications.
-ghost use Rattle.std.specs.Prelude.{◌≡◌, Some, IfOk, List, ℕ};
+ghost use Rattle.std.specs.Prelude.{◌≡◌, Some, IfOk, IfErr, List, length, ℕ};
+ghost use Rattle.pgo_lexer.specs.declared.token.Lexeme.{Lexeme};
+ghost use Rattle.pgo_spec_text.specs.SpecText as layout;
+ghost use Rattle.pgo_spec_text.specs.SpecText.{IsSpecText};
 ghost use Rattle.pgo_syntax.specs.declared.spec.Spec.{Spec};
+ghost use Rattle.pgo_expr_read.specs.Stops.{IsWithin};
 ghost use Rattle.pgo_mpcal_read.specs.Reading.{Reads, Makes};
 ghost use Rattle.pgo_mpcal_read.specs.ReadingSpec as spec;
 ghost use Rattle.pgo_mpcal_read.specs.Spells.{declarations_of};
@@ -11,12 +15,14 @@ use crate::cursor::Cursor;
 use crate::depths::MacroDepths;
 use crate::header::{Header, read_header};
 use crate::shallow::rows_too_deep;
-use crate::standing::{Standing, all_may_stand, refused};
+use crate::standing::{Standing, checked};
 use crate::units::{Units, algorithm};
 use crate::whole_parts::MOST_DEPTH;
+use pgo_expr_read::stops::within;
 use pgo_lexer::errors::TextStop;
 use pgo_lexer::token::Lexeme;
-use pgo_spec_text::parts::{one_pair, spec_tokens};
+use pgo_spec_text::before::{SpecBefore, tokens_before};
+use pgo_spec_text::parts::{SpecTokens, one_pair, spec_tokens};
 use pgo_syntax::archetype::Archetype;
 use pgo_syntax::declaration::Declarations;
 use pgo_syntax::name::PlacedName;
@@ -37,20 +43,18 @@ fn whole_header(alloc: Global, tokens: &[Lexeme], end: u64) -> Result<Header, Te
 }
 
 /// The header. It has no `$variable` and no `$value`.
-#[tactic(auto, unfolding(crate::specs::ReadingSpec::all_header))]
+#[tactic(auto, using(crate::proofs::Checked::checked_makes), unfolding(crate::specs::ReadingSpec::all_header))]
 fn all_header(alloc: Global, tokens: &[Lexeme], end: u64) -> Result<Header, TextStop>
     ensures { Makes (spec.all_header tokens.now) result }
 {
-    match whole_header(alloc, tokens, end) {
-        Ok(h) => {
-            if all_may_stand(Standing::Plain, tokens) {
-                Ok(h)
-            } else {
-                Err(refused(Standing::Plain, tokens, TextStop::Syntax { offset: end }))
-            }
-        }
-        Err(stop) => Err(refused(Standing::Plain, tokens, stop)),
-    }
+    let read = whole_header(alloc, tokens, end);
+    checked(
+        Standing::Plain,
+        tokens,
+        tokens,
+        TextStop::Syntax { offset: end },
+        read,
+    )
 }
 
 /// An algorithm that is all of these tokens. It has a process, and no statement is too deep.
@@ -154,6 +158,65 @@ fn first_start(tokens: &[Lexeme], end: u64) -> u64 {
     }
 }
 
+/// The refusal that was met before a fault at an offset; the fault, where none was.
+fn before_fault<T: Drop>(read: Result<T, TextStop>, fault: usize) -> TextStop {
+    match read {
+        Ok(_) => TextStop::at(fault),
+        Err(TextStop::Syntax { offset }) => TextStop::Syntax {
+            offset: offset.min(fault as u64),
+        },
+        Err(TextStop::NoMemory) => TextStop::NoMemory,
+    }
+}
+
+/// The first fault of a text of which these are the tokens before one.
+fn fault_behind(alloc: Global, before: SpecBefore) -> TextStop {
+    let SpecBefore { header, algorithm } = before;
+    let tokens = header.tokens.as_slice();
+    let Some(a) = algorithm else {
+        let read = all_header(alloc, tokens, header.fault as u64);
+        return before_fault(read, header.fault);
+    };
+    let algorithm = a.tokens.as_slice();
+    match all_header(alloc, tokens, first_start(algorithm, a.fault as u64)) {
+        Ok(_) => before_fault(all_algorithm(alloc, algorithm, a.fault as u64), a.fault),
+        Err(stop) => stop,
+    }
+}
+
+/// The first fault of a text that has one among its tokens at an offset: a token before it that can't stand at its place, or
+/// this one.
+fn first_fault(alloc: Global, text: &[u8], offset: u64) -> TextStop {
+    match tokens_before(alloc, text, offset as usize) {
+        Ok(before) => fault_behind(alloc, before),
+        Err(_) => TextStop::NoMemory,
+    }
+}
+
+/// The tokens of a specification's text.
+fn parts_of(alloc: Global, text: &[u8]) -> Result<SpecTokens, TextStop>
+    ensures found { IfOk result (λ p. IsSpecText text.now p.header p.algorithm) }
+    ensures only { (header algorithm : List Lexeme) → IsSpecText text.now header algorithm → layout.IsOrNoMemory result header algorithm }
+{
+    match spec_tokens(alloc, text) {
+        Ok(parts) => Ok(parts),
+        Err(TextStop::Syntax { offset }) => Err(first_fault(alloc, text, offset)),
+        Err(TextStop::NoMemory) => Err(TextStop::NoMemory),
+    }
+}
+
+/// The specification that a text spells.
+fn read_text(alloc: Global, text: &[u8]) -> Result<Spec, TextStop>
+    ensures found { IfOk result (λ s. SpellsSpec text.now s) }
+    ensures only { (s : Spec) → SpellsSpec text.now s → IsOrNoMemory result s }
+{
+    let parts = parts_of(alloc, text)?;
+    let end = text.len() as u64;
+    let algorithm = parts.algorithm.as_slice();
+    let header = parts.header.as_slice();
+    read_tokens(alloc, header, first_start(algorithm, end), algorithm, end)
+}
+
 /// The one specification that a text spells ("the PlusCal manual" has the statements, the Modular PlusCal paper archetypes,
 /// mapping macros and instances; what stands in which place, and the limits, are this project's choice).
 ///
@@ -165,12 +228,12 @@ pub fn read_spec(alloc: Global, text: &[u8]) -> Result<Spec, TextStop>
     ensures found { IfOk result (λ s. SpellsSpec text.now s) }
     // What the text spells is answered, unless memory runs out. So `Syntax` comes only where it spells nothing.
     ensures only { (s : Spec) → SpellsSpec text.now s → IsOrNoMemory result s }
+    ensures within { IfErr result (IsWithin (length text.now)) }
 {
-    let parts = spec_tokens(alloc, text)?;
-    let end = text.len() as u64;
-    let algorithm = parts.algorithm.as_slice();
-    let header = parts.header.as_slice();
-    read_tokens(alloc, header, first_start(algorithm, end), algorithm, end)
+    match read_text(alloc, text) {
+        Ok(s) => Ok(s),
+        Err(stop) => Err(within(stop, text.len())),
+    }
 }
 
 /// A text spells at most one specification.

@@ -1,9 +1,9 @@
 // Which tokens may stand in a unit.
 ghost use Rattle.std.specs.Prelude.{◌≡◌};
+ghost use Rattle.pgo_expr_read.specs.Stops.{IsAsSevere, IsKeptIf};
 ghost use Rattle.pgo_mpcal_read.specs.Reading.{Reads};
 ghost use Rattle.pgo_mpcal_read.specs.Reading as reading;
 ghost use Rattle.pgo_mpcal_read.specs.ReadingSpec as spec;
-ghost use Rattle.pgo_mpcal_read.specs.Standing.{IsAsSevere};
 ghost use Rattle.pgo_mpcal_read.specs.Units as units;
 
 use crate::cursor::Cursor;
@@ -37,7 +37,7 @@ fn may_stand(standing: Standing, token: &Token) -> bool
 }
 
 /// Whether all of these tokens may stand there.
-pub fn all_may_stand(standing: Standing, tokens: &[Lexeme]) -> bool
+fn all_may_stand(standing: Standing, tokens: &[Lexeme]) -> bool
     ensures { result ≡ units.all_are (spec.stands standing) tokens.now }
 {
     for lexeme in tokens {
@@ -62,7 +62,7 @@ fn first_refused(standing: Standing, tokens: &[Lexeme], end: u64) -> u64 {
 }
 
 /// The same error, with the offset of the first token before it that may not stand there.
-pub fn refused(standing: Standing, tokens: &[Lexeme], stop: TextStop) -> TextStop
+fn refused(standing: Standing, tokens: &[Lexeme], stop: TextStop) -> TextStop
     ensures { IsAsSevere stop result }
 {
     match stop {
@@ -70,5 +70,29 @@ pub fn refused(standing: Standing, tokens: &[Lexeme], stop: TextStop) -> TextSto
             offset: first_refused(standing, tokens, offset),
         },
         TextStop::NoMemory => TextStop::NoMemory,
+    }
+}
+
+/// What was read of these tokens, where all of the front that was read may stand there. `behind` is the error that what
+/// follows the front has no place.
+pub fn checked<T: Drop>(
+    standing: Standing,
+    tokens: &[Lexeme],
+    front: &[Lexeme],
+    behind: TextStop,
+    read: Result<T, TextStop>,
+) -> Result<T, TextStop>
+    requires { reading.IsSyntax behind }
+    ensures { IsKeptIf read (units.all_are (spec.stands standing) front.now) result }
+{
+    match read {
+        Ok(part) => {
+            if all_may_stand(standing, front) {
+                Ok(part)
+            } else {
+                Err(refused(standing, front, behind))
+            }
+        }
+        Err(stop) => Err(refused(standing, tokens, stop)),
     }
 }

@@ -13,7 +13,7 @@ use crate::declarations::variables;
 use crate::deep::Deep;
 use crate::depths::{MacroDepth, MacroDepths};
 use crate::sign::Sign;
-use crate::standing::{Standing, all_may_stand, refused};
+use crate::standing::{Standing, checked};
 use crate::whole_parts::{archetype, define, macro_definition, mapping_macro, process};
 use pgo_lexer::errors::TextStop;
 use pgo_syntax::archetype::{Archetype, Archetypes};
@@ -51,24 +51,18 @@ fn no_units(alloc: Global) -> Units
 }
 
 /// The definitions of `define`, all of whose tokens may stand there.
+#[tactic(auto, using(crate::proofs::Checked::checked_reads))]
 fn checked_define(alloc: Global, cursor: &mut Cursor<'_>) -> Result<Definitions, TextStop>
     ensures { Reads (spec.checked standing.Plain cursor.old (units.define cursor.old)) result cursor.new }
 {
     let before = cursor.rest();
-    match define(alloc, cursor) {
-        Ok(part) => {
-            let front = cursor.read_of(before);
-            if all_may_stand(Standing::Plain, front) {
-                Ok(part)
-            } else {
-                Err(refused(Standing::Plain, front, cursor.refuse()))
-            }
-        }
-        Err(stop) => Err(refused(Standing::Plain, before, stop)),
-    }
+    let read = define(alloc, cursor);
+    let front = cursor.read_of(before);
+    checked(Standing::Plain, before, front, cursor.refuse(), read)
 }
 
 /// A macro, all of whose tokens may stand there.
+#[tactic(auto, using(crate::proofs::Checked::checked_reads))]
 fn checked_macro_definition(
     alloc: Global,
     macros: &MacroDepths,
@@ -77,20 +71,13 @@ fn checked_macro_definition(
     ensures { Reads (spec.checked standing.Macro cursor.old (units.macro_definition macros.now cursor.old)) result cursor.new }
 {
     let before = cursor.rest();
-    match macro_definition(alloc, macros, cursor) {
-        Ok(part) => {
-            let front = cursor.read_of(before);
-            if all_may_stand(Standing::Macro, front) {
-                Ok(part)
-            } else {
-                Err(refused(Standing::Macro, front, cursor.refuse()))
-            }
-        }
-        Err(stop) => Err(refused(Standing::Macro, before, stop)),
-    }
+    let read = macro_definition(alloc, macros, cursor);
+    let front = cursor.read_of(before);
+    checked(Standing::Macro, before, front, cursor.refuse(), read)
 }
 
 /// An archetype, all of whose tokens may stand there.
+#[tactic(auto, using(crate::proofs::Checked::checked_reads))]
 fn checked_archetype(
     alloc: Global,
     macros: &MacroDepths,
@@ -99,53 +86,31 @@ fn checked_archetype(
     ensures { Reads (spec.checked standing.Plain cursor.old (units.archetype macros.now cursor.old)) result cursor.new }
 {
     let before = cursor.rest();
-    match archetype(alloc, macros, cursor) {
-        Ok(part) => {
-            let front = cursor.read_of(before);
-            if all_may_stand(Standing::Plain, front) {
-                Ok(part)
-            } else {
-                Err(refused(Standing::Plain, front, cursor.refuse()))
-            }
-        }
-        Err(stop) => Err(refused(Standing::Plain, before, stop)),
-    }
+    let read = archetype(alloc, macros, cursor);
+    let front = cursor.read_of(before);
+    checked(Standing::Plain, before, front, cursor.refuse(), read)
 }
 
 /// Variables, all of whose tokens may stand there.
+#[tactic(auto, using(crate::proofs::Checked::checked_reads))]
 fn checked_variables(alloc: Global, cursor: &mut Cursor<'_>) -> Result<Declarations, TextStop>
     ensures { Reads (spec.checked standing.Plain cursor.old (units.variables cursor.old)) result cursor.new }
 {
     let before = cursor.rest();
-    match variables(alloc, cursor) {
-        Ok(part) => {
-            let front = cursor.read_of(before);
-            if all_may_stand(Standing::Plain, front) {
-                Ok(part)
-            } else {
-                Err(refused(Standing::Plain, front, cursor.refuse()))
-            }
-        }
-        Err(stop) => Err(refused(Standing::Plain, before, stop)),
-    }
+    let read = variables(alloc, cursor);
+    let front = cursor.read_of(before);
+    checked(Standing::Plain, before, front, cursor.refuse(), read)
 }
 
 /// A process, all of whose tokens may stand there.
+#[tactic(auto, using(crate::proofs::Checked::checked_reads))]
 fn checked_process(alloc: Global, cursor: &mut Cursor<'_>) -> Result<Process, TextStop>
     ensures { Reads (spec.checked standing.Plain cursor.old (units.process cursor.old)) result cursor.new }
 {
     let before = cursor.rest();
-    match process(alloc, cursor) {
-        Ok(part) => {
-            let front = cursor.read_of(before);
-            if all_may_stand(Standing::Plain, front) {
-                Ok(part)
-            } else {
-                Err(refused(Standing::Plain, front, cursor.refuse()))
-            }
-        }
-        Err(stop) => Err(refused(Standing::Plain, before, stop)),
-    }
+    let read = process(alloc, cursor);
+    let front = cursor.read_of(before);
+    checked(Standing::Plain, before, front, cursor.refuse(), read)
 }
 
 #[tactic(auto, unfolding(crate::specs::ReadingSpec::define_unit))]

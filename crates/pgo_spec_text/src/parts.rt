@@ -1,6 +1,6 @@
 // The tokens of a specification's text, with the marks of its junction lists.
-ghost use Rattle.std.specs.Prelude.{◌≡◌, ◌≤◌, ◌+◌, ◌*◌, IfOk, List, ℕ, length};
-ghost use Rattle.pgo_lexer.specs.Answers.{Gives};
+ghost use Rattle.std.specs.Prelude.{◌≡◌, ◌≤◌, ◌+◌, ◌*◌, IfOk, IfErr, List, ℕ, length};
+ghost use Rattle.pgo_lexer.specs.Answers.{Gives, IsSyntax};
 ghost use Rattle.pgo_lexer.specs.declared.token.Lexeme.{Lexeme};
 ghost use Rattle.pgo_spec_text.specs.Cutting as spec;
 ghost use Rattle.pgo_spec_text.specs.SpecText.{IsSpecText, IsOrNoMemory};
@@ -14,10 +14,10 @@ use pgo_lexer::tokenizer::marked;
 use std::alloc::Global;
 
 /// The most tokens of a specification: those of the header, those behind `--mpcal`, and the closing row as one.
-const MOST_TOKENS: usize = 262_144;
+pub const MOST_TOKENS: usize = 262_144;
 
 /// The most bytes of a text whose columns can be counted; no memory holds as many.
-const MOST_BYTES: usize = 1152921504606846976;
+pub const MOST_BYTES: usize = 1152921504606846976;
 
 /// The tokens of a specification, each list with the marks of its junction lists.
 #[derive(Drop)]
@@ -29,7 +29,7 @@ pub struct SpecTokens {
 }
 
 /// The column of the byte at an offset.
-fn column_at(text: &[u8], at: usize) -> usize
+pub fn column_at(text: &[u8], at: usize) -> usize
     requires small { length text.now ≤ 1152921504606846976 }
     requires within { at ≤ length text.now }
     ensures value { result ≡ spec.column_at text.now at }
@@ -38,9 +38,18 @@ fn column_at(text: &[u8], at: usize) -> usize
     columns_behind(0, first(text, at))
 }
 
+/// Where the body of the algorithm's comment begins, behind which these bytes stand.
+pub fn body_start(text: &[u8], body: &[u8], behind: &[u8]) -> usize
+    requires { length body.now + length behind.now + 2 ≤ length text.now }
+    ensures value { result ≡ spec.body_start text.now (body.now, behind.now) }
+    ensures within { result + length body.now ≤ length text.now }
+{
+    text.len().saturating_sub(body.len() + behind.len() + 2)
+}
+
 /// The tokens of the algorithm in the body of its comment, where so many tokens stand before and these bytes behind the
 /// comment.
-fn algorithm_in(
+pub fn algorithm_in(
     alloc: Global,
     text: &[u8],
     used: usize,
@@ -51,7 +60,7 @@ fn algorithm_in(
     requires within { length body.now + length behind.now + 2 ≤ length text.now }
     ensures { Gives (spec.algorithm_in text.now used (body.now, behind.now)) result }
 {
-    let start = text.len().saturating_sub(body.len() + behind.len() + 2);
+    let start = body_start(text, body, behind);
     let column = column_at(text, start);
     algorithm(alloc, body, column, start, MOST_TOKENS.saturating_sub(used))
 }
@@ -66,7 +75,8 @@ fn closed(
     header: Tokens,
     algorithm: Tokens,
 ) -> Result<SpecTokens, TextStop>
-    ensures { Gives (spec.closed room count behind.now header algorithm) result }
+    ensures value { Gives (spec.closed room count behind.now header algorithm) result }
+    ensures memory { IfErr result IsSyntax }
 {
     match row_from(behind) {
         None => Err(TextStop::at(end)),

@@ -9,7 +9,7 @@ use std::alloc::Global;
 use std::test::Fail;
 
 /// A text, and the offset at which it is refused.
-const REFUSED: [(&[u8], u64); 30] = [
+const REFUSED: [(&[u8], u64); 52] = [
     (b"", 0),
     (b"a + b % c", 6),
     (b"a /\\ b \\/ c", 7),
@@ -19,11 +19,32 @@ const REFUSED: [(&[u8], u64); 30] = [
     (b"a \\in b \\in c", 8),
     (b"2 * -3", 4),
     (b"a = ~b", 4),
+    (b"a = ~(b c)", 4),
+    (b"a = (~(b c))", 9),
+    (b"a = ~", 4),
+    (b"2 * -(b c)", 4),
+    (b"a \\cup SUBSET (b c)", 7),
+    (b"a \\X -(b c)", 5),
+    (b"DOMAIN SUBSET (b c)", 7),
+    (b"- ~(a b)", 2),
+    (b"- -(a b)", 6),
+    (b"a - SUBSET {b c}", 4),
+    (b"a .. DOMAIN", 5),
+    (b"a \\in ~(b c)", 6),
+    (b"/\\ ~(a b)", 7),
+    (b"a * IF b c", 9),
     (b"SUBSET a \\cup b", 9),
     (b"a \\ b \\cup c", 6),
     (b"a + b \\X c", 6),
     (b"a \\X b * c", 7),
     (b"Nat", 0),
+    // a fault among the tokens hides none of the grammar before it
+    (b"a b ^", 2),
+    (b"a ^", 2),
+    (b"a b 9223372036854775808", 2),
+    (b"(a] ^", 2),
+    (b"f(a b", 4),
+    (b"f(a, b", 6),
     (b"a \\in (Nat)", 7),
     (b"a \\notin Nat", 9),
     (b"x''", 2),
@@ -31,6 +52,11 @@ const REFUSED: [(&[u8], u64); 30] = [
     (b"Op()", 3),
     (b"CASE OTHER -> a", 5),
     (b"CASE a -> CASE b -> c [] OTHER -> d [] e -> f", 36),
+    (b"CASE a -> CASE b -> c [] OTHER -> d [] OTHER -> e", 36),
+    (
+        b"CASE a -> b + CHOOSE c \\in d : CASE e -> f [] OTHER -> g [] OTHER -> h",
+        57,
+    ),
     (b"LET IN a", 4),
     (b"{x \\in S}", 8),
     (b"UNCHANGED <<>>", 12),
@@ -43,7 +69,7 @@ const REFUSED: [(&[u8], u64); 30] = [
 ];
 
 /// Texts that spell an expression of at most height 128.
-const READ: [&[u8]; 31] = [
+const READ: [&[u8]; 38] = [
     b"<<>>",
     b"<<a, b>>",
     b"{}",
@@ -64,6 +90,7 @@ const READ: [&[u8]; 31] = [
     b"a + IF b THEN c ELSE d",
     b"CASE a -> b [] c -> d [] OTHER -> e",
     b"CASE a -> b [] c -> CASE d -> e",
+    b"CASE a -> (CASE b -> c [] OTHER -> d) [] OTHER -> e",
     b"LET a == 1 b == a IN a + b",
     b"x' = f[i].a",
     b"x'[self]",
@@ -75,6 +102,12 @@ const READ: [&[u8]; 31] = [
     b"SUBSET UNION a",
     b"(/\\ a\n /\\ b) => c",
     b"a - -b",
+    b"a = (~b)",
+    b"2 * (-3)",
+    b"a \\cup -b",
+    b"a \\in DOMAIN f",
+    b"~ ~(a = b)",
+    b"a * CHOOSE x \\in S : p",
 ];
 
 /// A text, a height, and whether the text spells an expression of at most that height.

@@ -18,7 +18,7 @@ const BEHIND: &[u8] = b"\n}\nprocess (P = 1) == instance B(ref x);\n}\n*)\n====\
 const ALGORITHM: &[u8] = b"\n(*\n--mpcal A { process (P = 1) == instance B() }\n*)\n====\n";
 
 /// The statements of an archetype, and where they are refused.
-const STATEMENTS: [(&[u8], Option<u64>); 55] = [
+const STATEMENTS: [(&[u8], Option<u64>); 64] = [
     (b"", None),
     (b"l: skip;", None),
     (b"l: skip", None),
@@ -77,6 +77,16 @@ const STATEMENTS: [(&[u8], Option<u64>); 55] = [
     (b"$variable := 1", Some(0)),
     (b"v' := 1", Some(1)),
     (b"v := UNCHANGED <<a>>", Some(5)),
+    // a fault among the tokens hides none of the grammar before it
+    (b"l: v := ; w := 1 ^ 2;", Some(8)),
+    (b"l: v := 1; w := 1 ^ 2;", Some(18)),
+    (b"l: v := ; m: w' := 2;", Some(8)),
+    (b"l: v := ; m: await UNCHANGED <<a>>;", Some(8)),
+    (b"l: v := ; m: v := 9223372036854775808;", Some(8)),
+    (b"l: v := ; m: v := \"a\\q\";", Some(8)),
+    (b"l: v := ; m: v := (1];", Some(8)),
+    (b"l: v := (1]; m: v := 1 ^ 2;", Some(10)),
+    (b"l: v := (1 2; m: skip", Some(11)),
 ];
 
 /// The units of an algorithm, and where they are refused.
@@ -145,7 +155,7 @@ const UNITS: [(&[u8], Option<u64>); 31] = [
 ];
 
 /// A header, and where it is refused.
-const HEADERS: [(&[u8], Option<u64>); 8] = [
+const HEADERS: [(&[u8], Option<u64>); 10] = [
     (b"---- MODULE A ----", None),
     (b"------ MODULE A -----\nEXTENDS Integers, Sequences", None),
     (
@@ -157,6 +167,24 @@ const HEADERS: [(&[u8], Option<u64>); 8] = [
     (b"---- MODULE A ----\nASSUME TRUE", Some(26)),
     (b"---- MODULE A ----\nEXTENDS A,\nx == 1", Some(32)),
     (b"---- MODULE A ----\nx == $value", Some(24)),
+    (b"---- MODULE A ----\na b == 1\nc == 1 ^ 2", Some(21)),
+    (b"---- MODULE A ----\na == (1]\nb == 1 ^ 2", Some(26)),
+];
+
+/// A text without an algorithm or without a closing row, and where it is refused.
+const UNFINISHED: [(&[u8], Option<u64>); 6] = [
+    (b"", Some(0)),
+    (b"a b", Some(3)),
+    (b"---- MODULE A ----\na b == 1\n", Some(21)),
+    (b"---- MODULE A ----\na == 1\n", Some(26)),
+    (
+        b"---- MODULE A ----\n(*\n--mpcal A { skip }\n*)\njunk ===",
+        Some(34),
+    ),
+    (
+        b"---- MODULE A ----\n(*\n--mpcal A { process (P = 1) == instance B() }\n*)\njunk ===",
+        Some(79),
+    ),
 ];
 
 fn joined(alloc: Global, before: &[u8], part: &[u8], behind: &[u8]) -> Result<Vec<u8>, AllocError> {
@@ -204,6 +232,15 @@ fn units_are_accepted_or_refused(rt: HostRuntime) -> Result<(), Fail> {
 fn headers_are_accepted_or_refused(rt: HostRuntime) -> Result<(), Fail> {
     for (i, row) in HEADERS.iter().enumerate() {
         let found = answer(rt.alloc(), b"", row.0, ALGORITHM)?;
+        assert_eq!(rt; (i, found), (i, row.1));
+    }
+    Ok(())
+}
+
+#[test]
+fn unfinished_texts_are_refused(rt: HostRuntime) -> Result<(), Fail> {
+    for (i, row) in UNFINISHED.iter().enumerate() {
+        let found = answer(rt.alloc(), b"", row.0, b"")?;
         assert_eq!(rt; (i, found), (i, row.1));
     }
     Ok(())

@@ -4,7 +4,7 @@ use Rattle.pgo_lexer.specs.declared.token.Lexeme.{Lexeme}
 use Rattle.pgo_mpcal_read.specs.Reading.{Makes}
 use Rattle.pgo_mpcal_read.specs.ReadingSpec.{spec}
 use Rattle.pgo_mpcal_read.proofs.Spelled.{found_text, only_text, only_err}
-use Rattle.pgo_mpcal_read.proofs.reader.read_spec.Goals as goal
+use Rattle.pgo_mpcal_read.proofs.reader.read_text.Goals as goal
 
 pub returns-in_err-parts-clause-only : goal.returns-in_err-parts-clause-only
 returns-in_err-parts-clause-only c = λ s h.

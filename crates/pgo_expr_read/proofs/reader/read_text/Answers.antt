@@ -5,7 +5,7 @@ use Rattle.pgo_lexer.specs.declared.token.Lexeme.{Lexeme}
 use Rattle.pgo_expr_read.specs.Lookahead.{tokens_of}
 use Rattle.pgo_expr_read.specs.Reading.{MakesAs, all_plain}
 use Rattle.pgo_expr_read.proofs.Exact.{found_text, only_text, only_err}
-use Rattle.pgo_expr_read.proofs.reader.read_expr.Goals as goal
+use Rattle.pgo_expr_read.proofs.reader.read_text.Goals as goal
 
 pub returns-in_err-marked-clause-only : goal.returns-in_err-marked-clause-only
 returns-in_err-marked-clause-only c = λ a h.
