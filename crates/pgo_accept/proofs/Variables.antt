@@ -147,10 +147,10 @@ parts_written x s =
     let shared = shared_things (shared_names s) in
     let bound = bound_things (all_uses s) in
     let own = process_things (own_rows 0 s.archetypes) s.processes in
-    let a = writes-append x (fixed_things fixed_names) (in_text_order (λ t. t.place) (shared ++ bound ++ own)) in
-    let b = writes_in_order x (λ t. t.place) (shared ++ bound ++ own) in
-    let c = writes-append x (shared ++ bound) own in
-    let d = writes-append x shared bound in
+    let a = writes-append x (fixed_things fixed_names) (in_text_order (λ t. t.place) (shared ++ own ++ bound)) in
+    let b = writes_in_order x (λ t. t.place) (shared ++ own ++ bound) in
+    let c = writes-append x (shared ++ own) bound in
+    let d = writes-append x shared own in
     omega (arith, a, b, c, d)
 
 pub processes_once : (s : Spec) → name_clashes s ≡ [] → (x : Name) → times x (map (λ p. p.name.name) s.processes) ≤ 1

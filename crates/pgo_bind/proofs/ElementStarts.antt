@@ -130,6 +130,10 @@ element_kind s rs g h =
     let there = among_flat_map (λ r. extents_in g r.handed) b.run o.0 (filter has_ids rs) (among_filter has_ids b.run rs b.among b.some) b.handed in
     (o.0, b, kind_by (extents_of g rs) o.0 there (λ x k. all_elements (instance_extents s rs g) x o.2 (to_instance s rs g x k)))
 
+-- what the instances bind by element is by element among the resources
+pub by_element_there : (s : Spec) (rs : List Run) (g : Name) → kind_of_extents (flat_map (λ i. filter_map (λ x. target_extent g x.target) i.bindings) (instances_of s rs)) ≡ ByElement → kind_of g rs ≡ ByElement
+by_element_there s rs g h = (element_kind s rs g h).2
+
 or_left : (a b : Bool) → (a || b) ≡ false → a ≡ false
 or_left true b h = absurd (cc)
 or_left false b h = refl

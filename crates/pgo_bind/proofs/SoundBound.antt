@@ -15,7 +15,7 @@ use Rattle.pgo_bind.specs.Sound.{Sound, WellNamed}
 use Rattle.pgo_bind.specs.Values.{defs_of}
 use Rattle.pgo_bind.proofs.Passing.{none_next}
 use Rattle.pgo_bind.proofs.Places.{numbers, at_labels}
-use Rattle.pgo_bind.proofs.SoundResources.{differ, are_global, has_domain}
+use Rattle.pgo_bind.proofs.SoundResources.{differ, are_global, element_domain, has_domain}
 use Rattle.pgo_bind.proofs.SoundStart.{start_is_state}
 
 sound : (s : Spec) (consts : List (Name × Data)) → WellNamed s → bind_refusal s consts ≡ None → AllValues (bound_of s consts).start → Sound (bound_of s consts)
@@ -27,7 +27,8 @@ sound s consts w h v =
       resources_differ = differ s ds w g v;
       resources_global = are_global s ds w g;
       start = start_is_state s ds w g v;
-      domains = has_domain s ds w g;
+      domains = element_domain s ds w g;
+      indexed = has_domain s ds w g;
       labels = at_labels s consts w h;
     }
 

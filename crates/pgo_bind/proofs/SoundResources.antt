@@ -22,15 +22,15 @@ use Rattle.pgo_bind.specs.Values.{Start, beginning}
 use Rattle.pgo_bind.specs.Runs.{Run, runs_of}
 use Rattle.pgo_bind.specs.BoundOf.{GlobalStart, global_of, globals_of, global_value, first_places, locals_of, start_of, numbered, indices, elements_of, parts_with, parts_of, all_parts, resource_at, resources_of, bound_by}
 use Rattle.pgo_bind.specs.Refusals.{heads_refused}
-use Rattle.pgo_bind.specs.State.{AreDifferent, own_names}
+use Rattle.pgo_bind.specs.State.{AreDifferent, kind_in, own_names}
 use Rattle.pgo_bind.specs.Sound.{WellNamed, index_in, IsIndex, HasDomain, IsGlobal}
 use Rattle.pgo_bind.proofs.Among.{IsAmong, among_nth, among_map, among_left, among_flat_map, from_map, from_flat_map, all_at}
 use Rattle.pgo_bind.proofs.Declared.{at_global}
 use Rattle.pgo_bind.proofs.Different.{all_from, not_one, different_left, different_apart}
-use Rattle.pgo_bind.proofs.ElementStarts.{global_name}
+use Rattle.pgo_bind.proofs.ElementStarts.{by_element_there, global_name}
 use Rattle.pgo_bind.proofs.Lookups.{data_from}
 use Rattle.pgo_bind.proofs.Places.{some_is, nth_from, nth_among}
-use Rattle.pgo_bind.proofs.SoundStart.{globals_different}
+use Rattle.pgo_bind.proofs.SoundStart.{elements_are, globals_different}
 use Rattle.pgo_bind.proofs.UniqueIds.{StandOnce}
 
 abbrev Part : Type 0
@@ -236,15 +236,24 @@ module _ (s : Spec) (ds : List Defined) (w : WellNamed s) (h : heads_refused s.a
       some_is (beginning (global_of ds rs c.0).start) (beginning (global_of ds rs d).start) (sym (at_global s ds w h c.0 c.1) ∙ ap (λ y. find y start) same ∙ at_global s ds w h d a) in
       subst (λ y. IsAmong v (indices y)) starts c.4
 
-  pub has_domain : (n : ℕ) (r : Resource) → nth (resources_of gs) n ≡ Some r → HasDomain (bound_by s ds rs) start r
-  has_domain n r q i e =
+  -- a global by element that starts as a function has its resources at the function's domain
+  at_function : (d : Declaration) (ps : Pairs) → IsAmong d s.globals → (global_of ds rs d).kind ≡ ByElement → beginning (global_of ds rs d).start ≡ function ps → HasDomain (bound_by s ds rs) start d.name.name
+  at_function d ps a k f = (
+    ps,
+    at_global s ds w h d a ∙ ap Some f,
+    λ m v e. index_there d v a k (subst (λ y. IsAmong v (indices y)) (sym f) (among_nth v (keys (graph ps)) m e)),
+    λ v x. nth_among v (keys (graph ps)) (subst (λ y. IsAmong v (indices y)) f (index_from d v a x)),
+  )
+
+  -- an element-bound global has its resources at its domain, also where it has none
+  pub element_domain : (n : ℕ) (d : Declaration) → nth s.globals n ≡ Some d → kind_in (bound_by s ds rs) d.name.name ≡ ByElement → HasDomain (bound_by s ds rs) start d.name.name
+  element_domain n d q k =
+      let a = among_nth d s.globals n q in
+      let o = elements_are s ds w h n d q k in
+      at_function d o.0 a (by_element_there s rs d.name.name k) (some_is (beginning (global_of ds rs d).start) (function o.0) (sym (at_global s ds w h d a) ∙ o.1))
+
+  pub has_domain : (n : ℕ) (r : Resource) (i : Data) → nth (resources_of gs) n ≡ Some r → index_in r ≡ Some i → HasDomain (bound_by s ds rs) start r.global
+  has_domain n r i q e =
       let o = element_at n r i q e in
-      let d = o.0 in
-      let g = global_of ds rs d in
-      let f = function_from (beginning g.start) i o.4 in (
-        f.0,
-        ap (λ x. find x start) o.2 ∙ at_global s ds w h d o.1 ∙ ap Some f.1,
-        λ m v k. subst (λ x. IsIndex (bound_by s ds rs) x v) (sym o.2)
-            (index_there d v o.1 o.3 (subst (λ y. IsAmong v (indices y)) (sym f.1) (among_nth v (keys (graph f.0)) m k))),
-        λ v k. nth_among v (keys (graph f.0)) (subst (λ y. IsAmong v (indices y)) f.1 (index_from d v o.1 (subst (λ x. IsIndex (bound_by s ds rs) x v) o.2 k))),
-      )
+      let f = function_from (beginning (global_of ds rs o.0).start) i o.4 in
+      subst (HasDomain (bound_by s ds rs) start) (sym o.2) (at_function o.0 f.0 o.1 o.3 f.1)

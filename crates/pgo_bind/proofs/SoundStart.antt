@@ -109,7 +109,7 @@ module _ (s : Spec) (ds : List Defined) (w : WellNamed s) (h : heads_refused s.a
       subst (IsFunctionOn (in_order (map id_of (filter (λ i. same_name p.name.name i.process) (instances_of s rs))))) (sym o.1)
       (subst (λ ks. IsFunctionOn (in_order ks) (Some (function_at o.0 (run_ids r)))) (sym ids) (at_keys o.0 (run_ids r)))
 
-  elements_are : (n : ℕ) (d : Declaration) → nth s.globals n ≡ Some d → kind_in (bound_by s ds rs) d.name.name ≡ ByElement → (ps : Pairs) × (find d.name.name start ≡ Some (function ps))
+  pub elements_are : (n : ℕ) (d : Declaration) → nth s.globals n ≡ Some d → kind_in (bound_by s ds rs) d.name.name ≡ ByElement → (ps : Pairs) × (find d.name.name start ≡ Some (function ps))
   elements_are n d q k =
       let a = among_nth d s.globals n q in
       let g = global_of ds rs d in

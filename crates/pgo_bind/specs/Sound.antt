@@ -16,8 +16,9 @@ use Rattle.pgo_syntax.specs.declared.bound.Resource.{Resource}
 use Rattle.pgo_syntax.specs.declared.declaration.Declaration.{Declaration}
 use Rattle.pgo_syntax.specs.declared.process.Process.{Process}
 use Rattle.pgo_syntax.specs.declared.spec.Spec.{Spec}
+use Rattle.pgo_bind.specs.declared.kinds.Kind.TheVariants.{ByElement}
 use Rattle.pgo_bind.specs.Runs.{archetype_named}
-use Rattle.pgo_bind.specs.State.{AreDifferent, IsState, id_of, own_names, variables_of}
+use Rattle.pgo_bind.specs.State.{AreDifferent, IsState, id_of, kind_in, own_names, variables_of}
 use Rattle.pgo_bind.specs.Declares.{value_in}
 
 abbrev mutual
@@ -66,11 +67,10 @@ index_in r = elim r.index as (λ o. Option Data) [ None ↦ None | Some v ↦ So
 abbrev pub IsIndex : Bound → Name → Data → Type 0
 IsIndex b g v = (n : ℕ) × (r : Resource) × (nth b.resources n ≡ Some r) × (r.global ≡ g) × (index_in r ≡ Some v)
 
--- an element-bound global is a function whose domain is the indices of its resources
-abbrev pub HasDomain : Bound → Vars → Resource → Type 0
-HasDomain b s r =
-    (i : Data) → index_in r ≡ Some i
-    → (ps : Pairs) × (find r.global s ≡ Some (function ps)) × ((n : ℕ) (v : Data) → nth (keys (graph ps)) n ≡ Some v → IsIndex b r.global v) × ((v : Data) → IsIndex b r.global v → (n : ℕ) × (nth (keys (graph ps)) n ≡ Some v))
+-- the global's value is a function whose domain is the indices of its resources
+abbrev pub HasDomain : Bound → Vars → Name → Type 0
+HasDomain b s g =
+    (ps : Pairs) × (find g s ≡ Some (function ps)) × ((n : ℕ) (v : Data) → nth (keys (graph ps)) n ≡ Some v → IsIndex b g v) × ((v : Data) → IsIndex b g v → (n : ℕ) × (nth (keys (graph ps)) n ≡ Some v))
 
 -- g is a declared global, and neither `pc` nor a local or value parameter
 abbrev pub IsGlobal : Bound → Name → Type 0
@@ -93,14 +93,16 @@ AreAtLabels b = (n : ℕ) (i : Instance) → nth b.instances n ≡ Some i → Is
 
 -- numbers and identifiers are as they must be; two resources are of one global only where both have an index and the
 -- indices differ, and none is a component of an instance; the start is a state in which each instance is at a label of its
--- process or at Done, and the domain of each element-bound global is the indices of its resources
+-- process or at Done, and the domain of each element-bound global is the indices of its resources, also where it has no
+-- resource; so is the domain of each global that has a resource with an index
 pub record Sound (b : Bound) : Type 0 where
   pub numbered : IsNumbered b
   pub resources_differ : (n m : ℕ) (q r : Resource) → nth b.resources n ≡ Some q → nth b.resources m ≡ Some r
       → q.global ≡ r.global → (n ≡ m) ⊎ ((v w : Data) × (index_in q ≡ Some v) × (index_in r ≡ Some w) × (v ≡ w → ⊥))
   pub resources_global : (n : ℕ) (r : Resource) → nth b.resources n ≡ Some r → IsGlobal b r.global
   pub start : IsState b b.start
-  pub domains : (n : ℕ) (r : Resource) → nth b.resources n ≡ Some r → HasDomain b b.start r
+  pub domains : (n : ℕ) (d : Declaration) → nth b.spec.globals n ≡ Some d → kind_in b d.name.name ≡ ByElement → HasDomain b b.start d.name.name
+  pub indexed : (n : ℕ) (r : Resource) (i : Data) → nth b.resources n ≡ Some r → index_in r ≡ Some i → HasDomain b b.start r.global
   pub labels : AreAtLabels b
 
 -- what the rules on names and labels say of a specification: its variables have names that differ, so have its processes,

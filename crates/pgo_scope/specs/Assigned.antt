@@ -1,5 +1,5 @@
 -- Rule 5: what may not be assigned is assigned, in the text or by a macro's body put in place of its call.
-use Rattle.std.specs.Prelude.{Bool, true, false, not, ◌||◌, List, [], ◌∷◌, ◌++◌, slice_get, Option, Some, None}
+use Rattle.std.specs.Prelude.{Bool, true, false, not, ◌||◌, if◌then◌else◌, List, [], ◌∷◌, ◌++◌, slice_get, Option, Some, None}
 use Rattle.pgo_base.specs.Tree.{Tree}
 use Rattle.pgo_base.specs.Lookup.{Name, same_name}
 use Rattle.pgo_syntax.specs.declared.macros.Macro.{Macro}
@@ -13,7 +13,7 @@ use Rattle.pgo_uses.specs.declared.uses.Form.{Form}
 use Rattle.pgo_uses.specs.declared.uses.Form.TheVariants as forms
 use Rattle.pgo_uses.specs.declared.uses.Use.{Use}
 use Rattle.pgo_uses.specs.Names.{is_member}
-use Rattle.pgo_uses.specs.Tables.{variable_name}
+use Rattle.pgo_uses.specs.Tables.{variable_name, value_name}
 use Rattle.pgo_uses.specs.AllUses.{all_uses, names_of, variable_names}
 use Rattle.pgo_scope.specs.declared.errors.ScopeError.TheVariants as errors
 use Rattle.pgo_scope.specs.declared.finding.Finding.{Finding}
@@ -43,10 +43,13 @@ may_assign s (homes.Macro i) x = parameter_in (slice_get s.macros i) x
 may_assign s homes.Mapping x = same_name x variable_name
 may_assign s h x = false
 
--- an argument for the parameter p that the macro assigns: it must be a left side, of a variable that may be assigned
+-- an argument for the parameter p that the macro assigns: it must be a left side, of a variable that may be assigned;
+-- `$value` is none, nor is a part of it
 abbrev pub assigned_argument : Spec → Use → Name → Option Name → List Finding
 assigned_argument s u p None = found_if true u.around.place (errors.AssignedNotRef p)
-assigned_argument s u p (Some x) = found_if (not (may_assign s u.around.home x)) u.around.place (errors.AssignedNotRef x)
+assigned_argument s u p (Some x) =
+    if same_name x value_name then found_if true u.around.place (errors.AssignedNotRef p)
+    else found_if (not (may_assign s u.around.home x)) u.around.place (errors.AssignedNotRef x)
 
 abbrev pub assigned_if : Spec → Use → Name → Ways → Tree → List Finding
 assigned_if s u p w t = found_where (is_assigned w) (assigned_argument s u p (left_base t))

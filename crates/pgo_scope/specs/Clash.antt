@@ -90,11 +90,12 @@ process_things rows [] = []
 process_things rows (p ∷ ps) =
     itself false p.name.name p.name.place ∷ own_things p (or_none (find p.archetype.name rows)) ++ process_things rows ps
 
--- the fixed names, and then all others in the order of the text
+-- the fixed names, and then all others in the order of the text; at one place what is declared there, a process with the
+-- names that it writes, and last what an expression binds
 abbrev pub things_with : Spec → List Use → List Thing
 things_with s us =
     fixed_things fixed_names
-    ++ in_text_order (λ t. t.place) (shared_things (shared_names s) ++ bound_things us ++ process_things (own_rows 0 s.archetypes) s.processes)
+    ++ in_text_order (λ t. t.place) (shared_things (shared_names s) ++ process_things (own_rows 0 s.archetypes) s.processes ++ bound_things us)
 
 abbrev pub clash : Thing → Thing → Bool
 clash t u = same_name t.written u.written && not (t.bound && u.bound)

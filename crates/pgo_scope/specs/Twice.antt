@@ -70,12 +70,16 @@ hiding_of ts u f = false
 abbrev pub hiding_use : Tables → Use → List Finding
 hiding_use ts u = found_if (hiding_of ts u u.form) u.around.place (errors.Twice u.name)
 
--- fourth case: the names that may not stand in the argument of each parameter of a macro, as a test
+-- fourth case: the names that may not stand in the arguments of a macro, as tests: one for the argument of each parameter,
+-- and one for each argument behind those
 --
--- These are the names that the macro's own expressions bind, and those that may not stand in an argument in which the
--- parameter is handed on to another macro.
+-- These are the names that the macro's own expressions bind, and, in the argument of a parameter, those that may not stand
+-- in an argument in which the parameter is handed on to another macro.
+abbrev pub MacroTests : Type 0
+MacroTests = List (Name → Bool) × (Name → Bool)
+
 abbrev pub Tests : Type 0
-Tests = List (Name × List (Name → Bool))
+Tests = List (Name × MacroTests)
 
 -- a name stands there, bound or not
 abbrev pub stands_of : Name → Use → Form → Bool
@@ -95,9 +99,9 @@ abbrev pub is_bound_in : Bool → List Use → Name → Bool
 is_bound_in b [] x = b
 is_bound_in b (u ∷ us) x = is_bound_in (binds_of x u u.form || b) us x
 
-abbrev pub or_none : Option (List (Name → Bool)) → List (Name → Bool)
+abbrev pub or_none : Option MacroTests → List (Name → Bool)
 or_none None = []
-or_none (Some fs) = fs
+or_none (Some r) = r.0
 
 abbrev pub tests_of : Tests → Name → List (Name → Bool)
 tests_of known m = or_none (find m known)
@@ -128,15 +132,18 @@ abbrev pub parameter_tests : Tests → List Use → List Name → List (Name →
 parameter_tests known us [] = []
 parameter_tests known us (p ∷ ps) = parameter_test known us p ∷ parameter_tests known us ps
 
+abbrev pub macro_tests : Tests → List Use → List Name → MacroTests
+macro_tests known us ps = (parameter_tests known us ps, is_bound_in false us)
+
 abbrev pub captures_from : Tests → ℕ → List Macro → Tests
 captures_from known i [] = known
 captures_from known i (m ∷ ms) =
-    captures_from (known ++ (m.name.name, parameter_tests known (macro_uses i m) (names_of m.params)) ∷ []) (suc i) ms
+    captures_from (known ++ (m.name.name, macro_tests known (macro_uses i m) (names_of m.params)) ∷ []) (suc i) ms
 
 abbrev pub captures : List Macro → Tests
 captures ms = captures_from [] 0 ms
 
--- the names of an argument that may not stand there
+-- the names in an argument that may not stand there
 abbrev pub captured_of : (Name → Bool) → Use → Form → List Finding
 captured_of f u forms.Field = []
 captured_of f u form = found_if (f u.name) u.around.place (errors.Twice u.name)
@@ -144,13 +151,26 @@ captured_of f u form = found_if (f u.name) u.around.place (errors.Twice u.name)
 abbrev pub captured_use : (Name → Bool) → Use → List Finding
 captured_use f u = captured_of f u u.form
 
-abbrev pub captured_in : List (Name → Bool) → Around → List Tree → List Finding
-captured_in [] a ts = []
-captured_in (f ∷ fs) a [] = []
-captured_in (f ∷ fs) a (t ∷ ts) = each_use (captured_use f) (uses [] a t) ++ captured_in fs a ts
+abbrev pub captured_at : (Name → Bool) → Around → Tree → List Finding
+captured_at f a t = each_use (captured_use f) (uses [] a t)
+
+-- one test for all of these arguments
+abbrev pub captured_behind : (Name → Bool) → Around → List Tree → List Finding
+captured_behind f a [] = []
+captured_behind f a (t ∷ ts) = captured_at f a t ++ captured_behind f a ts
+
+-- a test for each argument, and the last for all that are behind
+abbrev pub captured_in : List (Name → Bool) → (Name → Bool) → Around → List Tree → List Finding
+captured_in [] g a ts = captured_behind g a ts
+captured_in (f ∷ fs) g a [] = []
+captured_in (f ∷ fs) g a (t ∷ ts) = captured_at f a t ++ captured_in fs g a ts
+
+abbrev pub captured_by : Option MacroTests → Around → List Tree → List Finding
+captured_by None a ts = []
+captured_by (Some r) a ts = captured_in r.0 r.1 a ts
 
 abbrev pub call_captures : Tests → Use → Form → List Finding
-call_captures known u (forms.Called ts) = captured_in (tests_of known u.name) u.around ts
+call_captures known u (forms.Called ts) = captured_by (find u.name known) u.around ts
 call_captures known u f = []
 
 abbrev pub capture_use : Tests → Use → List Finding

@@ -22,5 +22,6 @@ double_use u = found_if (has_double u.name) u.around.place (errors.DoubleUndersc
 abbrev pub double_name : PlacedName → List Finding
 double_name x = found_if (has_double x.name) x.place (errors.DoubleUnderscore x.name)
 
+-- at one place the name that is declared there comes before those in its expressions
 abbrev pub double_underscores : Spec → List Finding
-double_underscores s = each_use double_use (all_uses s) ++ each_name double_name (head_names s)
+double_underscores s = each_name double_name (head_names s) ++ each_use double_use (all_uses s)

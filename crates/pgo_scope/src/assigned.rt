@@ -116,6 +116,9 @@ fn add_argument(
 {
     match base {
         Some(x) => {
+            if is_word(x, b"$value") {
+                return add_assigned(alloc, u.around.place, p, out);
+            }
             if may_assign(s, u.around.home, x) {
                 return Ok(());
             }

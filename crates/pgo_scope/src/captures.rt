@@ -1,10 +1,10 @@
 // Rule 2, its fourth case: a name that a macro binds stands in an argument of a call of it.
-ghost use Rattle.std.specs.Prelude.{◌≡◌, ◌||◌, ◌++◌, map, IfOk};
+ghost use Rattle.std.specs.Prelude.{◌≡◌, ◌||◌, false, ◌++◌, map, option_map, IfOk};
 ghost use Rattle.pgo_base.specs.ExprView.{tree};
-ghost use Rattle.pgo_base.specs.Lookup.{Name};
+ghost use Rattle.pgo_base.specs.Lookup.{Name, find};
 ghost use Rattle.pgo_uses.specs.AllUses.{names_of};
 ghost use Rattle.pgo_uses.specs.Names.{is_among};
-ghost use Rattle.pgo_scope.specs.CaptureView.{see_test, see_captures};
+ghost use Rattle.pgo_scope.specs.CaptureView.{see_test, see_tests, see_captures};
 ghost use Rattle.pgo_scope.specs.Findings.{each_use};
 ghost use Rattle.pgo_scope.specs.Twice as spec;
 
@@ -20,11 +20,14 @@ use pgo_uses::uses::{Around, Form, Use};
 use pgo_uses::walk::add_uses;
 use std::alloc::{AllocError, Global};
 
-/// A macro, and for each of its parameters the names that may not stand in its argument.
+/// A macro, and the names that may not stand in its arguments.
 #[derive(Drop)]
 pub struct Captures {
     pub name: Text,
+    /// those of each parameter's argument
     pub tests: Vec<Names>,
+    /// those of each argument behind them
+    pub behind: Names,
 }
 
 /// Whether the name stands there, bound or not.
@@ -69,16 +72,26 @@ fn add_bound_names(alloc: Global, uses: &[Use], names: &mut Names) -> Result<(),
     Ok(())
 }
 
-/// The names that may not stand in the arguments of the macro of this name.
-fn tests_of<'a>(known: &'a [Captures], name: &Text) -> &'a [Names]
-    ensures { map see_test result.now ≡ spec.tests_of (map see_captures known.now) name.now }
+/// What is known of the macro of this name.
+fn captures_of<'a>(known: &'a [Captures], name: &Text) -> Option<&'a Captures>
+    ensures { option_map (λ c. see_tests c.now) result ≡ find name.now (map see_captures known.now) }
 {
     for k in known {
         if name.is(&k.name) {
-            return k.tests.as_slice();
+            return Some(k);
         }
     }
-    &[]
+    None
+}
+
+/// The names that may not stand in the arguments for the parameters of the macro of this name.
+fn tests_of<'a>(known: &'a [Captures], name: &Text) -> &'a [Names]
+    ensures { map see_test result.now ≡ spec.tests_of (map see_captures known.now) name.now }
+{
+    match captures_of(known, name) {
+        Some(c) => c.tests.as_slice(),
+        None => &[],
+    }
 }
 
 /// Adds the names that may not stand in this argument, where p stands in it.
@@ -186,7 +199,16 @@ fn parameter_tests(
     Ok(tests)
 }
 
-/// The same for each of these macros, each by those before it.
+/// The names that are bound among these.
+fn bound_names(alloc: Global, uses: &[Use]) -> Result<Names, AllocError>
+    ensures { IfOk result (λ names. see_test names ≡ spec.is_bound_in false uses.now) }
+{
+    let mut names = Names::new(alloc);
+    add_bound_names(alloc, uses, &mut names)?;
+    Ok(names)
+}
+
+/// The names that may not stand in the arguments of each of these macros, each by those before it.
 pub fn known_captures(alloc: Global, list: &[Macro]) -> Result<Vec<Captures>, AllocError>
     ensures { IfOk result (λ v. map see_captures v.items ≡ spec.captures list.now) }
 {
@@ -196,8 +218,13 @@ pub fn known_captures(alloc: Global, list: &[Macro]) -> Result<Vec<Captures>, Al
         add_macro(alloc, i, m, &mut uses)?;
         let params = m.params.as_slice();
         let tests = parameter_tests(alloc, known.as_slice(), uses.as_slice(), params)?;
+        let behind = bound_names(alloc, uses.as_slice())?;
         let name = m.name.name.copy(alloc)?;
-        known.push(Captures { name, tests })?;
+        known.push(Captures {
+            name,
+            tests,
+            behind,
+        })?;
     }
     Ok(known)
 }
@@ -236,25 +263,55 @@ fn add_captured_uses(
     Ok(())
 }
 
-/// Adds the names in these arguments that may not stand there.
-fn add_captured_in(
+/// Adds the names in this argument that may not stand there.
+fn add_captured_at(
     alloc: Global,
-    tests: &[Names],
+    test: &Names,
+    around: Around,
+    e: &Expr,
+    out: &mut Vec<Finding>,
+) -> Result<(), AllocError>
+    ensures { IfOk result (λ _. out.new.items ≡ out.old.items ++ spec.captured_at (see_test test.now) around (tree e.now)) }
+{
+    let mut uses = Vec::new(alloc);
+    add_uses(alloc, &[], around, e, &mut uses)?;
+    add_captured_uses(alloc, test, uses.as_slice(), out)
+}
+
+/// Adds the names in all of these arguments that may not stand there.
+fn add_captured_behind(
+    alloc: Global,
+    test: &Names,
     around: Around,
     args: &[Expr],
     out: &mut Vec<Finding>,
 ) -> Result<(), AllocError>
-    ensures { IfOk result (λ _. out.new.items ≡ out.old.items ++ spec.captured_in (map see_test tests.now) around (map tree args.now)) }
+    ensures { IfOk result (λ _. out.new.items ≡ out.old.items ++ spec.captured_behind (see_test test.now) around (map tree args.now)) }
+{
+    for e in args {
+        add_captured_at(alloc, test, around, e, out)?;
+    }
+    Ok(())
+}
+
+/// Adds the names in these arguments of one call that may not stand there.
+fn add_captured_in(
+    alloc: Global,
+    tests: &[Names],
+    behind: &Names,
+    around: Around,
+    args: &[Expr],
+    out: &mut Vec<Finding>,
+) -> Result<(), AllocError>
+    ensures { IfOk result (λ _. out.new.items ≡ out.old.items ++ spec.captured_in (map see_test tests.now) (see_test behind.now) around (map tree args.now)) }
 {
     for (i, test) in tests.iter().enumerate() {
         let Some(e) = args.get(i) else {
             return Ok(());
         };
-        let mut uses = Vec::new(alloc);
-        add_uses(alloc, &[], around, e, &mut uses)?;
-        add_captured_uses(alloc, test, uses.as_slice(), out)?;
+        add_captured_at(alloc, test, around, e, out)?;
     }
-    Ok(())
+    add_captured_behind(alloc, behind, around, &args[tests.len()..], out)
 }
 
 fn add_capture_use(
@@ -267,8 +324,11 @@ fn add_capture_use(
 {
     match &u.form {
         Form::Called(list) => {
-            let tests = tests_of(known, &u.name);
-            add_captured_in(alloc, tests, u.around, list.as_slice(), out)
+            let Some(c) = captures_of(known, &u.name) else {
+                return Ok(());
+            };
+            let tests = c.tests.as_slice();
+            add_captured_in(alloc, tests, &c.behind, u.around, list.as_slice(), out)
         }
         _ => Ok(()),
     }

@@ -286,9 +286,9 @@ fn underscores(alloc: Global, s: &Spec, uses: &[Use]) -> Result<Option<ScopeErro
     ensures { IfOk result (λ r. r ≡ findings.earliest (double_underscores s.now)) }
 {
     let mut found = Vec::new(alloc);
-    add_double_uses(alloc, uses, &mut found)?;
     let names = head_names(alloc, s)?;
     add_double_names(alloc, names.as_slice(), &mut found)?;
+    add_double_uses(alloc, uses, &mut found)?;
     Ok(earliest(found))
 }
 

@@ -282,9 +282,9 @@ pub fn things(alloc: Global, s: &Spec, uses: &[Use]) -> Result<Vec<Thing>, Alloc
     let mut placed = Vec::new(alloc);
     let shared = shared_names(alloc, s)?;
     add_shared(alloc, shared.as_slice(), &mut placed)?;
-    add_bound_things(alloc, uses, &mut placed)?;
     let rows = own_rows(alloc, s.archetypes.as_slice())?;
     add_process_things(alloc, rows.as_slice(), s.processes.as_slice(), &mut placed)?;
+    add_bound_things(alloc, uses, &mut placed)?;
     let mut all = Vec::new(alloc);
     add_fixed(alloc, &mut all)?;
     for t in sorted(placed)? {

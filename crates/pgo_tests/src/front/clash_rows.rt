@@ -4,7 +4,7 @@ use crate::front::refusals::{ACCEPTED, Row, wrong_rows};
 use std::test::Fail;
 
 /// Two things of one written name.
-const CLASHES: [Row; 29] = [
+const CLASHES: [Row; 33] = [
     // a global, and a written label
     (
         &[(Globals, "x = 0, P_l = 0")],
@@ -180,6 +180,42 @@ const CLASHES: [Row; 29] = [
         )],
         &[],
         ACCEPTED,
+    ),
+    // a process's written label stands before a name that its identifiers bind
+    (
+        &[(
+            Processes,
+            "process (P \\in {P_l \\in {1} : TRUE}) == instance A(ref x);",
+        )],
+        &[],
+        "pgo: scope 7 NameClash P.l P_l\n",
+    ),
+    // another name
+    (
+        &[(
+            Processes,
+            "process (P \\in {P_m \\in {1} : TRUE}) == instance A(ref x);",
+        )],
+        &[],
+        ACCEPTED,
+    ),
+    // so does the process itself
+    (
+        &[(
+            Processes,
+            "process (Next \\in {pc \\in {1} : TRUE}) == instance A(ref x);",
+        )],
+        &[],
+        "pgo: scope 7 NameClash Next Next\n",
+    ),
+    // the bound name alone
+    (
+        &[(
+            Processes,
+            "process (P \\in {pc \\in {1} : TRUE}) == instance A(ref x);",
+        )],
+        &[],
+        "pgo: scope 7 NameClash pc pc\n",
     ),
 ];
 

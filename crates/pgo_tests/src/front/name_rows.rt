@@ -106,7 +106,7 @@ fn each_gets_its_arguments(rt: HostRuntime) -> Result<(), Fail> {
 }
 
 /// Identifiers with two underscores in a row.
-const UNDERSCORES: [Row; 10] = [
+const UNDERSCORES: [Row; 15] = [
     // a global
     (
         &[(Globals, "x = 0, y__1 = 0")],
@@ -150,6 +150,42 @@ const UNDERSCORES: [Row; 10] = [
     ),
     // a string is no identifier
     (&[(Body, "l: v := \"a__b\";")], &[], ACCEPTED),
+    // a global stands before a name in its initial value
+    (
+        &[(Globals, "x = 0, g__h = {b__c \\in {1} : TRUE}")],
+        &[],
+        "pgo: scope 8 DoubleUnderscore g__h\n",
+    ),
+    // the name in the initial value alone
+    (
+        &[(Globals, "x = 0, g_h = {b__c \\in {1} : TRUE}")],
+        &[],
+        "pgo: scope 8 DoubleUnderscore b__c\n",
+    ),
+    // a definition stands before a name in its body
+    (
+        &[(Lines, "d__e == {b__c \\in {1} : TRUE}")],
+        &[],
+        "pgo: scope 8 DoubleUnderscore d__e\n",
+    ),
+    // a process stands before a name in its identifiers
+    (
+        &[(
+            Processes,
+            "process (P__a \\in {b__c \\in {1} : TRUE}) == instance A(ref x);",
+        )],
+        &[],
+        "pgo: scope 8 DoubleUnderscore P__a\n",
+    ),
+    // the name in the identifiers alone
+    (
+        &[(
+            Processes,
+            "process (P_a \\in {b__c \\in {1} : TRUE}) == instance A(ref x);",
+        )],
+        &[],
+        "pgo: scope 8 DoubleUnderscore b__c\n",
+    ),
 ];
 
 #[test]

@@ -144,7 +144,7 @@ fn no_name_shadows_another(rt: HostRuntime) -> Result<(), Fail> {
 }
 
 /// Names that an expression of a macro binds, in a call's arguments.
-const CAPTURED: [Row; 13] = [
+const CAPTURED: [Row; 19] = [
     // a quantifier binds i
     (
         &[(Units, EXISTS), (Body, "l: with (i = 1) { m(i); };")],
@@ -256,6 +256,59 @@ const CAPTURED: [Row; 13] = [
         ],
         &[],
         ACCEPTED,
+    ),
+    // an argument of a macro without parameters
+    (
+        &[
+            (Units, "macro m() { await \\E y \\in {1} : 1 = y; }"),
+            (Head, "A(ref v) variables y = 0;"),
+            (Body, "l: m(y);"),
+        ],
+        &[],
+        "pgo: scope 2 Twice y\n",
+    ),
+    // w is another name
+    (
+        &[
+            (Units, "macro m() { await \\E y \\in {1} : 1 = y; }"),
+            (Head, "A(ref v) variables w = 0;"),
+            (Body, "l: m(w);"),
+        ],
+        &[],
+        "pgo: scope 3 Arity m 1\n",
+    ),
+    // an argument behind the parameters
+    (
+        &[(Units, EXISTS), (Body, "l: with (i = 1) { m(v, i); };")],
+        &[],
+        "pgo: scope 2 Twice i\n",
+    ),
+    // j is another name
+    (
+        &[(Units, EXISTS), (Body, "l: with (j = 1) { m(v, j); };")],
+        &[],
+        "pgo: scope 3 Arity m 2\n",
+    ),
+    // a second one, which binds i itself
+    (
+        &[
+            (Units, EXISTS),
+            (Body, "l: m(v, 1, CHOOSE i \\in {1} : TRUE);"),
+        ],
+        &[],
+        "pgo: scope 2 Twice i\n",
+    ),
+    // a macro that calls it binds no i
+    (
+        &[
+            (
+                Units,
+                "macro m(p) { await \\E i \\in {1} : p = i; } macro n(q) { m(q); }",
+            ),
+            (Body, "l: with (i = 1) { n(v, i); };"),
+        ],
+        &[],
+        "pgo: scope 3 Arity n 2\n",
     ),
 ];
 

@@ -285,7 +285,7 @@ fn what_is_no_variable_is_not_assigned(rt: HostRuntime) -> Result<(), Fail> {
 }
 
 /// Arguments for a macro's assigned parameter.
-const ARGUMENTS: [Row; 10] = [
+const ARGUMENTS: [Row; 13] = [
     // a number
     (
         &[(Units, SETTER), (Body, "l: m(2);")],
@@ -347,6 +347,33 @@ const ARGUMENTS: [Row; 10] = [
         &[(Units, "macro m(p, q) { q := p; }"), (Body, "l: m(2, v);")],
         &[],
         ACCEPTED,
+    ),
+    // $value is no left side
+    (
+        &[(
+            Units,
+            "macro m(p) { p := 1; }\nmapping macro M { read { yield 1; } write { m($value); yield 1; } }",
+        )],
+        &[],
+        "pgo: scope 5 AssignedNotRef p\n",
+    ),
+    // nor is a part of it
+    (
+        &[(
+            Units,
+            "macro m(p) { p := 1; }\nmapping macro M { read { yield 1; } write { m($value[1]); yield 1; } }",
+        )],
+        &[],
+        "pgo: scope 5 AssignedNotRef p\n",
+    ),
+    // $variable is one
+    (
+        &[(
+            Units,
+            "macro m(p) { p := 1; }\nmapping macro M { read { yield 1; } write { m($variable); yield 1; } }",
+        )],
+        &[],
+        "pgo: labels 6 YieldRule M\n",
     ),
 ];
 
