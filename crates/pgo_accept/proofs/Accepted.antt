@@ -18,7 +18,8 @@ use Rattle.pgo_labels.specs.Rules.{needs_label, label_in_with, label_in_macro, l
 use Rattle.pgo_bind.specs.Refusals.{bind_refusal}
 use Rattle.pgo_bind.specs.Sound.{WellNamed}
 use Rattle.pgo_bind.specs.State.{variables_of}
-use Rattle.pgo_accept.proofs.Unbroken.{none_right, names_kept, first_label_rule}
+use Rattle.pgo_bind.proofs.Among.{none_right}
+use Rattle.pgo_accept.proofs.Unbroken.{names_kept, first_label_rule}
 use Rattle.pgo_accept.proofs.Counted.{different, one_place}
 use Rattle.pgo_accept.proofs.Heads.{has_archetype}
 use Rattle.pgo_accept.proofs.FirstLabels.{archetype_labeled}

@@ -12,7 +12,7 @@ use Rattle.pgo_labels.specs.Labels.{last_before}
 use Rattle.pgo_labels.specs.Jumps.{unlabeled_places, behind_jumps, jumps, loop_of, in_block}
 use Rattle.pgo_labels.specs.Rules.{found_at, labels, missing, needs_label}
 use Rattle.pgo_bind.specs.Runs.{archetype_named}
-use Rattle.pgo_accept.proofs.Unbroken.{none_left, none_right, map_empty}
+use Rattle.pgo_bind.proofs.Among.{none_left, none_right, empty_map}
 
 abbrev pub BeginsLabeled : List Item → Type 0
 BeginsLabeled b = (l : PlacedName) × (t : Statement) × (rest : List Item) × (b ≡ (Some l, t) ∷ rest)
@@ -31,7 +31,7 @@ abbrev needed_at : Archetype → ℕ → Finding
 needed_at a p = found_at p (NeedsLabel a.name.name (last_before p [] (labels a)))
 
 body_labeled : (a : Archetype) → needs_label a ≡ [] → BeginsLabeled a.body
-body_labeled a h = begins_labeled a.name a.body (map_empty (needed_at a) (missing a.name a.body) h)
+body_labeled a h = begins_labeled a.name a.body (empty_map (needed_at a) (missing a.name a.body) h)
 
 pub archetype_labeled : (x : Name) (as' : List Archetype) (a : Archetype) → archetype_named x as' ≡ Some a → flat_map needs_label as' ≡ [] → BeginsLabeled a.body
 archetype_labeled x [] a h g = absurd (cc)

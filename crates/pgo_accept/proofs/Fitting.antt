@@ -18,7 +18,7 @@ use Rattle.pgo_bind.specs.Values.{defs_of}
 use Rattle.pgo_bind.specs.Runs.{Run, Handed, handed_from, archetype_named, run_with, run_of, runs_of}
 use Rattle.pgo_bind.specs.BoundOf.{GlobalStart, globals_of}
 use Rattle.pgo_bind.specs.Refusals.{or_next, first, is_bad_argument, is_bad_handed, bad_arguments, bad_clauses, bad_places, bad_mappings, constants_refused, ids_refused, starts_refused, heads_refused, bind_refusal}
-use Rattle.pgo_accept.proofs.Unbroken.{none_left, none_right, map_empty}
+use Rattle.pgo_bind.proofs.Among.{none_left, none_right, empty_map}
 
 -- a `ref` parameter that is handed a value
 abbrev pub is_stray : ParameterKind → Argument → Bool
@@ -64,9 +64,9 @@ named_places gs r = map (λ n. (r.process.name.name, n)) (bad_places gs r)
 
 run_fits : (gs : List GlobalStart) (r : Run) → named_places gs r ≡ [] → AllByRecursion Fits r.handed
 run_fits gs r h =
-    let a = map_empty (λ n. (r.process.name.name, n)) (bad_places gs r) h in
+    let a = empty_map (λ n. (r.process.name.name, n)) (bad_places gs r) h in
     let b = none_left (bad_arguments gs r) (bad_clauses r) a in
-    none_bad gs r r.handed (map_empty (λ h. h.number) (filter (is_bad_handed gs r) r.handed) b)
+    none_bad gs r r.handed (empty_map (λ h. h.number) (filter (is_bad_handed gs r) r.handed) b)
 
 module _ (s : Spec) (ds : List Defined) (gs : List GlobalStart) where
   with_run : (p : Process) (rs : List Run) (o : Option Archetype) → flat_map (named_places gs) (cons_option (option_map (run_with ds p) o) rs) ≡ []

@@ -1,5 +1,5 @@
 -- Where nothing is refused, no rule finds anything.
-use Rattle.std.proofs.Common.{◌≡◌, ℕ, Bool, true, false, if◌then◌else◌, nat_lt, List, [], ◌∷◌, ◌++◌, map, Option, Some, None, option_map, refl}
+use Rattle.std.proofs.Common.{◌≡◌, ℕ, Bool, true, false, if◌then◌else◌, nat_lt, List, [], ◌∷◌, Option, Some, None, option_map, refl}
 use Rattle.pgo_syntax.specs.declared.spec.Spec.{Spec}
 use Rattle.pgo_scope.specs.declared.errors.ScopeError.{ScopeError}
 use Rattle.pgo_scope.specs.declared.finding.Finding.{Finding}
@@ -18,18 +18,6 @@ use Rattle.pgo_labels.specs.declared.errors.LabelError.{LabelError}
 use Rattle.pgo_labels.specs.declared.finding.Finding as labels
 use Rattle.pgo_labels.specs.Least.{sooner_of, least}
 use Rattle.pgo_labels.specs.Refusal.{first_refusal}
-
-pub none_left : {A : Type 0} (xs ys : List A) → xs ++ ys ≡ [] → xs ≡ []
-none_left [] ys h = refl
-none_left (x ∷ xs) ys h = absurd (cc)
-
-pub none_right : {A : Type 0} (xs ys : List A) → xs ++ ys ≡ [] → ys ≡ []
-none_right [] ys h = h
-none_right (x ∷ xs) ys h = absurd (cc)
-
-pub map_empty : {A B : Type 0} (f : A → B) (xs : List A) → map f xs ≡ [] → xs ≡ []
-map_empty f [] h = refl
-map_empty f (x ∷ xs) h = absurd (cc)
 
 -- ---- names
 

@@ -117,7 +117,7 @@ some_any p x (y ∷ ys) (inr h) g = go (p y) (some_any p x ys h g)
     go true r = refl
     go false r = r
 
-empty_none : {A : Type 0} (x : A) (xs : List A) → xs ≡ [] → IsAmong x xs → ⊥
+pub empty_none : {A : Type 0} (x : A) (xs : List A) → xs ≡ [] → IsAmong x xs → ⊥
 empty_none x xs e h = subst (IsAmong x) e h
 
 pub none_filter_map : {A B : Type 0} (f : A → Option B) (x : A) (xs : List A) → filter_map f xs ≡ [] → IsAmong x xs → f x ≡ None
@@ -141,6 +141,10 @@ none_left (x ∷ xs) ys h = absurd (cc)
 pub none_right : {A : Type 0} (xs ys : List A) → xs ++ ys ≡ [] → ys ≡ []
 none_right [] ys h = h
 none_right (x ∷ xs) ys h = absurd (cc)
+
+pub empty_map : {A B : Type 0} (f : A → B) (xs : List A) → map f xs ≡ [] → xs ≡ []
+empty_map f [] h = refl
+empty_map f (x ∷ xs) h = absurd (cc)
 
 pub all_at : {A : Type 0} (P : A → Type 0) (x : A) (xs : List A) → AllByRecursion P xs → IsAmong x xs → P x
 all_at P x [] a h = absurd h

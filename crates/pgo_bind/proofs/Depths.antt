@@ -19,7 +19,7 @@ use Rattle.pgo_bind.specs.Values.{Start, Missing, Empty, Begins, start_in, local
 use Rattle.pgo_bind.specs.Runs.{Run, Handed, run_ids}
 use Rattle.pgo_bind.specs.BoundOf.{GlobalStart, global_value, places_of, places_of_run, first_place, first_places, function_at, expression_of, own_argument, own_start, locals_of, start_of}
 use Rattle.pgo_bind.specs.Refusals.{lacking, unset_global, unset_in_run, unset_local, unset_handed, is_unset_at, has_no_ids, at_place}
-use Rattle.pgo_bind.proofs.Among.{IsAmong, among_append, from_map, from_flat_map, from_filter_map, none_any, none_filter_map, none_left, none_right, among_filter}
+use Rattle.pgo_bind.proofs.Among.{IsAmong, among_append, from_map, from_flat_map, from_filter_map, none_any, none_filter_map, none_left, none_right, empty_none, empty_map, among_filter}
 use Rattle.pgo_bind.proofs.Keyed.{depth_on}
 use Rattle.pgo_bind.proofs.Declared.{mapped_some}
 use Rattle.pgo_bind.proofs.Unrefused.{Unrefused, where_false, set_at, in_run, value_unset}
@@ -32,19 +32,12 @@ low_start n Missing l h = absurd (cc)
 low_start n Empty l h = l
 low_start n (Begins v) l h = not_deep n (depth v) h
 
-pub empty_map : {A B : Type 0} (f : A → B) (xs : List A) → map f xs ≡ [] → xs ≡ []
-empty_map f [] h = refl
-empty_map f (x ∷ xs) h = absurd (cc)
-
-none_there : {A : Type 0} (x : A) (xs : List A) → xs ≡ [] → IsAmong x xs → ⊥
-none_there x xs e h = subst (IsAmong x) e h
-
 pub none_filter : {A : Type 0} (p : A → Bool) (x : A) (xs : List A) → filter p xs ≡ [] → IsAmong x xs → p x ≡ false
 none_filter p x xs e h = go (p x) refl
   where
     go : (b : Bool) → p x ≡ b → p x ≡ false
     go false g = g
-    go true g = absurd (none_there x (filter p xs) e (among_filter p x xs h g))
+    go true g = absurd (empty_none x (filter p xs) e (among_filter p x xs h g))
 
 low_id : (o : Option (List Data)) (id : Data) → has_no_ids o ≡ false → IsAmong id (unwrap_or o []) → depth id ≤ 255
 low_id None id h a = absurd a

@@ -95,7 +95,7 @@ fn tests_of<'a>(known: &'a [Captures], name: &Text) -> &'a [Names]
 }
 
 /// Adds the names that may not stand in this argument, where p stands in it.
-#[tactic(auto, using(crate::proofs::Among::all_is))]
+#[tactic(auto, using(pgo_uses::proofs::Among::all_is))]
 fn add_if_stands(
     alloc: Global,
     test: &Names,

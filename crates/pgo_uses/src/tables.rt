@@ -36,7 +36,10 @@ pub fn tables_of(alloc: Global, s: &Spec) -> Result<Tables, AllocError>
 }
 
 /// The definitions of a specification: those before the algorithm, and those of `define`.
-pub(crate) fn all_definitions<'a>(alloc: Global, s: &'a Spec) -> Result<Vec<&'a Definition>, AllocError>
+pub(crate) fn all_definitions<'a>(
+    alloc: Global,
+    s: &'a Spec,
+) -> Result<Vec<&'a Definition>, AllocError>
     ensures { IfOk result (λ v. map (λ d. d.now) v.items ≡ spec.all_definitions s.now) }
 {
     let mut all = Vec::new(alloc);
