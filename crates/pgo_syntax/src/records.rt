@@ -2,6 +2,7 @@
 ghost use Rattle.std.specs.Prelude.{◌≡◌, [], ◌∷◌, ◌++◌, IfOk};
 ghost use Rattle.pgo_model.specs.Core.{is_listed};
 
+use crate::items::Items;
 use std::alloc::{AllocError, Global};
 use std::marker::Model;
 
@@ -24,62 +25,7 @@ pub struct Note {
 }
 
 /// Notes in order.
-#[derive(Drop)]
-pub struct Notes {
-    list: Vec<Note>,
-}
-
-impl Model for Notes {
-    ghost use Rattle.std.specs.Prelude.{List};
-    ghost use Rattle.pgo_syntax.specs.declared.records.Note.{Note};
-    ghost use Rattle.pgo_syntax.specs.NoteCode.{coded_notes};
-
-    ghost Value = { List Note };
-
-    ghost coded = { coded_notes };
-
-    ghost view = { λ l. l.list.items };
-}
-
-impl Notes {
-    /// No note.
-    pub fn new(alloc: Global) -> Notes
-        ensures { result ≡ [] }
-    {
-        Notes {
-            list: Vec::new(alloc),
-        }
-    }
-
-    /// One note more, at the end.
-    pub fn push(&mut self, note: Note) -> Result<(), AllocError>
-        ensures { IfOk result (λ _. self.new ≡ self.old ++ note ∷ []) }
-    {
-        self.list.push(note)?;
-        Ok(())
-    }
-
-    /// The notes as a slice.
-    pub fn as_slice(&self) -> &[Note]
-        ensures { result.now ≡ self.now }
-    {
-        self.list.as_slice()
-    }
-
-    /// These notes.
-    pub fn from_vec(list: Vec<Note>) -> Notes
-        ensures { result ≡ list.items }
-    {
-        Notes { list }
-    }
-
-    /// The notes, out of the list.
-    pub fn into_vec(self) -> Vec<Note>
-        ensures { result.items ≡ self }
-    {
-        self.list
-    }
-}
+pub type Notes = Items<Note>;
 
 /// Why an attempt was refused.
 #[derive(Clone, Copy, Debug, PartialEq, Eq)]
@@ -108,62 +54,7 @@ pub struct Record {
 }
 
 /// Records in order.
-#[derive(Drop)]
-pub struct Records {
-    list: Vec<Record>,
-}
-
-impl Model for Records {
-    ghost use Rattle.std.specs.Prelude.{List};
-    ghost use Rattle.pgo_syntax.specs.declared.records.Record.{Record};
-    ghost use Rattle.pgo_syntax.specs.RecordCode.{coded_records};
-
-    ghost Value = { List Record };
-
-    ghost coded = { coded_records };
-
-    ghost view = { λ l. l.list.items };
-}
-
-impl Records {
-    /// No record.
-    pub fn new(alloc: Global) -> Records
-        ensures { result ≡ [] }
-    {
-        Records {
-            list: Vec::new(alloc),
-        }
-    }
-
-    /// One record more, at the end.
-    pub fn push(&mut self, item: Record) -> Result<(), AllocError>
-        ensures { IfOk result (λ _. self.new ≡ self.old ++ item ∷ []) }
-    {
-        self.list.push(item)?;
-        Ok(())
-    }
-
-    /// The records as a slice.
-    pub fn as_slice(&self) -> &[Record]
-        ensures { result.now ≡ self.now }
-    {
-        self.list.as_slice()
-    }
-
-    /// These records.
-    pub fn from_vec(list: Vec<Record>) -> Records
-        ensures { result ≡ list.items }
-    {
-        Records { list }
-    }
-
-    /// The records, out of the list.
-    pub fn into_vec(self) -> Vec<Record>
-        ensures { result.items ≡ self }
-    {
-        self.list
-    }
-}
+pub type Records = Items<Record>;
 
 /// Why an instance makes no more attempts: it is at "Done"; its last record is a note that no retry can mend, or the
 /// refusal Full; it has made all its attempts; memory was wanting; or no instance has the number.

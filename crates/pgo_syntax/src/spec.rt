@@ -3,6 +3,7 @@ ghost use Rattle.std.specs.Prelude.{◌≡◌, IfOk};
 
 use crate::archetype::Archetypes;
 use crate::declaration::{Declarations, Definitions};
+use crate::items::Copied;
 use crate::macros::{Macros, MappingMacros};
 use crate::name::{PlacedName, PlacedNames};
 use crate::process::Processes;

@@ -1,5 +1,5 @@
 // Copies of expressions. Each call goes down to the height of the tree; lists are walked by loops.
-ghost use Rattle.std.specs.Prelude.{◌≡◌, IfOk};
+ghost use Rattle.std.specs.Prelude.{◌≡◌, IfOk, Ok};
 ghost use Rattle.pgo_base.specs.ExprView.{tree};
 
 use crate::expr::{Arms, Binders, Expr, Exprs, Named, Names, Sub, Update, Updates};
@@ -33,41 +33,82 @@ impl Expr {
             Expr::At => Ok(Expr::At),
             Expr::Word(w) => Ok(Expr::Word(*w)),
             Expr::Prefix(o, a) => Ok(Expr::Prefix(*o, a.copy(alloc)?)),
-            Expr::Infix(o, a, b) => Ok(Expr::Infix(*o, a.copy(alloc)?, b.copy(alloc)?)),
+            Expr::Infix(o, a, b) => {
+                let (a, b) = both(a.copy(alloc), b.copy(alloc))?;
+                Ok(Expr::Infix(*o, a, b))
+            }
             Expr::Product(list) => Ok(Expr::Product(list.copy(alloc)?)),
-            Expr::If(p, a, b) => Ok(Expr::If(p.copy(alloc)?, a.copy(alloc)?, b.copy(alloc)?)),
+            Expr::If(p, a, b) => {
+                let (p, (a, b)) = both(p.copy(alloc), both(a.copy(alloc), b.copy(alloc)))?;
+                Ok(Expr::If(p, a, b))
+            }
             Expr::Case(arms) => Ok(Expr::Case(arms.copy(alloc)?)),
-            Expr::CaseOther(arms, e) => Ok(Expr::CaseOther(arms.copy(alloc)?, e.copy(alloc)?)),
-            Expr::Let(names, e) => Ok(Expr::Let(names.copy(alloc)?, e.copy(alloc)?)),
-            Expr::Quantified(q, over, p) => Ok(Expr::Quantified(
-                *q,
-                over.copy(alloc)?,
-                p.copy(alloc)?,
-            )),
-            Expr::Choose(x, s, p) => Ok(Expr::Choose(
-                x.copy(alloc)?,
-                s.copy(alloc)?,
-                p.copy(alloc)?,
-            )),
+            Expr::CaseOther(arms, e) => {
+                let (arms, e) = both(arms.copy(alloc), e.copy(alloc))?;
+                Ok(Expr::CaseOther(arms, e))
+            }
+            Expr::Let(names, e) => {
+                let (names, e) = both(names.copy(alloc), e.copy(alloc))?;
+                Ok(Expr::Let(names, e))
+            }
+            Expr::Quantified(q, over, p) => {
+                let (over, p) = both(over.copy(alloc), p.copy(alloc))?;
+                Ok(Expr::Quantified(*q, over, p))
+            }
+            Expr::Choose(x, s, p) => {
+                let (x, (s, p)) = both(x.copy(alloc), both(s.copy(alloc), p.copy(alloc)))?;
+                Ok(Expr::Choose(x, s, p))
+            }
             Expr::Tuple(list) => Ok(Expr::Tuple(list.copy(alloc)?)),
             Expr::SetOf(list) => Ok(Expr::SetOf(list.copy(alloc)?)),
-            Expr::Filter(x, s, p) => Ok(Expr::Filter(
-                x.copy(alloc)?,
-                s.copy(alloc)?,
-                p.copy(alloc)?,
-            )),
-            Expr::Image(e, x, s) => Ok(Expr::Image(e.copy(alloc)?, x.copy(alloc)?, s.copy(alloc)?)),
-            Expr::FunOf(over, e) => Ok(Expr::FunOf(over.copy(alloc)?, e.copy(alloc)?)),
-            Expr::FunSet(s, t) => Ok(Expr::FunSet(s.copy(alloc)?, t.copy(alloc)?)),
+            Expr::Filter(x, s, p) => {
+                let (x, (s, p)) = both(x.copy(alloc), both(s.copy(alloc), p.copy(alloc)))?;
+                Ok(Expr::Filter(x, s, p))
+            }
+            Expr::Image(e, x, s) => {
+                let (e, (x, s)) = both(e.copy(alloc), both(x.copy(alloc), s.copy(alloc)))?;
+                Ok(Expr::Image(e, x, s))
+            }
+            Expr::FunOf(over, e) => {
+                let (over, e) = both(over.copy(alloc), e.copy(alloc))?;
+                Ok(Expr::FunOf(over, e))
+            }
+            Expr::FunSet(s, t) => {
+                let (s, t) = both(s.copy(alloc), t.copy(alloc))?;
+                Ok(Expr::FunSet(s, t))
+            }
             Expr::Record(fields) => Ok(Expr::Record(fields.copy(alloc)?)),
             Expr::RecordSet(fields) => Ok(Expr::RecordSet(fields.copy(alloc)?)),
-            Expr::Except(f, updates) => Ok(Expr::Except(f.copy(alloc)?, updates.copy(alloc)?)),
-            Expr::Index(f, keys) => Ok(Expr::Index(f.copy(alloc)?, keys.copy(alloc)?)),
-            Expr::Field(r, x) => Ok(Expr::Field(r.copy(alloc)?, x.copy(alloc)?)),
-            Expr::Call(x, args) => Ok(Expr::Call(x.copy(alloc)?, args.copy(alloc)?)),
+            Expr::Except(f, updates) => {
+                let (f, updates) = both(f.copy(alloc), updates.copy(alloc))?;
+                Ok(Expr::Except(f, updates))
+            }
+            Expr::Index(f, keys) => {
+                let (f, keys) = both(f.copy(alloc), keys.copy(alloc))?;
+                Ok(Expr::Index(f, keys))
+            }
+            Expr::Field(r, x) => {
+                let (r, x) = both(r.copy(alloc), x.copy(alloc))?;
+                Ok(Expr::Field(r, x))
+            }
+            Expr::Call(x, args) => {
+                let (x, args) = both(x.copy(alloc), args.copy(alloc))?;
+                Ok(Expr::Call(x, args))
+            }
             Expr::Unchanged(names) => Ok(Expr::Unchanged(names.copy(alloc)?)),
         }
     }
+}
+
+/// Both, where there was memory for both.
+fn both<A: Drop, B: Drop>(
+    a: Result<A, AllocError>,
+    b: Result<B, AllocError>,
+) -> Result<(A, B), AllocError>
+    ensures first { IfOk result (λ p. a ≡ Ok p.0) }
+    ensures second { IfOk result (λ p. b ≡ Ok p.1) }
+{
+    Ok((a?, b?))
 }
 
 impl Sub {

@@ -2,6 +2,7 @@
 ghost use Rattle.std.specs.Prelude.{◌≡◌, IfOk};
 ghost use Rattle.pgo_syntax.specs.StatementView.{statement};
 
+use crate::items::Copied;
 use crate::name::copy_optional;
 use crate::statement::{Alternatives, Block, Branch, Branches, Labeled, Nested, Stmt};
 use std::alloc::{AllocError, Global};
