@@ -9,6 +9,7 @@ pub mod expr;
 pub mod log;
 pub mod module;
 mod order;
+pub mod results;
 pub mod scope;
 pub mod text;
 pub mod value;

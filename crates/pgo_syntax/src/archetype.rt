@@ -5,6 +5,7 @@ use crate::declaration::Declarations;
 use crate::items::{Copied, Items};
 use crate::name::PlacedName;
 use crate::statement::Block;
+use pgo_base::results::both;
 use std::alloc::{AllocError, Global};
 
 /// How much of a global a parameter, an argument or a mapping clause speaks of: the global as a whole, or with `[_]` one
@@ -60,11 +61,13 @@ impl Copied for Archetype {
     fn copy(&self, alloc: Global) -> Result<Archetype, AllocError>
         ensures { IfOk result (λ a. a ≡ self.now) }
     {
+        let (name, params) = both(self.name.copy(alloc), self.params.copy(alloc))?;
+        let (locals, body) = both(self.locals.copy(alloc), self.body.copy(alloc))?;
         Ok(Archetype {
-            name: self.name.copy(alloc)?,
-            params: self.params.copy(alloc)?,
-            locals: self.locals.copy(alloc)?,
-            body: self.body.copy(alloc)?,
+            name,
+            params,
+            locals,
+            body,
         })
     }
 }

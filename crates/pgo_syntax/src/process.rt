@@ -6,6 +6,7 @@ use crate::binding::Origin;
 use crate::items::{Copied, Items};
 use crate::name::PlacedName;
 use pgo_base::expr::Sub;
+use pgo_base::results::both;
 use std::alloc::{AllocError, Global};
 
 /// An argument of an instance: an expression, with the place of its first byte, or a global, `ref g` and `ref g[_]`.
@@ -107,12 +108,17 @@ impl Copied for Process {
     fn copy(&self, alloc: Global) -> Result<Process, AllocError>
         ensures { IfOk result (λ p. p ≡ self.now) }
     {
+        let (name, ids) = both(self.name.copy(alloc), self.ids.copy(alloc))?;
+        let (archetype, (arguments, clauses)) = both(
+            self.archetype.copy(alloc),
+            both(self.arguments.copy(alloc), self.clauses.copy(alloc)),
+        )?;
         Ok(Process {
-            name: self.name.copy(alloc)?,
-            ids: self.ids.copy(alloc)?,
-            archetype: self.archetype.copy(alloc)?,
-            arguments: self.arguments.copy(alloc)?,
-            clauses: self.clauses.copy(alloc)?,
+            name,
+            ids,
+            archetype,
+            arguments,
+            clauses,
         })
     }
 }

@@ -7,6 +7,7 @@ use crate::items::Copied;
 use crate::macros::{Macros, MappingMacros};
 use crate::name::{PlacedName, PlacedNames};
 use crate::process::Processes;
+use pgo_base::results::both;
 use std::alloc::{AllocError, Global};
 
 /// A specification: the module around the algorithm, and the algorithm's units, those of one kind in the order of the
@@ -35,22 +36,42 @@ impl Spec {
     pub fn copy(&self, alloc: Global) -> Result<Spec, AllocError>
         ensures { IfOk result (λ s. s ≡ self.now) }
     {
-        let define = match &self.define {
-            Some(definitions) => Some(definitions.copy(alloc)?),
-            None => None,
-        };
+        let (name, algorithm) = both(self.name.copy(alloc), self.algorithm.copy(alloc))?;
+        let (extends, constants) = both(self.extends.copy(alloc), self.constants.copy(alloc))?;
+        let (definitions, define) = both(
+            self.definitions.copy(alloc),
+            copy_define(alloc, &self.define),
+        )?;
+        let (macros, mappings) = both(self.macros.copy(alloc), self.mappings.copy(alloc))?;
+        let (archetypes, (globals, processes)) = both(
+            self.archetypes.copy(alloc),
+            both(self.globals.copy(alloc), self.processes.copy(alloc)),
+        )?;
         Ok(Spec {
-            name: self.name.copy(alloc)?,
-            extends: self.extends.copy(alloc)?,
-            constants: self.constants.copy(alloc)?,
-            definitions: self.definitions.copy(alloc)?,
-            algorithm: self.algorithm.copy(alloc)?,
+            name,
+            extends,
+            constants,
+            definitions,
+            algorithm,
             define,
-            macros: self.macros.copy(alloc)?,
-            mappings: self.mappings.copy(alloc)?,
-            archetypes: self.archetypes.copy(alloc)?,
-            globals: self.globals.copy(alloc)?,
-            processes: self.processes.copy(alloc)?,
+            macros,
+            mappings,
+            archetypes,
+            globals,
+            processes,
         })
+    }
+}
+
+/// The definitions of `define` once more, if it stands there.
+fn copy_define(
+    alloc: Global,
+    define: &Option<Definitions>,
+) -> Result<Option<Definitions>, AllocError>
+    ensures { IfOk result (λ d. d ≡ define.now) }
+{
+    match define {
+        Some(definitions) => Ok(Some(definitions.copy(alloc)?)),
+        None => Ok(None),
     }
 }

@@ -1,8 +1,9 @@
 // Copies of expressions. Each call goes down to the height of the tree; lists are walked by loops.
-ghost use Rattle.std.specs.Prelude.{◌≡◌, IfOk, Ok};
+ghost use Rattle.std.specs.Prelude.{◌≡◌, IfOk};
 ghost use Rattle.pgo_base.specs.ExprView.{tree};
 
 use crate::expr::{Arms, Binders, Expr, Exprs, Named, Names, Sub, Update, Updates};
+use crate::results::both;
 use std::alloc::{AllocError, Global};
 
 impl Names {
@@ -98,17 +99,6 @@ impl Expr {
             Expr::Unchanged(names) => Ok(Expr::Unchanged(names.copy(alloc)?)),
         }
     }
-}
-
-/// Both, where there was memory for both.
-fn both<A: Drop, B: Drop>(
-    a: Result<A, AllocError>,
-    b: Result<B, AllocError>,
-) -> Result<(A, B), AllocError>
-    ensures first { IfOk result (λ p. a ≡ Ok p.0) }
-    ensures second { IfOk result (λ p. b ≡ Ok p.1) }
-{
-    Ok((a?, b?))
 }
 
 impl Sub {

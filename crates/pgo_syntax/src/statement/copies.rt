@@ -5,6 +5,7 @@ ghost use Rattle.pgo_syntax.specs.StatementView.{statement};
 use crate::items::Copied;
 use crate::name::copy_optional;
 use crate::statement::{Alternatives, Block, Branch, Branches, Labeled, Nested, Stmt};
+use pgo_base::results::both;
 use std::alloc::{AllocError, Global};
 
 impl Stmt {
@@ -17,27 +18,27 @@ impl Stmt {
             Stmt::Skip(place) => Ok(Stmt::Skip(*place)),
             Stmt::Assign(place, list) => Ok(Stmt::Assign(*place, list.copy(alloc)?)),
             Stmt::If(place, list) => Ok(Stmt::If(*place, list.copy(alloc)?)),
-            Stmt::IfElse(place, list, s) => Ok(Stmt::IfElse(
-                *place,
-                list.copy(alloc)?,
-                s.copy(alloc)?,
-            )),
-            Stmt::While(place, e, s) => Ok(Stmt::While(*place, e.copy(alloc)?, s.copy(alloc)?)),
+            Stmt::IfElse(place, list, s) => {
+                let (list, s) = both(list.copy(alloc), s.copy(alloc))?;
+                Ok(Stmt::IfElse(*place, list, s))
+            }
+            Stmt::While(place, e, s) => {
+                let (e, s) = both(e.copy(alloc), s.copy(alloc))?;
+                Ok(Stmt::While(*place, e, s))
+            }
             Stmt::Either(place, list) => Ok(Stmt::Either(*place, list.copy(alloc)?)),
             Stmt::Await(place, e) => Ok(Stmt::Await(*place, e.copy(alloc)?)),
-            Stmt::With(place, names, s) => Ok(Stmt::With(
-                *place,
-                names.copy(alloc)?,
-                s.copy(alloc)?,
-            )),
+            Stmt::With(place, names, s) => {
+                let (names, s) = both(names.copy(alloc), s.copy(alloc))?;
+                Ok(Stmt::With(*place, names, s))
+            }
             Stmt::Print(place, e) => Ok(Stmt::Print(*place, e.copy(alloc)?)),
             Stmt::Assert(place, e) => Ok(Stmt::Assert(*place, e.copy(alloc)?)),
             Stmt::Goto(place, label) => Ok(Stmt::Goto(*place, label.copy(alloc)?)),
-            Stmt::Call(place, name, list) => Ok(Stmt::Call(
-                *place,
-                name.copy(alloc)?,
-                list.copy(alloc)?,
-            )),
+            Stmt::Call(place, name, list) => {
+                let (name, list) = both(name.copy(alloc), list.copy(alloc))?;
+                Ok(Stmt::Call(*place, name, list))
+            }
             Stmt::Yield(place, e) => Ok(Stmt::Yield(*place, e.copy(alloc)?)),
             Stmt::Block(place, block) => Ok(Stmt::Block(*place, block.copy(alloc)?)),
         }
@@ -76,8 +77,8 @@ impl Block {
     {
         let mut list = Vec::with_capacity(alloc, self.list.len())?;
         for item in &self.list {
-            let label = copy_optional(alloc, &item.label)?;
-            let statement = item.statement.copy(alloc)?;
+            let label = copy_optional(alloc, &item.label);
+            let (label, statement) = both(label, item.statement.copy(alloc))?;
             list.push(Labeled { label, statement })?;
         }
         Ok(Block { list })
@@ -92,8 +93,8 @@ impl Branches {
     {
         let mut list = Vec::with_capacity(alloc, self.list.len())?;
         for item in &self.list {
-            let condition = item.condition.copy(alloc)?;
-            let statement = item.statement.copy(alloc)?;
+            let condition = item.condition.copy(alloc);
+            let (condition, statement) = both(condition, item.statement.copy(alloc))?;
             list.push(Branch {
                 place: item.place,
                 condition,
