@@ -80,9 +80,12 @@ impl Answer {
     }
 
     fn has_line(&self, line: &str) -> bool {
+        if line.is_empty() {
+            return self.err.is_empty();
+        }
         match self.err.as_str().strip_suffix("\n") {
             Some(given) => given == line,
-            None => self.err.is_empty() && line.is_empty(),
+            None => false,
         }
     }
 

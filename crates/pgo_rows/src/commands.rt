@@ -95,6 +95,7 @@ impl Row {
 
     /// Takes a line of this key; false: there is no such key.
     fn take(&mut self, key: &str, text: &str) -> Result<bool, AllocError> {
+        let alloc = self.alloc;
         let words = match key {
             "first" => &mut self.first,
             "word" => &mut self.words,
@@ -105,7 +106,7 @@ impl Row {
             }
             _ => return Ok(self.streams.take(key, text) || self.output.take(key, text)?),
         };
-        words.push(Word::new(String::from_str(self.alloc, text)?))?;
+        words.push(Word::new(String::from_str(alloc, text)?))?;
         Ok(true)
     }
 
