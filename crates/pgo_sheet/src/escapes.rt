@@ -28,3 +28,29 @@ fn meant(c: char) -> char {
         other => other,
     }
 }
+
+/// A text of one line, from which `unescaped` gives this one.
+pub fn escaped(alloc: Global, plain: &str) -> Result<String, AllocError> {
+    let mut text = String::new(alloc);
+    for c in plain.chars() {
+        if let Some(letter) = letter_of(c) {
+            text.push('%')?;
+            text.push(letter)?;
+        } else {
+            text.push(c)?;
+        }
+    }
+    Ok(text)
+}
+
+/// What stands behind % for a character that is written so.
+fn letter_of(c: char) -> Option<char> {
+    match c {
+        '\n' => Some('n'),
+        '\t' => Some('t'),
+        '\r' => Some('r'),
+        '\0' => Some('0'),
+        '%' => Some('%'),
+        _ => None,
+    }
+}

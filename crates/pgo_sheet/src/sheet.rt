@@ -36,6 +36,11 @@ impl<S: Subject + Drop> Sheet<S> {
     /// Takes a line. Where it ends a row with another answer, or has no key of the subject, says so with the number of the line.
     pub fn take_line(&mut self, line: &str) -> Result<Option<String>, AllocError> {
         self.lines = self.lines.wrapping_add(1);
+        self.take_included(line)
+    }
+
+    /// The same of a line that the last line brings in, and which has that line's number.
+    pub fn take_included(&mut self, line: &str) -> Result<Option<String>, AllocError> {
         let (key, text) = halves(line);
         match key.strip_suffix("%") {
             Some(key) => {

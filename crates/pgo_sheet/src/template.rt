@@ -10,7 +10,7 @@ struct Part {
     is_optional: bool,
 }
 
-/// A text. Its part NAME stands where it has `@NAME@`.
+/// A text. Its part NAME stands wherever it has `@NAME@`.
 #[derive(Drop)]
 pub struct Template {
     alloc: Global,
@@ -81,7 +81,7 @@ impl Template {
         for part in &self.parts {
             let new = part.filling(self.alloc, changes)?;
             let mark = format!(in self.alloc; "@{}@", part.name)?;
-            text = replaced(self.alloc, text.as_str(), mark.as_str(), new.as_str())?;
+            text = replaced_everywhere(self.alloc, text.as_str(), mark.as_str(), new.as_str())?;
         }
         Ok(text)
     }
@@ -97,4 +97,18 @@ pub fn replaced(alloc: Global, text: &str, old: &str, new: &str) -> Result<Strin
     changed.push_str(between)?;
     changed.push_str(behind)?;
     Ok(changed)
+}
+
+/// The text with each place of `old` replaced. A text without such a place says so.
+fn replaced_everywhere(
+    alloc: Global,
+    text: &str,
+    old: &str,
+    new: &str,
+) -> Result<String, AllocError> {
+    if text.contains(old) {
+        text.replace(alloc, old, new)
+    } else {
+        replaced(alloc, text, old, new)
+    }
 }

@@ -1,7 +1,2 @@
-// The tests of whole specifications and of the commands, one module for each crate.
+// The tests of what no row can say: one module a subject. What rows say of whole specifications and of the commands stands in pgo_rows.
 #![tactic(auto)]
-
-#[cfg(test)]
-mod accept;
-#[cfg(test)]
-mod front;
