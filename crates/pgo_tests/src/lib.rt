@@ -4,4 +4,6 @@
 #[cfg(test)]
 mod accept;
 #[cfg(test)]
+mod eval;
+#[cfg(test)]
 mod front;
