@@ -9,6 +9,4 @@ pub mod errors;
 mod field;
 mod lines;
 mod numbers;
-#[cfg(test)]
-mod tests;
 mod value;

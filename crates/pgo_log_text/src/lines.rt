@@ -95,6 +95,3 @@ pub fn log_and_end(alloc: Global, cursor: &mut Cursor<'_>, names: &[Text]) -> Re
         entries,
     })
 }
-
-#[cfg(test)]
-mod tests;

@@ -1,0 +1,57 @@
+// Operands that an operator takes apart.
+use pgo_base::value::Value;
+use pgo_sets::errors::EvalStop;
+use std::alloc::{AllocError, Global};
+
+/// The values of a sequence, in order; of another value none.
+pub fn elements(alloc: Global, v: &Value) -> Result<Vec<Value>, AllocError> {
+    let mut list = Vec::new(alloc);
+    if let Value::Fun(f) = v {
+        for pair in f.pairs() {
+            list.push(pair.1.copy(alloc)?)?;
+        }
+    }
+    Ok(list)
+}
+
+/// The keys of a function with their values; of another value none.
+pub fn fields(alloc: Global, v: &Value) -> Result<Vec<(Value, Value)>, AllocError> {
+    let mut list = Vec::new(alloc);
+    if let Value::Fun(f) = v {
+        for pair in f.pairs() {
+            list.push((pair.0.copy(alloc)?, pair.1.copy(alloc)?))?;
+        }
+    }
+    Ok(list)
+}
+
+/// The pairs of a sequence of sequences of two values, in its order.
+pub fn pairs(alloc: Global, v: &Value) -> Result<Vec<(Value, Value)>, AllocError> {
+    let mut list = Vec::new(alloc);
+    if let Value::Fun(f) = v {
+        for pair in f.pairs() {
+            if let Value::Fun(two) = &pair.1 {
+                if let [first, second] = two.pairs() {
+                    list.push((first.1.copy(alloc)?, second.1.copy(alloc)?))?;
+                }
+            }
+        }
+    }
+    Ok(list)
+}
+
+/// A truth as a value, where there is one.
+pub fn truth(p: Option<bool>) -> Result<Value, EvalStop> {
+    match p {
+        Some(p) => Ok(Value::Bool(p)),
+        None => Err(EvalStop::NoValue),
+    }
+}
+
+/// A copy of a value, where there is one.
+pub fn copied(alloc: Global, v: Option<&Value>) -> Result<Value, EvalStop> {
+    match v {
+        Some(v) => Ok(v.copy(alloc)?),
+        None => Err(EvalStop::NoValue),
+    }
+}
