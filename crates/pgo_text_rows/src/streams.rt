@@ -1,0 +1,197 @@
+// What is read from a source up to a limit, and what a sink holds after some writes.
+//
+// `memory N` takes a source or a sink in memory, the sink with room for N bytes; `standard N` takes those over the standard
+// traits, the sink over a slice of N bytes; `failing N` takes those that fail after N calls. `read N` reads the text up to N
+// bytes, `write T` writes T; a row reads or writes once for each of its lines.
+use crate::answer::unless_same;
+use crate::failing::{FailingSink, FailingSource};
+use crate::text_builder::TextBuilder;
+use crate::word_list::push_word;
+use pgo_io::read_all::{ReadStop, read_all};
+use pgo_io::sink::Sink;
+use pgo_io::source::Source;
+use pgo_io::standard::{StdSink, StdSource};
+use pgo_io::sure_sink::SureSink;
+use pgo_io::sure_source::SureSource;
+use pgo_io::write_all::write_all;
+use pgo_sheet::sheet::Subject;
+use std::alloc::{AllocError, Global};
+
+/// What is read from and written to.
+#[derive(Clone, Copy)]
+enum Medium {
+    Memory,
+    Standard,
+    Failing,
+}
+
+#[derive(Drop)]
+pub struct Streams {
+    alloc: Global,
+    builder: TextBuilder,
+    medium: Medium,
+    /// The room of a sink, or the calls that succeed.
+    size: u32,
+    reads: Vec<u64>,
+    writes: Vec<String>,
+}
+
+impl Streams {
+    pub fn new(alloc: Global) -> Streams {
+        Streams {
+            alloc,
+            builder: TextBuilder::new(alloc),
+            medium: Medium::Memory,
+            size: 0,
+            reads: Vec::new(alloc),
+            writes: Vec::new(alloc),
+        }
+    }
+
+    fn set_medium(&mut self, medium: Medium, text: &str) -> bool {
+        match text.parse::<u32>() {
+            Ok(size) => {
+                self.medium = medium;
+                self.size = size;
+                true
+            }
+            Err(_) => false,
+        }
+    }
+
+    fn add_read(&mut self, text: &str) -> Result<bool, AllocError> {
+        match text.parse::<u64>() {
+            Ok(limit) => {
+                self.reads.push(limit)?;
+                Ok(true)
+            }
+            Err(_) => Ok(false),
+        }
+    }
+
+    fn add_write(&mut self, text: &str) -> Result<bool, AllocError> {
+        let text = String::from_str(self.alloc, text)?;
+        self.writes.push(text)?;
+        Ok(true)
+    }
+
+    fn answer(&self) -> Result<String, AllocError> {
+        if self.writes.is_empty() {
+            self.read()
+        } else {
+            self.write()
+        }
+    }
+
+    fn read(&self) -> Result<String, AllocError> {
+        let text = self.builder.text();
+        match self.medium {
+            Medium::Memory => self.read_from(&mut SureSource::new(text.to_vec(self.alloc)?)),
+            Medium::Standard => self.read_from(&mut StdSource::new(text)),
+            Medium::Failing => self.read_failing(text),
+        }
+    }
+
+    /// What each read gives.
+    fn read_from<S: Source>(&self, source: &mut S) -> Result<String, AllocError> {
+        let mut words = String::new(self.alloc);
+        for limit in &self.reads {
+            let word = read_word(self.alloc, read_all(self.alloc, source, *limit))?;
+            push_word(&mut words, ", ", word.as_str())?;
+        }
+        Ok(words)
+    }
+
+    fn read_failing(&self, text: &[u8]) -> Result<String, AllocError> {
+        let mut source = FailingSource {
+            inner: SureSource::new(text.to_vec(self.alloc)?),
+            good_calls: u64::from(self.size),
+            faults: 0,
+        };
+        let words = self.read_from(&mut source)?;
+        format!(in self.alloc; "{words}, {} faults", source.faults)
+    }
+
+    fn write(&self) -> Result<String, AllocError> {
+        match self.medium {
+            Medium::Memory => self.write_memory(),
+            Medium::Standard => self.write_standard(),
+            Medium::Failing => self.write_failing(),
+        }
+    }
+
+    /// Whether each write succeeds.
+    fn write_to<O: Sink>(&self, sink: &mut O) -> Result<String, AllocError> {
+        let mut words = String::new(self.alloc);
+        for piece in &self.writes {
+            let word = match write_all(sink, piece.as_bytes()) {
+                Ok(()) => "written",
+                Err(_) => "failed",
+            };
+            push_word(&mut words, ", ", word)?;
+        }
+        Ok(words)
+    }
+
+    fn write_memory(&self) -> Result<String, AllocError> {
+        let Ok(mut sink) = SureSink::with_room(self.alloc, self.size as usize) else {
+            return Err(AllocError);
+        };
+        let words = self.write_to(&mut sink)?;
+        let whole = if sink.is_whole() { "whole" } else { "cut" };
+        let held = String::from_utf8_lossy(self.alloc, sink.content())?;
+        format!(in self.alloc; "{words}, {whole} \"{held}\"")
+    }
+
+    fn write_standard(&self) -> Result<String, AllocError> {
+        let mut room = vec![in self.alloc; 0u8; self.size as usize]?;
+        let words = self.write_to(&mut StdSink::new(room.as_mut_slice()))?;
+        let held = String::from_utf8_lossy(self.alloc, room.as_slice())?;
+        format!(in self.alloc; "{words}, \"{held}\"")
+    }
+
+    fn write_failing(&self) -> Result<String, AllocError> {
+        let mut sink = FailingSink {
+            bytes: Vec::new(self.alloc),
+            good_calls: u64::from(self.size),
+            faults: 0,
+        };
+        let words = self.write_to(&mut sink)?;
+        let held = String::from_utf8_lossy(self.alloc, sink.bytes.as_slice())?;
+        format!(in self.alloc; "{words}, \"{held}\", {} faults", sink.faults)
+    }
+}
+
+impl Subject for Streams {
+    fn take(&mut self, key: &str, text: &str) -> Result<bool, AllocError> {
+        if self.builder.take(key, text)? {
+            return Ok(true);
+        }
+        match key {
+            "memory" => Ok(self.set_medium(Medium::Memory, text)),
+            "standard" => Ok(self.set_medium(Medium::Standard, text)),
+            "failing" => Ok(self.set_medium(Medium::Failing, text)),
+            "read" => self.add_read(text),
+            "write" => self.add_write(text),
+            _ => Ok(false),
+        }
+    }
+
+    fn end(&mut self, wanted: &str) -> Result<Option<String>, AllocError> {
+        let answer = self.answer()?;
+        self.reads.clear();
+        self.writes.clear();
+        Ok(unless_same(answer, wanted))
+    }
+}
+
+/// What a read gives.
+fn read_word(alloc: Global, read: Result<Vec<u8>, ReadStop>) -> Result<String, AllocError> {
+    match read {
+        Ok(bytes) => {
+            let text = String::from_utf8_lossy(alloc, bytes.as_slice())?;
+            format!(in alloc; "\"{text}\"")
+        }
+        Err(stop) => format!(in alloc; "{stop}"),
+    }
+}
