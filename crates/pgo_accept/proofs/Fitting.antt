@@ -12,8 +12,8 @@ use Rattle.pgo_syntax.specs.declared.process.Argument.{Argument}
 use Rattle.pgo_syntax.specs.declared.process.Argument.TheVariants as arguments
 use Rattle.pgo_syntax.specs.declared.process.Process.{Process}
 use Rattle.pgo_syntax.specs.declared.spec.Spec.{Spec}
-use Rattle.pgo_bind.specs.declared.errors.BindError.{BindError}
-use Rattle.pgo_bind.specs.declared.errors.BindError.TheVariants as errors
+use Rattle.pgo_heads.specs.declared.errors.BindError.{BindError}
+use Rattle.pgo_heads.specs.declared.errors.BindError.TheVariants as errors
 use Rattle.pgo_bind.specs.Values.{defs_of}
 use Rattle.pgo_bind.specs.Runs.{Run, Handed, handed_from, archetype_named, run_with, run_of, runs_of}
 use Rattle.pgo_bind.specs.BoundOf.{GlobalStart, globals_of}

@@ -6,8 +6,8 @@ use Rattle.pgo_syntax.specs.declared.bound.Bound.{Bound}
 use Rattle.pgo_syntax.specs.declared.spec.Spec.{Spec}
 use Rattle.pgo_bind.specs.Answers as bound
 use Rattle.pgo_bind.specs.Refusals.{bind_refusal}
-use Rattle.pgo_bind.specs.declared.errors.BindError.{BindError}
-use Rattle.pgo_bind.specs.declared.errors.BindError.TheVariants as bind
+use Rattle.pgo_heads.specs.declared.errors.BindError.{BindError}
+use Rattle.pgo_heads.specs.declared.errors.BindError.TheVariants as bind
 use Rattle.pgo_labels.specs.Refusal as labeled
 use Rattle.pgo_labels.specs.Refusal.{label_refusal}
 use Rattle.pgo_labels.specs.declared.errors.LabelError.{LabelError}

@@ -17,7 +17,7 @@ use Rattle.pgo_syntax.specs.Statement.{skip}
 use Rattle.pgo_scope.specs.declared.errors.ScopeError.TheVariants as scope
 use Rattle.pgo_scope.specs.Refusal.{scope_refusal}
 use Rattle.pgo_labels.specs.Refusal.{label_refusal}
-use Rattle.pgo_bind.specs.declared.errors.BindError.TheVariants as bind
+use Rattle.pgo_heads.specs.declared.errors.BindError.TheVariants as bind
 use Rattle.pgo_bind.specs.Refusals.{bind_refusal}
 use Rattle.pgo_bind.specs.State.{variables_of}
 

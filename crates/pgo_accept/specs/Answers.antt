@@ -10,7 +10,7 @@ use Rattle.pgo_scope.specs.Refusal.{scope_refusal}
 use Rattle.pgo_labels.specs.declared.errors.LabelError.{LabelError}
 use Rattle.pgo_labels.specs.Refusal as labeled
 use Rattle.pgo_labels.specs.Refusal.{label_refusal}
-use Rattle.pgo_bind.specs.declared.errors.BindError.{BindError}
+use Rattle.pgo_heads.specs.declared.errors.BindError.{BindError}
 use Rattle.pgo_bind.specs.Answers.{Refuses}
 use Rattle.pgo_bind.specs.BoundOf.{bound_of}
 use Rattle.pgo_bind.specs.Refusals.{bind_refusal}

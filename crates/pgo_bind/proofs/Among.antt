@@ -5,7 +5,7 @@ use Rattle.std.specs.List.{AllByRecursion, filter_map, flat_map, list_any, cons_
 use Rattle.pgo_base.specs.Lookup.{Name, same_name, find}
 use Rattle.pgo_model.specs.Machine.{nth}
 use Rattle.pgo_model.specs.Names.{same_name-self, same_name-is}
-use Rattle.pgo_bind.specs.BoundOf.{numbered}
+use Rattle.pgo_heads.specs.BoundOf.{numbered}
 use Rattle.pgo_bind.specs.State.{AreDifferent}
 
 abbrev pub IsAmong : {A : Type 0} → A → List A → Type 0

@@ -21,12 +21,12 @@ use Rattle.pgo_syntax.specs.declared.process.Argument.{Argument}
 use Rattle.pgo_syntax.specs.declared.process.Argument.TheVariants as arguments
 use Rattle.pgo_syntax.specs.declared.process.MappingClause.{MappingClause}
 use Rattle.pgo_syntax.specs.declared.spec.Spec.{Spec}
-use Rattle.pgo_bind.specs.declared.errors.BindError.{BindError}
-use Rattle.pgo_bind.specs.Values.{defs_of, value_at, local_start, argument_start, start_of_value, beginning}
-use Rattle.pgo_bind.specs.Runs.{Run, Handed, archetype_named, run_with, run_of, runs_of, run_ids, target_of, binding_of, bindings_of}
-use Rattle.pgo_bind.specs.BoundOf.{GlobalStart, global_of, globals_of, global_value, places_of, places_of_run, instance_at, instances_of, first_place, first_places, first_label, first_label_in, expression_of, own_argument, own_start, locals_of, function_at, start_of, bound_of}
-use Rattle.pgo_bind.specs.Refusals.{is_run, archetypes_run, constants_refused, heads_refused, bind_refusal}
-use Rattle.pgo_bind.specs.Answers.{Answers}
+use Rattle.pgo_heads.specs.declared.errors.BindError.{BindError}
+use Rattle.pgo_heads.specs.Values.{defs_of, value_at, local_start, argument_start, start_of_value, beginning}
+use Rattle.pgo_heads.specs.Runs.{Run, Handed, archetype_named, run_with, run_of, runs_of, run_ids, target_of, binding_of, bindings_of}
+use Rattle.pgo_heads.specs.BoundOf.{GlobalStart, global_of, globals_of, global_value, places_of, places_of_run, instance_at, instances_of, first_place, first_places, first_label, first_label_in, expression_of, own_argument, own_start, locals_of, function_at, start_of, bound_of}
+use Rattle.pgo_heads.specs.Refusals.{is_run, archetypes_run, constants_refused, heads_refused, bind_refusal}
+use Rattle.pgo_heads.specs.Answers.{Answers}
 use Rattle.pgo_bind.specs.State.{AreDifferent, id_of}
 use Rattle.pgo_bind.specs.Declares.{StartsAs, StartsAt, value_in, Declares}
 use Rattle.pgo_bind.specs.Sound.{WellNamed}

@@ -10,8 +10,8 @@ use Rattle.pgo_model.specs.Names.{same_name-self, same_name-not}
 use Rattle.pgo_syntax.specs.declared.archetype.Archetype.{Archetype}
 use Rattle.pgo_syntax.specs.declared.process.Process.{Process}
 use Rattle.pgo_syntax.specs.declared.spec.Spec.{Spec}
-use Rattle.pgo_bind.specs.Runs.{Run, archetype_named, run_with, run_of, runs_of, run_ids, all_ids}
-use Rattle.pgo_bind.specs.BoundOf.{numbered, places_of, instance_at, instances_of}
+use Rattle.pgo_heads.specs.Runs.{Run, archetype_named, run_with, run_of, runs_of, run_ids, all_ids}
+use Rattle.pgo_heads.specs.BoundOf.{numbered, places_of, instance_at, instances_of}
 use Rattle.pgo_bind.specs.State.{AreDifferent, id_of}
 use Rattle.pgo_bind.proofs.Among.{IsAmong, among_map, from_filter_map, all_at, turned}
 use Rattle.pgo_bind.proofs.Declared.{mapped_some}

@@ -10,7 +10,7 @@ use Rattle.pgo_base.specs.Sets.{insert_member, in_order}
 use Rattle.pgo_base.specs.Pairs.{insert_pair, pairs_in_order}
 use Rattle.pgo_base.specs.Size.{depth, graph_size}
 use Rattle.pgo_base.specs.Falls.{pairs_depth-pairs}
-use Rattle.pgo_bind.specs.BoundOf.{function_on, function_at}
+use Rattle.pgo_heads.specs.BoundOf.{function_on, function_at}
 use Rattle.pgo_bind.specs.State.{IsFunctionOn}
 use Rattle.pgo_bind.proofs.Among.{IsAmong}
 

@@ -1,9 +1,4 @@
-pub mod Numbered
-pub mod KindLaws
-pub mod Matching
 pub mod Placed
-pub mod Firsts
-pub mod Ordered
 pub mod Passing
 pub mod Among
 pub mod Lookups
@@ -12,7 +7,6 @@ pub mod UniqueIds
 pub mod Unrefused
 pub mod Declared
 pub mod Places
-pub mod KnownParts
 pub mod Keyed
 pub mod Depths
 pub mod Different

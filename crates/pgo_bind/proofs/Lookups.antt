@@ -11,7 +11,7 @@ use Rattle.pgo_base.specs.Order.{data_cmp}
 use Rattle.pgo_base.specs.Exact.{data_exact, data_itself}
 use Rattle.pgo_base.specs.Pairs.{insert_pair, pairs_in_order}
 use Rattle.pgo_model.specs.Operators.{same_data, lookup, apply}
-use Rattle.pgo_bind.specs.BoundOf.{function_on, function_at}
+use Rattle.pgo_heads.specs.BoundOf.{function_on, function_at}
 use Rattle.pgo_bind.proofs.Among.{IsAmong}
 
 pub same_of : (x y : Data) → same_data x y ≡ true → x ≡ y

@@ -1,9 +1,9 @@
 -- Rules that are checked one after another.
 use Rattle.std.proofs.Common.{◌≡◌, Option, Some, None, Result, Ok, Err, refl, ap, ◌∙◌, subst, sym}
-use Rattle.pgo_bind.specs.declared.errors.BindError.{BindError}
-use Rattle.pgo_bind.specs.declared.errors.BindError.TheVariants as errors
-use Rattle.pgo_bind.specs.Refusals.{or_next}
-use Rattle.pgo_bind.specs.Answers.{Refuses, Passes, Answers}
+use Rattle.pgo_heads.specs.declared.errors.BindError.{BindError}
+use Rattle.pgo_heads.specs.declared.errors.BindError.TheVariants as errors
+use Rattle.pgo_heads.specs.Refusals.{or_next}
+use Rattle.pgo_heads.specs.Answers.{Refuses, Passes, Answers}
 
 -- what the first rule refuses
 pub refuses_first : (o p : Option BindError) (e : BindError) → Refuses o e → Refuses (or_next o p) e

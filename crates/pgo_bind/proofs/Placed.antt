@@ -3,7 +3,7 @@ use Rattle.std.proofs.Common.{◌≡◌, ℕ, ◌<◌, ◌≤◌, Bool, true, fa
 use Rattle.std.proofs.lemmas.Bool.Decides.{nat_tests}
 use Rattle.std.specs.List.{cons_option}
 use Rattle.pgo_base.specs.Lookup.{Name}
-use Rattle.pgo_bind.specs.Refusals.{earlier, first_placed}
+use Rattle.pgo_heads.specs.Refusals.{earlier, first_placed}
 
 pub earlier_none : (a : Option (ℕ × Name)) → earlier a None ≡ a
 earlier_none None = refl

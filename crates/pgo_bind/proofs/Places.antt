@@ -14,19 +14,19 @@ use Rattle.pgo_syntax.specs.declared.bound.Instance.{Instance}
 use Rattle.pgo_syntax.specs.declared.bound.Resource.{Resource}
 use Rattle.pgo_syntax.specs.declared.process.Process.{Process}
 use Rattle.pgo_syntax.specs.declared.spec.Spec.{Spec}
-use Rattle.pgo_bind.specs.declared.errors.BindError.{BindError}
-use Rattle.pgo_bind.specs.Values.{defs_of}
-use Rattle.pgo_bind.specs.Runs.{Run, runs_of, run_of, run_with, archetype_named, all_ids, run_ids}
-use Rattle.pgo_bind.specs.BoundOf.{GlobalStart, globals_of, numbered, places_of, instance_at, instances_of, all_parts, resource_at, resources_of, first_label_in, start_of, bound_of}
-use Rattle.pgo_bind.specs.Refusals.{constants_refused, heads_refused, bind_refusal}
-use Rattle.pgo_bind.specs.Answers.{Answers}
+use Rattle.pgo_heads.specs.declared.errors.BindError.{BindError}
+use Rattle.pgo_heads.specs.Values.{defs_of}
+use Rattle.pgo_heads.specs.Runs.{Run, runs_of, run_of, run_with, archetype_named, all_ids, run_ids}
+use Rattle.pgo_heads.specs.BoundOf.{GlobalStart, globals_of, numbered, places_of, instance_at, instances_of, all_parts, resource_at, resources_of, first_label_in, start_of, bound_of}
+use Rattle.pgo_heads.specs.Refusals.{constants_refused, heads_refused, bind_refusal}
+use Rattle.pgo_heads.specs.Answers.{Answers}
 use Rattle.pgo_bind.specs.State.{id_of}
 use Rattle.pgo_bind.specs.Declares.{value_in}
 use Rattle.pgo_bind.specs.Sound.{labels_among, IsLabel, IsAtLabel, IsNumbered, AreAtLabels, WellNamed}
 use Rattle.pgo_bind.proofs.Passing.{none_next}
 use Rattle.pgo_bind.proofs.Among.{IsAmong, among_nth, from_filter_map}
 use Rattle.pgo_bind.proofs.Lookups.{data_from}
-use Rattle.pgo_bind.proofs.Numbered.{length-numbered, length_places}
+use Rattle.pgo_heads.proofs.Numbered.{length-numbered, length_places}
 use Rattle.pgo_bind.proofs.UniqueIds.{StandOnce, id_in, ids_of_places}
 use Rattle.pgo_bind.proofs.Unrefused.{Unrefused, unrefused}
 use Rattle.pgo_bind.proofs.Declared.{mapped_some, instance_from, at_instance}

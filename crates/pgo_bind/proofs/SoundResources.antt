@@ -16,12 +16,12 @@ use Rattle.pgo_model.specs.Written.{pc, written}
 use Rattle.pgo_syntax.specs.declared.bound.Resource.{Resource}
 use Rattle.pgo_syntax.specs.declared.declaration.Declaration.{Declaration}
 use Rattle.pgo_syntax.specs.declared.spec.Spec.{Spec}
-use Rattle.pgo_bind.specs.declared.kinds.Kind.{Kind}
-use Rattle.pgo_bind.specs.declared.kinds.Kind.TheVariants.{Unbound, AsWhole, ByElement}
-use Rattle.pgo_bind.specs.Values.{Start, beginning}
-use Rattle.pgo_bind.specs.Runs.{Run, runs_of}
-use Rattle.pgo_bind.specs.BoundOf.{GlobalStart, global_of, globals_of, global_value, first_places, locals_of, start_of, numbered, indices, elements_of, parts_with, parts_of, all_parts, resource_at, resources_of, bound_by}
-use Rattle.pgo_bind.specs.Refusals.{heads_refused}
+use Rattle.pgo_heads.specs.declared.kinds.Kind.{Kind}
+use Rattle.pgo_heads.specs.declared.kinds.Kind.TheVariants.{Unbound, AsWhole, ByElement}
+use Rattle.pgo_heads.specs.Values.{Start, beginning}
+use Rattle.pgo_heads.specs.Runs.{Run, runs_of}
+use Rattle.pgo_heads.specs.BoundOf.{GlobalStart, global_of, globals_of, global_value, first_places, locals_of, start_of, numbered, indices, elements_of, parts_with, parts_of, all_parts, resource_at, resources_of, bound_by}
+use Rattle.pgo_heads.specs.Refusals.{heads_refused}
 use Rattle.pgo_bind.specs.State.{AreDifferent, kind_in, own_names}
 use Rattle.pgo_bind.specs.Sound.{WellNamed, index_in, IsIndex, HasDomain, IsGlobal}
 use Rattle.pgo_bind.proofs.Among.{IsAmong, among_nth, among_map, among_left, among_flat_map, from_map, from_flat_map, all_at}

@@ -16,11 +16,11 @@ use Rattle.pgo_syntax.specs.declared.process.Argument.{Argument}
 use Rattle.pgo_syntax.specs.declared.process.Argument.TheVariants as arguments
 use Rattle.pgo_syntax.specs.declared.process.Process.{Process}
 use Rattle.pgo_syntax.specs.declared.spec.Spec.{Spec}
-use Rattle.pgo_bind.specs.declared.kinds.Kind.TheVariants.{ByElement}
-use Rattle.pgo_bind.specs.Values.{beginning, local_start, argument_start}
-use Rattle.pgo_bind.specs.Runs.{Run, handed_from, archetype_named, run_with, run_of, runs_of, run_ids}
-use Rattle.pgo_bind.specs.BoundOf.{GlobalStart, global_of, globals_of, places_of, first_place, first_places, function_at, instances_of, expression_of, start_of, bound_by}
-use Rattle.pgo_bind.specs.Refusals.{heads_refused}
+use Rattle.pgo_heads.specs.declared.kinds.Kind.TheVariants.{ByElement}
+use Rattle.pgo_heads.specs.Values.{beginning, local_start, argument_start}
+use Rattle.pgo_heads.specs.Runs.{Run, handed_from, archetype_named, run_with, run_of, runs_of, run_ids}
+use Rattle.pgo_heads.specs.BoundOf.{GlobalStart, global_of, globals_of, places_of, first_place, first_places, function_at, instances_of, expression_of, start_of, bound_by}
+use Rattle.pgo_heads.specs.Refusals.{heads_refused}
 use Rattle.pgo_bind.specs.State.{AreDifferent, IsState, IsFunctionOn, value_name, names_with, names_or_none, own_names, id_of, kind_in}
 use Rattle.pgo_bind.specs.Sound.{WellNamed}
 use Rattle.pgo_bind.proofs.Among.{IsAmong, among_append, among_nth, among_map, among_filter_map, from_map, from_filter_map}

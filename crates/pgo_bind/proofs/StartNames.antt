@@ -12,8 +12,8 @@ use Rattle.pgo_syntax.specs.declared.process.Argument.{Argument}
 use Rattle.pgo_syntax.specs.declared.process.Argument.TheVariants as arguments
 use Rattle.pgo_syntax.specs.declared.process.Process.{Process}
 use Rattle.pgo_syntax.specs.declared.spec.Spec.{Spec}
-use Rattle.pgo_bind.specs.Runs.{Run, Handed, handed_from, archetype_named, run_with, run_of, runs_of}
-use Rattle.pgo_bind.specs.BoundOf.{GlobalStart, global_of, globals_of, global_value, own_argument, own_start, locals_of, first_places, start_of}
+use Rattle.pgo_heads.specs.Runs.{Run, Handed, handed_from, archetype_named, run_with, run_of, runs_of}
+use Rattle.pgo_heads.specs.BoundOf.{GlobalStart, global_of, globals_of, global_value, own_argument, own_start, locals_of, first_places, start_of}
 use Rattle.pgo_bind.specs.State.{value_name, names_with, names_or_none, own_names, variables_of}
 
 abbrev pub name_of : Name × Data → Name

@@ -7,10 +7,10 @@ use Rattle.pgo_base.specs.Order.{data_cmp}
 use Rattle.pgo_base.specs.Exact.{data_itself}
 use Rattle.pgo_base.specs.Total.{data_total}
 use Rattle.pgo_model.specs.Operators.{same_data, lookup}
-use Rattle.pgo_bind.specs.Runs.{Run, run_ids, all_ids}
-use Rattle.pgo_bind.specs.BoundOf.{places_of, places_of_run, first_place, first_label}
-use Rattle.pgo_bind.specs.Refusals.{ordered, repeated, repeated_behind}
-use Rattle.pgo_bind.proofs.Ordered.{AtMost, Rises, rises_ordered, times, times_ordered, one_if, itself}
+use Rattle.pgo_heads.specs.Runs.{Run, run_ids, all_ids}
+use Rattle.pgo_heads.specs.BoundOf.{places_of, places_of_run, first_place, first_label}
+use Rattle.pgo_heads.specs.Refusals.{ordered, repeated, repeated_behind}
+use Rattle.pgo_heads.proofs.Ordered.{AtMost, Rises, rises_ordered, times, times_ordered, one_if, itself}
 use Rattle.pgo_bind.proofs.Among.{IsAmong, among_map}
 use Rattle.pgo_bind.proofs.Lookups.{same_of, same_equal}
 use Rattle.pgo_bind.proofs.StartNames.{map-append}

@@ -1,10 +1,10 @@
-pub mod Values
-pub mod Runs
-pub mod BoundOf
-pub mod Refusals
-pub mod Answers
-pub mod Views
-pub mod Kinds
+pub use Rattle.pgo_heads.specs.Values
+pub use Rattle.pgo_heads.specs.Runs
+pub use Rattle.pgo_heads.specs.BoundOf
+pub use Rattle.pgo_heads.specs.Refusals
+pub use Rattle.pgo_heads.specs.Answers
+pub use Rattle.pgo_heads.specs.Views
+pub use Rattle.pgo_heads.specs.Kinds
 pub mod State
 pub mod Declares
 pub mod Sound

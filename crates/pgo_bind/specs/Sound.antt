@@ -16,8 +16,8 @@ use Rattle.pgo_syntax.specs.declared.bound.Resource.{Resource}
 use Rattle.pgo_syntax.specs.declared.declaration.Declaration.{Declaration}
 use Rattle.pgo_syntax.specs.declared.process.Process.{Process}
 use Rattle.pgo_syntax.specs.declared.spec.Spec.{Spec}
-use Rattle.pgo_bind.specs.declared.kinds.Kind.TheVariants.{ByElement}
-use Rattle.pgo_bind.specs.Runs.{archetype_named}
+use Rattle.pgo_heads.specs.declared.kinds.Kind.TheVariants.{ByElement}
+use Rattle.pgo_heads.specs.Runs.{archetype_named}
 use Rattle.pgo_bind.specs.State.{AreDifferent, IsState, id_of, kind_in, own_names, variables_of}
 use Rattle.pgo_bind.specs.Declares.{value_in}
 

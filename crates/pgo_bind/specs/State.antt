@@ -19,9 +19,9 @@ use Rattle.pgo_syntax.specs.declared.process.Argument.{Argument}
 use Rattle.pgo_syntax.specs.declared.process.Argument.TheVariants as arguments
 use Rattle.pgo_syntax.specs.declared.process.Process.{Process}
 use Rattle.pgo_syntax.specs.declared.spec.Spec.{Spec}
-use Rattle.pgo_bind.specs.declared.kinds.Kind.{Kind}
-use Rattle.pgo_bind.specs.declared.kinds.Kind.TheVariants.{ByElement}
-use Rattle.pgo_bind.specs.Runs.{Handed, handed_from, archetype_named, kind_of_extents}
+use Rattle.pgo_heads.specs.declared.kinds.Kind.{Kind}
+use Rattle.pgo_heads.specs.declared.kinds.Kind.TheVariants.{ByElement}
+use Rattle.pgo_heads.specs.Runs.{Handed, handed_from, archetype_named, kind_of_extents}
 
 -- no two of these names are one
 abbrev pub AreDifferent : List Name → Type 0

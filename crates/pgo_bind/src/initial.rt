@@ -3,23 +3,23 @@ ghost use Rattle.std.specs.Prelude.{◌≡◌, ◌++◌, map, option_map, IfOk};
 ghost use Rattle.std.specs.List.{filter_map, flat_map};
 ghost use Rattle.pgo_base.specs.View.{data_of};
 ghost use Rattle.pgo_base.specs.ExprView.{tree};
-ghost use Rattle.pgo_bind.specs.Answers.{Passes};
-ghost use Rattle.pgo_bind.specs.Refusals as specs;
-ghost use Rattle.pgo_bind.specs.Runs.{is_some_item};
-ghost use Rattle.pgo_bind.specs.Values.{is_empty};
-ghost use Rattle.pgo_bind.specs.Views.{start_view, handed_view, run_view, global_view, finding_view};
-ghost use Rattle.pgo_bind.specs.declared.errors.BindError.TheVariants as errors;
+ghost use Rattle.pgo_heads.specs.Answers.{Passes};
+ghost use Rattle.pgo_heads.specs.Refusals as specs;
+ghost use Rattle.pgo_heads.specs.Runs.{is_some_item};
+ghost use Rattle.pgo_heads.specs.Values.{is_empty};
+ghost use Rattle.pgo_heads.specs.Views.{start_view, handed_view, run_view, global_view, finding_view};
+ghost use Rattle.pgo_heads.specs.declared.errors.BindError.TheVariants as errors;
 
-use crate::errors::BindError;
-use crate::globals::GlobalStart;
-use crate::runs::{Handed, Run};
-use crate::values::{
-    Start, argument_start, closed_value, default_value, is_unset, start_in, start_of_value,
-};
+use crate::values::{argument_start, closed_value, start_in};
 use pgo_base::expr::Expr;
 use pgo_base::module::Defs;
 use pgo_base::text::Text;
 use pgo_base::value::Value;
+use pgo_heads::errors::BindError;
+use pgo_heads::findings::{Finding, Lack};
+use pgo_heads::globals::GlobalStart;
+use pgo_heads::runs::{Handed, Run};
+use pgo_heads::start_values::{Start, default_value, is_unset, start_of_value};
 use pgo_operands::mentions::mentions;
 use pgo_syntax::archetype::Archetype;
 use pgo_syntax::binding::Origin;
@@ -27,22 +27,6 @@ use pgo_syntax::declaration::Declaration;
 use pgo_syntax::name::PlacedName;
 use pgo_syntax::process::Argument;
 use std::alloc::{AllocError, Global};
-
-/// What is wrong with the set behind `\in`.
-#[derive(Clone, Copy, Debug, PartialEq, Eq)]
-pub enum Lack {
-    /// There is none.
-    NoSet,
-    /// It is empty.
-    NoMember,
-}
-
-/// A name, with its place in the text.
-#[derive(Clone, Copy)]
-pub struct Finding<'a> {
-    pub place: u32,
-    pub name: &'a Text,
-}
 
 /// The one that stands first in the text.
 fn earlier<'a>(a: Option<Finding<'a>>, b: Option<Finding<'a>>) -> Option<Finding<'a>>

@@ -1,17 +1,13 @@
 // A specification that is bound to constants: its instances, its resources and its starting state.
+//
+// What takes values as given stands in `pgo_heads`. Here expressions are evaluated: the identifiers of processes and what
+// variables start with. On these stands `bind::bind`, with the laws of what it answers.
 #![tactic(auto)]
 
 pub mod bind;
-mod constants;
 pub mod errors;
-mod fitting;
 mod globals;
-mod identifiers;
 mod initial;
-mod instances;
-mod kinds;
-mod known;
-mod mapping;
 mod runs;
 mod start;
 mod values;

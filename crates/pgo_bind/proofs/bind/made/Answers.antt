@@ -1,6 +1,6 @@
 use Rattle.std.proofs.Common.{◌≤◌, map, sym, subst}
-use Rattle.pgo_bind.specs.Views.{run_view}
-use Rattle.pgo_bind.proofs.Numbered.{length_places}
+use Rattle.pgo_heads.specs.Views.{run_view}
+use Rattle.pgo_heads.proofs.Numbered.{length_places}
 use Rattle.pgo_bind.proofs.bind.made.Goals as goal
 
 pub instances_of-requires : goal.instances_of-requires

@@ -1,9 +1,0 @@
-use Rattle.std.proofs.Common.{◌≡◌, ℕ, suc, ◌+◌, ◌≤◌, List, ◌++◌, length, map, drop, None, option_map}
-use Rattle.pgo_base.specs.View.{data_of, named_data, pair_of}
-use Rattle.pgo_bind.specs.Views.{start_view, handed_view, run_view, global_view, part_view}
-use Rattle.pgo_bind.specs.BoundOf as bound
-use Rattle.pgo_bind.proofs.globals.add_globals.Given as goal
-
-abbrev pub invariant-loop-g : goal.invariant-loop-g
-invariant-loop-g l =
-    map named_data l.fn.list.items ++ map bound.global_value (map global_view l.globals) ≡ map named_data l.list.items ++ map bound.global_value (map global_view (drop l.g-index l.globals))

@@ -1,7 +1,0 @@
-use Rattle.std.proofs.Common.{◌≡◌, ℕ, suc, ◌+◌, ◌≤◌, List, ◌++◌, length, map, drop, None, option_map}
-use Rattle.pgo_base.specs.View.{data_of, named_data, pair_of}
-use Rattle.pgo_bind.proofs.identifiers.add_ids.Given as goal
-
-abbrev pub invariant-loop-id : goal.invariant-loop-id
-invariant-loop-id l =
-    map data_of l.fn.list.items ++ map data_of l.ids ≡ map data_of l.list.items ++ map data_of (drop l.id-index l.ids)

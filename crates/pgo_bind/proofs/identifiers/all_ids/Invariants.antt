@@ -1,9 +1,0 @@
-use Rattle.std.proofs.Common.{◌≡◌, ℕ, suc, ◌+◌, ◌≤◌, List, ◌++◌, length, map, drop, None, option_map}
-use Rattle.pgo_base.specs.View.{data_of, named_data, pair_of}
-use Rattle.pgo_bind.specs.Views.{start_view, handed_view, run_view, global_view, part_view, finding_view}
-use Rattle.pgo_bind.specs.Runs.{all_ids}
-use Rattle.pgo_bind.proofs.identifiers.all_ids.Given as goal
-
-abbrev pub invariant-loop-r : goal.invariant-loop-r
-invariant-loop-r l =
-    all_ids (map run_view l.runs) ≡ map data_of l.list.items ++ all_ids (map run_view (drop l.r-index l.runs))

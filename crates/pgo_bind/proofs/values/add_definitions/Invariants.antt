@@ -1,7 +1,0 @@
-use Rattle.std.proofs.Common.{◌≡◌, ℕ, suc, ◌+◌, ◌≤◌, List, ◌++◌, length, map, drop, None, option_map}
-use Rattle.pgo_bind.specs.Values as values
-use Rattle.pgo_bind.proofs.values.add_definitions.Given as goal
-
-abbrev pub invariant-loop-d : goal.invariant-loop-d
-invariant-loop-d l =
-    l.fn.defs ++ map values.meant l.definitions ≡ l.defs ++ map values.meant (drop l.d-index l.definitions)

@@ -1,0 +1,9 @@
+use Rattle.std.proofs.Common.{◌≡◌, ℕ, suc, ◌+◌, ◌≤◌, List, ◌++◌, length, map, drop, None, option_map}
+use Rattle.pgo_base.specs.View.{data_of, named_data, pair_of}
+use Rattle.pgo_heads.specs.Values as values
+use Rattle.std.specs.List.{filter_map, flat_map}
+use Rattle.pgo_heads.proofs.definitions.add_constants.Given as goal
+
+abbrev pub invariant-loop-c : goal.invariant-loop-c
+invariant-loop-c l =
+    l.fn.defs ++ filter_map (values.given_constant (map named_data l.consts)) l.declared ≡ l.defs ++ filter_map (values.given_constant (map named_data l.consts)) (drop l.c-index l.declared)

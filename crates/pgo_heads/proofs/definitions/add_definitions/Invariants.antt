@@ -1,0 +1,7 @@
+use Rattle.std.proofs.Common.{◌≡◌, ℕ, suc, ◌+◌, ◌≤◌, List, ◌++◌, length, map, drop, None, option_map}
+use Rattle.pgo_heads.specs.Values as values
+use Rattle.pgo_heads.proofs.definitions.add_definitions.Given as goal
+
+abbrev pub invariant-loop-d : goal.invariant-loop-d
+invariant-loop-d l =
+    l.fn.defs ++ map values.meant l.definitions ≡ l.defs ++ map values.meant (drop l.d-index l.definitions)

@@ -1,0 +1,11 @@
+use Rattle.std.proofs.Common.{◌≡◌, ℕ, suc, ◌+◌, ◌≤◌, List, ◌++◌, length, map, drop, None, option_map}
+use Rattle.pgo_heads.specs.Views.{start_view, handed_view, run_view, global_view, part_view}
+use Rattle.pgo_heads.specs.BoundOf as bound
+use Rattle.pgo_heads.proofs.instances.instances_of.Given as goal
+
+abbrev pub invariant-loop-r : goal.invariant-loop-r
+invariant-loop-r l =
+    record {
+      same : bound.numbered (bound.instance_at l.spec) 0 (bound.places_of (map run_view l.runs)) ≡ l.list.items ++ bound.numbered (bound.instance_at l.spec) (length l.list.items) (bound.places_of (map run_view (drop l.r-index l.runs)));
+      few : length l.list.items + length (bound.places_of (map run_view (drop l.r-index l.runs))) ≤ 64;
+    }
