@@ -1,5 +1,6 @@
 // Forms made from the values of their parts.
-ghost use Rattle.std.specs.Prelude.{◌≡◌, map, option_map, option_and_then, IfOk};
+ghost use Rattle.std.specs.Prelude.{◌≡◌, List, map, Option, option_map, option_and_then, IfOk};
+ghost use Rattle.pgo_base.specs.Data.{Data};
 ghost use Rattle.pgo_base.specs.View.{data_of, pair_of};
 ghost use Rattle.pgo_model.specs.Operators.{both, set_from, function_from, sequence};
 ghost use Rattle.pgo_model.specs.FunctionSets.{product_choices, function_choices, record_choices};
@@ -15,17 +16,26 @@ use pgo_sets::sequences::sequence_of;
 use std::alloc::{AllocError, Global};
 
 /// What an expression with this value comes to.
-pub fn plainly<'a>(v: Option<Held<'a>>) -> Option<Evaluated<'a>>
-    ensures { sem_of result ≡ plain (option_map held_data v.entry) }
+pub fn plainly<'a>(
+    v: Result<Option<Held<'a>>, AllocError>,
+) -> Result<Option<Evaluated<'a>>, AllocError>
+    ensures { (d : Option Data) → IfOk v.entry (λ h. option_map held_data h ≡ d) → IfOk result (λ o. sem_of o ≡ plain d) }
 {
-    match v {
-        Some(v) => Some(Evaluated::OfValue(v)),
-        None => None,
+    match v? {
+        Some(v) => Ok(Some(Evaluated::OfValue(v))),
+        None => Ok(None),
     }
 }
 
 /// What an expression with this value of its own comes to.
-pub fn owning<'a>(v: Option<Value>) -> Option<Evaluated<'a>>
+pub fn owning<'a>(v: Result<Option<Value>, AllocError>) -> Result<Option<Evaluated<'a>>, AllocError>
+    ensures { (d : Option Data) → IfOk v (λ x. option_map data_of x ≡ d) → IfOk result (λ o. sem_of o ≡ plain d) }
+{
+    Ok(with_value(v?))
+}
+
+/// The same, where there was memory for the value.
+pub fn with_value<'a>(v: Option<Value>) -> Option<Evaluated<'a>>
     ensures { sem_of result ≡ plain (option_map data_of v) }
 {
     match v {
@@ -55,50 +65,66 @@ pub fn range<'a>(a: Option<Held<'a>>, b: Option<Held<'a>>) -> Option<Evaluated<'
 }
 
 /// `[a -> b]`.
-pub fn functions<'a>(a: Option<Held<'a>>, b: Option<Held<'a>>) -> Option<Evaluated<'a>>
-    ensures { sem_of result ≡ functions_sem (both function_choices (option_map held_data a.entry) (option_map held_data b.entry)) }
+pub fn functions<'a>(
+    a: Result<Option<Held<'a>>, AllocError>,
+    b: Result<Option<Held<'a>>, AllocError>,
+) -> Result<Option<Evaluated<'a>>, AllocError>
+    ensures { (d e : Option Data) → IfOk a.entry (λ h. option_map held_data h ≡ d) → IfOk b.entry (λ h. option_map held_data h ≡ e)
+        → IfOk result (λ o. sem_of o ≡ functions_sem (both function_choices d e)) }
 {
-    match (a, b) {
-        (Some(a), Some(b)) => Some(Evaluated::Functions(a, b)),
-        _ => None,
+    match (a?, b?) {
+        (Some(a), Some(b)) => Ok(Some(Evaluated::Functions(a, b))),
+        _ => Ok(None),
     }
 }
 
 /// The product of these sets.
-pub fn product<'a>(factors: Option<Vec<Value>>) -> Option<Evaluated<'a>>
-    ensures { sem_of result ≡ functions_sem (option_and_then product_choices (option_map (λ vs. map data_of vs.items) factors)) }
+pub fn product<'a>(
+    factors: Result<Option<Vec<Value>>, AllocError>,
+) -> Result<Option<Evaluated<'a>>, AllocError>
+    ensures { (d : Option (List Data)) → IfOk factors (λ f. option_map (λ vs. map data_of vs.items) f ≡ d)
+        → IfOk result (λ o. sem_of o ≡ functions_sem (option_and_then product_choices d)) }
 {
-    match factors {
-        Some(factors) => Some(Evaluated::Product(factors)),
-        None => None,
+    match factors? {
+        Some(factors) => Ok(Some(Evaluated::Product(factors))),
+        None => Ok(None),
     }
 }
 
 /// `[k : s, ..]`.
-pub fn records<'a>(fields: Option<Vec<(Value, Value)>>) -> Option<Evaluated<'a>>
-    ensures { sem_of result ≡ functions_sem (option_and_then record_choices (option_map (λ ps. map pair_of ps.items) fields)) }
+pub fn records<'a>(
+    fields: Result<Option<Vec<(Value, Value)>>, AllocError>,
+) -> Result<Option<Evaluated<'a>>, AllocError>
+    ensures { (d : Option (List (Data × Data))) → IfOk fields (λ f. option_map (λ ps. map pair_of ps.items) f ≡ d)
+        → IfOk result (λ o. sem_of o ≡ functions_sem (option_and_then record_choices d)) }
 {
-    match fields {
-        Some(fields) => Some(Evaluated::Records(fields)),
-        None => None,
+    match fields? {
+        Some(fields) => Ok(Some(Evaluated::Records(fields))),
+        None => Ok(None),
     }
 }
 
 /// `[k |-> v, ..]`.
-pub fn record<'a>(fields: Option<Vec<(Value, Value)>>) -> Result<Option<Held<'a>>, AllocError>
-    ensures { IfOk result (λ o. option_map held_data o ≡ option_and_then function_from (option_map (λ ps. map pair_of ps.items) fields)) }
+pub fn record<'a>(
+    fields: Result<Option<Vec<(Value, Value)>>, AllocError>,
+) -> Result<Option<Held<'a>>, AllocError>
+    ensures { (d : Option (List (Data × Data))) → IfOk fields (λ f. option_map (λ ps. map pair_of ps.items) f ≡ d)
+        → IfOk result (λ o. option_map held_data o ≡ option_and_then function_from d) }
 {
-    match fields {
+    match fields? {
         Some(fields) => held_or_none(function_of(fields)),
         None => Ok(None),
     }
 }
 
 /// `{v, ..}`.
-pub fn set<'a>(members: Option<Vec<Value>>) -> Result<Option<Held<'a>>, AllocError>
-    ensures { IfOk result (λ o. option_map held_data o ≡ option_and_then set_from (option_map (λ vs. map data_of vs.items) members)) }
+pub fn set<'a>(
+    members: Result<Option<Vec<Value>>, AllocError>,
+) -> Result<Option<Held<'a>>, AllocError>
+    ensures { (d : Option (List Data)) → IfOk members (λ m. option_map (λ vs. map data_of vs.items) m ≡ d)
+        → IfOk result (λ o. option_map held_data o ≡ option_and_then set_from d) }
 {
-    match members {
+    match members? {
         Some(members) => held_or_none(set_of(members)),
         None => Ok(None),
     }
@@ -107,11 +133,12 @@ pub fn set<'a>(members: Option<Vec<Value>>) -> Result<Option<Held<'a>>, AllocErr
 /// `<<v, ..>>`.
 pub fn tuple<'a>(
     alloc: Global,
-    elements: Option<Vec<Value>>,
+    elements: Result<Option<Vec<Value>>, AllocError>,
 ) -> Result<Option<Held<'a>>, AllocError>
-    ensures { IfOk result (λ o. option_map held_data o ≡ option_and_then sequence (option_map (λ vs. map data_of vs.items) elements)) }
+    ensures { (d : Option (List Data)) → IfOk elements (λ m. option_map (λ vs. map data_of vs.items) m ≡ d)
+        → IfOk result (λ o. option_map held_data o ≡ option_and_then sequence d) }
 {
-    match elements {
+    match elements? {
         Some(elements) => held_or_none(sequence_of(alloc, elements)),
         None => Ok(None),
     }

@@ -1,5 +1,6 @@
 // The value of an expression, form by form.
-ghost use Rattle.std.specs.Prelude.{◌≡◌, map, option_map, option_and_then, IfOk};
+ghost use Rattle.std.specs.Prelude.{◌≡◌, map, Some, option_map, option_and_then, IfOk};
+ghost use Rattle.pgo_base.specs.Data.{string};
 ghost use Rattle.pgo_base.specs.ExprView.{tree, named_tree};
 ghost use Rattle.pgo_base.specs.Tree.{trees, named, binary, index, field};
 ghost use Rattle.pgo_base.specs.View.{data_of, pair_of};
@@ -49,44 +50,45 @@ pub fn evaluated<'a>(
     ensures { IfOk result (λ o. sem_of o ≡ sem (tree e.now) (scope_view s.now)) }
 {
     match e {
-        Expr::Name(x) => Ok(plainly(named_value(alloc, x, s)?)),
-        Expr::Primed(x) => Ok(plainly(primed_value(x, s))),
-        Expr::Number(n) => Ok(owning(Some(Value::Int(*n)))),
-        Expr::Text(t) => Ok(owning(Some(Value::Str(t.copy(alloc)?)))),
-        Expr::Truth(b) => Ok(owning(Some(Value::Bool(*b)))),
-        Expr::At => Ok(plainly(s.part.map(Held::Lent))),
+        Expr::Name(x) => plainly(named_value(alloc, x, s)),
+        Expr::Primed(x) => plainly(Ok(primed_value(x, s))),
+        Expr::Number(n) => owning(Ok(Some(Value::Int(*n)))),
+        Expr::Text(t) => owning(string_value(alloc, t)),
+        Expr::Truth(b) => owning(Ok(Some(Value::Bool(*b)))),
+        Expr::At => plainly(Ok(s.part.map(Held::Lent))),
         Expr::Word(w) => Ok(Some(Evaluated::OfWord(*w))),
         Expr::Prefix(op, a) => prefixed(alloc, *op, held(alloc, a.get(), s)?),
         Expr::Infix(op, a, b) => infix(alloc, *op, a.get(), b.get(), s),
-        Expr::Product(list) => Ok(product(values(alloc, list.as_slice(), s)?)),
-        Expr::If(p, a, b) => Ok(plainly(conditional(alloc, p.get(), a.get(), b.get(), s)?)),
-        Expr::Case(arms) => Ok(plainly(case_value(alloc, arms.as_slice(), None, s)?)),
-        Expr::CaseOther(arms, e) => {
-            Ok(plainly(case_value(alloc, arms.as_slice(), Some(e.get()), s)?))
-        }
-        Expr::Let(named, e) => Ok(owning(let_value(alloc, named.as_slice(), e.get(), s)?)),
+        Expr::Product(list) => product(values(alloc, list.as_slice(), s)),
+        Expr::If(p, a, b) => plainly(conditional(alloc, p.get(), a.get(), b.get(), s)),
+        Expr::Case(arms) => plainly(case_value(alloc, arms.as_slice(), None, s)),
+        Expr::CaseOther(arms, e) => plainly(case_value(alloc, arms.as_slice(), Some(e.get()), s)),
+        Expr::Let(named, e) => owning(let_value(alloc, named.as_slice(), e.get(), s)),
         Expr::Quantified(q, binders, p) => {
-            Ok(owning(quantified(alloc, *q, binders.as_slice(), p.get(), s)?))
+            owning(quantified(alloc, *q, binders.as_slice(), p.get(), s))
         }
-        Expr::Choose(x, r, p) => Ok(owning(chosen(alloc, x, r.get(), p.get(), s)?)),
-        Expr::Tuple(list) => Ok(plainly(tuple(alloc, values(alloc, list.as_slice(), s)?)?)),
-        Expr::SetOf(list) => Ok(plainly(set(values(alloc, list.as_slice(), s)?)?)),
-        Expr::Filter(x, r, p) => Ok(owning(filtered(alloc, x, r.get(), p.get(), s)?)),
-        Expr::Image(e, x, r) => Ok(owning(image(alloc, e.get(), x, r.get(), s)?)),
-        Expr::FunOf(binders, e) => {
-            Ok(owning(function_value(alloc, binders.as_slice(), e.get(), s)?))
-        }
-        Expr::FunSet(a, b) => Ok(functions(held(alloc, a.get(), s)?, held(alloc, b.get(), s)?)),
-        Expr::Record(named) => Ok(plainly(record(fields(alloc, named.as_slice(), s)?)?)),
-        Expr::RecordSet(named) => Ok(records(fields(alloc, named.as_slice(), s)?)),
-        Expr::Except(f, updates) => {
-            Ok(owning(except_value(alloc, f.get(), updates.as_slice(), s)?))
-        }
-        Expr::Index(f, list) => Ok(plainly(index_value(alloc, f.get(), list.as_slice(), s)?)),
-        Expr::Field(r, x) => Ok(plainly(field_value(alloc, r.get(), x, s)?)),
-        Expr::Call(x, list) => Ok(plainly(call_value(alloc, x, list.as_slice(), s)?)),
-        Expr::Unchanged(names) => Ok(owning(unchanged_value(names.as_slice(), s))),
+        Expr::Choose(x, r, p) => owning(chosen(alloc, x, r.get(), p.get(), s)),
+        Expr::Tuple(list) => plainly(tuple(alloc, values(alloc, list.as_slice(), s))),
+        Expr::SetOf(list) => plainly(set(values(alloc, list.as_slice(), s))),
+        Expr::Filter(x, r, p) => owning(filtered(alloc, x, r.get(), p.get(), s)),
+        Expr::Image(e, x, r) => owning(image(alloc, e.get(), x, r.get(), s)),
+        Expr::FunOf(binders, e) => owning(function_value(alloc, binders.as_slice(), e.get(), s)),
+        Expr::FunSet(a, b) => functions(held(alloc, a.get(), s), held(alloc, b.get(), s)),
+        Expr::Record(named) => plainly(record(fields(alloc, named.as_slice(), s))),
+        Expr::RecordSet(named) => records(fields(alloc, named.as_slice(), s)),
+        Expr::Except(f, updates) => owning(except_value(alloc, f.get(), updates.as_slice(), s)),
+        Expr::Index(f, list) => plainly(index_value(alloc, f.get(), list.as_slice(), s)),
+        Expr::Field(r, x) => plainly(field_value(alloc, r.get(), x, s)),
+        Expr::Call(x, list) => plainly(call_value(alloc, x, list.as_slice(), s)),
+        Expr::Unchanged(names) => owning(Ok(unchanged_value(names.as_slice(), s))),
     }
+}
+
+/// A string as a value.
+fn string_value(alloc: Global, text: &Text) -> Result<Option<Value>, AllocError>
+    ensures { IfOk result (λ v. option_map data_of v ≡ Some (string text.now)) }
+{
+    Ok(Some(Value::Str(text.copy(alloc)?)))
 }
 
 /// An operator between its operands; the right one is left where the left one decides.
@@ -102,10 +104,10 @@ fn infix<'a>(
 {
     let a = held(alloc, a, s)?;
     if is_membership(op) {
-        return Ok(owning(from_truth(membership(alloc, a, b, s)?)));
+        return owning(Ok(from_truth(membership(alloc, a, b, s)?)));
     }
     if let Some(t) = decided(op, lent(&a)) {
-        return Ok(owning(Some(Value::Bool(t))));
+        return owning(Ok(Some(Value::Bool(t))));
     }
     let b = held(alloc, b, s)?;
     infixed(alloc, op, a, b)
@@ -198,7 +200,7 @@ fn index_of<'a>(
     if list.len() == 1 {
         return held(alloc, &list[0], s);
     }
-    tuple(alloc, values(alloc, list, s)?)
+    tuple(alloc, values(alloc, list, s))
 }
 
 /// `r.x`.

@@ -7,7 +7,7 @@ ghost use Rattle.pgo_eval.specs.HeldView.{held_data, sem_of};
 ghost use Rattle.pgo_eval.specs.Decided.{decided, is_membership};
 
 use crate::answers::truth;
-use crate::built::{owning, range, subsets};
+use crate::built::{range, subsets, with_value};
 use crate::evaluated::Evaluated;
 use crate::held::{Held, lent};
 use crate::operators::{binary, unary};
@@ -25,7 +25,7 @@ pub fn prefixed<'a>(
 {
     match op {
         Prefix::Powerset => Ok(subsets(a)),
-        _ => Ok(owning(unary(alloc, op, lent(&a))?)),
+        _ => Ok(with_value(unary(alloc, op, lent(&a))?)),
     }
 }
 
@@ -40,7 +40,7 @@ pub fn infixed<'a>(
 {
     match op {
         Infix::Range => Ok(range(a, b)),
-        _ => Ok(owning(binary(alloc, op, lent(&a), lent(&b))?)),
+        _ => Ok(with_value(binary(alloc, op, lent(&a), lent(&b))?)),
     }
 }
 

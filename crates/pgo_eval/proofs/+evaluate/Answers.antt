@@ -8,8 +8,8 @@ use Rattle.pgo_base.specs.ExprView.{tree, named_tree, arm_tree, bound_tree, path
 use Rattle.pgo_base.specs.Tree.{trees, named, arms, bound, paths}
 use Rattle.pgo_base.specs.View.{data_of, pair_of}
 use Rattle.pgo_model.specs.Sequences.{assert}
-use Rattle.pgo_model.specs.Operators.{sequence, members_of, most_members, truth_of, put_at}
-use Rattle.pgo_model.specs.Val.{index_of, values_of, val, sem, plain, unary_sem, binary_sem, case_value, let_scope, with_names, ranges, over_each, updated, with_part}
+use Rattle.pgo_model.specs.Operators.{members_of, most_members, truth_of, put_at}
+use Rattle.pgo_model.specs.Val.{values_of, val, sem, plain, unary_sem, binary_sem, case_value, let_scope, with_names, ranges, over_each, updated, with_part}
 use Rattle.pgo_eval.specs.HeldView.{held_data, sem_of}
 use Rattle.pgo_eval.specs.Decided.{is_membership}
 use Rattle.pgo_eval.specs.ScopeView.{scope_view}
@@ -79,15 +79,14 @@ pub evaluate::index_of-returns : goal.evaluate::index_of-returns
 evaluate::index_of-returns t c =
     let s = scope_view c.args.s.now in
     let many : 2 ≤ length c.args.list.now = grind (arith, nat_tests) in
-    let e : option_and_then sequence (option_map (λ vs. map data_of vs.items) c.in_ok-values.field-0) ≡ option_and_then index_of (values_of (trees (map tree c.args.list.now)) s) =
-    ap (option_and_then sequence) c.in_ok-values.ensures ∙ several c.args.list.now s many in
-    subst (λ x. IfOk c.tuple.result (λ o. option_map held_data o ≡ x)) e c.tuple.ensures
+    subst (λ x. IfOk c.tuple.result (λ o. option_map held_data o ≡ x)) (several c.args.list.now s many) (c.tuple.ensures (values_of (trees (map tree c.args.list.now)) s) c.values.ensures)
 
 pub evaluate::infix-returns-then-is_membership : goal.evaluate::infix-returns-then-is_membership
 evaluate::infix-returns-then-is_membership t c =
     let s = scope_view c.args.s.now in
     let is : is_membership c.args.op ≡ true = sym c.is_membership.ensures ∙ c.if-is_membership.true in
-    c.owning.ensures ∙ ap plain c.from_truth.ensures ∙ membership_holds c.args.op (sem (tree c.args.a.now) s) (sem (tree c.args.b.now) s) (option_map held_data c.in_ok-a.a) c.in_ok-membership.field-0 is c.in_ok-a.ensures c.in_ok-membership.ensures
+    let e = membership_holds c.args.op (sem (tree c.args.a.now) s) (sem (tree c.args.b.now) s) (option_map held_data c.in_ok-a.a) c.in_ok-membership.field-0 is c.in_ok-a.ensures c.in_ok-membership.ensures in
+    subst (λ x. IfOk c.owning.result (λ o. sem_of o ≡ x)) e (c.owning.ensures _ c.from_truth.ensures)
 
 pub evaluate::infix-returns : goal.evaluate::infix-returns
 evaluate::infix-returns t c =
@@ -344,3 +343,33 @@ pub updates::updated-values-requires : goal.updates::updated-values-requires
 updates::updated-values-requires t c =
     let w : trees_weight (trees (map tree c.as_slice.result.now)) ≡ trees_weight (trees c.args.u.now.path) = ap (λ ts. trees_weight (trees ts)) c.as_slice.ensures in
     (omega arith, tt)
+
+pub evaluate::evaluated-returns-in-If : goal.evaluate::evaluated-returns-in-If
+evaluate::evaluated-returns-in-If t c = rw c.in-If.is (c.plainly-in-If.ensures _ (rw c.get-in-If.ensures at rw c.get-in-If-2.ensures at rw c.get-in-If-3.ensures at c.conditional.ensures))
+
+pub evaluate::evaluated-returns-in-Let : goal.evaluate::evaluated-returns-in-Let
+evaluate::evaluated-returns-in-Let t c = rw c.in-Let.is (c.owning-in-Let.ensures _ (rw c.as_slice-in-Let.ensures at rw c.get-in-Let.ensures at c.let_value.ensures))
+
+pub evaluate::evaluated-returns-in-Choose : goal.evaluate::evaluated-returns-in-Choose
+evaluate::evaluated-returns-in-Choose t c = rw c.in-Choose.is (c.owning-in-Choose.ensures _ (rw c.get-in-Choose.ensures at rw c.get-in-Choose-2.ensures at c.chosen.ensures))
+
+pub evaluate::evaluated-returns-in-Tuple : goal.evaluate::evaluated-returns-in-Tuple
+evaluate::evaluated-returns-in-Tuple t c = rw c.in-Tuple.is (c.plainly-in-Tuple.ensures _ (c.tuple.ensures _ (rw c.as_slice-in-Tuple.ensures at c.values-in-Tuple.ensures)))
+
+pub evaluate::evaluated-returns-in-SetOf : goal.evaluate::evaluated-returns-in-SetOf
+evaluate::evaluated-returns-in-SetOf t c = rw c.in-SetOf.is (c.plainly-in-SetOf.ensures _ (c.set.ensures _ (rw c.as_slice-in-SetOf.ensures at c.values-in-SetOf.ensures)))
+
+pub evaluate::evaluated-returns-in-Filter : goal.evaluate::evaluated-returns-in-Filter
+evaluate::evaluated-returns-in-Filter t c = rw c.in-Filter.is (c.owning-in-Filter.ensures _ (rw c.get-in-Filter.ensures at rw c.get-in-Filter-2.ensures at c.filtered.ensures))
+
+pub evaluate::evaluated-returns-in-Image : goal.evaluate::evaluated-returns-in-Image
+evaluate::evaluated-returns-in-Image t c = rw c.in-Image.is (c.owning-in-Image.ensures _ (rw c.get-in-Image.ensures at rw c.get-in-Image-2.ensures at c.image.ensures))
+
+pub evaluate::evaluated-returns-in-FunOf : goal.evaluate::evaluated-returns-in-FunOf
+evaluate::evaluated-returns-in-FunOf t c = rw c.in-FunOf.is (c.owning-in-FunOf.ensures _ (rw c.as_slice-in-FunOf.ensures at rw c.get-in-FunOf.ensures at c.function_value.ensures))
+
+pub evaluate::evaluated-returns-in-Record : goal.evaluate::evaluated-returns-in-Record
+evaluate::evaluated-returns-in-Record t c = rw c.in-Record.is (c.plainly-in-Record.ensures _ (c.«record».ensures _ (rw c.as_slice-in-Record.ensures at c.fields.ensures)))
+
+pub evaluate::evaluated-returns-in-Unchanged : goal.evaluate::evaluated-returns-in-Unchanged
+evaluate::evaluated-returns-in-Unchanged t c = rw c.in-Unchanged.is (c.owning-in-Unchanged.ensures _ (rw c.as_slice-in-Unchanged.ensures at c.unchanged_value.ensures))
