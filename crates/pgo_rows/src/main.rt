@@ -1,7 +1,5 @@
 // Runs sheets of rows on whole specifications, each named by an argument, and prints each row that gives another answer than the one that is
 // wanted, then how many rows there are. What a sheet's rows ask is said by its ending: `commands`, or `bound` for bound systems.
-//
-// A line `include FILE` of a sheet stands for the lines of that file.
 #![tactic(auto)]
 
 mod answer;
@@ -11,19 +9,31 @@ mod described;
 mod failing;
 mod given_text;
 mod output;
-mod sheets;
 mod streams;
 
-use crate::sheets::{Counts, run_file};
+use crate::bound_systems::BoundSystems;
+use crate::commands::Commands;
+use pgo_sheet::files::{Counts, ending, not_run, run_sheet};
+use std::rt::Files;
 use std::{env, io};
 
 fn main(rt: HostRuntime) -> io::Result<()> {
     let mut files = env::args(&rt)?;
     let _name = files.next();
-    let mut all = Counts { rows: 0, wrong: 0 };
+    let mut all = Counts::none();
     for file in files {
         let counts = run_file(&rt, file.as_str())?;
         all.add(&counts);
     }
     println!(rt; "all: {} rows, {} wrong", all.rows, all.wrong)
+}
+
+/// Runs the sheet of a file, by its ending.
+fn run_file<R: Files + AllocGlobal + Print>(rt: &R, file: &str) -> io::Result<Counts> {
+    let alloc = rt.alloc();
+    match ending(file) {
+        "commands" => run_sheet(rt, file, Commands::new(alloc)),
+        "bound" => run_sheet(rt, file, BoundSystems::new(alloc)),
+        _ => not_run(rt, file, "no subject has this ending"),
+    }
 }

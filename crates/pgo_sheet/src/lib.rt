@@ -7,5 +7,6 @@
 #![tactic(auto)]
 
 pub mod escapes;
+pub mod files;
 pub mod sheet;
 pub mod template;

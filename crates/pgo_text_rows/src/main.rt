@@ -14,7 +14,6 @@ mod shapes;
 mod specifications;
 mod spellings;
 mod streams;
-mod tally;
 mod text_builder;
 mod tokens;
 mod word_list;
@@ -26,66 +25,41 @@ use crate::modules::Modules;
 use crate::parts::Parts;
 use crate::specifications::Specifications;
 use crate::streams::Streams;
-use crate::tally::Tally;
 use crate::tokens::TokenLists;
-use std::alloc::Global;
+use pgo_sheet::files::{Counts, ending, not_run, run_sheet};
 use std::rt::Files;
-use std::{env, fs, io};
+use std::{env, io};
 
 fn main(rt: HostRuntime) -> io::Result<()> {
-    let mut all = Tally::new();
-    for file in env::args(&rt)?.skip(1) {
-        let found = run_file(&rt, file.as_str())?;
-        all.add(found);
+    let mut files = env::args(&rt)?;
+    let _name = files.next();
+    let mut all = Counts::none();
+    for file in files {
+        let counts = run_file(&rt, file.as_str())?;
+        all.add(&counts);
     }
-    println!(rt; "{} rows, {} wrong", all.rows, all.wrong)
+    println!(rt; "all: {} rows, {} wrong", all.rows, all.wrong)
 }
 
-/// Runs a sheet; one that can't be read counts as wrong.
-fn run_file<R: Files + Print + AllocGlobal>(rt: &R, file: &str) -> io::Result<Tally> {
-    match fs::read_to_string(rt, file) {
-        Ok(lines) => run_sheet(rt, file, lines.as_str()),
-        Err(_) => {
-            rt.println(format_args!("{file}: is not read"))?;
-            Ok(Tally::one_wrong())
-        }
-    }
-}
-
-/// Runs the rows of a sheet about texts and their tokens, or of one of the others.
-fn run_sheet<R: Files + Print + AllocGlobal>(rt: &R, file: &str, lines: &str) -> io::Result<Tally> {
+/// Runs a sheet about texts and their tokens, or one of the others, by its ending.
+fn run_file<R: Files + AllocGlobal + Print>(rt: &R, file: &str) -> io::Result<Counts> {
     let alloc = rt.alloc();
     match ending(file) {
-        "tokens" => tally::run(rt, alloc, file, lines, TokenLists::new(alloc)),
-        "parts" => tally::run(rt, alloc, file, lines, Parts::new(alloc)),
-        "expressions" => tally::run(rt, alloc, file, lines, Expressions::new(alloc)),
-        "specifications" => tally::run(rt, alloc, file, lines, Specifications::new(alloc)),
-        _ => run_other(rt, file, lines, alloc),
+        "tokens" => run_sheet(rt, file, TokenLists::new(alloc)),
+        "parts" => run_sheet(rt, file, Parts::new(alloc)),
+        "expressions" => run_sheet(rt, file, Expressions::new(alloc)),
+        "specifications" => run_sheet(rt, file, Specifications::new(alloc)),
+        _ => run_other(rt, file),
     }
 }
 
-fn run_other<R: Files + Print>(
-    rt: &R,
-    file: &str,
-    lines: &str,
-    alloc: Global,
-) -> io::Result<Tally> {
+fn run_other<R: Files + AllocGlobal + Print>(rt: &R, file: &str) -> io::Result<Counts> {
+    let alloc = rt.alloc();
     match ending(file) {
-        "labels" => tally::run(rt, alloc, file, lines, Labels::new(alloc)),
-        "modules" => tally::run(rt, alloc, file, lines, Modules::new(alloc)),
-        "counters" => tally::run(rt, alloc, file, lines, Counters::new(alloc)),
-        "streams" => tally::run(rt, alloc, file, lines, Streams::new(alloc)),
-        _ => {
-            rt.println(format_args!("{file}: no subject has this ending"))?;
-            Ok(Tally::one_wrong())
-        }
-    }
-}
-
-/// What stands behind the last dot.
-fn ending(file: &str) -> &str {
-    match file.rsplit_once('.') {
-        Some((_, ending)) => ending,
-        None => "",
+        "labels" => run_sheet(rt, file, Labels::new(alloc)),
+        "modules" => run_sheet(rt, file, Modules::new(alloc)),
+        "counters" => run_sheet(rt, file, Counters::new(alloc)),
+        "streams" => run_sheet(rt, file, Streams::new(alloc)),
+        _ => not_run(rt, file, "no subject has this ending"),
     }
 }

@@ -1,11 +1,9 @@
-// Sheets as files.
-use crate::bound_systems::BoundSystems;
-use crate::commands::Commands;
-use pgo_sheet::sheet::{Sheet, Subject};
+// Sheets as files, which a program of rows is given by their names.
+use crate::sheet::{Sheet, Subject};
 use std::rt::Files;
 use std::{fs, io};
 
-/// How many rows there were, and how many were wrong.
+/// How many rows there were, and how many of them were wrong.
 #[derive(Drop)]
 pub struct Counts {
     pub rows: u64,
@@ -13,44 +11,42 @@ pub struct Counts {
 }
 
 impl Counts {
-    pub fn add(&mut self, other: &Counts) {
-        self.rows = self.rows.saturating_add(other.rows);
-        self.wrong = self.wrong.saturating_add(other.wrong);
+    /// No row.
+    pub fn none() -> Counts {
+        Counts { rows: 0, wrong: 0 }
+    }
+
+    /// Those of another sheet too.
+    pub fn add(&mut self, more: &Counts) {
+        self.rows = self.rows.saturating_add(more.rows);
+        self.wrong = self.wrong.saturating_add(more.wrong);
     }
 }
 
-/// Runs the sheet of a file, by its ending.
-pub fn run_file<R: Files + AllocGlobal + Print>(rt: &R, file: &str) -> io::Result<Counts> {
-    let alloc = rt.alloc();
-    match ending(file) {
-        "commands" => run_sheet(rt, file, Sheet::new(alloc, Commands::new(alloc))),
-        "bound" => run_sheet(rt, file, Sheet::new(alloc, BoundSystems::new(alloc))),
-        _ => not_run(rt, file, "no subject has this ending"),
-    }
-}
-
-/// What stands behind the last point of a file's name.
-fn ending(file: &str) -> &str {
+/// What stands behind the last point of a file's name: what the rows of the sheet are about.
+pub fn ending(file: &str) -> &str {
     match file.rsplit_once('.') {
         Some((_, ending)) => ending,
         None => "",
     }
 }
 
-/// Says why the sheet of a file is not run.
-fn not_run<R: Print>(rt: &R, file: &str, reason: &str) -> io::Result<Counts> {
+/// Says why the sheet of a file is not run, which counts as a wrong row.
+pub fn not_run<R: Print>(rt: &R, file: &str, reason: &str) -> io::Result<Counts> {
     println!(rt; "{file}: {reason}")?;
     Ok(Counts { rows: 0, wrong: 1 })
 }
 
-/// Takes the lines of a file as those of the sheet.
-fn run_sheet<R: Files + AllocGlobal + Print, S: Subject + Drop>(
+/// Takes the lines of a file as those of a sheet on this subject. Prints what is wrong, then how many rows there are. A line
+/// `include FILE` stands for the lines of that file.
+pub fn run_sheet<R: Files + AllocGlobal + Print, S: Subject + Drop>(
     rt: &R,
     file: &str,
-    mut sheet: Sheet<S>,
+    subject: S,
 ) -> io::Result<Counts> {
     match fs::read_to_string(rt, file) {
         Ok(text) => {
+            let mut sheet = Sheet::new(rt.alloc(), subject);
             for line in text.as_str().lines() {
                 take_line(rt, file, line, &mut sheet)?;
             }
