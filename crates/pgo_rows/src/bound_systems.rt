@@ -8,6 +8,7 @@ use pgo_base::value::Value;
 use pgo_counter_read::reader::read_counter;
 use pgo_sheet::escapes::escaped;
 use pgo_sheet::sheet::Subject;
+use pgo_syntax::bound::Bound;
 use pgo_value_text::read::read_value;
 use std::alloc::{AllocError, Global};
 
@@ -92,18 +93,35 @@ impl BoundSystems {
         consts: &Consts,
         wanted: &str,
     ) -> Result<Option<String>, AllocError> {
-        match accept(self.alloc, text, consts) {
-            Ok(bound) => {
-                let lines = described(self.alloc, &bound)?;
-                let lines = String::from_utf8_lossy(self.alloc, lines.as_slice())?;
-                self.wrong_bound(lines.as_str(), wanted)
-            }
-            Err(_) => {
-                let line = refusal_line(self.alloc, text, consts)?;
-                let line = String::from_utf8_lossy(self.alloc, line.as_bytes())?;
-                self.wrong_refusal(line.as_str(), wanted)
-            }
+        match self.bound_lines(text, consts)? {
+            Some(lines) => self.wrong_bound(lines.as_str(), wanted),
+            None => self.wrong_line(text, consts, wanted),
         }
+    }
+
+    /// The lines of the bound system, if the text is accepted.
+    fn bound_lines(&self, text: &[u8], consts: &Consts) -> Result<Option<String>, AllocError> {
+        match accept(self.alloc, text, consts) {
+            Ok(bound) => self.lines_of(&bound),
+            Err(_) => Ok(None),
+        }
+    }
+
+    fn lines_of(&self, bound: &Bound) -> Result<Option<String>, AllocError> {
+        let lines = described(self.alloc, bound)?;
+        Ok(Some(String::from_utf8_lossy(self.alloc, lines.as_slice())?))
+    }
+
+    /// The line that refuses the text, where another or none is wanted.
+    fn wrong_line(
+        &self,
+        text: &[u8],
+        consts: &Consts,
+        wanted: &str,
+    ) -> Result<Option<String>, AllocError> {
+        let line = refusal_line(self.alloc, text, consts)?;
+        let line = String::from_utf8_lossy(self.alloc, line.as_bytes())?;
+        self.wrong_refusal(line.as_str(), wanted)
     }
 
     /// The lines of a bound system, where they or any are not wanted.
