@@ -1,6 +1,7 @@
 // Bundles: what is read from a text of named parts, of which a row changes some.
 use crate::answers::other_than;
 use crate::logs::part_of;
+use pgo_base::log::Log;
 use pgo_log_text::bundle_reader::read_bundle;
 use pgo_log_text::errors::LogStop;
 use pgo_sheet::sheet::{Subject, halves};
@@ -31,12 +32,17 @@ impl Bundles {
         let text = self.text.changed(self.changes.as_slice())?;
         let bundle = text.as_str().strip_suffix("\n").unwrap_or("");
         match read_bundle(self.alloc, bundle.as_bytes()) {
-            Ok((_, _, log)) => match self.part.as_str() {
-                "" => String::from_str(self.alloc, "read"),
-                part => part_of(self.alloc, &log, part),
-            },
+            Ok(read) => self.shown(&read.2),
             Err(LogStop::BadLog) => String::from_str(self.alloc, "refused"),
             Err(LogStop::NoMemory) => Err(AllocError),
+        }
+    }
+
+    /// The part of a log that is asked for.
+    fn shown(&self, log: &Log) -> Result<String, AllocError> {
+        match self.part.as_str() {
+            "" => String::from_str(self.alloc, "read"),
+            part => part_of(self.alloc, log, part),
         }
     }
 

@@ -58,8 +58,13 @@ fn chain(alloc: Global, count: u32) -> Result<Stmt, AllocError> {
 
 /// How many branches its copy has.
 fn branches_of_copy(alloc: Global, count: u32) -> Result<String, AllocError> {
-    let copy = chain(alloc, count)?.copy(alloc)?;
-    match &copy {
+    let whole = chain(alloc, count)?;
+    let copy = whole.copy(alloc)?;
+    branches_of(alloc, &copy)
+}
+
+fn branches_of(alloc: Global, s: &Stmt) -> Result<String, AllocError> {
+    match s {
         Stmt::If(_, branches) => format!(in alloc; "{} branches", branches.as_slice().len()),
         _ => String::from_str(alloc, "no if"),
     }
@@ -78,8 +83,13 @@ fn blocks(alloc: Global, count: u32) -> Result<Stmt, AllocError> {
 
 /// The place of its copy.
 fn place_of_copy(alloc: Global, count: u32) -> Result<String, AllocError> {
-    let copy = blocks(alloc, count)?.copy(alloc)?;
-    format!(in alloc; "at {}", copy.place())
+    let whole = blocks(alloc, count)?;
+    let copy = whole.copy(alloc)?;
+    place_of(alloc, &copy)
+}
+
+fn place_of(alloc: Global, s: &Stmt) -> Result<String, AllocError> {
+    format!(in alloc; "at {}", s.place())
 }
 
 /// The set of the set of .. of the empty set, this deep.
