@@ -15,10 +15,10 @@ use Rattle.pgo_scope.specs.Unknown.{unknown_use, unknown_heads}
 use Rattle.pgo_labels.specs.declared.finding.Finding.{Finding}
 use Rattle.pgo_labels.specs.Refusal.{label_refusal}
 use Rattle.pgo_labels.specs.Rules.{needs_label, label_in_with, label_in_macro, label_in_mapping, unknown_label, label_twice, reserved_done, yield_rule, too_many_labels}
-use Rattle.pgo_bind.specs.Refusals.{bind_refusal}
-use Rattle.pgo_bind.specs.Sound.{WellNamed}
-use Rattle.pgo_bind.specs.State.{variables_of}
-use Rattle.pgo_bind.proofs.Among.{none_right}
+use Rattle.pgo_bound.specs.Sound.{WellNamed}
+use Rattle.pgo_bound.specs.State.{variables_of}
+use Rattle.pgo_bound.specs.Among.{none_right}
+use Rattle.pgo_heads.specs.Refusals.{bind_refusal}
 use Rattle.pgo_accept.proofs.Unbroken.{names_kept, first_label_rule}
 use Rattle.pgo_accept.proofs.Counted.{different, one_place}
 use Rattle.pgo_accept.proofs.Heads.{has_archetype}

@@ -4,7 +4,7 @@ use Rattle.std.specs.List.{AllByRecursion}
 use Rattle.pgo_base.specs.Lookup.{Name, same_name}
 use Rattle.pgo_model.specs.Machine.{nth}
 use Rattle.pgo_model.specs.Names.{same_name-self}
-use Rattle.pgo_bind.specs.State.{AreDifferent}
+use Rattle.pgo_bound.specs.State.{AreDifferent}
 
 abbrev pub one_if : Bool → ℕ
 one_if true = 1

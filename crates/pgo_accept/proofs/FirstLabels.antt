@@ -11,8 +11,8 @@ use Rattle.pgo_labels.specs.Inside.{Item, with_inside}
 use Rattle.pgo_labels.specs.Labels.{last_before}
 use Rattle.pgo_labels.specs.Jumps.{unlabeled_places, behind_jumps, jumps, loop_of, in_block}
 use Rattle.pgo_labels.specs.Rules.{found_at, labels, missing, needs_label}
-use Rattle.pgo_bind.specs.Runs.{archetype_named}
-use Rattle.pgo_bind.proofs.Among.{none_left, none_right, empty_map}
+use Rattle.pgo_bound.specs.Runs.{archetype_named}
+use Rattle.pgo_bound.specs.Among.{none_left, none_right, empty_map}
 
 abbrev pub BeginsLabeled : List Item → Type 0
 BeginsLabeled b = (l : PlacedName) × (t : Statement) × (rest : List Item) × (b ≡ (Some l, t) ∷ rest)

@@ -12,13 +12,13 @@ use Rattle.pgo_syntax.specs.declared.process.Argument.{Argument}
 use Rattle.pgo_syntax.specs.declared.process.Argument.TheVariants as arguments
 use Rattle.pgo_syntax.specs.declared.process.Process.{Process}
 use Rattle.pgo_syntax.specs.declared.spec.Spec.{Spec}
+use Rattle.pgo_bound.specs.Values.{defs_of}
+use Rattle.pgo_bound.specs.Runs.{Run, Handed, handed_from, archetype_named, run_with, run_of, runs_of}
+use Rattle.pgo_bound.specs.BoundOf.{GlobalStart, globals_of}
+use Rattle.pgo_bound.specs.Among.{none_left, none_right, empty_map}
 use Rattle.pgo_heads.specs.declared.errors.BindError.{BindError}
 use Rattle.pgo_heads.specs.declared.errors.BindError.TheVariants as errors
-use Rattle.pgo_bind.specs.Values.{defs_of}
-use Rattle.pgo_bind.specs.Runs.{Run, Handed, handed_from, archetype_named, run_with, run_of, runs_of}
-use Rattle.pgo_bind.specs.BoundOf.{GlobalStart, globals_of}
-use Rattle.pgo_bind.specs.Refusals.{or_next, first, is_bad_argument, is_bad_handed, bad_arguments, bad_clauses, bad_places, bad_mappings, constants_refused, ids_refused, starts_refused, heads_refused, bind_refusal}
-use Rattle.pgo_bind.proofs.Among.{none_left, none_right, empty_map}
+use Rattle.pgo_heads.specs.Refusals.{or_next, first, is_bad_argument, is_bad_handed, bad_arguments, bad_clauses, bad_places, bad_mappings, constants_refused, ids_refused, starts_refused, heads_refused, bind_refusal}
 
 -- a `ref` parameter that is handed a value
 abbrev pub is_stray : ParameterKind → Argument → Bool

@@ -15,8 +15,8 @@ use Rattle.pgo_scope.specs.declared.finding.Finding.{Finding}
 use Rattle.pgo_scope.specs.Findings.{found_if}
 use Rattle.pgo_scope.specs.Unknown.{unknown_in, unknown_arguments, unknown_clauses, unknown_heads}
 use Rattle.pgo_scope.specs.Arity.{or_number, wrong_number, arity_heads}
-use Rattle.pgo_bind.specs.Runs.{archetype_named}
-use Rattle.pgo_bind.proofs.Among.{none_left, none_right}
+use Rattle.pgo_bound.specs.Runs.{archetype_named}
+use Rattle.pgo_bound.specs.Among.{none_left, none_right}
 
 nothing_if : (b : Bool) (p : ℕ) (e : ScopeError) → found_if b p e ≡ [] → b ≡ false
 nothing_if true p e h = absurd (cc)

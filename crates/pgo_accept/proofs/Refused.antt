@@ -4,8 +4,8 @@ use Rattle.pgo_base.specs.Data.{Data}
 use Rattle.pgo_base.specs.Lookup.{Name}
 use Rattle.pgo_syntax.specs.declared.bound.Bound.{Bound}
 use Rattle.pgo_syntax.specs.declared.spec.Spec.{Spec}
-use Rattle.pgo_bind.specs.Answers as bound
-use Rattle.pgo_bind.specs.Refusals.{bind_refusal}
+use Rattle.pgo_heads.specs.Answers as bound
+use Rattle.pgo_heads.specs.Refusals.{bind_refusal}
 use Rattle.pgo_heads.specs.declared.errors.BindError.{BindError}
 use Rattle.pgo_heads.specs.declared.errors.BindError.TheVariants as bind
 use Rattle.pgo_labels.specs.Refusal as labeled

@@ -17,9 +17,9 @@ use Rattle.pgo_syntax.specs.Statement.{skip}
 use Rattle.pgo_scope.specs.declared.errors.ScopeError.TheVariants as scope
 use Rattle.pgo_scope.specs.Refusal.{scope_refusal}
 use Rattle.pgo_labels.specs.Refusal.{label_refusal}
+use Rattle.pgo_bound.specs.State.{variables_of}
 use Rattle.pgo_heads.specs.declared.errors.BindError.TheVariants as bind
-use Rattle.pgo_bind.specs.Refusals.{bind_refusal}
-use Rattle.pgo_bind.specs.State.{variables_of}
+use Rattle.pgo_heads.specs.Refusals.{bind_refusal}
 
 abbrev placed : ℕ → Name → PlacedName
 placed p n = record { name = n; place = p }

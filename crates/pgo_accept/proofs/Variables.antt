@@ -19,8 +19,8 @@ use Rattle.pgo_uses.specs.Tables.{all_definitions}
 use Rattle.pgo_scope.specs.declared.things.Thing.{Thing}
 use Rattle.pgo_scope.specs.TextOrder.{in_text_order}
 use Rattle.pgo_scope.specs.Clash.{fixed_names, fixed_things, shared_things, bound_things, value_names, labels_from, own_names, own_rows, or_none, own_things, process_things, things_with, name_clashes}
-use Rattle.pgo_bind.specs.Runs.{Handed, handed_from, archetype_named}
-use Rattle.pgo_bind.specs.State as bind
+use Rattle.pgo_bound.specs.Runs.{Handed, handed_from, archetype_named}
+use Rattle.pgo_bound.specs.State as bind
 use Rattle.pgo_accept.proofs.Counted.{one_if, times, times-append, times-map_append}
 use Rattle.pgo_accept.proofs.WrittenOnce.{writes, writes-append, writes_in_order, written_once}
 use Rattle.pgo_accept.proofs.Fitting.{Fits, ArgumentsFit, is_stray}

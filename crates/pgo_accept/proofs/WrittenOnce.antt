@@ -8,7 +8,7 @@ use Rattle.pgo_scope.specs.declared.finding.Finding.{Finding}
 use Rattle.pgo_scope.specs.declared.things.Thing.{Thing}
 use Rattle.pgo_scope.specs.TextOrder.{in_place, in_text_order}
 use Rattle.pgo_scope.specs.Clash.{clash, clash_with, clashes_from}
-use Rattle.pgo_bind.proofs.Among.{none_left, none_right}
+use Rattle.pgo_bound.specs.Among.{none_left, none_right}
 use Rattle.pgo_accept.proofs.Counted.{one_if}
 
 -- what isn't bound, and is written so

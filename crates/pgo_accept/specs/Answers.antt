@@ -10,10 +10,10 @@ use Rattle.pgo_scope.specs.Refusal.{scope_refusal}
 use Rattle.pgo_labels.specs.declared.errors.LabelError.{LabelError}
 use Rattle.pgo_labels.specs.Refusal as labeled
 use Rattle.pgo_labels.specs.Refusal.{label_refusal}
+use Rattle.pgo_bound.specs.BoundOf.{bound_of}
 use Rattle.pgo_heads.specs.declared.errors.BindError.{BindError}
-use Rattle.pgo_bind.specs.Answers.{Refuses}
-use Rattle.pgo_bind.specs.BoundOf.{bound_of}
-use Rattle.pgo_bind.specs.Refusals.{bind_refusal}
+use Rattle.pgo_heads.specs.Answers.{Refuses}
+use Rattle.pgo_heads.specs.Refusals.{bind_refusal}
 use Rattle.pgo_mpcal_read.specs.Texts.{SpellsSpec}
 use Rattle.pgo_accept.specs.declared.errors.Rejection.{Rejection}
 use Rattle.pgo_accept.specs.declared.errors.Rejection.TheVariants as rejections

@@ -13,7 +13,7 @@ use Rattle.pgo_labels.specs.declared.errors.LabelError.TheVariants as labels
 use Rattle.pgo_labels.specs.Refusal.{label_refusal}
 use Rattle.pgo_heads.specs.declared.errors.BindError.{BindError}
 use Rattle.pgo_heads.specs.declared.errors.BindError.TheVariants as bind
-use Rattle.pgo_bind.specs.Refusals.{bind_refusal}
+use Rattle.pgo_heads.specs.Refusals.{bind_refusal}
 use Rattle.pgo_mpcal_read.specs.Texts.{SpellsSpec}
 use Rattle.pgo_accept.specs.declared.errors.Rejection.{Rejection}
 use Rattle.pgo_accept.specs.declared.errors.Rejection.TheVariants as rejections

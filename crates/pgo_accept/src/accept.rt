@@ -1,7 +1,7 @@
 // What a specification's text is bound to with constants, or the first refusal, as an error and as a line.
 ghost use Rattle.std.specs.Prelude.{◌≡◌, None, IfOk};
-ghost use Rattle.pgo_bind.specs.Declares.{Declares};
-ghost use Rattle.pgo_bind.specs.Sound.{Sound};
+ghost use Rattle.pgo_bound.specs.Declares.{Declares};
+ghost use Rattle.pgo_bound.specs.Sound.{Sound};
 ghost use Rattle.pgo_labels.specs.Refusal.{label_refusal};
 ghost use Rattle.pgo_scope.specs.Refusal.{scope_refusal};
 ghost use Rattle.pgo_accept.specs.Answers.{Answers, Judges};

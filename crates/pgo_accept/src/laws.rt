@@ -5,8 +5,8 @@ ghost use Rattle.pgo_base.specs.Lookup.{Name};
 ghost use Rattle.pgo_syntax.specs.declared.spec.Spec.{Spec};
 ghost use Rattle.pgo_scope.specs.Refusal.{scope_refusal};
 ghost use Rattle.pgo_labels.specs.Refusal.{label_refusal};
-ghost use Rattle.pgo_bind.specs.Refusals.{bind_refusal};
-ghost use Rattle.pgo_bind.specs.Sound.{WellNamed};
+ghost use Rattle.pgo_bound.specs.Sound.{WellNamed};
+ghost use Rattle.pgo_heads.specs.Refusals.{bind_refusal};
 
 /// A specification that the rules of names, of labels and of binding let pass is well named: its variables differ, its
 /// processes differ, each has its archetype with as many arguments as parameters, and each archetype's first statement has

@@ -1,5 +1,5 @@
 -- The start of a bound system is a declared one.
-use Rattle.std.proofs.Common.{◌≡◌, ℕ, Bool, true, false, if◌then◌else◌, List, [], ◌∷◌, ◌++◌, map, Option, Some, None, option_map, option_and_then, Result, Ok, Err, refl, ap, sym, ◌∙◌, subst, inl, inr}
+use Rattle.std.proofs.Common.{◌≡◌, ℕ, List, [], ◌∷◌, ◌++◌, map, Some, None, option_map, option_and_then, Result, Ok, Err, refl, ap, sym, ◌∙◌, subst, inl}
 use Rattle.std.specs.Prelude.{IfOk}
 use Rattle.std.specs.List.{filter_map, flat_map}
 use Rattle.pgo_base.specs.Data.{Data, string}
@@ -10,70 +10,37 @@ use Rattle.pgo_model.specs.Machine.{nth}
 use Rattle.pgo_model.specs.Names.{same_name-self}
 use Rattle.pgo_model.specs.Operators.{apply}
 use Rattle.pgo_model.specs.Written.{pc, written}
-use Rattle.pgo_syntax.specs.declared.archetype.Archetype.{Archetype}
 use Rattle.pgo_syntax.specs.declared.bound.Binding.{Binding}
 use Rattle.pgo_syntax.specs.declared.bound.Bound.{Bound}
 use Rattle.pgo_syntax.specs.declared.bound.Instance.{Instance}
-use Rattle.pgo_syntax.specs.declared.bound.Target.{Target}
 use Rattle.pgo_syntax.specs.declared.bound.Target.TheVariants as targets
 use Rattle.pgo_syntax.specs.declared.declaration.Declaration.{Declaration}
-use Rattle.pgo_syntax.specs.declared.process.Argument.{Argument}
-use Rattle.pgo_syntax.specs.declared.process.Argument.TheVariants as arguments
-use Rattle.pgo_syntax.specs.declared.process.MappingClause.{MappingClause}
 use Rattle.pgo_syntax.specs.declared.spec.Spec.{Spec}
+use Rattle.pgo_bound.specs.Values.{defs_of, value_at, local_start, argument_start, start_of_value, beginning}
+use Rattle.pgo_bound.specs.Runs.{Run, Handed, archetype_named, run_with, run_of, runs_of, run_ids, binding_of, bindings_of}
+use Rattle.pgo_bound.specs.BoundOf.{GlobalStart, global_of, globals_of, global_value, places_of, instances_of, first_place, first_places, first_label, first_label_in, expression_of, own_argument, own_start, locals_of, function_at, start_of, bound_of}
+use Rattle.pgo_bound.specs.State.{AreDifferent, id_of}
+use Rattle.pgo_bound.specs.Declares.{StartsAs, StartsAt, value_in, Declares}
+use Rattle.pgo_bound.specs.Sound.{WellNamed}
+use Rattle.pgo_bound.specs.Among.{IsAmong, among_map, among_left, among_right, among_flat_map, among_filter_map, among_filter, from_map, from_filter_map, among_nth, some_any, found_among, mapped_some}
+use Rattle.pgo_bound.specs.Lookups.{apply_on, apply_at, data_from}
+use Rattle.pgo_bound.specs.StartNames.{start_names}
+use Rattle.pgo_bound.specs.Once.{StandOnce, ids_of_places, first_at}
+use Rattle.pgo_bound.specs.Instances.{archetype_among, instance_from, tree_of, target_tree}
 use Rattle.pgo_heads.specs.declared.errors.BindError.{BindError}
-use Rattle.pgo_heads.specs.Values.{defs_of, value_at, local_start, argument_start, start_of_value, beginning}
-use Rattle.pgo_heads.specs.Runs.{Run, Handed, archetype_named, run_with, run_of, runs_of, run_ids, target_of, binding_of, bindings_of}
-use Rattle.pgo_heads.specs.BoundOf.{GlobalStart, global_of, globals_of, global_value, places_of, places_of_run, instance_at, instances_of, first_place, first_places, first_label, first_label_in, expression_of, own_argument, own_start, locals_of, function_at, start_of, bound_of}
 use Rattle.pgo_heads.specs.Refusals.{is_run, archetypes_run, constants_refused, heads_refused, bind_refusal}
 use Rattle.pgo_heads.specs.Answers.{Answers}
-use Rattle.pgo_bind.specs.State.{AreDifferent, id_of}
-use Rattle.pgo_bind.specs.Declares.{StartsAs, StartsAt, value_in, Declares}
-use Rattle.pgo_bind.specs.Sound.{WellNamed}
 use Rattle.pgo_bind.proofs.Passing.{none_next}
-use Rattle.pgo_bind.proofs.Among.{IsAmong, among_map, among_left, among_right, among_flat_map, among_filter_map, among_filter, from_map, from_flat_map, from_filter_map, among_nth, from_numbered, some_any, found_among}
-use Rattle.pgo_bind.proofs.Lookups.{apply_on, apply_at, data_from}
-use Rattle.pgo_bind.proofs.StartNames.{start_names}
-use Rattle.pgo_bind.proofs.UniqueIds.{StandOnce, ids_of_places, first_at}
 use Rattle.pgo_bind.proofs.Unrefused.{Unrefused, unrefused, starts_as, starts_at, global_begins, local_begins, argument_begins}
 
-archetype_among : (x : Name) (as' : List Archetype) (a : Archetype) → archetype_named x as' ≡ Some a → IsAmong a as'
-archetype_among x [] a h = absurd (cc)
-archetype_among x (b ∷ bs) a h = go (same_name x b.name.name) h (archetype_among x bs a)
-  where
-    some_is : (y z : Archetype) → Some y ≡ Some z → z ≡ y
-    some_is y z e = cc
-
-    go : (t : Bool) → (if t then Some b else archetype_named x bs) ≡ Some a → (archetype_named x bs ≡ Some a → IsAmong a bs) → IsAmong a (b ∷ bs)
-    go true g r = inl (some_is b a g)
-    go false g r = inr (r g)
-
-pub mapped_some : {A B : Type 0} (f : A → B) (o : Option A) (y : B) → option_map f o ≡ Some y → (x : A) × (o ≡ Some x) × (y ≡ f x)
-mapped_some f None y h = absurd (cc)
-mapped_some f (Some x) y h = (x, refl, let e : y ≡ f x = cc in e)
-
 -- the archetype of a process that runs is among those that are run
-run_archetype : (s : Spec) (ds : List Defined) (r : Run) → IsAmong r (runs_of s ds) → IsAmong r.archetype (archetypes_run s.archetypes (runs_of s ds))
+pub run_archetype : (s : Spec) (ds : List Defined) (r : Run) → IsAmong r (runs_of s ds) → IsAmong r.archetype (archetypes_run s.archetypes (runs_of s ds))
 run_archetype s ds r a =
     let o = from_filter_map (run_of s ds) r s.processes a in
     let m = mapped_some (run_with ds o.0) (archetype_named o.0.archetype.name s.archetypes) r o.2 in
     let there : IsAmong r.archetype s.archetypes = subst (λ q. IsAmong q.archetype s.archetypes) (sym m.2) (archetype_among o.0.archetype.name s.archetypes m.0 m.1) in
     among_filter (is_run (runs_of s ds)) r.archetype s.archetypes there
     (some_any (λ q. same_name r.archetype.name.name q.archetype.name.name) r (runs_of s ds) a (same_name-self r.archetype.name.name))
-
-place_from : (z : Run × Data) (rs : List Run) → IsAmong z (places_of rs) → (r : Run) × IsAmong r rs × ((id : Data) × IsAmong id (run_ids r) × (z ≡ (r, id)))
-place_from z rs h =
-    let o = from_flat_map places_of_run z rs h in
-    let m = from_map (λ id. (o.0, id)) z (run_ids o.0) o.2 in
-    (o.0, o.1, (m.0, m.1, m.2))
-
-abbrev tree_of : Target → Option Tree
-tree_of (targets.Value e) = Some e
-tree_of (targets.Global x e m) = None
-
-target_tree : (s : Spec) (cs : List MappingClause) (n : ℕ) (a : Argument) → expression_of a ≡ tree_of (target_of s cs n a)
-target_tree s cs n (arguments.Value place e) = refl
-target_tree s cs n (arguments.Ref g e) = refl
 
 module _ (s : Spec) (ds : List Defined) (w : WellNamed s) (h : heads_refused s.archetypes ds (runs_of s ds) (globals_of s ds (runs_of s ds)) ≡ None) where
   abbrev rs : List Run
@@ -144,22 +111,16 @@ module _ (s : Spec) (ds : List Defined) (w : WellNamed s) (h : heads_refused s.a
       let name = written r.process.name.name k.parameter.name.name in
       (b.0, of_own r name (λ q. beginning (argument_start ds e q)) id a (own_argument_there r k e l x) i ∙ ap (λ o. Some (beginning (start_of_value o))) b.1, b.1)
 
-  pub instance_from : (i : Instance) (n : ℕ) → nth (instances_of s rs) n ≡ Some i → (r : Run) × IsAmong r rs × ((id : Data) × IsAmong id (run_ids r) × (IsAmong (r, id) (places_of rs) × ((m : ℕ) × (i ≡ instance_at s m (r, id)))))
-  instance_from i n q =
-      let o = from_numbered (instance_at s) 0 i (places_of rs) (among_nth i (instances_of s rs) n q) in
-      let p = place_from o.0 rs o.1 in
-      (p.0, p.1, (p.2.0, p.2.1, (subst (λ z. IsAmong z (places_of rs)) p.2.2 o.1, (o.2.0, o.2.1 ∙ ap (instance_at s o.2.0) p.2.2))))
-
   pub at_instance : (i : Instance) (n : ℕ) → nth (instances_of s rs) n ≡ Some i → value_in start pc (id_of i) ≡ Some (string (first_label_in i.process i.archetype.body))
   at_instance i n q =
-      let o = instance_from i n q in
+      let o = instance_from s rs i n q in
       let z : Run × Data = (o.0, o.2.0) in
       let P : Instance → Type 0 = λ j. value_in start pc (id_of j) ≡ Some (string (first_label_in j.process j.archetype.body)) in
       subst P (sym o.2.2.1.1) (ap (value_in start pc) (data_from o.2.0) ∙ of_place z o.2.2.0)
 
   pub local_at_instance : (i : Instance) (n m : ℕ) (d : Declaration) → nth (instances_of s rs) n ≡ Some i → nth i.archetype.locals m ≡ Some d → (v : Data) × (value_in start (written i.process d.name.name) (id_of i) ≡ Some v) × StartsAt ds d.initial (id_of i) v
   local_at_instance i n m d q l =
-      let o = instance_from i n q in
+      let o = instance_from s rs i n q in
       let P : Instance → Type 0 = λ j. nth j.archetype.locals m ≡ Some d → (v : Data) × (value_in start (written j.process d.name.name) (id_of j) ≡ Some v) × StartsAt ds d.initial (id_of j) v in
       let Q : Data → Type 0 = λ k. (v : Data) × (value_in start (written o.0.process.name.name d.name.name) k ≡ Some v) × StartsAt ds d.initial k v in
       subst P (sym o.2.2.1.1) (λ g. subst Q (sym (data_from o.2.0)) (of_local o.0 d o.2.0 o.1 (among_nth d o.0.archetype.locals m g) o.2.1)) l
@@ -172,7 +133,7 @@ module _ (s : Spec) (ds : List Defined) (w : WellNamed s) (h : heads_refused s.a
 
   pub argument_at_instance : (i : Instance) (n m : ℕ) (x : Binding) (e : Tree) → nth (instances_of s rs) n ≡ Some i → nth i.bindings m ≡ Some x → x.target ≡ targets.Value e → (v : Data) × (value_in start (written i.process x.parameter) (id_of i) ≡ Some v) × (value_at ds (id_of i) e ≡ Some v)
   argument_at_instance i n m x e q l t =
-      let o = instance_from i n q in
+      let o = instance_from s rs i n q in
       let P : Instance → Type 0 = λ j. nth j.bindings m ≡ Some x → (v : Data) × (value_in start (written j.process x.parameter) (id_of j) ≡ Some v) × (value_at ds (id_of j) e ≡ Some v) in
       let Q : Data → Type 0 = λ k. (v : Data) × (value_in start (written o.0.process.name.name x.parameter) k ≡ Some v) × (value_at ds k e ≡ Some v) in
       subst P (sym o.2.2.1.1) (λ g. subst Q (sym (data_from o.2.0)) (binding_at o.0 x e o.2.0 o.1 o.2.1 (among_nth x (bindings_of s o.0) m g) t)) l

@@ -14,14 +14,13 @@ use Rattle.pgo_syntax.specs.declared.archetype.Archetype.{Archetype}
 use Rattle.pgo_syntax.specs.declared.binding.Origin.{Origin}
 use Rattle.pgo_syntax.specs.declared.binding.Origin.TheVariants.{Equals, In}
 use Rattle.pgo_syntax.specs.declared.declaration.Declaration.{Declaration}
+use Rattle.pgo_bound.specs.Values.{Start, Missing, Empty, Begins, start_in, local_start, argument_start, beginning, is_unset}
+use Rattle.pgo_bound.specs.Runs.{Run, Handed, run_ids}
+use Rattle.pgo_bound.specs.BoundOf.{GlobalStart, global_value, places_of, places_of_run, first_place, first_places, function_at, expression_of, own_argument, own_start, locals_of, start_of}
+use Rattle.pgo_bound.specs.Among.{IsAmong, among_append, from_map, from_flat_map, from_filter_map, none_any, none_filter_map, none_left, none_right, empty_none, empty_map, among_filter, mapped_some}
+use Rattle.pgo_bound.specs.Keyed.{depth_on}
 use Rattle.pgo_heads.specs.declared.findings.Lack.TheVariants.{NoSet}
-use Rattle.pgo_heads.specs.Values.{Start, Missing, Empty, Begins, start_in, local_start, argument_start, beginning, is_unset}
-use Rattle.pgo_heads.specs.Runs.{Run, Handed, run_ids}
-use Rattle.pgo_heads.specs.BoundOf.{GlobalStart, global_value, places_of, places_of_run, first_place, first_places, function_at, expression_of, own_argument, own_start, locals_of, start_of}
 use Rattle.pgo_heads.specs.Refusals.{lacking, unset_global, unset_in_run, unset_local, unset_handed, is_unset_at, has_no_ids, at_place}
-use Rattle.pgo_bind.proofs.Among.{IsAmong, among_append, from_map, from_flat_map, from_filter_map, none_any, none_filter_map, none_left, none_right, empty_none, empty_map, among_filter}
-use Rattle.pgo_bind.proofs.Keyed.{depth_on}
-use Rattle.pgo_bind.proofs.Declared.{mapped_some}
 use Rattle.pgo_bind.proofs.Unrefused.{Unrefused, where_false, set_at, in_run, value_unset}
 
 not_deep : (n m : ℕ) → nat_lt n m ≡ false → m ≤ n

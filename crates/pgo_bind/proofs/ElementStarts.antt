@@ -13,14 +13,14 @@ use Rattle.pgo_syntax.specs.declared.process.Argument.{Argument}
 use Rattle.pgo_syntax.specs.declared.process.Argument.TheVariants as arguments
 use Rattle.pgo_syntax.specs.declared.process.MappingClause.{MappingClause}
 use Rattle.pgo_syntax.specs.declared.spec.Spec.{Spec}
-use Rattle.pgo_heads.specs.declared.kinds.Kind.{Kind}
-use Rattle.pgo_heads.specs.declared.kinds.Kind.TheVariants.{AsWhole, ByElement}
-use Rattle.pgo_heads.specs.Values.{Start, Missing, Empty, Begins}
-use Rattle.pgo_heads.specs.Runs.{Run, Handed, run_ids, has_ids, is_some_item, speaking, target_of, binding_of, bindings_of, extent_of, extents_in, extents_of, is_element, kind_of_extents, kind_of}
-use Rattle.pgo_heads.specs.BoundOf.{GlobalStart, places_of, places_of_run, numbered, instance_at, instances_of}
+use Rattle.pgo_bound.specs.declared.kinds.Kind.{Kind}
+use Rattle.pgo_bound.specs.declared.kinds.Kind.TheVariants.{AsWhole, ByElement}
+use Rattle.pgo_bound.specs.Values.{Start, Missing, Empty, Begins}
+use Rattle.pgo_bound.specs.Runs.{Run, Handed, run_ids, has_ids, is_some_item, speaking, target_of, binding_of, bindings_of, extent_of, extents_in, extents_of, is_element, kind_of_extents, kind_of}
+use Rattle.pgo_bound.specs.BoundOf.{GlobalStart, places_of, places_of_run, numbered, instance_at, instances_of}
+use Rattle.pgo_bound.specs.State.{AreDifferent, target_extent}
+use Rattle.pgo_bound.specs.Among.{IsAmong, among_map, among_flat_map, among_filter, from_map, from_flat_map, from_filter_map, from_numbered, all_at, turned, none_flat_map, none_left, empty_map}
 use Rattle.pgo_heads.specs.Refusals.{is_function, begins_as_function, is_by_element, has_no_elements, names_no_elements, same_extent, differs, is_bad_ref, is_bad_argument, is_bad_handed, bad_arguments, bad_clauses, bad_places, bad_mappings}
-use Rattle.pgo_bind.specs.State.{AreDifferent, target_extent}
-use Rattle.pgo_bind.proofs.Among.{IsAmong, among_map, among_flat_map, among_filter, from_map, from_flat_map, from_filter_map, from_numbered, all_at, turned, none_flat_map, none_left, empty_map}
 use Rattle.pgo_bind.proofs.Depths.{none_filter}
 
 and_left : (a b : Bool) → (a && b) ≡ true → a ≡ true

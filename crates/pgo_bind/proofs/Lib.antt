@@ -1,15 +1,10 @@
 pub mod Placed
 pub mod Passing
-pub mod Among
-pub mod Lookups
-pub mod StartNames
 pub mod UniqueIds
 pub mod Unrefused
 pub mod Declared
 pub mod Places
-pub mod Keyed
 pub mod Depths
-pub mod Different
 pub mod ElementStarts
 pub mod SoundStart
 pub mod SoundResources

@@ -1,62 +1,32 @@
 -- The numbers of a bound system, and where its instances start.
-use Rattle.std.proofs.Common.{◌≡◌, ◌⊎◌, ℕ, zero, suc, ◌+◌, ◌≤◌, List, [], ◌∷◌, ◌++◌, length, map, Option, Some, None, Result, Ok, Err, refl, ap, sym, ◌∙◌, subst, inl, inr, arith}
+use Rattle.std.proofs.Common.{◌≡◌, ℕ, ◌≤◌, List, ◌∷◌, length, map, Option, Some, None, Result, Ok, Err, ap, sym, ◌∙◌, subst, inr, arith}
 use Rattle.std.specs.Prelude.{IfOk}
-use Rattle.pgo_base.specs.Data.{Data, string}
+use Rattle.pgo_base.specs.Data.{Data}
 use Rattle.pgo_base.specs.Lookup.{Name}
 use Rattle.pgo_base.specs.declared.module.Defined.{Defined}
 use Rattle.pgo_model.specs.Machine.{nth}
-use Rattle.pgo_model.specs.Written.{pc, done, written}
 use Rattle.pgo_syntax.specs.Statement.{Statement, labeled}
 use Rattle.pgo_syntax.specs.declared.name.PlacedName.{PlacedName}
-use Rattle.pgo_syntax.specs.declared.archetype.Archetype.{Archetype}
 use Rattle.pgo_syntax.specs.declared.bound.Bound.{Bound}
 use Rattle.pgo_syntax.specs.declared.bound.Instance.{Instance}
 use Rattle.pgo_syntax.specs.declared.bound.Resource.{Resource}
-use Rattle.pgo_syntax.specs.declared.process.Process.{Process}
 use Rattle.pgo_syntax.specs.declared.spec.Spec.{Spec}
+use Rattle.pgo_bound.specs.Values.{defs_of}
+use Rattle.pgo_bound.specs.Runs.{Run, runs_of, run_of, run_with, archetype_named}
+use Rattle.pgo_bound.specs.BoundOf.{GlobalStart, globals_of, places_of, instance_at, instances_of, all_parts, resource_at, resources_of, first_label_in, start_of, bound_of}
+use Rattle.pgo_bound.specs.State.{id_of}
+use Rattle.pgo_bound.specs.Sound.{labels_among, IsLabel, IsAtLabel, IsNumbered, AreAtLabels, WellNamed}
+use Rattle.pgo_bound.specs.Among.{from_filter_map, mapped_some, nth_among, nth_map, nth_from}
+use Rattle.pgo_bound.specs.Lookups.{data_from}
+use Rattle.pgo_bound.specs.Once.{StandOnce, id_in, ids_of_places, once_nth}
+use Rattle.pgo_bound.specs.Instances.{instance_from}
 use Rattle.pgo_heads.specs.declared.errors.BindError.{BindError}
-use Rattle.pgo_heads.specs.Values.{defs_of}
-use Rattle.pgo_heads.specs.Runs.{Run, runs_of, run_of, run_with, archetype_named, all_ids, run_ids}
-use Rattle.pgo_heads.specs.BoundOf.{GlobalStart, globals_of, numbered, places_of, instance_at, instances_of, all_parts, resource_at, resources_of, first_label_in, start_of, bound_of}
 use Rattle.pgo_heads.specs.Refusals.{constants_refused, heads_refused, bind_refusal}
 use Rattle.pgo_heads.specs.Answers.{Answers}
-use Rattle.pgo_bind.specs.State.{id_of}
-use Rattle.pgo_bind.specs.Declares.{value_in}
-use Rattle.pgo_bind.specs.Sound.{labels_among, IsLabel, IsAtLabel, IsNumbered, AreAtLabels, WellNamed}
-use Rattle.pgo_bind.proofs.Passing.{none_next}
-use Rattle.pgo_bind.proofs.Among.{IsAmong, among_nth, from_filter_map}
-use Rattle.pgo_bind.proofs.Lookups.{data_from}
 use Rattle.pgo_heads.proofs.Numbered.{length-numbered, length_places}
-use Rattle.pgo_bind.proofs.UniqueIds.{StandOnce, id_in, ids_of_places}
+use Rattle.pgo_bind.proofs.Passing.{none_next}
 use Rattle.pgo_bind.proofs.Unrefused.{Unrefused, unrefused}
-use Rattle.pgo_bind.proofs.Declared.{mapped_some, instance_from, at_instance}
-
-pub some_is : {A : Type 0} (x y : A) → Some x ≡ Some y → x ≡ y
-some_is x y e = cc
-
-pub nth_from : {A B : Type 0} (f : ℕ → A → B) (k n : ℕ) (xs : List A) (y : B) → nth (numbered f k xs) n ≡ Some y → (x : A) × (nth xs n ≡ Some x) × ((m : ℕ) × (m ≡ k + n) × (y ≡ f m x))
-nth_from f k n [] y h = absurd (cc)
-nth_from f k zero (x ∷ xs) y h = (x, refl, (k, let e : k ≡ k + 0 = omega arith in e, sym (some_is (f k x) y h)))
-nth_from f k (suc n) (x ∷ xs) y h =
-    let r = nth_from f (suc k) n xs y h in
-    (r.0, r.1, (r.2.0, let e : r.2.0 ≡ k + suc n = omega (arith, r.2.1) in e, r.2.2))
-
-nth_map : {A B : Type 0} (f : A → B) (n : ℕ) (xs : List A) (x : A) → nth xs n ≡ Some x → nth (map f xs) n ≡ Some (f x)
-nth_map f n [] x h = absurd (cc)
-nth_map f zero (y ∷ ys) x h = ap (λ z. Some (f z)) (some_is y x h)
-nth_map f (suc n) (y ∷ ys) x h = nth_map f n ys x h
-
-once_nth : (xs : List Data) (n m : ℕ) (a b : Data) → StandOnce xs → nth xs n ≡ Some a → nth xs m ≡ Some b → a ≡ b → n ≡ m
-once_nth [] n m a b s h g e = absurd (cc)
-once_nth (x ∷ xs) zero zero a b s h g e = refl
-once_nth (x ∷ xs) zero (suc m) a b s h g e = absurd (s.0 (subst (λ z. IsAmong z xs) (sym (some_is x a h ∙ e)) (among_nth b xs m g)))
-once_nth (x ∷ xs) (suc n) zero a b s h g e = absurd (s.0 (subst (λ z. IsAmong z xs) (e ∙ sym (some_is x b g)) (among_nth a xs n h)))
-once_nth (x ∷ xs) (suc n) (suc m) a b s h g e = ap suc (once_nth xs n m a b s.1 h g e)
-
-pub nth_among : {A : Type 0} (x : A) (xs : List A) → IsAmong x xs → (n : ℕ) × (nth xs n ≡ Some x)
-nth_among x [] h = absurd h
-nth_among x (y ∷ ys) (inl e) = (0, ap Some (sym e))
-nth_among x (y ∷ ys) (inr h) = let r = nth_among x ys h in (suc r.0, r.1)
+use Rattle.pgo_bind.proofs.Declared.{at_instance}
 
 module _ (s : Spec) (ds : List Defined) (h : heads_refused s.archetypes ds (runs_of s ds) (globals_of s ds (runs_of s ds)) ≡ None) where
   abbrev rs : List Run
@@ -119,7 +89,7 @@ label_first i l t rest e =
 
 at_label : (s : Spec) (ds : List Defined) (w : WellNamed s) (h : heads_refused s.archetypes ds (runs_of s ds) (globals_of s ds (runs_of s ds)) ≡ None) (n : ℕ) (i : Instance) → nth (instances_of s (runs_of s ds)) n ≡ Some i → IsAtLabel i (start_of ds (runs_of s ds) (globals_of s ds (runs_of s ds)))
 at_label s ds w h n i q =
-    let o = instance_from s ds w h i n q in
+    let o = instance_from s (runs_of s ds) i n q in
     let p = from_filter_map (run_of s ds) o.0 s.processes o.1 in
     let m = mapped_some (run_with ds p.0) (archetype_named p.0.archetype.name s.archetypes) o.0 p.2 in
     let k = nth_among p.0 s.processes p.1 in

@@ -6,13 +6,13 @@ use Rattle.pgo_base.specs.Lookup.{Name}
 use Rattle.pgo_model.specs.State.{AllValues}
 use Rattle.pgo_syntax.specs.declared.bound.Bound.{Bound}
 use Rattle.pgo_syntax.specs.declared.spec.Spec.{Spec}
+use Rattle.pgo_bound.specs.BoundOf.{globals_of, bound_of}
+use Rattle.pgo_bound.specs.Runs.{runs_of}
+use Rattle.pgo_bound.specs.Sound.{Sound, WellNamed}
+use Rattle.pgo_bound.specs.Values.{defs_of}
 use Rattle.pgo_heads.specs.declared.errors.BindError.{BindError}
 use Rattle.pgo_heads.specs.Answers.{Answers}
-use Rattle.pgo_heads.specs.BoundOf.{globals_of, bound_of}
 use Rattle.pgo_heads.specs.Refusals.{constants_refused, heads_refused, bind_refusal}
-use Rattle.pgo_heads.specs.Runs.{runs_of}
-use Rattle.pgo_bind.specs.Sound.{Sound, WellNamed}
-use Rattle.pgo_heads.specs.Values.{defs_of}
 use Rattle.pgo_bind.proofs.Passing.{none_next}
 use Rattle.pgo_bind.proofs.Places.{numbers, at_labels}
 use Rattle.pgo_bind.proofs.SoundResources.{differ, are_global, element_domain, has_domain}

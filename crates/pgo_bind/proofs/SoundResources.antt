@@ -16,22 +16,21 @@ use Rattle.pgo_model.specs.Written.{pc, written}
 use Rattle.pgo_syntax.specs.declared.bound.Resource.{Resource}
 use Rattle.pgo_syntax.specs.declared.declaration.Declaration.{Declaration}
 use Rattle.pgo_syntax.specs.declared.spec.Spec.{Spec}
-use Rattle.pgo_heads.specs.declared.kinds.Kind.{Kind}
-use Rattle.pgo_heads.specs.declared.kinds.Kind.TheVariants.{Unbound, AsWhole, ByElement}
-use Rattle.pgo_heads.specs.Values.{Start, beginning}
-use Rattle.pgo_heads.specs.Runs.{Run, runs_of}
-use Rattle.pgo_heads.specs.BoundOf.{GlobalStart, global_of, globals_of, global_value, first_places, locals_of, start_of, numbered, indices, elements_of, parts_with, parts_of, all_parts, resource_at, resources_of, bound_by}
+use Rattle.pgo_bound.specs.declared.kinds.Kind.{Kind}
+use Rattle.pgo_bound.specs.declared.kinds.Kind.TheVariants.{Unbound, AsWhole, ByElement}
+use Rattle.pgo_bound.specs.Values.{Start, beginning}
+use Rattle.pgo_bound.specs.Runs.{Run, runs_of}
+use Rattle.pgo_bound.specs.BoundOf.{GlobalStart, global_of, globals_of, global_value, first_places, locals_of, start_of, numbered, indices, elements_of, parts_with, parts_of, all_parts, resource_at, resources_of, bound_by}
+use Rattle.pgo_bound.specs.State.{AreDifferent, kind_in, own_names}
+use Rattle.pgo_bound.specs.Sound.{WellNamed, index_in, IsIndex, HasDomain, IsGlobal}
+use Rattle.pgo_bound.specs.Among.{IsAmong, among_nth, among_map, among_left, among_flat_map, from_map, from_flat_map, all_at, some_is, nth_from, nth_among, value_at_name}
+use Rattle.pgo_bound.specs.Different.{all_from, not_one, different_left, different_apart}
+use Rattle.pgo_bound.specs.Lookups.{data_from}
+use Rattle.pgo_bound.specs.Once.{StandOnce}
 use Rattle.pgo_heads.specs.Refusals.{heads_refused}
-use Rattle.pgo_bind.specs.State.{AreDifferent, kind_in, own_names}
-use Rattle.pgo_bind.specs.Sound.{WellNamed, index_in, IsIndex, HasDomain, IsGlobal}
-use Rattle.pgo_bind.proofs.Among.{IsAmong, among_nth, among_map, among_left, among_flat_map, from_map, from_flat_map, all_at}
 use Rattle.pgo_bind.proofs.Declared.{at_global}
-use Rattle.pgo_bind.proofs.Different.{all_from, not_one, different_left, different_apart}
 use Rattle.pgo_bind.proofs.ElementStarts.{by_element_there, global_name}
-use Rattle.pgo_bind.proofs.Lookups.{data_from}
-use Rattle.pgo_bind.proofs.Places.{some_is, nth_from, nth_among}
 use Rattle.pgo_bind.proofs.SoundStart.{elements_are, globals_different}
-use Rattle.pgo_bind.proofs.UniqueIds.{StandOnce}
 
 abbrev Part : Type 0
 Part = Name × Option Data
@@ -124,11 +123,6 @@ indices_once (integer z) h = tt
 indices_once (string t) h = tt
 indices_once (model t) h = tt
 indices_once (set xs) h = tt
-
-value_at_name : (s : Vars) (p : Name × Data) → AllValues s → IsAmong p s → IsValue p.1
-value_at_name [] p a h = absurd h
-value_at_name (q ∷ qs) p a (inl e) = subst (λ (r : Name × Data). IsValue r.1) (sym e) a.0
-value_at_name (q ∷ qs) p a (inr h) = value_at_name qs p a.1 h
 
 global_in_start : (ds : List Defined) (rs : List Run) (gs : List GlobalStart) (g : GlobalStart) → IsAmong g gs → IsAmong (global_value g) (start_of ds rs gs)
 global_in_start ds rs gs g a =

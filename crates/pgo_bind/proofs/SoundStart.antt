@@ -16,21 +16,21 @@ use Rattle.pgo_syntax.specs.declared.process.Argument.{Argument}
 use Rattle.pgo_syntax.specs.declared.process.Argument.TheVariants as arguments
 use Rattle.pgo_syntax.specs.declared.process.Process.{Process}
 use Rattle.pgo_syntax.specs.declared.spec.Spec.{Spec}
-use Rattle.pgo_heads.specs.declared.kinds.Kind.TheVariants.{ByElement}
-use Rattle.pgo_heads.specs.Values.{beginning, local_start, argument_start}
-use Rattle.pgo_heads.specs.Runs.{Run, handed_from, archetype_named, run_with, run_of, runs_of, run_ids}
-use Rattle.pgo_heads.specs.BoundOf.{GlobalStart, global_of, globals_of, places_of, first_place, first_places, function_at, instances_of, expression_of, start_of, bound_by}
+use Rattle.pgo_bound.specs.declared.kinds.Kind.TheVariants.{ByElement}
+use Rattle.pgo_bound.specs.Values.{beginning, local_start, argument_start}
+use Rattle.pgo_bound.specs.Runs.{Run, handed_from, archetype_named, run_with, run_of, runs_of, run_ids}
+use Rattle.pgo_bound.specs.BoundOf.{GlobalStart, global_of, globals_of, places_of, first_place, first_places, function_at, instances_of, expression_of, start_of, bound_by}
+use Rattle.pgo_bound.specs.State.{AreDifferent, IsState, IsFunctionOn, value_name, names_with, names_or_none, own_names, id_of, kind_in}
+use Rattle.pgo_bound.specs.Sound.{WellNamed}
+use Rattle.pgo_bound.specs.Among.{IsAmong, among_append, among_nth, among_map, among_filter_map, from_map, from_filter_map}
+use Rattle.pgo_bound.specs.Different.{different_left, runs_different, instances_of_process, ids_of_instances}
+use Rattle.pgo_bound.specs.Keyed.{on_keys, at_keys}
+use Rattle.pgo_bound.specs.StartNames.{start_names}
+use Rattle.pgo_bound.specs.Once.{id_in, ids_of_places}
 use Rattle.pgo_heads.specs.Refusals.{heads_refused}
-use Rattle.pgo_bind.specs.State.{AreDifferent, IsState, IsFunctionOn, value_name, names_with, names_or_none, own_names, id_of, kind_in}
-use Rattle.pgo_bind.specs.Sound.{WellNamed}
-use Rattle.pgo_bind.proofs.Among.{IsAmong, among_append, among_nth, among_map, among_filter_map, from_map, from_filter_map}
 use Rattle.pgo_bind.proofs.Declared.{at_pc, at_global, at_own, own_local_there, own_argument_there}
 use Rattle.pgo_bind.proofs.Depths.{start_shallow}
-use Rattle.pgo_bind.proofs.Different.{different_left, runs_different, instances_of_process, ids_of_instances}
-use Rattle.pgo_bind.proofs.Keyed.{on_keys, at_keys}
 use Rattle.pgo_bind.proofs.ElementStarts.{global_name, element_start}
-use Rattle.pgo_bind.proofs.StartNames.{start_names}
-use Rattle.pgo_bind.proofs.UniqueIds.{id_in, ids_of_places}
 use Rattle.pgo_bind.proofs.Unrefused.{Unrefused, unrefused}
 
 keys_of_places : (zs : List (Run × Data)) → keys (map first_place zs) ≡ map id_in zs

@@ -14,17 +14,18 @@ use Rattle.pgo_syntax.specs.declared.binding.Origin.TheVariants.{Equals, In}
 use Rattle.pgo_syntax.specs.declared.declaration.Declaration.{Declaration}
 use Rattle.pgo_syntax.specs.declared.process.Argument.{Argument}
 use Rattle.pgo_syntax.specs.declared.process.Argument.TheVariants as arguments
+use Rattle.pgo_bound.specs.Values.{Start, Missing, Empty, Begins, closed_value, value_at, start_of_value, start_of_members, start_in, default_start, global_start, local_start, argument_start, beginning, is_empty, is_unset}
+use Rattle.pgo_bound.specs.Runs.{Run, Handed, run_ids, is_some_item, all_ids}
+use Rattle.pgo_bound.specs.BoundOf.{GlobalStart, expression_of, all_parts}
+use Rattle.pgo_bound.specs.Declares.{StartsAs, StartsAt}
+use Rattle.pgo_bound.specs.Among.{IsAmong, none_any, none_filter_map, none_flat_map, none_left, none_right}
+use Rattle.pgo_bound.specs.Lookups.{same_equal}
+use Rattle.pgo_bound.specs.Once.{StandOnce}
 use Rattle.pgo_heads.specs.declared.errors.BindError.TheVariants as errors
 use Rattle.pgo_heads.specs.declared.findings.Lack.TheVariants.{NoSet, NoMember}
-use Rattle.pgo_heads.specs.Values.{Start, Missing, Empty, Begins, closed_value, value_at, start_of_value, start_of_members, start_in, default_start, global_start, local_start, argument_start, beginning, is_empty, is_unset}
-use Rattle.pgo_heads.specs.Runs.{Run, Handed, run_ids, is_some_item, all_ids}
-use Rattle.pgo_heads.specs.BoundOf.{GlobalStart, expression_of, all_parts}
 use Rattle.pgo_heads.specs.Refusals.{first, more_than, first_placed, earlier, where_true, at_place, bad_mappings, ids_shared, ids_unknown, instances_past, resources_past, values_unset, sets_empty, ids_refused, starts_refused, heads_refused, or_next, unset_global, empty_global, lacking, archetypes_run, lacking_in, lacking_local, lacks, lacks_in, local_set, unset_in_run, unset_local, unset_handed, unset_argument, is_unset_at, is_value_unset, is_some_unset, is_closed_unset}
-use Rattle.pgo_bind.specs.Declares.{StartsAs, StartsAt}
 use Rattle.pgo_bind.proofs.Passing.{none_first, none_next}
-use Rattle.pgo_bind.proofs.Among.{IsAmong, none_any, none_filter_map, none_flat_map, none_left, none_right}
-use Rattle.pgo_bind.proofs.Lookups.{same_equal}
-use Rattle.pgo_bind.proofs.UniqueIds.{StandOnce, once_of}
+use Rattle.pgo_bind.proofs.UniqueIds.{once_of}
 
 mapped_none : {A B : Type 0} (f : A → B) (o : Option A) → option_map f o ≡ None → o ≡ None
 mapped_none f None h = refl

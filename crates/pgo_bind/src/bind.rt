@@ -1,13 +1,13 @@
 // A specification bound to constants.
 ghost use Rattle.std.specs.Prelude.{◌≡◌, ◌≤◌, length, map, IfOk};
 ghost use Rattle.pgo_model.specs.State.{AllValues};
+ghost use Rattle.pgo_bound.specs.BoundOf as specs;
+ghost use Rattle.pgo_bound.specs.BoundOf.{bound_of, bound_with};
+ghost use Rattle.pgo_bound.specs.Declares.{Declares};
+ghost use Rattle.pgo_bound.specs.Runs as processes;
+ghost use Rattle.pgo_bound.specs.Sound.{AreAtLabels, IsNumbered, Sound, WellNamed};
 ghost use Rattle.pgo_heads.specs.Answers.{Answers, Passes};
-ghost use Rattle.pgo_heads.specs.BoundOf as specs;
-ghost use Rattle.pgo_heads.specs.BoundOf.{bound_of, bound_with};
 ghost use Rattle.pgo_heads.specs.Refusals.{bind_refusal, constants_refused, ids_refused, starts_refused, heads_refused};
-ghost use Rattle.pgo_bind.specs.Declares.{Declares};
-ghost use Rattle.pgo_heads.specs.Runs as processes;
-ghost use Rattle.pgo_bind.specs.Sound.{AreAtLabels, IsNumbered, Sound, WellNamed};
 ghost use Rattle.pgo_heads.specs.Views.{run_view, global_view};
 
 use crate::globals::globals_of;

@@ -1,6 +1,6 @@
 // The globals with what they start with.
 ghost use Rattle.std.specs.Prelude.{◌≡◌, map, IfOk};
-ghost use Rattle.pgo_heads.specs.BoundOf as specs;
+ghost use Rattle.pgo_bound.specs.BoundOf as specs;
 ghost use Rattle.pgo_heads.specs.Views.{run_view, global_view};
 
 use crate::values::global_start;

@@ -3,10 +3,10 @@ ghost use Rattle.std.specs.Prelude.{◌≡◌, ◌++◌, map, option_map, IfOk};
 ghost use Rattle.std.specs.List.{filter_map, flat_map};
 ghost use Rattle.pgo_base.specs.View.{data_of};
 ghost use Rattle.pgo_base.specs.ExprView.{tree};
+ghost use Rattle.pgo_bound.specs.Runs.{is_some_item};
+ghost use Rattle.pgo_bound.specs.Values.{is_empty};
 ghost use Rattle.pgo_heads.specs.Answers.{Passes};
 ghost use Rattle.pgo_heads.specs.Refusals as specs;
-ghost use Rattle.pgo_heads.specs.Runs.{is_some_item};
-ghost use Rattle.pgo_heads.specs.Values.{is_empty};
 ghost use Rattle.pgo_heads.specs.Views.{start_view, handed_view, run_view, global_view, finding_view};
 ghost use Rattle.pgo_heads.specs.declared.errors.BindError.TheVariants as errors;
 

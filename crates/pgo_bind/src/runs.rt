@@ -3,7 +3,7 @@ ghost use Rattle.std.specs.Prelude.{◌≡◌, map, None, option_map, IfOk};
 ghost use Rattle.pgo_base.specs.View.{data_of};
 ghost use Rattle.pgo_base.specs.ExprView.{tree};
 ghost use Rattle.pgo_model.specs.Operators.{members_of};
-ghost use Rattle.pgo_heads.specs.Runs as specs;
+ghost use Rattle.pgo_bound.specs.Runs as specs;
 ghost use Rattle.pgo_heads.specs.Views.{run_view};
 
 use crate::values::closed_value;

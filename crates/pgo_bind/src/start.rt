@@ -4,8 +4,8 @@ ghost use Rattle.std.specs.List.{flat_map, filter_map};
 ghost use Rattle.pgo_base.specs.View.{data_of, named_data, pair_of};
 ghost use Rattle.pgo_base.specs.ExprView.{tree};
 ghost use Rattle.pgo_model.specs.Written as names;
-ghost use Rattle.pgo_heads.specs.BoundOf as specs;
-ghost use Rattle.pgo_heads.specs.Values as values;
+ghost use Rattle.pgo_bound.specs.BoundOf as specs;
+ghost use Rattle.pgo_bound.specs.Values as values;
 ghost use Rattle.pgo_heads.specs.Views.{start_view, handed_view, run_view, global_view};
 
 use crate::values::{argument_start, start_in};

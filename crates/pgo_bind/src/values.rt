@@ -4,7 +4,7 @@ ghost use Rattle.pgo_base.specs.Data.{Data};
 ghost use Rattle.pgo_base.specs.View.{data_of};
 ghost use Rattle.pgo_base.specs.ExprView.{tree};
 ghost use Rattle.pgo_sets.specs.Answers.{Answers};
-ghost use Rattle.pgo_heads.specs.Values as values;
+ghost use Rattle.pgo_bound.specs.Values as values;
 ghost use Rattle.pgo_heads.specs.Views.{start_view};
 
 use pgo_base::bindings::Bindings;

@@ -5,10 +5,10 @@ use Rattle.std.specs.List.{flat_map, list_all}
 use Rattle.pgo_base.specs.Lookup.{Name}
 use Rattle.pgo_syntax.specs.declared.archetype.Extent.{Extent}
 use Rattle.pgo_syntax.specs.declared.archetype.Extent.TheVariants.{Whole, Element}
-use Rattle.pgo_heads.specs.declared.kinds.Kind.{Kind}
-use Rattle.pgo_heads.specs.declared.kinds.Kind.TheVariants.{Unbound, AsWhole, ByElement}
-use Rattle.pgo_heads.specs.Runs.{Run, has_ids, extents_in, extents_of, is_element, kind_of_extents}
-use Rattle.pgo_heads.specs.Kinds.{with_extent, all_extents}
+use Rattle.pgo_bound.specs.declared.kinds.Kind.{Kind}
+use Rattle.pgo_bound.specs.declared.kinds.Kind.TheVariants.{Unbound, AsWhole, ByElement}
+use Rattle.pgo_bound.specs.Runs.{Run, has_ids, extents_in, extents_of, is_element, kind_of_extents}
+use Rattle.pgo_bound.specs.Kinds.{with_extent, all_extents}
 
 pub all_extents-append : (k : Kind) (es fs : List Extent) → all_extents k (es ++ fs) ≡ all_extents (all_extents k es) fs
 all_extents-append k [] fs = refl

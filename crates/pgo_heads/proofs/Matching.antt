@@ -11,8 +11,8 @@ use Rattle.pgo_base.specs.declared.module.Defined.TheVariants.{Given}
 use Rattle.pgo_syntax.specs.declared.name.PlacedName.{PlacedName}
 use Rattle.pgo_syntax.specs.declared.archetype.Parameter.{Parameter}
 use Rattle.pgo_syntax.specs.declared.process.Argument.{Argument}
-use Rattle.pgo_heads.specs.Runs.{Handed, handed_from}
-use Rattle.pgo_heads.specs.Values.{given_value, given_constant}
+use Rattle.pgo_bound.specs.Runs.{Handed, handed_from}
+use Rattle.pgo_bound.specs.Values.{given_value, given_constant}
 
 none_left : (n : ℕ) (ps : List Parameter) → handed_from n ps [] ≡ []
 none_left n [] = refl

@@ -3,8 +3,8 @@ use Rattle.std.proofs.Common.{◌≡◌, ℕ, suc, ◌+◌, ◌<◌, ◌≤◌, 
 use Rattle.std.proofs.lemmas.List.{length-map}
 use Rattle.pgo_base.specs.Data.{Data}
 use Rattle.pgo_syntax.specs.declared.spec.Spec.{Spec}
-use Rattle.pgo_heads.specs.Runs.{Run, bindings_of, run_ids, all_ids}
-use Rattle.pgo_heads.specs.BoundOf.{numbered, instance_at, instance_with, places_of, places_of_run}
+use Rattle.pgo_bound.specs.Runs.{Run, bindings_of, run_ids, all_ids}
+use Rattle.pgo_bound.specs.BoundOf.{numbered, instance_at, instance_with, places_of, places_of_run}
 
 -- an item is before what is left behind it
 pub drop_step : {A : Type 0} (xs : List A) (i : ℕ) (x : A) → i < length xs → x ≡ get_or xs i x → drop i xs ≡ x ∷ drop (i + 1) xs

@@ -30,13 +30,13 @@ use Rattle.pgo_heads.specs.declared.errors.BindError.{BindError}
 use Rattle.pgo_heads.specs.declared.errors.BindError.TheVariants as errors
 use Rattle.pgo_heads.specs.declared.findings.Lack.{Lack}
 use Rattle.pgo_heads.specs.declared.findings.Lack.TheVariants.{NoSet, NoMember}
-use Rattle.pgo_heads.specs.declared.kinds.Kind.{Kind}
-use Rattle.pgo_heads.specs.declared.kinds.Kind.TheVariants.{Unbound, AsWhole, ByElement}
+use Rattle.pgo_bound.specs.declared.kinds.Kind.{Kind}
+use Rattle.pgo_bound.specs.declared.kinds.Kind.TheVariants.{Unbound, AsWhole, ByElement}
 use Rattle.pgo_model.specs.Written.{self_name}
 use Rattle.pgo_operands.specs.Mentions.{mentions}
-use Rattle.pgo_heads.specs.Values.{Start, Missing, Empty, Begins, is_empty, is_unset, given_value, defs_of, argument_start, start_in, default_start, start_of_value, closed_value}
-use Rattle.pgo_heads.specs.Runs.{Run, Handed, runs_of, run_ids, all_ids, has_ids, is_some_item, speaking, kind_of}
-use Rattle.pgo_heads.specs.BoundOf.{GlobalStart, globals_of, all_parts}
+use Rattle.pgo_bound.specs.Values.{Start, Missing, Empty, Begins, is_empty, is_unset, given_value, defs_of, argument_start, start_in, default_start, start_of_value, closed_value}
+use Rattle.pgo_bound.specs.Runs.{Run, Handed, runs_of, run_ids, all_ids, has_ids, is_some_item, speaking, kind_of}
+use Rattle.pgo_bound.specs.BoundOf.{GlobalStart, globals_of, all_parts}
 
 -- 1: a declared constant isn't given
 abbrev pub missing : List PlacedName → List (Name × Data) → List Name

@@ -8,9 +8,9 @@ use Rattle.pgo_heads.specs.declared.start_values.Start as code_start
 use Rattle.pgo_heads.specs.declared.start_values.Start.TheVariants as code_starts
 use Rattle.pgo_heads.specs.declared.runs.Handed as code_handed
 use Rattle.pgo_heads.specs.declared.runs.Run as code_run
-use Rattle.pgo_heads.specs.Values.{Start, Missing, Empty, Begins}
-use Rattle.pgo_heads.specs.Runs.{Run, Handed}
-use Rattle.pgo_heads.specs.BoundOf.{GlobalStart}
+use Rattle.pgo_bound.specs.Values.{Start, Missing, Empty, Begins}
+use Rattle.pgo_bound.specs.Runs.{Run, Handed}
+use Rattle.pgo_bound.specs.BoundOf.{GlobalStart}
 use Rattle.pgo_heads.specs.declared.globals.GlobalStart as code_global
 use Rattle.pgo_heads.specs.declared.globals.Part as code_part
 use Rattle.pgo_heads.specs.declared.findings.Finding as code_finding

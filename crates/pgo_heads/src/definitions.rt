@@ -2,7 +2,7 @@
 ghost use Rattle.std.specs.Prelude.{◌≡◌, ◌++◌, map, option_map, IfOk};
 ghost use Rattle.std.specs.List.{filter_map};
 ghost use Rattle.pgo_base.specs.View.{data_of, named_data};
-ghost use Rattle.pgo_heads.specs.Values as values;
+ghost use Rattle.pgo_bound.specs.Values as values;
 
 use pgo_base::consts::Consts;
 use pgo_base::expr::Names;

@@ -9,12 +9,12 @@ ghost use Rattle.pgo_heads.specs.declared.errors.BindError.TheVariants as errors
 
 use crate::errors::BindError;
 use crate::globals::GlobalStart;
-use crate::kinds::Kind;
 use crate::mapping::speaking;
 use crate::runs::{Handed, Run};
 use crate::start_values::Start;
 use pgo_base::text::Text;
 use pgo_base::value::Value;
+use pgo_bound::kinds::Kind;
 use pgo_syntax::archetype::{Extent, ParameterKind};
 use pgo_syntax::process::{Argument, MappingClause, MappingTarget};
 use std::alloc::{AllocError, Global};

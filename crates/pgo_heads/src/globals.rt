@@ -3,14 +3,14 @@ ghost use Rattle.std.specs.Prelude.{◌≡◌, ◌≤◌, ◌++◌, length, map,
 ghost use Rattle.std.specs.List.{flat_map};
 ghost use Rattle.pgo_base.specs.Data.{keys};
 ghost use Rattle.pgo_base.specs.View.{data_of, pair_of, named_data};
-ghost use Rattle.pgo_heads.specs.BoundOf as specs;
-ghost use Rattle.pgo_heads.specs.Values.{beginning};
+ghost use Rattle.pgo_bound.specs.BoundOf as specs;
+ghost use Rattle.pgo_bound.specs.Values.{beginning};
 ghost use Rattle.pgo_heads.specs.Views.{start_view, global_view, part_view};
 
-use crate::kinds::Kind;
 use crate::start_values::{Start, beginning};
 use pgo_base::text::Text;
 use pgo_base::value::Value;
+use pgo_bound::kinds::Kind;
 use pgo_syntax::bound::Resource;
 use pgo_syntax::declaration::Declaration;
 use std::alloc::{AllocError, Global};

@@ -3,7 +3,7 @@ ghost use Rattle.std.specs.Prelude.{◌≡◌, ◌++◌, map, option_map, IfOk};
 ghost use Rattle.pgo_base.specs.View.{data_of};
 ghost use Rattle.pgo_base.specs.ValueCode.{value_from};
 ghost use Rattle.pgo_heads.specs.Answers.{Passes};
-ghost use Rattle.pgo_heads.specs.Runs.{all_ids};
+ghost use Rattle.pgo_bound.specs.Runs.{all_ids};
 ghost use Rattle.pgo_heads.specs.Refusals as specs;
 ghost use Rattle.pgo_heads.specs.Views.{run_view};
 ghost use Rattle.pgo_heads.specs.declared.errors.BindError.TheVariants as errors;

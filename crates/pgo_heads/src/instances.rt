@@ -1,7 +1,7 @@
 // The instances: each process at each of its identifiers.
 ghost use Rattle.std.specs.Prelude.{◌≡◌, ◌≤◌, ◌+◌, ◌++◌, length, map, IfOk};
 ghost use Rattle.pgo_base.specs.View.{data_of};
-ghost use Rattle.pgo_heads.specs.BoundOf as specs;
+ghost use Rattle.pgo_bound.specs.BoundOf as specs;
 ghost use Rattle.pgo_heads.specs.Views.{run_view};
 
 use crate::mapping::{bindings_of, copy_bindings};

@@ -1,25 +1,15 @@
 // How the instances bind a global.
 ghost use Rattle.std.specs.Prelude.{◌≡◌, map};
 ghost use Rattle.std.specs.List.{filter_map};
-ghost use Rattle.pgo_heads.specs.Runs as specs;
-ghost use Rattle.pgo_heads.specs.Kinds.{with_extent, all_extents};
+ghost use Rattle.pgo_bound.specs.Runs as specs;
+ghost use Rattle.pgo_bound.specs.Kinds.{with_extent, all_extents};
 ghost use Rattle.pgo_heads.specs.Views.{handed_view, run_view};
 
 use crate::runs::{Handed, Run};
 use pgo_base::text::Text;
+use pgo_bound::kinds::Kind;
 use pgo_syntax::archetype::Extent;
 use pgo_syntax::process::Argument;
-
-/// What a global is among the resources.
-#[derive(Clone, Copy, Debug, PartialEq, Eq)]
-pub enum Kind {
-    /// No instance binds it: it is none.
-    Unbound,
-    /// It is one resource as a whole.
-    AsWhole,
-    /// It is one resource for each of its elements.
-    ByElement,
-}
 
 /// The kind with one binding more.
 fn with_extent(kind: Kind, extent: Extent) -> Kind

@@ -1,8 +1,8 @@
 // The heads of a specification, where values are given: its constants and definitions, its processes with archetypes,
 // arguments and identifiers, its mapping clauses, what each global is among the resources, and the rules on these.
 //
-// Nothing is evaluated here: `pgo_bind` does that. All that is public is for `pgo_bind` alone, which passes on `errors` and
-// the definitions of specs/.
+// The definitions of the bound system stand in `pgo_bound`, those of what refuses it here. Nothing is evaluated here:
+// `pgo_bind` does that. All that is public is for `pgo_bind` alone, which passes on `errors`.
 #![tactic(auto)]
 
 pub mod constants;

@@ -1,7 +1,7 @@
 // Which mapping clauses speak of an argument, and what a parameter stands for.
 ghost use Rattle.std.specs.Prelude.{◌≡◌, List, map, filter, option_map, IfOk};
 ghost use Rattle.pgo_syntax.specs.declared.process.MappingClause.{MappingClause};
-ghost use Rattle.pgo_heads.specs.Runs as specs;
+ghost use Rattle.pgo_bound.specs.Runs as specs;
 ghost use Rattle.pgo_heads.specs.Views.{handed_view, run_view};
 
 use crate::runs::{Handed, Run};

@@ -1,7 +1,7 @@
 // A process with its archetype, its arguments and its identifiers.
 ghost use Rattle.std.specs.Prelude.{◌≡◌, map, option_map, IfOk};
 ghost use Rattle.pgo_base.specs.View.{data_of};
-ghost use Rattle.pgo_heads.specs.Runs as specs;
+ghost use Rattle.pgo_bound.specs.Runs as specs;
 ghost use Rattle.pgo_heads.specs.Views.{handed_view, run_view};
 
 use pgo_base::text::Text;

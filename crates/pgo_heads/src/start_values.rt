@@ -1,7 +1,7 @@
 // What a variable starts with.
 ghost use Rattle.std.specs.Prelude.{◌≡◌, option_map, IfOk};
 ghost use Rattle.pgo_base.specs.View.{data_of};
-ghost use Rattle.pgo_heads.specs.Values as values;
+ghost use Rattle.pgo_bound.specs.Values as values;
 ghost use Rattle.pgo_heads.specs.Views.{start_view};
 
 use pgo_base::depth::is_deeper;

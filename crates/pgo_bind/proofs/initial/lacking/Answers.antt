@@ -3,8 +3,8 @@ use Rattle.std.specs.Prelude.{filter}
 use Rattle.std.specs.List.{filter_map, flat_map}
 use Rattle.pgo_heads.specs.Refusals.{earlier, first_placed, lacking, lacking_in, lacking_local, is_run}
 use Rattle.pgo_heads.specs.Views.{run_view, finding_view}
-use Rattle.pgo_bind.proofs.Placed.{placed_more}
 use Rattle.pgo_heads.proofs.Numbered.{drop_step}
+use Rattle.pgo_bind.proofs.Placed.{placed_more}
 use Rattle.pgo_bind.proofs.initial.lacking.Goals as goal
 
 pub loop-a-preserved-then-is_run : goal.loop-a-preserved-then-is_run

@@ -2,8 +2,8 @@ use Rattle.std.proofs.Common.{◌≡◌, ◌+◌, map, drop, option_map, ap, sym
 use Rattle.std.specs.List.{flat_map}
 use Rattle.pgo_heads.specs.Refusals.{earlier, first_placed, unset_in_run}
 use Rattle.pgo_heads.specs.Views.{run_view, finding_view}
-use Rattle.pgo_bind.proofs.Placed.{placed_more}
 use Rattle.pgo_heads.proofs.Numbered.{drop_step}
+use Rattle.pgo_bind.proofs.Placed.{placed_more}
 use Rattle.pgo_bind.proofs.initial.unset_in_runs.Goals as goal
 
 pub loop-r-preserved : goal.loop-r-preserved

@@ -1,7 +1,7 @@
 use Rattle.std.proofs.Common.{◌≡◌, ◌++◌, ◌+◌, map, drop, arith, ap, sym, ◌∙◌}
 use Rattle.std.specs.List.{filter_map}
 use Rattle.pgo_base.specs.View.{named_data}
-use Rattle.pgo_heads.specs.Values.{given_constant}
+use Rattle.pgo_bound.specs.Values.{given_constant}
 use Rattle.pgo_heads.proofs.Numbered.{drop_step}
 use Rattle.pgo_heads.proofs.Matching.{constant_step}
 use Rattle.pgo_heads.proofs.definitions.add_constants.Goals as goal

@@ -1,6 +1,6 @@
 use Rattle.std.proofs.Common.{◌≡◌, ℕ, suc, ◌+◌, ◌≤◌, List, ◌++◌, length, map, drop, None, option_map}
 use Rattle.pgo_base.specs.View.{data_of, named_data, pair_of}
-use Rattle.pgo_heads.specs.Values as values
+use Rattle.pgo_bound.specs.Values as values
 use Rattle.std.specs.List.{filter_map, flat_map}
 use Rattle.pgo_heads.proofs.definitions.add_constants.Given as goal
 

@@ -1,5 +1,5 @@
 use Rattle.std.proofs.Common.{◌≡◌, ℕ, suc, ◌+◌, ◌≤◌, List, ◌++◌, length, map, drop, None, option_map}
-use Rattle.pgo_heads.specs.Values as values
+use Rattle.pgo_bound.specs.Values as values
 use Rattle.pgo_heads.proofs.definitions.add_definitions.Given as goal
 
 abbrev pub invariant-loop-d : goal.invariant-loop-d

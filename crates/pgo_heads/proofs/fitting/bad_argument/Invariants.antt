@@ -2,7 +2,7 @@ use Rattle.std.proofs.Common.{◌≡◌, ℕ, suc, ◌+◌, ◌≤◌, List, ◌
 use Rattle.pgo_heads.specs.Views.{start_view, handed_view, run_view, global_view, part_view, finding_view}
 use Rattle.pgo_heads.specs.Refusals as specs
 use Rattle.std.specs.Prelude.{filter}
-use Rattle.pgo_heads.specs.Runs.{Handed}
+use Rattle.pgo_bound.specs.Runs.{Handed}
 use Rattle.pgo_heads.proofs.fitting.bad_argument.Given as goal
 
 abbrev pub invariant-loop-h : goal.invariant-loop-h

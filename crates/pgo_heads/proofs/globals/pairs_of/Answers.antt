@@ -1,7 +1,7 @@
 use Rattle.std.proofs.Common.{◌≡◌, ap, sym, ◌∙◌}
 use Rattle.pgo_base.specs.Data.{keys, graph-pairs}
 use Rattle.pgo_base.specs.View.{data_of}
-use Rattle.pgo_heads.specs.BoundOf.{indices}
+use Rattle.pgo_bound.specs.BoundOf.{indices}
 use Rattle.pgo_heads.proofs.globals.pairs_of.Goals as goal
 
 pub returns-in-Fun : goal.returns-in-Fun

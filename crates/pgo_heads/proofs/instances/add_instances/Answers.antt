@@ -1,10 +1,10 @@
 use Rattle.std.proofs.Common.{◌≡◌, ◌++◌, length, map, ap, sym, ◌∙◌}
 use Rattle.std.proofs.lemmas.List.{append-nil, drop_all}
 use Rattle.pgo_base.specs.View.{data_of}
-use Rattle.pgo_heads.specs.BoundOf.{numbered, instance_with}
+use Rattle.pgo_bound.specs.BoundOf.{numbered, instance_with}
 use Rattle.pgo_heads.specs.Views.{run_view}
 use Rattle.pgo_heads.proofs.Numbered.{numbered_at}
-use Rattle.pgo_heads.specs.Runs.{run_ids}
+use Rattle.pgo_bound.specs.Runs.{run_ids}
 use Rattle.pgo_heads.proofs.instances.add_instances.Goals as goal
 
 pub returns : goal.returns

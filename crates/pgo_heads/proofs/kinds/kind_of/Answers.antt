@@ -1,7 +1,7 @@
 use Rattle.std.proofs.Common.{◌≡◌, ◌∷◌, [], ◌+◌, map, drop, arith, ap, sym, ◌∙◌}
 use Rattle.std.proofs.lemmas.List.{drop_all}
-use Rattle.pgo_heads.specs.Runs.{extents_of, extents_in}
-use Rattle.pgo_heads.specs.Kinds.{all_extents}
+use Rattle.pgo_bound.specs.Runs.{extents_of, extents_in}
+use Rattle.pgo_bound.specs.Kinds.{all_extents}
 use Rattle.pgo_heads.specs.Views.{handed_view, run_view}
 use Rattle.pgo_heads.proofs.Numbered.{drop_step}
 use Rattle.pgo_heads.proofs.KindLaws.{extents_step, kind_is}

@@ -1,6 +1,6 @@
 use Rattle.std.proofs.Common.{◌≡◌, ℕ, suc, ◌+◌, ◌≤◌, List, ◌++◌, length, map, drop, None, option_map}
 use Rattle.std.specs.Prelude.{filter}
-use Rattle.pgo_heads.specs.Runs as runs
+use Rattle.pgo_bound.specs.Runs as runs
 use Rattle.pgo_syntax.specs.declared.process.MappingClause.{MappingClause}
 use Rattle.pgo_heads.proofs.mapping.by_name.Given as goal
 

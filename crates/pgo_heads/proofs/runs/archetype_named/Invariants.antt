@@ -1,5 +1,5 @@
 use Rattle.std.proofs.Common.{◌≡◌, ℕ, suc, ◌+◌, ◌≤◌, List, ◌++◌, length, map, drop, None, option_map}
-use Rattle.pgo_heads.specs.Runs as runs
+use Rattle.pgo_bound.specs.Runs as runs
 use Rattle.pgo_heads.proofs.runs.archetype_named.Given as goal
 
 abbrev pub invariant-loop-a : goal.invariant-loop-a

@@ -11,7 +11,6 @@ use Rattle.pgo_base.specs.declared.module.Defined.{Defined}
 use Rattle.pgo_model.specs.Written.{pc, done, written}
 use Rattle.pgo_syntax.specs.Statement.{Statement}
 use Rattle.pgo_syntax.specs.declared.name.PlacedName.{PlacedName}
-use Rattle.pgo_syntax.specs.declared.archetype.Archetype.{Archetype}
 use Rattle.pgo_syntax.specs.declared.declaration.Declaration.{Declaration}
 use Rattle.pgo_syntax.specs.declared.process.Argument.{Argument}
 use Rattle.pgo_syntax.specs.declared.process.Argument.TheVariants as arguments
@@ -20,10 +19,10 @@ use Rattle.pgo_syntax.specs.declared.bound.Bound.{Bound}
 use Rattle.pgo_syntax.specs.declared.bound.Instance.{Instance}
 use Rattle.pgo_syntax.specs.declared.bound.Resource.{Resource}
 use Rattle.pgo_syntax.specs.declared.spec.Spec.{Spec}
-use Rattle.pgo_heads.specs.declared.kinds.Kind.{Kind}
-use Rattle.pgo_heads.specs.declared.kinds.Kind.TheVariants.{Unbound, AsWhole, ByElement}
-use Rattle.pgo_heads.specs.Values.{Start, defs_of, argument_start, global_start, local_start, beginning}
-use Rattle.pgo_heads.specs.Runs.{Run, Handed, runs_of, run_ids, bindings_of, kind_of}
+use Rattle.pgo_bound.specs.declared.kinds.Kind.{Kind}
+use Rattle.pgo_bound.specs.declared.kinds.Kind.TheVariants.{Unbound, AsWhole, ByElement}
+use Rattle.pgo_bound.specs.Values.{Start, defs_of, argument_start, global_start, local_start, beginning}
+use Rattle.pgo_bound.specs.Runs.{Run, Handed, runs_of, run_ids, bindings_of, kind_of}
 
 -- each with its number, from n
 abbrev pub numbered : {A B : Type 0} → (ℕ → A → B) → ℕ → List A → List B

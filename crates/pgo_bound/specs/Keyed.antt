@@ -10,9 +10,9 @@ use Rattle.pgo_base.specs.Sets.{insert_member, in_order}
 use Rattle.pgo_base.specs.Pairs.{insert_pair, pairs_in_order}
 use Rattle.pgo_base.specs.Size.{depth, graph_size}
 use Rattle.pgo_base.specs.Falls.{pairs_depth-pairs}
-use Rattle.pgo_heads.specs.BoundOf.{function_on, function_at}
-use Rattle.pgo_bind.specs.State.{IsFunctionOn}
-use Rattle.pgo_bind.proofs.Among.{IsAmong}
+use Rattle.pgo_bound.specs.BoundOf.{function_on, function_at}
+use Rattle.pgo_bound.specs.State.{IsFunctionOn}
+use Rattle.pgo_bound.specs.Among.{IsAmong}
 
 keys_insert : (p : Data × Data) (qs : List (Data × Data)) → keys (insert_pair p qs) ≡ insert_member p.0 (keys qs)
 keys_insert p [] = refl
@@ -24,7 +24,8 @@ keys_insert p (q ∷ qs) = go (data_cmp p.0 q.0) refl (keys_insert p qs)
     go Equal e r = ap (λ k. k ∷ keys qs) (data_exact p.0 q.0 e)
     go Greater e r = ap (λ ks. q.0 ∷ ks) r
 
-keys_ordered : (ps : List (Data × Data)) → keys (pairs_in_order ps) ≡ in_order (keys ps)
+-- the keys of pairs in order are the keys in order
+pub keys_ordered : (ps : List (Data × Data)) → keys (pairs_in_order ps) ≡ in_order (keys ps)
 keys_ordered [] = refl
 keys_ordered (p ∷ ps) = keys_insert p (pairs_in_order ps) ∙ ap (insert_member p.0) (keys_ordered ps)
 

@@ -1,9 +1,8 @@
 -- When a bound system is sound, and which names of a specification it takes for that.
-use Rattle.std.specs.Prelude.{◌≡◌, ℕ, ◌≤◌, Bool, List, [], ◌∷◌, ◌++◌, length, Option, Some, None, ◌⊎◌}
+use Rattle.std.specs.Prelude.{◌≡◌, ℕ, ◌≤◌, List, [], ◌∷◌, ◌++◌, length, Option, Some, None, ◌⊎◌}
 use Rattle.pgo_base.specs.Data.{Data, string, function, Pairs, graph, keys}
 use Rattle.pgo_base.specs.View.{data_of}
-use Rattle.pgo_base.specs.Sets.{in_order}
-use Rattle.pgo_base.specs.Lookup.{Name, Vars, same_name, find}
+use Rattle.pgo_base.specs.Lookup.{Name, Vars, find}
 use Rattle.pgo_model.specs.Machine.{nth}
 use Rattle.pgo_model.specs.Options.{on}
 use Rattle.pgo_model.specs.Written.{pc, done, written}
@@ -16,10 +15,10 @@ use Rattle.pgo_syntax.specs.declared.bound.Resource.{Resource}
 use Rattle.pgo_syntax.specs.declared.declaration.Declaration.{Declaration}
 use Rattle.pgo_syntax.specs.declared.process.Process.{Process}
 use Rattle.pgo_syntax.specs.declared.spec.Spec.{Spec}
-use Rattle.pgo_heads.specs.declared.kinds.Kind.TheVariants.{ByElement}
-use Rattle.pgo_heads.specs.Runs.{archetype_named}
-use Rattle.pgo_bind.specs.State.{AreDifferent, IsState, id_of, kind_in, own_names, variables_of}
-use Rattle.pgo_bind.specs.Declares.{value_in}
+use Rattle.pgo_bound.specs.declared.kinds.Kind.TheVariants.{ByElement}
+use Rattle.pgo_bound.specs.Runs.{archetype_named}
+use Rattle.pgo_bound.specs.State.{AreDifferent, IsState, id_of, kind_in, own_names, variables_of}
+use Rattle.pgo_bound.specs.Declares.{value_in}
 
 abbrev mutual
   -- the labels in a statement

@@ -24,9 +24,9 @@ use Rattle.pgo_syntax.specs.declared.process.MappingTarget.{MappingTarget}
 use Rattle.pgo_syntax.specs.declared.process.MappingTarget.TheVariants as clauses
 use Rattle.pgo_syntax.specs.declared.process.Process.{Process}
 use Rattle.pgo_syntax.specs.declared.spec.Spec.{Spec}
-use Rattle.pgo_heads.specs.declared.kinds.Kind.{Kind}
-use Rattle.pgo_heads.specs.declared.kinds.Kind.TheVariants.{Unbound, AsWhole, ByElement}
-use Rattle.pgo_heads.specs.Values.{closed_value}
+use Rattle.pgo_bound.specs.declared.kinds.Kind.{Kind}
+use Rattle.pgo_bound.specs.declared.kinds.Kind.TheVariants.{Unbound, AsWhole, ByElement}
+use Rattle.pgo_bound.specs.Values.{closed_value}
 
 -- a parameter and what it is handed, with the argument's number from 1
 pub record Handed : Type 0 where

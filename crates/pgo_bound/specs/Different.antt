@@ -10,14 +10,12 @@ use Rattle.pgo_model.specs.Names.{same_name-self, same_name-not}
 use Rattle.pgo_syntax.specs.declared.archetype.Archetype.{Archetype}
 use Rattle.pgo_syntax.specs.declared.process.Process.{Process}
 use Rattle.pgo_syntax.specs.declared.spec.Spec.{Spec}
-use Rattle.pgo_heads.specs.Runs.{Run, archetype_named, run_with, run_of, runs_of, run_ids, all_ids}
-use Rattle.pgo_heads.specs.BoundOf.{numbered, places_of, instance_at, instances_of}
-use Rattle.pgo_bind.specs.State.{AreDifferent, id_of}
-use Rattle.pgo_bind.proofs.Among.{IsAmong, among_map, from_filter_map, all_at, turned}
-use Rattle.pgo_bind.proofs.Declared.{mapped_some}
-use Rattle.pgo_bind.proofs.Lookups.{data_from}
-use Rattle.pgo_bind.proofs.Places.{nth_among}
-use Rattle.pgo_bind.proofs.UniqueIds.{id_in, ids_of_places}
+use Rattle.pgo_bound.specs.Runs.{Run, archetype_named, run_with, run_of, runs_of, run_ids, all_ids}
+use Rattle.pgo_bound.specs.BoundOf.{numbered, places_of, instance_at, instances_of}
+use Rattle.pgo_bound.specs.State.{AreDifferent, id_of}
+use Rattle.pgo_bound.specs.Among.{IsAmong, among_map, from_filter_map, all_at, turned, mapped_some, nth_among}
+use Rattle.pgo_bound.specs.Lookups.{data_from}
+use Rattle.pgo_bound.specs.Once.{id_in, ids_of_places}
 
 pub all_from : {A : Type 0} (P : A → Type 0) (xs : List A) → ((x : A) → IsAmong x xs → P x) → AllByRecursion P xs
 all_from P [] f = tt

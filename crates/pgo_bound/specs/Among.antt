@@ -1,13 +1,17 @@
 -- What is among the items of a list, and what is found there by its name.
-use Rattle.std.proofs.Common.{◌≡◌, ◌⊎◌, ℕ, zero, suc, Bool, true, false, ◌||◌, if◌then◌else◌, List, [], ◌∷◌, ◌++◌, map, cond, Option, Some, None, refl, ap, sym, ◌∙◌, subst, inl, inr}
+use Rattle.std.proofs.Common.{◌≡◌, ◌⊎◌, ℕ, zero, suc, ◌+◌, Bool, true, false, ◌||◌, if◌then◌else◌, List, [], ◌∷◌, ◌++◌, map, cond, Option, Some, None, option_map, refl, ap, sym, ◌∙◌, subst, inl, inr, arith}
 use Rattle.std.specs.Prelude.{filter}
 use Rattle.std.specs.List.{AllByRecursion, filter_map, flat_map, list_any, cons_option}
-use Rattle.pgo_base.specs.Lookup.{Name, same_name, find}
+use Rattle.pgo_base.specs.Data.{Data}
+use Rattle.pgo_base.specs.Lookup.{Name, Vars, same_name, find}
 use Rattle.pgo_model.specs.Machine.{nth}
 use Rattle.pgo_model.specs.Names.{same_name-self, same_name-is}
-use Rattle.pgo_heads.specs.BoundOf.{numbered}
-use Rattle.pgo_bind.specs.State.{AreDifferent}
+use Rattle.pgo_model.specs.State.{AllValues}
+use Rattle.pgo_model.specs.Value.{IsValue}
+use Rattle.pgo_bound.specs.BoundOf.{numbered}
+use Rattle.pgo_bound.specs.State.{AreDifferent}
 
+-- x is an item of the list
 abbrev pub IsAmong : {A : Type 0} → A → List A → Type 0
 IsAmong x [] = ⊥
 IsAmong x (y ∷ ys) = (x ≡ y) ⊎ IsAmong x ys
@@ -81,18 +85,40 @@ from_filter_map {A = A} {B = B} f y (z ∷ zs) h = go (f z) refl h (from_filter_
     go (Some w) e (inl g) r = (z, inl refl, e ∙ ap Some (sym g))
     go (Some w) e (inr g) r = let q = r g in (q.0, inr q.1, q.2)
 
+pub mapped_some : {A B : Type 0} (f : A → B) (o : Option A) (y : B) → option_map f o ≡ Some y → (x : A) × (o ≡ Some x) × (y ≡ f x)
+mapped_some f None y h = absurd (cc)
+mapped_some f (Some x) y h = (x, refl, let e : y ≡ f x = cc in e)
+
+pub some_is : {A : Type 0} (x y : A) → Some x ≡ Some y → x ≡ y
+some_is x y e = cc
+
 pub among_nth : {A : Type 0} (x : A) (xs : List A) (n : ℕ) → nth xs n ≡ Some x → IsAmong x xs
 among_nth x [] n h = absurd (cc)
 among_nth x (y ∷ ys) zero h = inl (sym (some_is y x h))
-  where
-    some_is : {A : Type 0} (a b : A) → Some a ≡ Some b → a ≡ b
-    some_is a b e = cc
 among_nth x (y ∷ ys) (suc n) h = inr (among_nth x ys n h)
+
+pub nth_among : {A : Type 0} (x : A) (xs : List A) → IsAmong x xs → (n : ℕ) × (nth xs n ≡ Some x)
+nth_among x [] h = absurd h
+nth_among x (y ∷ ys) (inl e) = (0, ap Some (sym e))
+nth_among x (y ∷ ys) (inr h) = let r = nth_among x ys h in (suc r.0, r.1)
+
+pub nth_map : {A B : Type 0} (f : A → B) (n : ℕ) (xs : List A) (x : A) → nth xs n ≡ Some x → nth (map f xs) n ≡ Some (f x)
+nth_map f n [] x h = absurd (cc)
+nth_map f zero (y ∷ ys) x h = ap (λ z. Some (f z)) (some_is y x h)
+nth_map f (suc n) (y ∷ ys) x h = nth_map f n ys x h
 
 pub from_numbered : {A B : Type 0} (f : ℕ → A → B) (n : ℕ) (y : B) (xs : List A) → IsAmong y (numbered f n xs) → (x : A) × IsAmong x xs × ((m : ℕ) × (y ≡ f m x))
 from_numbered f n y [] h = absurd h
 from_numbered f n y (z ∷ zs) (inl e) = (z, inl refl, (n, e))
 from_numbered f n y (z ∷ zs) (inr h) = let r = from_numbered f (suc n) y zs h in (r.0, inr r.1, r.2)
+
+-- the item of a numbered list at a place is the item there, with the place as its number
+pub nth_from : {A B : Type 0} (f : ℕ → A → B) (k n : ℕ) (xs : List A) (y : B) → nth (numbered f k xs) n ≡ Some y → (x : A) × (nth xs n ≡ Some x) × ((m : ℕ) × (m ≡ k + n) × (y ≡ f m x))
+nth_from f k n [] y h = absurd (cc)
+nth_from f k zero (x ∷ xs) y h = (x, refl, (k, let e : k ≡ k + 0 = omega arith in e, sym (some_is (f k x) y h)))
+nth_from f k (suc n) (x ∷ xs) y h =
+    let r = nth_from f (suc k) n xs y h in
+    (r.0, r.1, (r.2.0, let e : r.2.0 ≡ k + suc n = omega (arith, r.2.1) in e, r.2.2))
 
 -- what is so of none is so of none of these
 pub none_any : {A : Type 0} (p : A → Bool) (x : A) (xs : List A) → list_any p xs ≡ false → IsAmong x xs → p x ≡ false
@@ -166,3 +192,9 @@ found_among x v (p ∷ ps) d (inl e) =
 found_among x v (p ∷ ps) d (inr h) =
     let apart = all_at (λ y. same_name p.0 y ≡ false) x (map (λ q. q.0) ps) d.0 (among_map (λ q. q.0) (x, v) ps h) in
     ap (λ b. if b then Some p.1 else find x ps) (turned p.0 x apart) ∙ found_among x v ps d.1 h
+
+-- what a variable has is a value, where all have
+pub value_at_name : (s : Vars) (p : Name × Data) → AllValues s → IsAmong p s → IsValue p.1
+value_at_name [] p a h = absurd h
+value_at_name (q ∷ qs) p a (inl e) = subst (λ (r : Name × Data). IsValue r.1) (sym e) a.0
+value_at_name (q ∷ qs) p a (inr h) = value_at_name qs p a.1 h

@@ -1,9 +1,8 @@
 -- What a function that is made of pairs has at a key.
-use Rattle.std.proofs.Common.{◌≡◌, ◌⊎◌, ℕ, suc, ◌+◌, ◌≤◌, Bool, true, false, if◌then◌else◌, List, [], ◌∷◌, ◌++◌, map, Option, Some, None, refl, ap, sym, ◌∙◌, subst, inl, inr, arith}
+use Rattle.std.proofs.Common.{◌≡◌, Bool, true, false, if◌then◌else◌, List, [], ◌∷◌, map, Some, refl, ap, sym, ◌∙◌, inl, inr}
 use Rattle.std.specs.declared.cmp.Ordering.{Ordering}
 use Rattle.std.specs.declared.cmp.Ordering.TheVariants.{Less, Equal, Greater}
 use Rattle.std.specs.Ordering.{is_eq, match_ordering}
-use Rattle.std.specs.List.{AllByRecursion}
 use Rattle.pgo_base.specs.Data.{Data, Items, no_items, item, items, members, Pairs, no_pairs, pair, pairs, graph, boolean, integer, string, model, set, function, graph-pairs}
 use Rattle.pgo_base.specs.View.{data_of}
 use Rattle.pgo_base.specs.ValueCode.{value_from}
@@ -11,8 +10,8 @@ use Rattle.pgo_base.specs.Order.{data_cmp}
 use Rattle.pgo_base.specs.Exact.{data_exact, data_itself}
 use Rattle.pgo_base.specs.Pairs.{insert_pair, pairs_in_order}
 use Rattle.pgo_model.specs.Operators.{same_data, lookup, apply}
-use Rattle.pgo_heads.specs.BoundOf.{function_on, function_at}
-use Rattle.pgo_bind.proofs.Among.{IsAmong}
+use Rattle.pgo_bound.specs.BoundOf.{function_on, function_at}
+use Rattle.pgo_bound.specs.Among.{IsAmong}
 
 pub same_of : (x y : Data) → same_data x y ≡ true → x ≡ y
 same_of x y h = go (data_cmp x y) refl h

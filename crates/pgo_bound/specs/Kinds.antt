@@ -2,8 +2,8 @@
 use Rattle.std.specs.Prelude.{List, [], ◌∷◌}
 use Rattle.pgo_syntax.specs.declared.archetype.Extent.{Extent}
 use Rattle.pgo_syntax.specs.declared.archetype.Extent.TheVariants.{Whole, Element}
-use Rattle.pgo_heads.specs.declared.kinds.Kind.{Kind}
-use Rattle.pgo_heads.specs.declared.kinds.Kind.TheVariants.{Unbound, AsWhole, ByElement}
+use Rattle.pgo_bound.specs.declared.kinds.Kind.{Kind}
+use Rattle.pgo_bound.specs.declared.kinds.Kind.TheVariants.{Unbound, AsWhole, ByElement}
 
 -- one binding more
 abbrev pub with_extent : Kind → Extent → Kind

@@ -14,9 +14,9 @@ use Rattle.pgo_syntax.specs.declared.bound.Bound.{Bound}
 use Rattle.pgo_syntax.specs.declared.bound.Instance.{Instance}
 use Rattle.pgo_syntax.specs.declared.bound.Target.TheVariants as targets
 use Rattle.pgo_syntax.specs.declared.declaration.Declaration.{Declaration}
-use Rattle.pgo_heads.specs.Values.{closed_value, value_at}
-use Rattle.pgo_heads.specs.BoundOf.{first_label_in}
-use Rattle.pgo_bind.specs.State.{id_of}
+use Rattle.pgo_bound.specs.Values.{closed_value, value_at}
+use Rattle.pgo_bound.specs.BoundOf.{first_label_in}
+use Rattle.pgo_bound.specs.State.{id_of}
 
 -- a global may start with this value: its initial value, or a member of its set
 abbrev pub StartsAs : List Defined → Option Origin → Data → Type 0

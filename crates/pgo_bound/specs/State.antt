@@ -1,5 +1,5 @@
 -- When a list of variables with values is a state of a bound specification.
-use Rattle.std.specs.Prelude.{◌≡◌, ℕ, Bool, true, false, if◌then◌else◌, IsTrue, List, [], ◌∷◌, ◌++◌, map, filter, Option, Some, None}
+use Rattle.std.specs.Prelude.{◌≡◌, ℕ, false, if◌then◌else◌, IsTrue, List, [], ◌∷◌, ◌++◌, map, filter, Option, Some, None}
 use Rattle.std.specs.List.{AllByRecursion, filter_map, flat_map}
 use Rattle.pgo_base.specs.Data.{Data, function, Pairs, graph, keys}
 use Rattle.pgo_base.specs.View.{data_of}
@@ -19,9 +19,9 @@ use Rattle.pgo_syntax.specs.declared.process.Argument.{Argument}
 use Rattle.pgo_syntax.specs.declared.process.Argument.TheVariants as arguments
 use Rattle.pgo_syntax.specs.declared.process.Process.{Process}
 use Rattle.pgo_syntax.specs.declared.spec.Spec.{Spec}
-use Rattle.pgo_heads.specs.declared.kinds.Kind.{Kind}
-use Rattle.pgo_heads.specs.declared.kinds.Kind.TheVariants.{ByElement}
-use Rattle.pgo_heads.specs.Runs.{Handed, handed_from, archetype_named, kind_of_extents}
+use Rattle.pgo_bound.specs.declared.kinds.Kind.{Kind}
+use Rattle.pgo_bound.specs.declared.kinds.Kind.TheVariants.{ByElement}
+use Rattle.pgo_bound.specs.Runs.{handed_from, archetype_named, kind_of_extents}
 
 -- no two of these names are one
 abbrev pub AreDifferent : List Name → Type 0

@@ -2,7 +2,7 @@
 use Rattle.std.proofs.Common.{◌≡◌, List, [], ◌∷◌, ◌++◌, map, Option, Some, None, refl, ap, sym, ◌∙◌}
 use Rattle.std.specs.List.{filter_map, flat_map, cons_option}
 use Rattle.pgo_base.specs.Data.{Data}
-use Rattle.pgo_base.specs.Lookup.{Name, Vars}
+use Rattle.pgo_base.specs.Lookup.{Name}
 use Rattle.pgo_base.specs.declared.module.Defined.{Defined}
 use Rattle.pgo_model.specs.Written.{pc, written}
 use Rattle.pgo_syntax.specs.declared.archetype.Archetype.{Archetype}
@@ -12,9 +12,9 @@ use Rattle.pgo_syntax.specs.declared.process.Argument.{Argument}
 use Rattle.pgo_syntax.specs.declared.process.Argument.TheVariants as arguments
 use Rattle.pgo_syntax.specs.declared.process.Process.{Process}
 use Rattle.pgo_syntax.specs.declared.spec.Spec.{Spec}
-use Rattle.pgo_heads.specs.Runs.{Run, Handed, handed_from, archetype_named, run_with, run_of, runs_of}
-use Rattle.pgo_heads.specs.BoundOf.{GlobalStart, global_of, globals_of, global_value, own_argument, own_start, locals_of, first_places, start_of}
-use Rattle.pgo_bind.specs.State.{value_name, names_with, names_or_none, own_names, variables_of}
+use Rattle.pgo_bound.specs.Runs.{Run, Handed, handed_from, archetype_named, run_with, run_of, runs_of}
+use Rattle.pgo_bound.specs.BoundOf.{global_of, globals_of, global_value, own_argument, own_start, locals_of, first_places, start_of}
+use Rattle.pgo_bound.specs.State.{value_name, names_with, names_or_none, own_names, variables_of}
 
 abbrev pub name_of : Name × Data → Name
 name_of p = p.0

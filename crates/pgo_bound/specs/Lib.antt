@@ -1,0 +1,14 @@
+pub mod Values
+pub mod Runs
+pub mod BoundOf
+pub mod Kinds
+pub mod State
+pub mod Declares
+pub mod Sound
+pub mod Among
+pub mod Lookups
+pub mod Keyed
+pub mod StartNames
+pub mod Once
+pub mod Instances
+pub mod Different
