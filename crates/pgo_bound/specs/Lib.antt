@@ -12,3 +12,4 @@ pub mod StartNames
 pub mod Once
 pub mod Instances
 pub mod Different
+pub mod Domains

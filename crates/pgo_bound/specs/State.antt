@@ -1,4 +1,4 @@
--- When a list of variables with values is a state of a bound specification.
+-- When a list of variables with values is a state of a bound specification, and when it has the domains of the start.
 use Rattle.std.specs.Prelude.{◌≡◌, ℕ, false, if◌then◌else◌, IsTrue, List, [], ◌∷◌, ◌++◌, map, filter, Option, Some, None}
 use Rattle.std.specs.List.{AllByRecursion, filter_map, flat_map}
 use Rattle.pgo_base.specs.Data.{Data, function, Pairs, graph, keys}
@@ -84,3 +84,12 @@ pub record IsState (b : Bound) (s : Vars) : Type 0 where
       → IsFunctionOn (identifiers_of b p.name.name) (find (written p.name.name x) s)
   pub elements : (n : ℕ) (d : Declaration) → nth b.spec.globals n ≡ Some d → kind_in b d.name.name ≡ ByElement
       → (ps : Pairs) × (find d.name.name s ≡ Some (function ps))
+
+-- the variable is a function in both, on one domain
+abbrev pub HasOneDomain : Vars → Vars → Name → Type 0
+HasOneDomain s t x = (ks : List Data) × IsFunctionOn ks (find x s) × IsFunctionOn ks (find x t)
+
+-- a state in which each element-bound global has the domain that it starts with
+pub record IsStateOnDomains (b : Bound) (s : Vars) : Type 0 where
+  pub state : IsState b s
+  pub domains : (n : ℕ) (d : Declaration) → nth b.spec.globals n ≡ Some d → kind_in b d.name.name ≡ ByElement → HasOneDomain b.start s d.name.name
