@@ -4,7 +4,7 @@ use Rattle.pgo_base.specs.Lookup.{Name, find}
 use Rattle.pgo_model.specs.ValueText.{is_one_of}
 use Rattle.pgo_model.specs.Machine.{nth}
 use Rattle.pgo_model.specs.Names.{same_name-self}
-use Rattle.pgo_model.specs.Code.{place}
+use Rattle.pgo_counter.specs.Code.{place}
 use Rattle.pgo_model.specs.Written.{pc, self_name, done, default_init_value, proc_set, terminating, written, made}
 use Rattle.pgo_counter.specs.declared.counter.Sum.{Sum}
 use Rattle.pgo_counter.specs.declared.counter.Counter.{Counter}

@@ -8,19 +8,24 @@ use Rattle.pgo_model.specs.Names.{same_name-self, same_name-is}
 use Rattle.pgo_model.specs.Operators.{apply, put_at, both, on_integers, in_64, fits_i64, set_from, members_of, function_from}
 use Rattle.pgo_model.specs.Val.{Meaning, Scope, arithmetic, call_def, or_else, with_name, val, value_of_name, meanings, meaning_of, Given, Means, function_over, with_names, over_each}
 use Rattle.pgo_model.specs.Written.{pc, self_name, made, written, proc_set, terminating, default_init_value}
-use Rattle.pgo_model.specs.Code.{Code, Become, place, value_base}
-use Rattle.pgo_model.specs.Spec.{Labeled, Declaration, Equals}
-use Rattle.pgo_model.specs.Bound.{Instance, sections_of, first_label}
-use Rattle.pgo_model.specs.State.{IsState, is_shallow}
+use Rattle.pgo_counter.specs.Code.{Code, Become, place, value_base}
+use Rattle.pgo_counter.specs.Spec.{Labeled, Declaration, Equals}
+use Rattle.pgo_counter.specs.Bound.{Instance, sections_of, first_label}
+use Rattle.pgo_counter.specs.State.{IsState}
+use Rattle.pgo_model.specs.State.{is_shallow}
 use Rattle.pgo_model.specs.Outcome.{NoValue, Next, Stuck}
 use Rattle.pgo_model.specs.Options.{on}
-use Rattle.pgo_model.specs.Section.{Context, starting, Out, Go, Jump, Stop, Words, Sect, Allows, word_at, nothing, code_at, runs, go_on, store, store_value, parameters_now, value_in, exec, arrived, ended, context_of}
+use Rattle.pgo_counter.specs.Section.{Context, starting, Out, Go, Jump, Stop, Sect, Allows, nothing, code_at, runs, go_on, parameters_now, value_in, exec, arrived, ended, context_of}
+use Rattle.pgo_model.specs.System.{Words}
+use Rattle.pgo_model.specs.Choice.{word_at}
+use Rattle.pgo_model.specs.Variables.{store, store_value}
 use Rattle.pgo_model.specs.Machine.{nth}
-use Rattle.pgo_model.specs.Declares.{Declares, IsLabel, StartsAs, place_of}
+use Rattle.pgo_counter.specs.Declares.{Declares, IsLabel, StartsAs}
+use Rattle.pgo_model.specs.Variables.{place_of}
 use Rattle.pgo_model.specs.Acts.{Acts, Begins}
-use Rattle.pgo_model.specs.Agrees.{Agrees}
+use Rattle.pgo_counter.specs.Agrees.{Agrees}
 use Rattle.pgo_model.specs.Module.{stands_at, actions_of, defs_of, action_definition, proc_set_of}
-use Rattle.pgo_model.specs.Translate.{moves_to}
+use Rattle.pgo_counter.specs.Translate.{moves_to}
 use Rattle.pgo_counter.specs.declared.counter.Term.{Term}
 use Rattle.pgo_counter.specs.declared.counter.Term.TheVariants.{Parameter, Number}
 use Rattle.pgo_counter.specs.declared.counter.Sum.{Sum}

@@ -9,7 +9,7 @@ use Rattle.pgo_model.specs.Core.{End, Done, rules_of, is_at_done, end_by, end_or
 use Rattle.pgo_counter.specs.declared.counter.Sum.{Sum}
 use Rattle.pgo_counter.specs.declared.counter.Counter.{Counter}
 use Rattle.pgo_counter.specs.WellNamed.{IsWellNamed, most_statements}
-use Rattle.pgo_counter.specs.Counters.{next_name, counter_bound}
+use Rattle.pgo_counter.specs.Counters.{next_name, counter_system}
 use Rattle.pgo_front.specs.CounterRuns.{IsAt, settings, steps_from, last_value, counter_entries}
 use Rattle.pgo_counter.specs.NameBytes.{fewer-apart, written-some}
 use Rattle.pgo_counter.specs.CounterNames.{names}
@@ -55,10 +55,10 @@ length-entries c a x (s ∷ ss) (v ∷ vs) h = ap suc (length-entries c (suc a) 
 
 -- the instance is at Done, or goes on
 pub end_is : (c : Counter) → IsWellNamed c → length c.body ≤ most_statements → (m : Machine Effect) (vs : List ℕ) → IsAt c m vs
-    → end_of (counter_bound c) settings (finished_of m) 0 ≡ (if nat_eq (length vs) (length c.body) then Some Done else None)
+    → end_of (counter_system c) settings (finished_of m) 0 ≡ (if nat_eq (length vs) (length c.body) then Some Done else None)
 end_is c w few m vs h =
-    let stands : is_at_done (counter_bound c) 0 (last_state (rules_of (counter_bound c) settings) m) ≡ nat_eq (length vs) (length c.body)
-    = ap (is_at_done (counter_bound c) 0) h.state
+    let stands : is_at_done (counter_system c) 0 (last_state (rules_of (counter_system c) settings) m) ≡ nat_eq (length vs) (length c.body)
+    = ap (is_at_done (counter_system c) 0) h.state
     ∙ at_done_is c (names c w) (last_value c.start vs) (next_name c (drop (length vs) c.body))
     ∙ next_done c (drop (length vs) c.body)
     ∙ none_left (length vs) c.body h.few
@@ -74,7 +74,7 @@ status_from ends = if has_stopped ends then 20 else if has_full ends then 23 els
 
 -- the status: 0 where the instance is at Done, else 21
 pub status_is : (c : Counter) → IsWellNamed c → length c.body ≤ most_statements → (m : Machine Effect) (vs : List ℕ) → IsAt c m vs
-    → status_of (counter_bound c) settings (finished_of m) ≡ (if nat_eq (length vs) (length c.body) then 0 else 21)
+    → status_of (counter_system c) settings (finished_of m) ≡ (if nat_eq (length vs) (length c.body) then 0 else 21)
 status_is c w few m vs h = ap (λ e. status_from (e ∷ [])) (end_is c w few m vs h) ∙ go (nat_eq (length vs) (length c.body))
   where
     go : (b : Bool) → status_from ((if b then Some Done else None) ∷ []) ≡ (if b then 0 else 21)
@@ -92,6 +92,6 @@ test_is false n k e = let other : n ≡ k → ⊥ = λ same. absurd (false_is (e
 -- the status by that test
 pub status_by_test : (c : Counter) → IsWellNamed c → length c.body ≤ most_statements → (vs : List ℕ) (done value : Bool)
     → (IsTrue done ↔ (length vs ≡ length c.body)) → done ≡ value
-    → (m : Machine Effect) → IsAt c m vs → (if value then 0 else 21) ≡ status_of (counter_bound c) settings (finished_of m)
+    → (m : Machine Effect) → IsAt c m vs → (if value then 0 else 21) ≡ status_of (counter_system c) settings (finished_of m)
 status_by_test c w few vs done value test done_is m h =
     ap (λ b. if b then 0 else 21) (sym done_is ∙ test_is done (length vs) (length c.body) test) ∙ sym (status_is c w few m vs h)
