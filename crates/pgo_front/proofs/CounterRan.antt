@@ -22,6 +22,7 @@ use Rattle.pgo_counter.specs.BoundSystem.{member_of}
 use Rattle.pgo_counter.specs.Counters.{spec_of, next_name, counter_bound, counter_system, counter_instance, counter_module}
 use Rattle.pgo_check.specs.declared.verdict.Verdict.TheVariants.{Run}
 use Rattle.pgo_log_text.specs.ReadBundle.{IsReadBundle}
+use Rattle.pgo_log_text.proofs.BundleRead.{one_bundle}
 use Rattle.pgo_front.specs.ReadBack.{entry_read, log_of}
 use Rattle.pgo_front.specs.CounterRuns.{IsAt, settings, last_value}
 use Rattle.pgo_front.specs.Headline.{AllDone, Ran}
@@ -127,13 +128,14 @@ ran c f turns values h n n_is lines lines_are =
       agrees = subst (λ m. Agrees m [] (counter_bound c)) means (agrees c w);
       run = run;
       is_read = read;
-      short = is_short c f turns values h n (flatten lines) (at_most n either) bytes;
+      only = one_bundle (flatten lines) (module_of (spec_of c)) [] (log_of (counter_system c) (Core (counter_system c) settings turns).entries) read;
       read_run = read_run;
       accepted = λ v judged.
           accepted (flatten lines) (module_of (spec_of c)) [] (log_of (counter_system c) (Core (counter_system c) settings turns).entries) read read_run v judged
           ∙ ap Run (count_is entry_read (Core (counter_system c) settings turns).entries);
-      accounts = (run_turns_law (rules_of (counter_system c) settings) (Reaches (counter_system c)) (IsSystemState (counter_system c)) (fits c w f.start f.id) turns).1;
+      accounts = (run_turns_law (rules_of (counter_system c) settings) (Reaches (counter_system c)) (IsSystemState (counter_system c)) (fits c w f.start f.id) turns).1.each;
+      joint = (run_turns_law (rules_of (counter_system c) settings) (Reaches (counter_system c)) (IsSystemState (counter_system c)) (fits c w f.start f.id) turns).1.joint;
       status_is = status;
-      either = either;
       fine = zero_at_done c w f.few turns values h n n_is;
+      of_counter = λ d g e. record { short = is_short c f turns values h n (flatten lines) (at_most n either) bytes; either = either };
     }

@@ -101,9 +101,10 @@ end_of y settings f k =
     if is_at_done y k (state_at (rules_of y settings) y.start f.entries (length f.entries)) then Some Done
     else end_or_spent (end_by (f.records k)) (nat_eq (length (f.records k)) settings.attempts)
 
-abbrev pub ends_from : System → Settings → Finished Effect → ℕ → List Member → List (Option End)
-ends_from y settings f k [] = []
-ends_from y settings f k (i ∷ is) = end_of y settings f k ∷ ends_from y settings f (suc k) is
+-- the ends that the last records show, of the instances from k on
+abbrev pub last_ends_from : Finished Effect → ℕ → List Member → List (Option End)
+last_ends_from f k [] = []
+last_ends_from f k (i ∷ is) = end_by (f.records k) ∷ last_ends_from f (suc k) is
 
 abbrev pub has_stopped : List (Option End) → Bool
 has_stopped [] = false
@@ -115,14 +116,15 @@ has_full [] = false
 has_full (Some JournalFull ∷ es) = true
 has_full (e ∷ es) = has_full es
 
-abbrev pub all_done : List (Option End) → Bool
-all_done [] = true
-all_done (Some Done ∷ es) = all_done es
-all_done (e ∷ es) = false
+-- each instance from k on is at Done in this state
+abbrev pub are_at_done : System → Vars → ℕ → List Member → Bool
+are_at_done y s k [] = true
+are_at_done y s k (i ∷ is) = is_at_done y k s && are_at_done y s (suc k) is
 
--- 20: some instance's last record is a note NoValue or AssertFails; else 23: one was refused Full;
--- else 21: some instance isn't at Done; else 0
+-- 20: some instance's last record is a note NoValue or AssertFails; else 23: some instance's last record is a refusal Full;
+-- else 21: some instance isn't at Done in the last state; else 0
 abbrev pub status_of : System → Settings → Finished Effect → ℕ
 status_of y settings f =
-    let ends = ends_from y settings f 0 y.members in
-    if has_stopped ends then 20 else if has_full ends then 23 else if all_done ends then 0 else 21
+    let last = last_ends_from f 0 y.members in
+    if has_stopped last then 20 else if has_full last then 23
+    else if are_at_done y (state_at (rules_of y settings) y.start f.entries (length f.entries)) 0 y.members then 0 else 21

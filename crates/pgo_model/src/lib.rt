@@ -6,7 +6,7 @@ ghost use Rattle.pgo_model.specs.System.{System};
 ghost use Rattle.pgo_model.specs.SystemState.{IsSystemState};
 ghost use Rattle.pgo_model.specs.Machine.{finished_of};
 ghost use Rattle.pgo_model.specs.Core.{Settings, Core, rules_of, Reaches};
-ghost use Rattle.pgo_model.specs.Accounts.{Fits, StepsAreSections, EntriesMade, Accounts};
+ghost use Rattle.pgo_model.specs.Accounts.{Fits, StepsAreSections, EntriesMade, Accounts, JointAccounts};
 
 /// The law of the core machine, for every system, settings and list of turns.
 ///
@@ -16,13 +16,16 @@ ghost use Rattle.pgo_model.specs.Accounts.{Fits, StepsAreSections, EntriesMade, 
 ///
 /// - `runs`: each entry of the journal is what its instance's section does on the state after the entries before it.
 /// - `entries`: each entry records the difference between the states before and after it.
-/// - `accounts`: the records of an instance number its attempts from 1, and each says what became of its attempt;
-///   entries and notes are exactly those that the records name, in order; no attempt has two notes; no failing
-///   pre-commit is answered twice; `Full` is a last record.
+/// - `accounts`: the records of an instance number its attempts from 1, and each says what became of its attempt, a
+///   refusal by a holder that it names an instance; its entries and notes are exactly those that its records name, in
+///   order; no attempt has two notes; `Full` is a last record. A number that is no instance's has no record.
+/// - `joint`: over all instances no failing pre-commit is answered twice, and the number of a `Full` is the journal's
+///   length.
 ///
 /// Source: this project's choice.
 pub fn core_accounts()
     ensures runs { (y : System) (s : Settings) (turns : List ℕ) → Fits (rules_of y s) (Reaches y) (IsSystemState y) → StepsAreSections (rules_of y s) (finished_of (Core y s turns)) }
     ensures entries { (y : System) (s : Settings) (turns : List ℕ) → Fits (rules_of y s) (Reaches y) (IsSystemState y) → EntriesMade (rules_of y s) (finished_of (Core y s turns)) }
-    ensures accounts { (y : System) (s : Settings) (turns : List ℕ) → Fits (rules_of y s) (Reaches y) (IsSystemState y) → Accounts (rules_of y s) (Reaches y) false (finished_of (Core y s turns)) }
+    ensures accounts { (y : System) (s : Settings) (turns : List ℕ) → Fits (rules_of y s) (Reaches y) (IsSystemState y) → (k : ℕ) → Accounts (rules_of y s) (Reaches y) false (finished_of (Core y s turns)) k }
+    ensures joint { (y : System) (s : Settings) (turns : List ℕ) → Fits (rules_of y s) (Reaches y) (IsSystemState y) → JointAccounts (rules_of y s) (Reaches y) false (finished_of (Core y s turns)) }
 {}

@@ -12,4 +12,7 @@ pub returns-clause-entries : goal.returns-clause-entries
 returns-clause-entries c y s turns fits = run_turns_entries (rules_of y s) (Reaches y) (IsSystemState y) fits turns
 
 pub returns-clause-accounts : goal.returns-clause-accounts
-returns-clause-accounts c y s turns fits = (run_turns_law (rules_of y s) (Reaches y) (IsSystemState y) fits turns).1
+returns-clause-accounts c y s turns fits = (run_turns_law (rules_of y s) (Reaches y) (IsSystemState y) fits turns).1.each
+
+pub returns-clause-joint : goal.returns-clause-joint
+returns-clause-joint c y s turns fits = (run_turns_law (rules_of y s) (Reaches y) (IsSystemState y) fits turns).1.joint
