@@ -19,8 +19,8 @@ Words = ℕ → ℕ
 abbrev pub Touched : Type 0
 Touched = Name × Option Data
 
--- an instance: its identifier; the variables of which it has the part at its identifier, `pc` first, and then its locals
--- and value parameters; and the globals that it is bound to
+-- an instance: its identifier; the variables of which it has the part at its identifier, in the order of the start: `pc`, and
+-- then its value parameters and locals; and the globals that it is bound to
 pub record Member : Type 0 where
   pub id : Data
   pub own : List Name
