@@ -1,38 +1,45 @@
--- The actions of a module by name.
-use Rattle.std.proofs.Common.{◌≡◌, ℕ, suc, ◌<◌, ◌+◌, List, [], ◌∷◌, ◌++◌, length, map, get_or, drop, refl, ap, sym, ◌∙◌, add-one, drop-cons}
-use Rattle.std.specs.Prelude.{Bool, true, false, if◌then◌else◌, Option, Some, None}
+-- The actions of a module by name, from the last one down.
+use Rattle.std.proofs.Common.{◌≡◌, List, [], ◌∷◌, ◌++◌, map, refl, ap, sym, ◌∙◌, arith, append_assoc}
+use Rattle.std.specs.Prelude.{true, false, reverse, Option, Some, None, is_some, option_map}
+use Rattle.std.proofs.lemmas.List.{append-nil, reverse-append}
 use Rattle.pgo_base.specs.declared.module.WrittenProcess as base_process
-use Rattle.pgo_base.specs.Lookup.{Name, same_name, find}
+use Rattle.pgo_base.specs.Lookup.{Name, find}
 use Rattle.pgo_base.specs.Tree.{Tree}
-use Rattle.pgo_model.specs.Module.{actions_in}
+use Rattle.pgo_model.specs.Names.{or_that, find_append}
+use Rattle.pgo_model.specs.Module.{WrittenProcess, actions_in}
 use Rattle.pgo_model.specs.ModuleView.{process_view}
 
-find_left : (x : Name) (xs ys : List (Name × Tree)) (e : Tree) → find x xs ≡ Some e → find x (xs ++ ys) ≡ Some e
-find_left x [] ys e h = absurd (cc)
-find_left x (a ∷ xs) ys e h = go (same_name x a.0) h (find_left x xs ys e)
-  where
-    go : (b : Bool) → (if b then Some a.1 else find x xs) ≡ Some e → (find x xs ≡ Some e → find x (xs ++ ys) ≡ Some e) → (if b then Some a.1 else find x (xs ++ ys)) ≡ Some e
-    go true g ih = g
-    go false g ih = ih g
+pushed : {A B : Type 0} (f : A → B) (xs : List A) (y : A) → map f (xs ++ y ∷ []) ≡ map f xs ++ f y ∷ []
+pushed f [] y = refl
+pushed f (x ∷ xs) y = ap (λ zs. f x ∷ zs) (pushed f xs y)
 
-find_right : (x : Name) (xs ys : List (Name × Tree)) → find x xs ≡ None → find x (xs ++ ys) ≡ find x ys
-find_right x [] ys h = refl
-find_right x (a ∷ xs) ys h = go (same_name x a.0) h (find_right x xs ys)
-  where
-    go : (b : Bool) → (if b then Some a.1 else find x xs) ≡ None → (find x xs ≡ None → find x (xs ++ ys) ≡ find x ys) → (if b then Some a.1 else find x (xs ++ ys)) ≡ find x ys
-    go true g ih = absurd (cc)
-    go false g ih = ih g
+abbrev pub search_in : Name → List base_process.WrittenProcess → Option Tree
+search_in x ps = find x (reverse (actions_in (map process_view ps)))
 
-abbrev searched : Name → List base_process.WrittenProcess → Option Tree
-searched x ps = find x (actions_in (map process_view ps))
+actions_pushed : (ps : List WrittenProcess) (p : WrittenProcess) → actions_in (ps ++ p ∷ []) ≡ actions_in ps ++ p.actions
+actions_pushed [] p = append-nil p.actions
+actions_pushed (q ∷ ps) p = ap (λ l. q.actions ++ l) (actions_pushed ps p) ∙ sym (append_assoc q.actions (actions_in ps) p.actions)
 
--- the next process has the action
-pub found_here : (x : Name) (ps : List base_process.WrittenProcess) (i : ℕ) (p : base_process.WrittenProcess) (e : Tree) → i < length ps → p ≡ get_or ps i p → find x p.actions ≡ Some e → searched x (drop i ps) ≡ Some e
-found_here x ps i p e h g f =
-    ap (searched x) (drop-cons ps i p h ∙ ap (λ q. q ∷ drop (suc i) ps) (sym g)) ∙ find_left x p.actions (actions_in (map process_view (drop (suc i) ps))) e f
+search_last_in : (x : Name) (left before : List base_process.WrittenProcess) (p : base_process.WrittenProcess) → left ≡ before ++ p ∷ []
+    → search_in x left ≡ or_that (find x (reverse p.actions)) (search_in x before)
+search_last_in x left before p e =
+    ap (search_in x) e ∙ ap (λ l. find x (reverse (actions_in l))) (pushed process_view before p)
+    ∙ ap (λ l. find x (reverse l)) (actions_pushed (map process_view before) (process_view p))
+    ∙ ap (find x) (reverse-append (actions_in (map process_view before)) p.actions)
+    ∙ find_append x (reverse p.actions) (reverse (actions_in (map process_view before)))
 
--- the next process has it not
-pub found_later : (x : Name) (ps : List base_process.WrittenProcess) (i : ℕ) (p : base_process.WrittenProcess) → i < length ps → p ≡ get_or ps i p → find x p.actions ≡ None → searched x (drop i ps) ≡ searched x (drop (i + 1) ps)
-found_later x ps i p h g f =
-    ap (searched x) (drop-cons ps i p h ∙ ap (λ q. q ∷ drop (suc i) ps) (sym g)) ∙ find_right x p.actions (actions_in (map process_view (drop (suc i) ps))) f
-    ∙ ap (λ n. searched x (drop n ps)) (sym (add-one i))
+-- the last process has the action
+pub process_here : (x : Name) (all left before : List base_process.WrittenProcess) (p : base_process.WrittenProcess) (o : Option Tree) → left ≡ before ++ p ∷ []
+    → find x (reverse p.actions) ≡ o → is_some o ≡ true → search_in x all ≡ search_in x left → o ≡ search_in x all
+process_here x all left before p None is there some h = absurd (grind (arith, some))
+process_here x all left before p (Some e) is there some h = sym (h ∙ search_last_in x left before p is ∙ ap (λ o. or_that o (search_in x before)) there)
+
+-- it has it not
+pub process_before : (x : Name) (all left before : List base_process.WrittenProcess) (p : base_process.WrittenProcess) (o : Option Tree) → left ≡ before ++ p ∷ []
+    → find x (reverse p.actions) ≡ o → is_some o ≡ false → search_in x all ≡ search_in x left → search_in x all ≡ search_in x before
+process_before x all left before p None is there none h = h ∙ search_last_in x left before p is ∙ ap (λ o. or_that o (search_in x before)) there
+process_before x all left before p (Some e) is there none h = absurd (grind (arith, none))
+
+pub is_some-map : {A B : Type 0} (f : A → B) (o : Option A) → is_some (option_map f o) ≡ is_some o
+is_some-map f None = refl
+is_some-map f (Some a) = refl

@@ -5,7 +5,7 @@ use Rattle.std.specs.Ordering.{is_eq}
 use Rattle.pgo_base.specs.Data.{Data, string, function, pairs, graph-pairs}
 use Rattle.pgo_base.specs.Lookup.{Name, Vars, same_name, find}
 use Rattle.pgo_base.specs.Exact.{data_itself}
-use Rattle.pgo_model.specs.Declares.{place_of}
+use Rattle.pgo_model.specs.Variables.{place_of}
 use Rattle.pgo_model.specs.Operators.{apply, lookup}
 use Rattle.pgo_model.specs.Written.{pc}
 use Rattle.pgo_check.proofs.Replaced.{same_exact}

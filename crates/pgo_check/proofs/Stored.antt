@@ -8,7 +8,7 @@ use Rattle.pgo_base.specs.View.{data_of, named_data}
 use Rattle.pgo_model.specs.Log.{Component, Change, content, changed, with_part}
 use Rattle.pgo_model.specs.Operators.{apply, lookup, replace_at}
 use Rattle.pgo_model.specs.Options.{on}
-use Rattle.pgo_model.specs.Section.{store}
+use Rattle.pgo_model.specs.Variables.{store}
 use Rattle.pgo_model.specs.Steps.{place_in}
 
 -- a variable without a place is none

@@ -1,5 +1,5 @@
 // What a written module says of a starting state and of a step, computed.
-ghost use Rattle.std.specs.Prelude.{◌≡◌, ◌↔◌, ◌∷◌, [], IsTrue, true, map, Option, Some, None, option_map, IfOk};
+ghost use Rattle.std.specs.Prelude.{◌≡◌, ◌↔◌, ◌∷◌, [], IsTrue, true, map, reverse, Option, Some, None, option_map, IfOk};
 ghost use Rattle.pgo_base.specs.ActionView.{action_pair};
 ghost use Rattle.pgo_base.specs.Data.{Data, boolean};
 ghost use Rattle.pgo_base.specs.Lookup.{find};
@@ -48,26 +48,31 @@ pub fn begins(alloc: Global, m: &Assigned<'_>, s: &State) -> Result<bool, AllocE
     is_true(eval(alloc, &m.defs, m.module.init.get(), &env))
 }
 
-/// The body of the first action of the name.
+/// The body of the last action of the name.
 fn action<'a>(name: &Text, actions: &'a [Action]) -> Option<&'a Sub>
-    ensures { option_map (λ r. r.now) result ≡ find name.now (map action_pair actions.now) }
+    ensures { option_map (λ r. r.now) result ≡ find name.now (reverse (map action_pair actions.now)) }
 {
-    for a in actions {
+    let mut left = actions;
+    while let Some((a, before)) = left.split_last() {
         if name.is(&a.name) {
             return Some(&a.body);
         }
+        left = before;
     }
     None
 }
 
-/// The body of the first action of the name in any process.
+/// The body of the last action of the name in any process.
 fn action_in<'a>(name: &Text, processes: &'a [WrittenProcess]) -> Option<&'a Sub>
-    ensures { option_map (λ r. r.now) result ≡ find name.now (actions_in (map process_view processes.now)) }
+    ensures { option_map (λ r. r.now) result ≡ find name.now (reverse (actions_in (map process_view processes.now))) }
 {
-    for p in processes {
-        if let Some(body) = action(name, p.actions.as_slice()) {
-            return Some(body);
+    let mut left = processes;
+    while let Some((p, before)) = left.split_last() {
+        let found = action(name, p.actions.as_slice());
+        if found.is_some() {
+            return found;
         }
+        left = before;
     }
     None
 }

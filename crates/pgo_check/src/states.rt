@@ -7,14 +7,14 @@ ghost use Rattle.std.specs.List.Sorted.{IsStrictlySortedBy};
 ghost use Rattle.pgo_model.specs.Operators.{lookup, replace_at, same_data};
 ghost use Rattle.pgo_base.specs.Data.{string, keys};
 ghost use Rattle.pgo_model.specs.Acts.{Acts};
-ghost use Rattle.pgo_model.specs.Declares.{place_of};
+ghost use Rattle.pgo_model.specs.Variables.{place_of};
 ghost use Rattle.pgo_model.specs.Log.{after_changes, are_in, changed, is_in, with_part};
 ghost use Rattle.pgo_model.specs.LogView.{change_view, component_view, entry_view};
 ghost use Rattle.pgo_model.specs.Machine.{nth};
 ghost use Rattle.pgo_model.specs.ModuleView.{module_view};
 ghost use Rattle.pgo_model.specs.Options.{on};
 ghost use Rattle.pgo_check.specs.Assigned.{SeesItsDefinitions};
-ghost use Rattle.pgo_model.specs.Section.{store};
+ghost use Rattle.pgo_model.specs.Variables.{store};
 ghost use Rattle.pgo_model.specs.Steps.{place_in, LeadsTo, IsPlaced};
 
 use crate::actions::acts;

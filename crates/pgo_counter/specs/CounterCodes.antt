@@ -5,10 +5,10 @@ use Rattle.pgo_base.specs.Lookup.{Name}
 use Rattle.pgo_base.specs.declared.expr.Infix.TheVariants as infixs
 use Rattle.pgo_model.specs.Names.{same_name-self}
 use Rattle.pgo_model.specs.Written.{written, pc}
-use Rattle.pgo_model.specs.Code.{sections, up_to_label, Let, Become, Seq, Goto, place, value_base}
-use Rattle.pgo_model.specs.Bound.{bound_of, first_name, first_label}
-use Rattle.pgo_model.specs.Expansion.{sub, expansion}
-use Rattle.pgo_model.specs.Translate.{module_of, action_body, label_actions}
+use Rattle.pgo_counter.specs.Code.{sections, up_to_label, Let, Become, Seq, Goto, place, value_base}
+use Rattle.pgo_counter.specs.Bound.{bound_of, first_name, first_label}
+use Rattle.pgo_counter.specs.Expansion.{sub, expansion}
+use Rattle.pgo_counter.specs.Translate.{module_of, action_body, label_actions}
 use Rattle.pgo_counter.specs.declared.counter.Term.{Term}
 use Rattle.pgo_counter.specs.declared.counter.Term.TheVariants.{Parameter, Number}
 use Rattle.pgo_counter.specs.declared.counter.Sum.{Sum}

@@ -1,10 +1,13 @@
 -- The names of a counter: which of them differ, and what is found under them.
-use Rattle.std.proofs.Common.{◌≡◌, ℕ, zero, suc, true, false, not, List, [], ◌∷◌, ◌++◌, ◌⊎◌, inl, inr, Some, None, refl, sym, subst, arith}
-use Rattle.pgo_base.specs.Lookup.{Name, find}
+use Rattle.std.proofs.Common.{◌≡◌, ℕ, zero, suc, Bool, true, false, not, if◌then◌else◌, List, [], ◌∷◌, ◌++◌, ◌⊎◌, inl, inr, Option, Some, None, refl, ap, sym, ◌∙◌, subst, arith}
+use Rattle.std.specs.Prelude.{reverse}
+use Rattle.std.proofs.lemmas.List.{reverse-append}
+use Rattle.pgo_base.specs.Tree.{Tree}
+use Rattle.pgo_base.specs.Lookup.{Name, same_name, find}
 use Rattle.pgo_model.specs.ValueText.{is_one_of}
 use Rattle.pgo_model.specs.Machine.{nth}
-use Rattle.pgo_model.specs.Names.{same_name-self}
-use Rattle.pgo_model.specs.Code.{place}
+use Rattle.pgo_model.specs.Names.{same_name-self, same_name-is, or_that, find_append}
+use Rattle.pgo_counter.specs.Code.{place}
 use Rattle.pgo_model.specs.Written.{pc, self_name, done, default_init_value, proc_set, terminating, written, made}
 use Rattle.pgo_counter.specs.declared.counter.Sum.{Sum}
 use Rattle.pgo_counter.specs.declared.counter.Counter.{Counter}
@@ -212,6 +215,34 @@ pub action_found : (c : Counter) → Names c → (before after : List Sum) (s : 
     → find (label_name c s) (counter_actions c c.body) ≡ Some (sum_action c s (next_name c after))
 action_found c n before after s e =
     rw e (found c (sum_action c) (counter_actions c) (λ s ss. refl) before after s (subst (λ ss. are_different (labels_of ss) ≡ true) e n.labels))
+
+or_none : {A : Type 0} (o : Option A) → or_that o None ≡ o
+or_none None = refl
+or_none (Some e) = refl
+
+-- where labels differ, the last action of a name is the first one
+only_action : (c : Counter) (l : Name) (ss : List Sum) → are_different (labels_of ss) ≡ true → find l (reverse (counter_actions c ss)) ≡ find l (counter_actions c ss)
+only_action c l [] d = refl
+only_action c l (s ∷ ss) d =
+    ap (find l) (reverse-append (here ∷ []) (counter_actions c ss)) ∙ find_append l (reverse (counter_actions c ss)) (here ∷ [])
+    ∙ ap (λ o. or_that o (if same_name l (label_name c s) then Some here.1 else None)) (only_action c l ss (rest_differ s ss d))
+    ∙ go (same_name l (label_name c s)) refl
+  where
+    here : Name × Tree
+    here = (label_name c s, sum_action c s (next_name c ss))
+
+    none : l ≡ label_name c s → find l (counter_actions c ss) ≡ None
+    none e =
+        ap (λ x. find x (counter_actions c ss)) e
+        ∙ not_found c (sum_action c) (counter_actions c) (λ s ss. refl) (label_name c s) ss refl
+        (λ m i. apart-swap (written c.process m) (label_name c s) (written-apart c.process m s.label (first_apart m s ss d i)))
+
+    go : (b : Bool) → same_name l (label_name c s) ≡ b → or_that (find l (counter_actions c ss)) (if b then Some here.1 else None) ≡ (if b then Some here.1 else find l (counter_actions c ss))
+    go true e = ap (λ o. or_that o (Some here.1)) (none (same_name-is l (label_name c s) e))
+    go false e = or_none (find l (counter_actions c ss))
+
+pub last_action : (c : Counter) → Names c → (l : Name) → find l (reverse (counter_actions c c.body)) ≡ find l (counter_actions c c.body)
+last_action c n l = only_action c l c.body n.labels
 
 -- no label is Done
 done_apart : (p l : Name) → Apart done (written p l)

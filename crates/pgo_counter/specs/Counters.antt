@@ -5,13 +5,15 @@ use Rattle.pgo_base.specs.declared.expr.Quantifier.TheVariants as quantifiers
 use Rattle.pgo_base.specs.Data.{integer, string, model, function, pair, no_pairs}
 use Rattle.pgo_base.specs.Tree.{Tree, name, primed, number, text, binary, quantified, set_of, fun_of, case_of, trees, bound, arms}
 use Rattle.pgo_base.specs.Lookup.{Name, Vars}
-use Rattle.pgo_model.specs.Spec.{Spec, Whole, Assign, Labeled, Archetype, ByRef, RefTo, One, Equals}
+use Rattle.pgo_counter.specs.Spec.{Spec, Whole, Assign, Labeled, Archetype, ByRef, RefTo, One, Equals}
 use Rattle.pgo_model.specs.Val.{Given}
 use Rattle.pgo_model.specs.Written.{pc, self_name, done, proc_set, default_init_value, written, made}
-use Rattle.pgo_model.specs.Code.{Code, Let, Become, Seq, Goto, place, value_base}
-use Rattle.pgo_model.specs.Bound.{Bound, Instance}
+use Rattle.pgo_counter.specs.Code.{Code, Let, Become, Seq, Goto, place, value_base}
+use Rattle.pgo_model.specs.System.{System}
+use Rattle.pgo_counter.specs.Bound.{Bound, Instance}
+use Rattle.pgo_counter.specs.BoundSystem.{system_of}
 use Rattle.pgo_model.specs.Module.{Module, stands_at}
-use Rattle.pgo_model.specs.Translate.{moves_to}
+use Rattle.pgo_counter.specs.Translate.{moves_to}
 use Rattle.pgo_counter.specs.declared.counter.Term.{Term}
 use Rattle.pgo_counter.specs.declared.counter.Term.TheVariants.{Parameter, Number}
 use Rattle.pgo_counter.specs.declared.counter.Sum.{Sum}
@@ -78,6 +80,9 @@ counter_bound c = record {
   resources = record { number = 0; global = c.global; index = None } ∷ [];
   start = counter_state c c.start (next_name c c.body);
 }
+
+abbrev pub counter_system : Counter → System
+counter_system c = system_of (counter_bound c)
 
 -- \E val__1 \in {(T + T)} : ((g' = val__1) /\ (pc' = ..))
 abbrev pub sum_items : Counter → Sum → Name → Tree

@@ -1,3 +1,13 @@
+pub mod Spec
+pub mod Code
+pub mod Bound
+pub mod State
+pub mod Declares
+pub mod Section
+pub mod BoundSystem
+pub mod Expansion
+pub mod Translate
+pub mod Agrees
 pub mod Counters
 pub mod WellNamed
 pub mod NameBytes

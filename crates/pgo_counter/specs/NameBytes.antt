@@ -6,7 +6,7 @@ use Rattle.std.proofs.lemmas.List.{append_cancel_left}
 use Rattle.pgo_base.specs.Lookup.{Name, same_name}
 use Rattle.pgo_model.specs.ValueText.{is_letter, is_digit, is_one_of, same_bytes}
 use Rattle.pgo_model.specs.Names.{same_name-not, same_bytes-self}
-use Rattle.pgo_model.specs.Code.{place}
+use Rattle.pgo_counter.specs.Code.{place}
 use Rattle.pgo_model.specs.Written.{written, made}
 use Rattle.pgo_counter.specs.WellNamed.{is_name, begins_with_letter, all_letters_or_digits}
 

@@ -3,7 +3,7 @@ use Rattle.std.proofs.Common.{◌≡◌, ◌≤◌, ◌<◌, ◌+◌, ◌-◌, �
 use Rattle.std.proofs.lemmas.Fmt.{decimal_digit}
 use Rattle.pgo_base.specs.Lookup.{Name}
 use Rattle.pgo_model.specs.ValueText.{string_text}
-use Rattle.pgo_model.specs.Bound.{Resource}
+use Rattle.pgo_model.specs.System.{Resource}
 use Rattle.pgo_model.specs.Machine.{Machine, finished_of}
 use Rattle.pgo_model.specs.Log.{Effect}
 use Rattle.pgo_model.specs.ModuleText.{Line, line, flatten, module_lines}
@@ -12,7 +12,7 @@ use Rattle.pgo_model.specs.Bundle.{fields, value_line, change_line, entry_lines,
 use Rattle.pgo_counter.specs.declared.counter.Sum.{Sum}
 use Rattle.pgo_counter.specs.declared.counter.Counter.{Counter}
 use Rattle.pgo_counter.specs.WellNamed.{IsWellNamed, most_statements}
-use Rattle.pgo_counter.specs.Counters.{label_name, next_name, counter_state, counter_bound, counter_module}
+use Rattle.pgo_counter.specs.Counters.{label_name, next_name, counter_state, counter_bound, counter_system, counter_module}
 use Rattle.pgo_front.specs.CounterRuns.{IsAt, settings, global_change, place_change, counter_changes, counter_entry, counter_entries, steps_from}
 use Rattle.pgo_module_write.specs.FlatLines.{flat-three}
 use Rattle.pgo_front.proofs.CounterEnds.{length-steps, length-entries, end_is, status_is}
@@ -153,16 +153,16 @@ pub account_is : (c : Counter) → IsWellNamed c → length c.body ≤ most_stat
     → status ≡ (if nat_eq (length vs) (length c.body) then 0 else 21)
     → l3 ≡ l2 ++ line (flatten (codes "end " ∷ decimal (length vs) ∷ codes " " ∷ decimal status ∷ [])) ∷ []
     → l3 ≡ ls
-    ++ (accounts_lines (counter_bound c) settings (finished_of m) 0 (counter_bound c).instances
-    ++ line (codes "end " ++ decimal (length m.entries) ++ codes " " ++ decimal (status_of (counter_bound c) settings (finished_of m))) ∷ [])
+    ++ (accounts_lines (counter_system c) settings (finished_of m) 0 (counter_system c).members
+    ++ line (codes "end " ++ decimal (length m.entries) ++ codes " " ++ decimal (status_of (counter_system c) settings (finished_of m))) ∷ [])
 account_is c w few m vs h ls l1 l2 l3 done status done_is e1 e2 status_eq e3 =
     let records : steps_from 1 (length vs) ≡ (m.workers 0).records = sym h.records in
     let attempts : length vs ≡ length (m.workers 0).records = sym (length-steps 1 (length vs)) ∙ ap length records in
-    let ended : (if done then Some Done else None) ≡ end_of (counter_bound c) settings (finished_of m) 0
+    let ended : (if done then Some Done else None) ≡ end_of (counter_system c) settings (finished_of m) 0
     = ap (λ b. if b then Some Done else None) done_is ∙ sym (end_is c w few m vs h)
     in
     let entries : length vs ≡ length m.entries = sym (ap length h.entries ∙ length-entries c 1 c.start c.body vs h.few) in
-    let status_there : status ≡ status_of (counter_bound c) settings (finished_of m) = status_eq ∙ sym (status_is c w few m vs h) in
+    let status_there : status ≡ status_of (counter_system c) settings (finished_of m) = status_eq ∙ sym (status_is c w few m vs h) in
     let last = flat-three (decimal (length vs)) (codes " ") (decimal status) in
     e3 ∙ ap (λ l. l ++ line (flatten (codes "end " ∷ decimal (length vs) ∷ codes " " ∷ decimal status ∷ [])) ∷ []) (e2 ∙ ap (λ l. l ++ record_lines (counter_bound c).resources 1 (steps_from 1 (length vs))) e1)
     ∙ grouped (line (fields (codes "inst" ∷ decimal 0 ∷ decimal (length vs) ∷ end_text (if done then Some Done else None) ∷ decimal c.id ∷ [])))
@@ -171,7 +171,7 @@ account_is c w few m vs h ls l1 l2 l3 done status done_is e1 e2 status_eq e3 =
     ∙ (λ i. ls
     ++ (line (fields (codes "inst" ∷ decimal 0 ∷ decimal (attempts i) ∷ end_text (ended i) ∷ decimal c.id ∷ [])) ∷ record_lines (counter_bound c).resources 1 (records i) ++ []
     ++ line (codes "end " ++ sym last i) ∷ []))
-    ∙ (λ i. ls ++ (accounts_lines (counter_bound c) settings (finished_of m) 0 (counter_bound c).instances ++ line (codes "end " ++ decimal (entries i) ++ codes " " ++ decimal (status_there i)) ∷ []))
+    ∙ (λ i. ls ++ (accounts_lines (counter_system c) settings (finished_of m) 0 (counter_system c).members ++ line (codes "end " ++ decimal (entries i) ++ codes " " ++ decimal (status_there i)) ∷ []))
   where
     grouped : (a : Line) (rs : List Line) (z : Line) → ls ++ a ∷ [] ++ rs ++ z ∷ [] ≡ ls ++ (a ∷ rs ++ [] ++ z ∷ [])
     grouped a rs z = simp append_assoc
@@ -183,12 +183,12 @@ pub bundle_is : (c : Counter) (m : Machine Effect) (vs : List ℕ) → IsAt c m 
     → l2 ≡ l1 ++ line (codes "init 2") ∷ map value_line (counter_state c c.start first)
     → l3 ≡ l2 ++ entries_lines 1 (counter_entries c 1 c.start c.body vs)
     → l4 ≡ l3
-    ++ (accounts_lines (counter_bound c) settings (finished_of m) 0 (counter_bound c).instances
-    ++ line (codes "end " ++ decimal (length m.entries) ++ codes " " ++ decimal (status_of (counter_bound c) settings (finished_of m))) ∷ [])
-    → l4 ≡ bundle_lines (counter_module c) [] (counter_bound c) settings (finished_of m) (status_of (counter_bound c) settings (finished_of m))
+    ++ (accounts_lines (counter_system c) settings (finished_of m) 0 (counter_system c).members
+    ++ line (codes "end " ++ decimal (length m.entries) ++ codes " " ++ decimal (status_of (counter_system c) settings (finished_of m))) ∷ [])
+    → l4 ≡ bundle_lines (counter_module c) [] (counter_system c) settings (finished_of m) (status_of (counter_system c) settings (finished_of m))
 bundle_is c m vs h l0 l1 l2 l3 l4 text first text_is first_is e0 e1 e2 e3 e4 =
-    let accounts = accounts_lines (counter_bound c) settings (finished_of m) 0 (counter_bound c).instances in
-    let last = line (codes "end " ++ decimal (length m.entries) ++ codes " " ++ decimal (status_of (counter_bound c) settings (finished_of m))) in
+    let accounts = accounts_lines (counter_system c) settings (finished_of m) 0 (counter_system c).members in
+    let last = line (codes "end " ++ decimal (length m.entries) ++ codes " " ++ decimal (status_of (counter_system c) settings (finished_of m))) in
     let entries = entries_lines 1 (counter_entries c 1 c.start c.body vs) in
     let state = map value_line (counter_state c c.start first) in
     let size = line (codes "module " ++ decimal (length (flatten text))) in

@@ -3,7 +3,7 @@ use Rattle.std.proofs.Common.{◌≡◌, ◌≤◌, ◌<◌, ◌⊎◌, inl, inr
 use Rattle.pgo_io.specs.Faults.{Rose}
 use Rattle.pgo_base.specs.Data.{Data}
 use Rattle.pgo_base.specs.Lookup.{Name}
-use Rattle.pgo_model.specs.Spec.{Spec}
+use Rattle.pgo_counter.specs.Spec.{Spec}
 use Rattle.pgo_model.specs.Module.{Module}
 use Rattle.pgo_model.specs.Log.{Log}
 use Rattle.pgo_model.specs.IsRun.{IsRun}

@@ -10,7 +10,7 @@ use Rattle.pgo_front.specs.declared.instance.Instance.{Instance}
 use Rattle.pgo_front.specs.declared.instance.Place.{Place}
 use Rattle.pgo_front.specs.declared.instance.Place.TheVariants.{Start, Taken, Read, Written, PreCommitted, Committed}
 use Rattle.pgo_counter.specs.WellNamed.{most, IsWellNamed}
-use Rattle.pgo_counter.specs.Counters.{counter_bound, label_name, next_name, counter_state, sum_value, sum_reads}
+use Rattle.pgo_counter.specs.Counters.{counter_system, label_name, next_name, counter_state, sum_value, sum_reads}
 use Rattle.pgo_front.specs.CounterRuns.{IsAt, settings, counter_entries, steps_from, last_value}
 use Rattle.pgo_front.specs.CoreAt.{IsInForm, counter_rules, rest_of, is_start, is_committed, done_at, done_on, Works, WorksOn, IsSound, Tracks, MakesTurn, Commits}
 use Rattle.pgo_front.proofs.CoreLists.{last_value-push, small_sum, sum_value-small, value_fits}
@@ -130,7 +130,7 @@ turned c i j turns n h t f =
 
 -- behind the last turn
 pub ran : (c : Counter) (i : Instance) (turns : List ℕ) → IsSound c i → Tracks (counter_rules c) c i (after_turns (counter_rules c) opened turns)
-    → IsAt c (Core (counter_bound c) settings turns) i.values.items
+    → IsAt c (Core (counter_system c) settings turns) i.values.items
 unfolding counter_rules
 ran c i turns sound t =
     let base = sound.base in

@@ -1,5 +1,6 @@
 -- The module of a counter agrees with its bound system: its actions with its sections, its Init with the start.
 use Rattle.std.proofs.Common.{◌≡◌, ℕ, zero, suc, pos, ◌+ℤ◌, Bool, true, false, if◌then◌else◌, List, [], ◌∷◌, map, Option, Some, None, ◌↔◌, refl, sym, ap, ◌∙◌, subst, option_and_then, IsTrue, ◌⊎◌, inl, inr, ◌++◌, append-nil, fold}
+use Rattle.std.specs.Prelude.{reverse}
 use Rattle.pgo_base.specs.declared.expr.Infix.TheVariants as infixs
 use Rattle.pgo_base.specs.Data.{Data, boolean, integer, string, model, set, item, no_items}
 use Rattle.pgo_base.specs.Tree.{Tree, name, primed, text, number, binary, except, index, paths, trees, case_of, arms, fun_of, bound}
@@ -8,26 +9,31 @@ use Rattle.pgo_model.specs.Names.{same_name-self, same_name-is}
 use Rattle.pgo_model.specs.Operators.{apply, put_at, both, on_integers, in_64, fits_i64, set_from, members_of, function_from}
 use Rattle.pgo_model.specs.Val.{Meaning, Scope, arithmetic, call_def, or_else, with_name, val, value_of_name, meanings, meaning_of, Given, Means, function_over, with_names, over_each}
 use Rattle.pgo_model.specs.Written.{pc, self_name, made, written, proc_set, terminating, default_init_value}
-use Rattle.pgo_model.specs.Code.{Code, Become, place, value_base}
-use Rattle.pgo_model.specs.Spec.{Labeled, Declaration, Equals}
-use Rattle.pgo_model.specs.Bound.{Instance, sections_of, first_label}
-use Rattle.pgo_model.specs.State.{IsState, is_shallow}
+use Rattle.pgo_counter.specs.Code.{Code, Become, place, value_base}
+use Rattle.pgo_counter.specs.Spec.{Labeled, Declaration, Equals}
+use Rattle.pgo_counter.specs.Bound.{Instance, sections_of, first_label}
+use Rattle.pgo_counter.specs.State.{IsState}
+use Rattle.pgo_model.specs.State.{is_shallow}
 use Rattle.pgo_model.specs.Outcome.{NoValue, Next, Stuck}
 use Rattle.pgo_model.specs.Options.{on}
-use Rattle.pgo_model.specs.Section.{Context, starting, Out, Go, Jump, Stop, Words, Sect, Allows, word_at, nothing, code_at, runs, go_on, store, store_value, parameters_now, value_in, exec, arrived, ended, context_of}
+use Rattle.pgo_counter.specs.Section.{Context, starting, Out, Go, Jump, Stop, Sect, Allows, nothing, code_at, runs, go_on, parameters_now, value_in, exec, arrived, ended, context_of}
+use Rattle.pgo_model.specs.System.{Words}
+use Rattle.pgo_model.specs.Choice.{word_at}
+use Rattle.pgo_model.specs.Variables.{store, store_value}
 use Rattle.pgo_model.specs.Machine.{nth}
-use Rattle.pgo_model.specs.Declares.{Declares, IsLabel, StartsAs, place_of}
+use Rattle.pgo_counter.specs.Declares.{Declares, IsLabel, StartsAs}
+use Rattle.pgo_model.specs.Variables.{place_of}
 use Rattle.pgo_model.specs.Acts.{Acts, Begins}
-use Rattle.pgo_model.specs.Agrees.{Agrees}
+use Rattle.pgo_counter.specs.Agrees.{Agrees}
 use Rattle.pgo_model.specs.Module.{stands_at, actions_of, defs_of, action_definition, proc_set_of}
-use Rattle.pgo_model.specs.Translate.{moves_to}
+use Rattle.pgo_counter.specs.Translate.{moves_to}
 use Rattle.pgo_counter.specs.declared.counter.Term.{Term}
 use Rattle.pgo_counter.specs.declared.counter.Term.TheVariants.{Parameter, Number}
 use Rattle.pgo_counter.specs.declared.counter.Sum.{Sum}
 use Rattle.pgo_counter.specs.declared.counter.Counter.{Counter}
 use Rattle.pgo_counter.specs.WellNamed.{IsWellNamed}
 use Rattle.pgo_counter.specs.Counters.{spec_of, labeled, label_name, counter_bound, counter_instance, counter_module, archetype_of, sum_code, sum_action, sum_items, counter_sections, counter_actions, counter_init, id_set, next_name, sum_tree, term_tree}
-use Rattle.pgo_counter.specs.CounterNames.{IsLabelOf, Names, Written, names}
+use Rattle.pgo_counter.specs.CounterNames.{IsLabelOf, Names, Written, names, last_action}
 use Rattle.pgo_counter.specs.CounterCodes.{sections_are, first_label_is}
 use Rattle.pgo_front.proofs.States.{some_is, same_data-self}
 use Rattle.pgo_front.proofs.Truths.{and-yes, equal_values-yes, choice-yes, case-one}
@@ -308,8 +314,8 @@ module _ (c : Counter) (n : Names c) where
       allows : Allows (counter_bound c) 0 (state_at c d (string (label_name c s))) (state_at c e v) ↔ ((sum_data d s ≡ Some e) × (v ≡ string next))
       allows = allows_yes c n.global.pc.back s next (ap (find (label_name c s)) (sections_are c c.body) ∙ section) d e v shallow
 
-      written_action : find (label_name c s) (actions_of (counter_module c)) ≡ Some (sum_action c s next)
-      written_action = ap (find (label_name c s)) (append-nil (counter_actions c c.body)) ∙ action
+      written_action : find (label_name c s) (reverse (actions_of (counter_module c))) ≡ Some (sum_action c s next)
+      written_action = ap (λ l. find (label_name c s) (reverse l)) (append-nil (counter_actions c c.body)) ∙ last_action c n (label_name c s) ∙ action
 
       acts : (val (sum_action c s next) (acting c ds d w e v) ≡ Some (boolean true)) ↔ Steps c s next d w e v
       acts = action_yes c n.global.pc.back n.global.self_name.there ds d w e v s next

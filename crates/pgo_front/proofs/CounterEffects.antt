@@ -8,13 +8,14 @@ use Rattle.pgo_base.specs.Size.{depth}
 use Rattle.pgo_model.specs.Names.{same_name-self}
 use Rattle.pgo_model.specs.Operators.{same_data, lookup, replace_at, function_of, most_depth, most_members}
 use Rattle.pgo_model.specs.Options.{on}
-use Rattle.pgo_model.specs.Section.{Context, store, store_value, arrived}
-use Rattle.pgo_model.specs.Declares.{place_of}
+use Rattle.pgo_counter.specs.Section.{Context, arrived}
+use Rattle.pgo_model.specs.Variables.{store, store_value}
+use Rattle.pgo_model.specs.Variables.{place_of}
 use Rattle.pgo_model.specs.Core.{is_at_done}
 use Rattle.pgo_model.specs.Log.{Component, OfResource, OfInstance, Change, content, differs, changes_between, components_of, after_changes, is_in, are_in, After, effect_between, label_of}
 use Rattle.pgo_model.specs.Written.{pc, done}
 use Rattle.pgo_counter.specs.declared.counter.Counter.{Counter}
-use Rattle.pgo_counter.specs.Counters.{counter_bound, counter_state}
+use Rattle.pgo_counter.specs.Counters.{counter_system, counter_state}
 use Rattle.pgo_front.specs.CounterRuns.{counter_changes, place_change, global_change}
 use Rattle.pgo_counter.specs.NameBytes.{Apart, apart-swap}
 use Rattle.pgo_counter.specs.CounterNames.{Names}
@@ -57,7 +58,7 @@ changes_of c g h p q =
     on (place_changes c p q) h (λ v. if differs g h then record { component = global_component c; value = v } ∷ place_changes c p q else place_changes c p q)
 
 changes_are : (c : Counter) (s t : Vars)
-    → changes_between (components_of (counter_bound c)) s t
+    → changes_between (components_of (counter_system c)) s t
     ≡ changes_of c (content (global_component c) s) (content (global_component c) t) (content (place_component c) s) (content (place_component c) t)
 changes_are c s t = refl
 
@@ -120,10 +121,10 @@ both_are_in c s g (Some v) p q a e = go (differs g (Some v))
 
 -- each component that differs is in the state where the place is, and the global becomes v where it is there
 all_are_in : (c : Counter) (s t : Vars) (v : Data) → find c.global t ≡ find c.global (store c.global v s) → is_in (place_component c) s ≡ true
-    → are_in (changes_between (components_of (counter_bound c)) s t) s ≡ true
+    → are_in (changes_between (components_of (counter_system c)) s t) s ≡ true
 all_are_in c s t v global_t e = go (find c.global s) refl
   where
-    go : (o : Option Data) → find c.global s ≡ o → are_in (changes_between (components_of (counter_bound c)) s t) s ≡ true
+    go : (o : Option Data) → find c.global s ≡ o → are_in (changes_between (components_of (counter_system c)) s t) s ≡ true
     go None h =
         let same = store-missing c.global v s h in
         let none : content (global_component c) t ≡ None = content_global c t None (global_t ∙ ap (find c.global) same ∙ h) in
@@ -136,12 +137,12 @@ all_are_in c s t v global_t e = go (find c.global s) refl
 -- changes lead to t where the place's change does so from the state in which the global has its value
 changes_with : (c : Counter) (s t : Vars) (v m : Data) (q : Option Data) (ps : List Data) → find c.global t ≡ find c.global (store c.global v s)
     → content (place_component c) s ≡ Some m → content (place_component c) t ≡ q → after_changes (place_changes c (Some m) q) (store c.global v s) ≡ Some t
-    → After s (effect_between (counter_bound c) 0 s t ps) ≡ Some t
+    → After s (effect_between (counter_system c) 0 s t ps) ≡ Some t
 changes_with c s t v m q ps global_t place_s place_t leads =
-    ap (λ b. if b then after_changes (changes_between (components_of (counter_bound c)) s t) s else None) (all_are_in c s t v global_t (ap is_some place_s))
+    ap (λ b. if b then after_changes (changes_between (components_of (counter_system c)) s t) s else None) (all_are_in c s t v global_t (ap is_some place_s))
     ∙ go (find c.global s) refl
   where
-    go : (o : Option Data) → find c.global s ≡ o → after_changes (changes_between (components_of (counter_bound c)) s t) s ≡ Some t
+    go : (o : Option Data) → find c.global s ≡ o → after_changes (changes_between (components_of (counter_system c)) s t) s ≡ Some t
     go None h =
         let same = store-missing c.global v s h in
         let none : content (global_component c) t ≡ None = content_global c t None (global_t ∙ ap (find c.global) same ∙ h) in
@@ -155,14 +156,14 @@ changes_with c s t v m q ps global_t place_s place_t leads =
 -- the changes between a state and the one that a step leads to lead there, whatever the state
 pub changes_lead : (c : Counter) → Apart c.global pc → (s : Vars) (v : Data) (ps : Pairs) (m l : Name) (prints : List Data)
     → find pc s ≡ Some (function ps) → lookup (integer (pos c.id)) (graph ps) ≡ Some (string m)
-    → After s (effect_between (counter_bound c) 0 s (stepped c s v ps l) prints) ≡ Some (stepped c s v ps l)
+    → After s (effect_between (counter_system c) 0 s (stepped c s v ps l) prints) ≡ Some (stepped c s v ps l)
 changes_lead c a s v ps m l prints e f = go (moves id ps l)
   where
     id : Data
     id = integer (pos c.id)
 
     Leads : Vars → Type 0
-    Leads t = After s (effect_between (counter_bound c) 0 s t prints) ≡ Some t
+    Leads t = After s (effect_between (counter_system c) 0 s t prints) ≡ Some t
 
     with_value : Vars
     with_value = store c.global v s
@@ -218,16 +219,16 @@ pub place_is : (c : Counter) → Apart c.global pc → (x : ℕ) (l : Name) → 
 place_is c g x l = rw g.back (rw (same_data-self (integer (pos c.id))))
 
 -- it is at Done where that is its label
-pub at_done_is : (c : Counter) → Names c → (x : ℕ) (l : Name) → is_at_done (counter_bound c) 0 (counter_state c x l) ≡ same_name done l
+pub at_done_is : (c : Counter) → Names c → (x : ℕ) (l : Name) → is_at_done (counter_system c) 0 (counter_state c x l) ≡ same_name done l
 at_done_is c n x l = rw (place_is c n.global.pc x l)
 
 -- what the entry of a step records
 pub effect_is : (c : Counter) → Names c → (x v : ℕ) (l next : Name) → Apart l next
-    → effect_between (counter_bound c) 0 (counter_state c x l) (counter_state c v next) []
+    → effect_between (counter_system c) 0 (counter_state c x l) (counter_state c v next) []
     ≡ record { label = l; next = next; changes = counter_changes c x v next; prints = [] }
 effect_is c n x v l next a = λ i. record { label = label_is x l i; next = label_is v next i; changes = changes i; prints = [] }
   where
-    label_is : (x : ℕ) (l : Name) → label_of (counter_bound c) 0 (counter_state c x l) ≡ l
+    label_is : (x : ℕ) (l : Name) → label_of (counter_system c) 0 (counter_state c x l) ≡ l
     label_is x l = rw (place_is c n.global.pc x l)
 
     global_is : (x : ℕ) (l : Name) → content (global_component c) (counter_state c x l) ≡ Some (integer (pos x))
@@ -238,7 +239,7 @@ effect_is c n x v l next a = λ i. record { label = label_is x l i; next = label
         content_place c (counter_state c x l) (pair (integer (pos c.id)) (string l) no_pairs) (string l) (rw n.global.pc.back)
         (rw (same_data-self (integer (pos c.id))))
 
-    changes : changes_between (components_of (counter_bound c)) (counter_state c x l) (counter_state c v next) ≡ counter_changes c x v next
+    changes : changes_between (components_of (counter_system c)) (counter_state c x l) (counter_state c v next) ≡ counter_changes c x v next
     changes =
         (λ i. changes_of c (global_is x l i) (global_is v next i) (there_is x l i) (there_is v next i)) ∙ counter_changes_are c x v l next a
 

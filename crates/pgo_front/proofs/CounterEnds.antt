@@ -1,15 +1,15 @@
 -- How a run of a counter ended, and its status.
-use Rattle.std.proofs.Common.{◌≡◌, ◌≤◌, ℕ, zero, suc, Bool, true, false, IsTrue, ◌↔◌, nat_eq, if◌then◌else◌, List, [], ◌∷◌, length, drop, Option, Some, None, refl, ap, sym, ◌∙◌, arith}
+use Rattle.std.proofs.Common.{◌≡◌, ◌≤◌, ℕ, zero, suc, Bool, true, false, IsTrue, ◌↔◌, ◌&&◌, nat_eq, if◌then◌else◌, List, [], ◌∷◌, length, drop, Option, Some, None, refl, ap, sym, ◌∙◌, arith}
 use Rattle.pgo_base.specs.Lookup.{same_name}
 use Rattle.pgo_model.specs.Names.{same_name-self}
 use Rattle.pgo_model.specs.Machine.{Machine, is_empty, last_state, finished_of}
 use Rattle.pgo_model.specs.Log.{Effect}
 use Rattle.pgo_model.specs.Written.{done}
-use Rattle.pgo_model.specs.Core.{End, Done, rules_of, is_at_done, end_by, end_or_spent, end_of, has_stopped, has_full, all_done, status_of}
+use Rattle.pgo_model.specs.Core.{End, Done, rules_of, is_at_done, end_by, end_or_spent, end_of, has_stopped, has_full, status_of}
 use Rattle.pgo_counter.specs.declared.counter.Sum.{Sum}
 use Rattle.pgo_counter.specs.declared.counter.Counter.{Counter}
 use Rattle.pgo_counter.specs.WellNamed.{IsWellNamed, most_statements}
-use Rattle.pgo_counter.specs.Counters.{next_name, counter_bound}
+use Rattle.pgo_counter.specs.Counters.{next_name, counter_system}
 use Rattle.pgo_front.specs.CounterRuns.{IsAt, settings, steps_from, last_value, counter_entries}
 use Rattle.pgo_counter.specs.NameBytes.{fewer-apart, written-some}
 use Rattle.pgo_counter.specs.CounterNames.{names}
@@ -53,33 +53,35 @@ length-entries c a x ss [] h = refl
 length-entries c a x [] (v ∷ vs) h = absurd (omega (arith, h))
 length-entries c a x (s ∷ ss) (v ∷ vs) h = ap suc (length-entries c (suc a) v ss vs (omega (arith, h)))
 
--- the instance is at Done, or goes on
-pub end_is : (c : Counter) → IsWellNamed c → length c.body ≤ most_statements → (m : Machine Effect) (vs : List ℕ) → IsAt c m vs
-    → end_of (counter_bound c) settings (finished_of m) 0 ≡ (if nat_eq (length vs) (length c.body) then Some Done else None)
-end_is c w few m vs h =
-    let stands : is_at_done (counter_bound c) 0 (last_state (rules_of (counter_bound c) settings) m) ≡ nat_eq (length vs) (length c.body)
-    = ap (is_at_done (counter_bound c) 0) h.state
-    ∙ at_done_is c (names c w) (last_value c.start vs) (next_name c (drop (length vs) c.body))
-    ∙ next_done c (drop (length vs) c.body)
-    ∙ none_left (length vs) c.body h.few
-    in
-    let records : length (m.workers 0).records ≡ length vs = ap length h.records ∙ length-steps 1 (length vs) in
-    let left : nat_eq (length (m.workers 0).records) 10000 ≡ false = few_attempts (length (m.workers 0).records) (omega (arith, records, h.few, few)) in
-    let goes_on : end_by (m.workers 0).records ≡ None = ap end_by h.records ∙ steps_go_on 1 (length vs) in
-    λ i. if stands i then Some Done else end_or_spent (goes_on i) (left i)
+module _ (c : Counter) (w : IsWellNamed c) (few : length c.body ≤ most_statements) (m : Machine Effect) (vs : List ℕ) (h : IsAt c m vs) where
+  stands : is_at_done (counter_system c) 0 (last_state (rules_of (counter_system c) settings) m) ≡ nat_eq (length vs) (length c.body)
+  stands =
+      ap (is_at_done (counter_system c) 0) h.state
+      ∙ at_done_is c (names c w) (last_value c.start vs) (next_name c (drop (length vs) c.body))
+      ∙ next_done c (drop (length vs) c.body)
+      ∙ none_left (length vs) c.body h.few
 
--- the status of an only instance that ended so
-abbrev status_from : List (Option End) → ℕ
-status_from ends = if has_stopped ends then 20 else if has_full ends then 23 else if all_done ends then 0 else 21
+  goes_on : end_by (m.workers 0).records ≡ None
+  goes_on = ap end_by h.records ∙ steps_go_on 1 (length vs)
 
--- the status: 0 where the instance is at Done, else 21
-pub status_is : (c : Counter) → IsWellNamed c → length c.body ≤ most_statements → (m : Machine Effect) (vs : List ℕ) → IsAt c m vs
-    → status_of (counter_bound c) settings (finished_of m) ≡ (if nat_eq (length vs) (length c.body) then 0 else 21)
-status_is c w few m vs h = ap (λ e. status_from (e ∷ [])) (end_is c w few m vs h) ∙ go (nat_eq (length vs) (length c.body))
-  where
-    go : (b : Bool) → status_from ((if b then Some Done else None) ∷ []) ≡ (if b then 0 else 21)
-    go true = refl
-    go false = refl
+  -- the instance is at Done, or goes on
+  pub end_is : end_of (counter_system c) settings (finished_of m) 0 ≡ (if nat_eq (length vs) (length c.body) then Some Done else None)
+  end_is =
+      let records : length (m.workers 0).records ≡ length vs = ap length h.records ∙ length-steps 1 (length vs) in
+      let left : nat_eq (length (m.workers 0).records) 10000 ≡ false = few_attempts (length (m.workers 0).records) (omega (arith, records, h.few, few)) in
+      λ i. if stands i then Some Done else end_or_spent (goes_on i) (left i)
+
+  -- the status of an only instance, by the end that its last record shows and whether it is at Done
+  abbrev status_from : Option End → Bool → ℕ
+  status_from e done = if has_stopped (e ∷ []) then 20 else if has_full (e ∷ []) then 23 else if done && true then 0 else 21
+
+  -- the status: 0 where the instance is at Done, else 21
+  pub status_is : status_of (counter_system c) settings (finished_of m) ≡ (if nat_eq (length vs) (length c.body) then 0 else 21)
+  status_is = (λ i. status_from (goes_on i) (stands i)) ∙ go (nat_eq (length vs) (length c.body))
+    where
+      go : (b : Bool) → status_from None b ≡ (if b then 0 else 21)
+      go true = refl
+      go false = refl
 
 -- the test whether the instance is at Done
 pub test_is : (done : Bool) (n k : ℕ) → (IsTrue done ↔ (n ≡ k)) → done ≡ nat_eq n k
@@ -92,6 +94,6 @@ test_is false n k e = let other : n ≡ k → ⊥ = λ same. absurd (false_is (e
 -- the status by that test
 pub status_by_test : (c : Counter) → IsWellNamed c → length c.body ≤ most_statements → (vs : List ℕ) (done value : Bool)
     → (IsTrue done ↔ (length vs ≡ length c.body)) → done ≡ value
-    → (m : Machine Effect) → IsAt c m vs → (if value then 0 else 21) ≡ status_of (counter_bound c) settings (finished_of m)
+    → (m : Machine Effect) → IsAt c m vs → (if value then 0 else 21) ≡ status_of (counter_system c) settings (finished_of m)
 status_by_test c w few vs done value test done_is m h =
     ap (λ b. if b then 0 else 21) (sym done_is ∙ test_is done (length vs) (length c.body) test) ∙ sym (status_is c w few m vs h)

@@ -5,11 +5,11 @@ use Rattle.pgo_base.specs.Lookup.{Name, Vars, find}
 use Rattle.pgo_model.specs.Operators.{fits_i64, function_of}
 use Rattle.pgo_model.specs.Outcome.{Next}
 use Rattle.pgo_model.specs.Core.{rules_of}
-use Rattle.pgo_model.specs.Section.{store_value}
-use Rattle.pgo_model.specs.State.{IsState}
+use Rattle.pgo_model.specs.Variables.{store_value}
+use Rattle.pgo_counter.specs.State.{IsState}
 use Rattle.pgo_model.specs.Written.{pc}
 use Rattle.pgo_counter.specs.declared.counter.Counter.{Counter}
-use Rattle.pgo_counter.specs.Counters.{counter_bound}
+use Rattle.pgo_counter.specs.Counters.{counter_bound, counter_system}
 use Rattle.pgo_front.specs.CounterRuns.{settings}
 use Rattle.pgo_front.proofs.States.{some_is, same_data-self}
 use Rattle.pgo_counter.specs.CounterNames.{Names}
@@ -52,7 +52,7 @@ module _ (c : Counter) (n : Names c) (small : c.id ≤ 999999) where
       same_function ps qs e = cc
 
   -- a section leads from a state to a state
-  pub section_kept : (k a : ℕ) (s t : Vars) (ps : List Data) → IsState (counter_bound c) s → ((rules_of (counter_bound c) settings).sect k a s).end ≡ Next t ps → IsState (counter_bound c) t
+  pub section_kept : (k a : ℕ) (s t : Vars) (ps : List Data) → IsState (counter_bound c) s → ((rules_of (counter_system c) settings).sect k a s).end ≡ Next t ps → IsState (counter_bound c) t
   section_kept zero a s t ps h e = step_kept s t ps h (steps c n.global.pc a s t ps e)
   section_kept (suc k) a s t ps h e = absurd (grind (arith, e))
 

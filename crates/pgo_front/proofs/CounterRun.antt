@@ -4,9 +4,12 @@ use Rattle.std.proofs.lemmas.Bool.{ltb-true, lt-ltb}
 use Rattle.pgo_base.specs.Data.{Data, integer, string}
 use Rattle.pgo_base.specs.Lookup.{Name, Vars, find}
 use Rattle.pgo_model.specs.Outcome.{Next, Stuck, NoValue}
-use Rattle.pgo_model.specs.Section.{Words, Sect, word_at, Allows, code_at}
+use Rattle.pgo_model.specs.System.{Words}
+use Rattle.pgo_counter.specs.Section.{Sect, Allows, code_at}
+use Rattle.pgo_model.specs.Choice.{word_at}
 use Rattle.pgo_model.specs.Choice.{Seeded, words_of}
-use Rattle.pgo_model.specs.Declares.{place_of, IsLabel}
+use Rattle.pgo_model.specs.Variables.{place_of}
+use Rattle.pgo_counter.specs.Declares.{IsLabel}
 use Rattle.pgo_model.specs.Machine.{Rules, Machine, Entry, finished_of, nth, state_at}
 use Rattle.pgo_model.specs.Accounts.{EntryMade}
 use Rattle.pgo_model.specs.MachineLists.{nth_below}
@@ -14,13 +17,14 @@ use Rattle.pgo_model.specs.MachineRuns.{run_turns_entries}
 use Rattle.pgo_model.specs.Entries.{AllLead, states_along}
 use Rattle.pgo_model.specs.Log.{Effect, After, StateAt, effect_between}
 use Rattle.pgo_model.specs.Core.{Core, rules_of, Reaches}
-use Rattle.pgo_model.specs.State.{IsState}
+use Rattle.pgo_counter.specs.State.{IsState}
+use Rattle.pgo_model.specs.SystemState.{IsSystemState}
 use Rattle.pgo_model.specs.Acts.{Acts}
 use Rattle.pgo_model.specs.IsRun.{IsStep, IsRun}
 use Rattle.pgo_counter.specs.declared.counter.Sum.{Sum}
 use Rattle.pgo_counter.specs.declared.counter.Counter.{Counter}
 use Rattle.pgo_counter.specs.WellNamed.{IsWellNamed}
-use Rattle.pgo_counter.specs.Counters.{counter_bound, counter_instance, counter_module, counter_state, counter_sections, labeled, label_name, next_name, sum_value, sum_code}
+use Rattle.pgo_counter.specs.Counters.{counter_bound, counter_system, counter_instance, counter_module, counter_state, counter_sections, labeled, label_name, next_name, sum_value, sum_code}
 use Rattle.pgo_front.specs.CounterRuns.{settings, sum_fits, sum_end, counter_changes}
 use Rattle.pgo_counter.specs.CounterNames.{names, section_found, next_apart}
 use Rattle.pgo_front.proofs.CounterSections.{end_is, end_at, sum_data}
@@ -86,23 +90,23 @@ module _ (c : Counter) (w : IsWellNamed c) where
       go false f k = absurd (grind (arith, k))
 
   moves_from : (a x : ℕ) (before after : List Sum) (t : Vars) (ps : List Data) → c.body ≡ before ++ after → x < 2 ^ 63
-      → ((rules_of (counter_bound c) settings).sect 0 a (counter_state c x (next_name c after))).end ≡ Next t ps
+      → ((rules_of (counter_system c) settings).sect 0 a (counter_state c x (next_name c after))).end ≡ Next t ps
       → Moves c (counter_state c x (next_name c after)) t ps
   moves_from a x before [] t ps e small h = absurd (let k = sym (ap (λ y. y.end) (section_at_done c w a x)) ∙ h in grind (arith, k))
   moves_from a x before (s ∷ after) t ps e small h =
       moves_on x before after s t ps e small (sym (ap (λ y. y.end) (section_is c w before after s e a x)) ∙ h)
 
-  pub moves : (a : ℕ) (s t : Vars) (ps : List Data) → Stands c s → ((rules_of (counter_bound c) settings).sect 0 a s).end ≡ Next t ps → Moves c s t ps
+  pub moves : (a : ℕ) (s t : Vars) (ps : List Data) → Stands c s → ((rules_of (counter_system c) settings).sect 0 a s).end ≡ Next t ps → Moves c s t ps
   moves a s t ps h e =
       subst (λ s. Moves c s t ps) (sym h.state)
-      (moves_from a h.x h.before h.after t ps h.body h.fits (ap (λ s. ((rules_of (counter_bound c) settings).sect 0 a s).end) (sym h.state) ∙ e))
+      (moves_from a h.x h.before h.after t ps h.body h.fits (ap (λ s. ((rules_of (counter_system c) settings).sect 0 a s).end) (sym h.state) ∙ e))
 
   -- the state after a step stands before the other statements
   pub stands_then : (s t : Vars) (ps : List Data) → Moves c s t ps → Stands c t
   stands_then s t ps m = record { x = sum_value m.x m.sum; before = m.before ++ (m.sum ∷ []); after = m.after; body = m.body ∙ sym (append_assoc m.before (m.sum ∷ []) m.after); state = m.to; fits = m.fits }
 
   abbrev R : Rules Vars Effect
-  R = rules_of (counter_bound c) settings
+  R = rules_of (counter_system c) settings
 
   nth_some : {A : Type 0} (l : List A) (n : ℕ) → n < length l → (x : A) × (nth l n ≡ Some x)
   nth_some [] n h = absurd (omega (arith, h))
@@ -114,13 +118,13 @@ module _ (c : Counter) (w : IsWellNamed c) where
 
   module _ (start_small : c.start ≤ 999999) (id_small : c.id ≤ 999999) (turns : List ℕ) where
     abbrev m : Machine Effect
-    m = Core (counter_bound c) settings turns
+    m = Core (counter_system c) settings turns
 
     abbrev at : ℕ → Vars
     at p = state_at R (counter_bound c).start m.entries p
 
     made : (p : ℕ) (e : Entry Effect) → nth m.entries p ≡ Some e → EntryMade R (finished_of m) p e
-    made = run_turns_entries R (Reaches (counter_bound c)) (IsState (counter_bound c)) (fits c w start_small id_small) turns
+    made = run_turns_entries R (Reaches (counter_system c)) (IsSystemState (counter_system c)) (fits c w start_small id_small) turns
 
     step_at : (p : ℕ) (e : Entry Effect) → (d : EntryMade R (finished_of m) p e) → Stands c (at p) → Moves c (at p) (at (suc p)) d.prints
     step_at p e d s =
@@ -138,7 +142,7 @@ module _ (c : Counter) (w : IsWellNamed c) where
     change_is : (p : ℕ) (e : Entry Effect) → (d : EntryMade R (finished_of m) p e) → (h : Moves c (at p) (at (suc p)) d.prints)
         → e.change ≡ record { label = label_name c h.sum; next = next_name c h.after; changes = counter_changes c h.x (sum_value h.x h.sum) (next_name c h.after); prints = [] }
     change_is p e d h =
-        d.change ∙ (λ i. effect_between (counter_bound c) (is_zero e.instance d.instance i) (h.from i) (h.to i) (h.silent i))
+        d.change ∙ (λ i. effect_between (counter_system c) (is_zero e.instance d.instance i) (h.from i) (h.to i) (h.silent i))
         ∙ effect_is c (names c w) h.x (sum_value h.x h.sum) (label_name c h.sum) (next_name c h.after) (next_apart c (names c w) h.before h.after h.sum h.body)
 
     leads : (s t : Vars) (ps : List Data) → (h : Moves c s t ps)

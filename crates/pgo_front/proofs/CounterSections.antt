@@ -6,10 +6,12 @@ use Rattle.pgo_base.specs.Lookup.{Name, Vars, same_name, find}
 use Rattle.pgo_model.specs.Names.{same_name-self}
 use Rattle.pgo_model.specs.Operators.{both, on_integers, fits_i64, in_64, lookup, apply}
 use Rattle.pgo_model.specs.Outcome.{NoValue, Outcome, Next, Stuck, Nowhere}
-use Rattle.pgo_model.specs.Code.{Code}
-use Rattle.pgo_model.specs.Declares.{place_of}
+use Rattle.pgo_counter.specs.Code.{Code}
+use Rattle.pgo_model.specs.Variables.{place_of}
 use Rattle.pgo_model.specs.Options.{on}
-use Rattle.pgo_model.specs.Section.{Context, Words, Touched, context_of, store, arrived, Out, Jump, Stop, exec, ended, reads, trace, runs, Sect, value_in, code_at, starting, nothing}
+use Rattle.pgo_counter.specs.Section.{Context, context_of, arrived, Out, Jump, Stop, exec, ended, reads, trace, runs, Sect, value_in, code_at, starting, nothing}
+use Rattle.pgo_model.specs.System.{Words, Touched}
+use Rattle.pgo_model.specs.Variables.{store}
 use Rattle.pgo_model.specs.State.{is_shallow}
 use Rattle.pgo_model.specs.Choice.{Seeded, words_of}
 use Rattle.pgo_model.specs.Accounts.{AllIn}
@@ -19,7 +21,8 @@ use Rattle.pgo_counter.specs.declared.counter.Term.{Term}
 use Rattle.pgo_counter.specs.declared.counter.Term.TheVariants.{Parameter, Number}
 use Rattle.pgo_counter.specs.declared.counter.Sum.{Sum}
 use Rattle.pgo_counter.specs.declared.counter.Counter.{Counter}
-use Rattle.pgo_counter.specs.Counters.{label_name, next_name, sum_tree, sum_code, sum_value, counter_sections, counter_instance, counter_bound, counter_state, is_parameter, sum_reads}
+use Rattle.pgo_counter.specs.BoundSystem.{member_of}
+use Rattle.pgo_counter.specs.Counters.{label_name, next_name, sum_tree, sum_code, sum_value, counter_sections, counter_instance, counter_bound, counter_system, counter_state, is_parameter, sum_reads}
 use Rattle.pgo_front.specs.CounterRuns.{settings, sum_fits, sum_trace, counter_section}
 use Rattle.pgo_counter.specs.NameBytes.{Apart, apart-swap}
 use Rattle.pgo_front.proofs.States.{some_is, find-store_other, same_data-self}
@@ -102,7 +105,7 @@ trace_is c s next st d =
 -- the section of instance 0 where it stands at the label with this code
 pub at_code : (c : Counter) (a : ℕ) (st : Vars) (l : Name) (code : Code) → place_of (integer (pos c.id)) st ≡ Some (string l)
     → find l (counter_sections c c.body) ≡ Some code
-    → (rules_of (counter_bound c) settings).sect 0 a st ≡ numbered (counter_bound c) (runs (context c) code st (words_of (Seeded 0 0 a)))
+    → (rules_of (counter_system c) settings).sect 0 a st ≡ numbered (counter_system c) (runs (context c) code st (words_of (Seeded 0 0 a)))
 at_code c a st l code e f =
     let g : code_at (counter_instance c) (Some (string l)) ≡ Some code = ap (find l) (sections_are c c.body) ∙ f in
     rw e (rw g refl)
@@ -110,7 +113,7 @@ at_code c a st l code e f =
 -- and where no label has the name
 pub at_none : (c : Counter) (a : ℕ) (st : Vars) (l : Name) → place_of (integer (pos c.id)) st ≡ Some (string l)
     → find l (counter_sections c c.body) ≡ None
-    → (rules_of (counter_bound c) settings).sect 0 a st ≡ record { trace = []; end = Nowhere }
+    → (rules_of (counter_system c) settings).sect 0 a st ≡ record { trace = []; end = Nowhere }
 at_none c a st l e f =
     let g : code_at (counter_instance c) (Some (string l)) ≡ None = ap (find l) (sections_are c c.body) ∙ f in
     rw e (rw g refl)
@@ -215,7 +218,7 @@ ends c st t prints l next (Some v) a p i h = go (is_shallow u) h
     go false e = absurd (grind (arith, e))
 
 code_ends : (c : Counter) → Apart c.global pc → (a : ℕ) (st t : Vars) (prints : List Data) (code : Code) → Stands c st code
-    → (numbered (counter_bound c) (runs (context c) code st (words_of (Seeded 0 0 a)))).end ≡ Next t prints → Steps c st t prints
+    → (numbered (counter_system c) (runs (context c) code st (words_of (Seeded 0 0 a)))).end ≡ Next t prints → Steps c st t prints
 code_ends c g a st t prints code p h =
     let q = of_sum c p.label code c.body p.section in
     let r = end_is c q.sum q.next st (words_of (Seeded 0 0 a)) in
@@ -226,29 +229,29 @@ code_ends c g a st t prints code p h =
 
 -- so does instance 0, on any state
 pub steps : (c : Counter) → Apart c.global pc → (a : ℕ) (st t : Vars) (prints : List Data)
-    → ((rules_of (counter_bound c) settings).sect 0 a st).end ≡ Next t prints → Steps c st t prints
+    → ((rules_of (counter_system c) settings).sect 0 a st).end ≡ Next t prints → Steps c st t prints
 steps c g a st t prints h = go (code_at (counter_instance c) (place_of (integer (pos c.id)) st)) refl h
   where
     go : (o : Option Code) → code_at (counter_instance c) (place_of (integer (pos c.id)) st) ≡ o
-        → (numbered (counter_bound c) (on nothing o (λ k. runs (context c) k st (words_of (Seeded 0 0 a))))).end ≡ Next t prints → Steps c st t prints
+        → (numbered (counter_system c) (on nothing o (λ k. runs (context c) k st (words_of (Seeded 0 0 a))))).end ≡ Next t prints → Steps c st t prints
     go None e f = absurd (grind (arith, f))
     go (Some code) e f = code_ends c g a st t prints code (stands c st code (place_of (integer (pos c.id)) st) refl e) f
 
-reaches_global : (c : Counter) → Reaches (counter_bound c) 0 0
-reaches_global c = (counter_instance c, record { number = 0; global = c.global; index = None }, refl, refl, (0, c.parameter, refl))
+reaches_global : (c : Counter) → Reaches (counter_system c) 0 0
+reaches_global c = (member_of (counter_instance c), record { number = 0; global = c.global; index = None }, refl, refl, (0, refl))
 
 -- the numbers of what was touched are all 0, the one resource
-pub numbers_reach : (c : Counter) (cs : List Touched) → AllIn (Reaches (counter_bound c) 0) (numbers_of (counter_bound c).resources cs)
+pub numbers_reach : (c : Counter) (cs : List Touched) → AllIn (Reaches (counter_system c) 0) (numbers_of (counter_bound c).resources cs)
 numbers_reach c [] = tt
 numbers_reach c (t ∷ cs) = go (same_name c.global t.0 && same_index None t.1) (numbers_reach c cs)
   where
-    go : (b : Bool) → AllIn (Reaches (counter_bound c) 0) (numbers_of (counter_bound c).resources cs)
-        → AllIn (Reaches (counter_bound c) 0) (on (numbers_of (counter_bound c).resources cs) (if b then Some 0 else None) (λ n. n ∷ numbers_of (counter_bound c).resources cs))
+    go : (b : Bool) → AllIn (Reaches (counter_system c) 0) (numbers_of (counter_bound c).resources cs)
+        → AllIn (Reaches (counter_system c) 0) (on (numbers_of (counter_bound c).resources cs) (if b then Some 0 else None) (λ n. n ∷ numbers_of (counter_bound c).resources cs))
     go true r = (reaches_global c, r)
     go false r = r
 
 -- a section reaches what its instance is bound to
-pub trace_reaches : (c : Counter) (k a : ℕ) (st : Vars) → AllIn (Reaches (counter_bound c) k) ((rules_of (counter_bound c) settings).sect k a st).trace
+pub trace_reaches : (c : Counter) (k a : ℕ) (st : Vars) → AllIn (Reaches (counter_system c) k) ((rules_of (counter_system c) settings).sect k a st).trace
 trace_reaches c zero a st = numbers_reach c (Sect (counter_bound c) 0 st (words_of (Seeded 0 0 a))).trace
 trace_reaches c (suc k) a st = tt
 
@@ -291,7 +294,7 @@ numbers_are c false false v = refl
 -- the section of a statement on a counter's state
 pub section_on : (c : Counter) → Apart c.global pc → (a x : ℕ) (l : Name) (s : Sum) (next : Name)
     → find l (counter_sections c c.body) ≡ Some (sum_code c s next)
-    → (rules_of (counter_bound c) settings).sect 0 a (counter_state c x l) ≡ counter_section c s x next
+    → (rules_of (counter_system c) settings).sect 0 a (counter_state c x l) ≡ counter_section c s x next
 section_on c g a x l s next f =
     let st : Vars = counter_state c x l in
     let d = words_of (Seeded 0 0 a) in

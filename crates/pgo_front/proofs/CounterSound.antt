@@ -8,12 +8,14 @@ use Rattle.pgo_base.specs.Tree.{number}
 use Rattle.pgo_base.specs.Lookup.{Name, Vars}
 use Rattle.pgo_base.specs.Sets.{IsSorted}
 use Rattle.pgo_model.specs.Names.{same_name-self}
-use Rattle.pgo_model.specs.Spec.{Labeled, Declaration, Equals}
+use Rattle.pgo_counter.specs.Spec.{Labeled, Declaration, Equals}
 use Rattle.pgo_model.specs.Written.{done, written}
-use Rattle.pgo_model.specs.Bound.{Instance, Resource, first_label}
-use Rattle.pgo_model.specs.State.{IsState}
+use Rattle.pgo_counter.specs.Bound.{Instance, first_label}
+use Rattle.pgo_model.specs.System.{Resource}
+use Rattle.pgo_counter.specs.State.{IsState}
 use Rattle.pgo_model.specs.Machine.{nth}
-use Rattle.pgo_model.specs.Declares.{Declares, Sound, StartsAs, HasDomain, IsGlobal, IsAtLabel, place_of}
+use Rattle.pgo_counter.specs.Declares.{Declares, Sound, StartsAs, HasDomain, IsGlobal, IsAtLabel}
+use Rattle.pgo_model.specs.Variables.{place_of}
 use Rattle.pgo_counter.specs.declared.counter.Sum.{Sum}
 use Rattle.pgo_counter.specs.declared.counter.Counter.{Counter}
 use Rattle.pgo_counter.specs.WellNamed.{IsWellNamed}
@@ -43,7 +45,7 @@ abbrev global_of : Counter → Declaration
 global_of c = record { name = c.global; initial = Equals (number (pos c.start)) }
 
 -- a list of one has that at 0
-only : {A : Type 0} (x y : A) (n : ℕ) → nth (x ∷ []) n ≡ Some y → (n ≡ 0) × (x ≡ y)
+pub only : {A : Type 0} (x y : A) (n : ℕ) → nth (x ∷ []) n ≡ Some y → (n ≡ 0) × (x ≡ y)
 only x y zero e = (refl, some_is x y e)
 only x y (suc n) e = absurd (grind (arith, e))
 
@@ -78,7 +80,7 @@ is_next c (s ∷ ss) = inr (0, labeled c.parameter s, s.label, refl, refl, refl)
 at_label : (c : Counter) → Names c → IsAtLabel (counter_instance c) (counter_bound c).start
 at_label c n = (next_name c c.body, place_is c n.global.pc c.start (next_name c c.body), is_next c c.body)
 
-abbrev resource_of : Counter → Resource
+abbrev pub resource_of : Counter → Resource
 resource_of c = record { number = 0; global = c.global; index = None }
 
 -- its resource is of the declared global, and of no element of it

@@ -5,9 +5,9 @@ use Rattle.pgo_base.specs.Lookup.{Name, Vars, same_name, find}
 use Rattle.pgo_model.specs.Names.{same_name-self}
 use Rattle.pgo_model.specs.Operators.{apply, lookup, put_at, replace_at, function_of}
 use Rattle.pgo_model.specs.Written.{pc}
-use Rattle.pgo_model.specs.State.{IsState}
-use Rattle.pgo_model.specs.Declares.{place_of}
-use Rattle.pgo_model.specs.Section.{store}
+use Rattle.pgo_counter.specs.State.{IsState}
+use Rattle.pgo_model.specs.Variables.{place_of}
+use Rattle.pgo_model.specs.Variables.{store}
 use Rattle.pgo_counter.specs.declared.counter.Counter.{Counter}
 use Rattle.pgo_counter.specs.Counters.{counter_bound}
 use Rattle.pgo_front.proofs.States.{some_is, same_data-self}

@@ -5,6 +5,7 @@ pub mod CounterEffects
 pub mod CounterSections
 pub mod CounterSound
 pub mod CounterStates
+pub mod CounterSystem
 pub mod CounterKept
 pub mod CounterLaws
 pub mod Truths

@@ -5,13 +5,13 @@ use Rattle.pgo_model.specs.Written.{pc}
 use Rattle.pgo_model.specs.ModuleText.{line, flatten, module_lines, Text}
 use Rattle.pgo_model.specs.Machine.{Machine, finished_of, nth}
 use Rattle.pgo_model.specs.Log.{Effect}
-use Rattle.pgo_model.specs.Translate.{module_of}
+use Rattle.pgo_counter.specs.Translate.{module_of}
 use Rattle.pgo_model.specs.Core.{Core, end_of}
 use Rattle.pgo_model.specs.Bundle.{value_line, entries_lines, lines_of, Bundle}
 use Rattle.pgo_model.specs.IsBundle.{all_read, is_run_status, IsReadAccount, read_accounts_lines, IsBundle}
 use Rattle.pgo_counter.specs.declared.counter.Counter.{Counter}
 use Rattle.pgo_counter.specs.WellNamed.{IsCounter}
-use Rattle.pgo_counter.specs.Counters.{spec_of, next_name, counter_state, counter_bound, counter_module}
+use Rattle.pgo_counter.specs.Counters.{spec_of, next_name, counter_state, counter_bound, counter_system, counter_module}
 use Rattle.pgo_counter.specs.CounterNames.{names}
 use Rattle.pgo_log_text.specs.ReadBundle.{IsReadBundle}
 use Rattle.pgo_front.specs.CounterRuns.{settings, IsAt}
@@ -40,12 +40,12 @@ status_is_read : (n : ℕ) → (n ≡ 0) ⊎ (n ≡ 21) → is_run_status n ≡ 
 status_is_read n (inl e) = ap is_run_status e
 status_is_read n (inr e) = ap is_run_status e
 
-module _ (c : Counter) (f : IsCounter c) (turns values : List ℕ) (h : IsAt c (Core (counter_bound c) settings turns) values) where
+module _ (c : Counter) (f : IsCounter c) (turns values : List ℕ) (h : IsAt c (Core (counter_system c) settings turns) values) where
   abbrev m : Machine Effect
-  m = Core (counter_bound c) settings turns
+  m = Core (counter_system c) settings turns
 
   -- the bytes as the lines of what is read
-  text_is_read : (n : ℕ) (written : List ℕ) → written ≡ Bundle (counter_module c) [] (counter_bound c) settings (finished_of m) n
+  text_is_read : (n : ℕ) (written : List ℕ) → written ≡ Bundle (counter_module c) [] (counter_system c) settings (finished_of m) n
       → written ≡ flatten (lines_of (counter_module c) [] (counter_bound c).start (map entry_read m.entries) (read_accounts_lines 0 (account_of c m (length values) ∷ [])) n)
   text_is_read n written e =
       let entries = sym (entries_same 1 m.entries) in
@@ -62,7 +62,7 @@ module _ (c : Counter) (f : IsCounter c) (turns values : List ℕ) (h : IsAt c (
   entry_number = count_is entry_read m.entries ∙ ap length h.entries ∙ length-entries c 1 c.start c.body values h.few
 
   -- and how many they are
-  pub is_short : (n : ℕ) (written : List ℕ) → n ≤ 21 → written ≡ Bundle (counter_module c) [] (counter_bound c) settings (finished_of m) n → length written ≤ most_bundle_bytes
+  pub is_short : (n : ℕ) (written : List ℕ) → n ≤ 21 → written ≡ Bundle (counter_module c) [] (counter_system c) settings (finished_of m) n → length written ≤ most_bundle_bytes
   is_short n written status e =
       let accounts = accounts_same c m values h in
       let some = h.few in
@@ -78,7 +78,7 @@ module _ (c : Counter) (f : IsCounter c) (turns values : List ℕ) (h : IsAt c (
       (entries_lines 1 m.entries) (read_accounts_lines 0 (account_of c m (length values) ∷ []))
       (text_within c f) (omega (arith, count, some, few)) status (text_within c f)
       (start_short c (next_name c c.body) g f.start f.id (first_length c (names c f.named))) entries
-      (account_short c.id (length values) (end_of (counter_bound c) settings (finished_of m) 0) f.id (omega (arith, some, few)))
+      (account_short c.id (length values) (end_of (counter_system c) settings (finished_of m) 0) f.id (omega (arith, some, few)))
       in
       subst (λ t. length t ≤ most_bundle_bytes)
       (sym
@@ -102,8 +102,8 @@ module _ (c : Counter) (f : IsCounter c) (turns values : List ℕ) (h : IsAt c (
         steps = counts_from 1 (length values) (omega (arith, some, few));
       }
 
-  is_bundle : (n : ℕ) (written : List ℕ) → (n ≡ 0) ⊎ (n ≡ 21) → written ≡ Bundle (counter_module c) [] (counter_bound c) settings (finished_of m) n
-      → IsBundle written (counter_module c) [] (log_of (counter_bound c) m.entries)
+  is_bundle : (n : ℕ) (written : List ℕ) → (n ≡ 0) ⊎ (n ≡ 21) → written ≡ Bundle (counter_module c) [] (counter_system c) settings (finished_of m) n
+      → IsBundle written (counter_module c) [] (log_of (counter_system c) m.entries)
   is_bundle n written status e =
       let some = h.few in
       let few = f.few in
@@ -128,8 +128,8 @@ module _ (c : Counter) (f : IsCounter c) (turns values : List ℕ) (h : IsAt c (
       }
 
   -- and so of the module that the specification means
-  pub is_read : (n : ℕ) (written : List ℕ) → (n ≡ 0) ⊎ (n ≡ 21) → written ≡ Bundle (counter_module c) [] (counter_bound c) settings (finished_of m) n
-      → IsReadBundle written (module_of (spec_of c)) [] (log_of (counter_bound c) m.entries)
+  pub is_read : (n : ℕ) (written : List ℕ) → (n ≡ 0) ⊎ (n ≡ 21) → written ≡ Bundle (counter_module c) [] (counter_system c) settings (finished_of m) n
+      → IsReadBundle written (module_of (spec_of c)) [] (log_of (counter_system c) m.entries)
   is_read n written status e =
       let means : module_of (spec_of c) ≡ counter_module c = module_is c f.named in
-      (record { counter = c; is_counter = f; means = means }, subst (λ m. IsBundle written m [] (log_of (counter_bound c) (Core (counter_bound c) settings turns).entries)) (sym means) (is_bundle n written status e))
+      (record { counter = c; is_counter = f; means = means }, subst (λ m. IsBundle written m [] (log_of (counter_system c) (Core (counter_system c) settings turns).entries)) (sym means) (is_bundle n written status e))

@@ -2,14 +2,14 @@
 use Rattle.std.proofs.Common.{◌≡◌, ◌<◌, ◌+◌, ◌^◌, ℕ, zero, suc, pos, List, [], ◌∷◌, ◌++◌, length, map, decimal, codes, refl, ap, sym, ◌∙◌, arith}
 use Rattle.pgo_base.specs.Data.{integer}
 use Rattle.pgo_model.specs.Machine.{Step, Machine, finished_of}
-use Rattle.pgo_model.specs.Bound.{Resource}
+use Rattle.pgo_model.specs.System.{Resource}
 use Rattle.pgo_model.specs.Log.{Effect}
 use Rattle.pgo_model.specs.Core.{end_of}
 use Rattle.pgo_model.specs.ModuleText.{line}
 use Rattle.pgo_model.specs.Bundle.{fields, end_text, record_lines, accounts_lines}
 use Rattle.pgo_model.specs.IsBundle.{Account, AreCounts, read_accounts_lines}
 use Rattle.pgo_counter.specs.declared.counter.Counter.{Counter}
-use Rattle.pgo_counter.specs.Counters.{counter_bound}
+use Rattle.pgo_counter.specs.Counters.{counter_bound, counter_system}
 use Rattle.pgo_front.specs.CounterRuns.{settings, steps_from, IsAt}
 use Rattle.pgo_front.proofs.CounterEnds.{length-steps}
 
@@ -36,11 +36,11 @@ counts_from n zero h = tt
 counts_from n (suc many) h = (omega (arith, h), counts_from (suc n) many (omega (arith, h)))
 
 abbrev pub account_of : Counter → Machine Effect → ℕ → Account
-account_of c m many = record { id = integer (pos c.id); finish = end_of (counter_bound c) settings (finished_of m) 0; steps = numbers_from 1 many }
+account_of c m many = record { id = integer (pos c.id); finish = end_of (counter_system c) settings (finished_of m) 0; steps = numbers_from 1 many }
 
 -- its lines are those of the run's accounts
 pub accounts_same : (c : Counter) (m : Machine Effect) (vs : List ℕ) → IsAt c m vs
-    → accounts_lines (counter_bound c) settings (finished_of m) 0 (counter_bound c).instances ≡ read_accounts_lines 0 (account_of c m (length vs) ∷ [])
+    → accounts_lines (counter_system c) settings (finished_of m) 0 (counter_system c).members ≡ read_accounts_lines 0 (account_of c m (length vs) ∷ [])
 accounts_same c m vs h =
     let count : length (m.workers 0).records ≡ length (numbers_from 1 (length vs))
     = ap length h.records ∙ length-steps 1 (length vs) ∙ sym (length-numbers 1 (length vs))
@@ -50,5 +50,5 @@ accounts_same c m vs h =
     ∙ ap (record_lines [] 1) (sym (steps_are 1 (length vs)))
     in
     λ i.
-    line (fields (codes "inst" ∷ decimal 0 ∷ decimal (count i) ∷ end_text (end_of (counter_bound c) settings (finished_of m) 0) ∷ decimal c.id ∷ []))
+    line (fields (codes "inst" ∷ decimal 0 ∷ decimal (count i) ∷ end_text (end_of (counter_system c) settings (finished_of m) 0) ∷ decimal c.id ∷ []))
     ∷ (records i ++ [])

@@ -9,7 +9,7 @@ use Rattle.pgo_model.specs.IsBundle.{count_limit, is_read_name, AreReadChanges, 
 use Rattle.pgo_counter.specs.declared.counter.Sum.{Sum}
 use Rattle.pgo_counter.specs.declared.counter.Counter.{Counter}
 use Rattle.pgo_counter.specs.WellNamed.{IsCounter}
-use Rattle.pgo_counter.specs.Counters.{counter_bound, label_name, next_name, sum_value}
+use Rattle.pgo_counter.specs.Counters.{counter_system, label_name, next_name, sum_value}
 use Rattle.pgo_counter.specs.CounterNames.{Names, names, IsLabelOf, label_of_body}
 use Rattle.pgo_front.specs.CounterRuns.{settings, IsAt, global_change, place_change, counter_changes, counter_entries}
 use Rattle.pgo_front.specs.ReadBack.{unowned, entry_read}
@@ -90,10 +90,10 @@ all_are_read [] h = tt
 all_are_read (e ∷ es) h = (h 0 e refl, all_are_read es (λ p e found. h (suc p) e found))
 
 -- the entries of a run are read
-pub entries_are_read : (c : Counter) → IsCounter c → (turns values : List ℕ) → IsAt c (Core (counter_bound c) settings turns) values
-    → AreReadEntries (map entry_read (Core (counter_bound c) settings turns).entries)
+pub entries_are_read : (c : Counter) → IsCounter c → (turns values : List ℕ) → IsAt c (Core (counter_system c) settings turns) values
+    → AreReadEntries (map entry_read (Core (counter_system c) settings turns).entries)
 entries_are_read c f turns values at =
-    all_are_read (Core (counter_bound c) settings turns).entries
+    all_are_read (Core (counter_system c) settings turns).entries
     (λ p e found.
     entry_is_read c f e (recorded c f.named f.start f.id turns p e found)
     (attempt_is c 1 c.start c.body values p e (sym (ap (λ es. nth es p) at.entries) ∙ found)))

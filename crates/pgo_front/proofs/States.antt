@@ -10,7 +10,7 @@ use Rattle.std.specs.declared.cmp.Ordering.TheVariants.{Less, Equal, Greater}
 use Rattle.std.specs.Ordering.{is_eq}
 use Rattle.pgo_model.specs.Names.{same_name-is}
 use Rattle.pgo_model.specs.Operators.{same_data, lookup, replace_at}
-use Rattle.pgo_model.specs.Section.{store}
+use Rattle.pgo_model.specs.Variables.{store}
 use Rattle.pgo_counter.specs.NameBytes.{Apart}
 
 -- a value is itself

@@ -4,7 +4,7 @@ use Rattle.pgo_io.specs.Faults.{Rose}
 use Rattle.pgo_io.specs.Sink.{Grows, GrowsByPrefix}
 use Rattle.pgo_base.specs.Data.{Data}
 use Rattle.pgo_base.specs.Lookup.{Name}
-use Rattle.pgo_model.specs.Spec.{Spec}
+use Rattle.pgo_counter.specs.Spec.{Spec}
 use Rattle.pgo_accept.specs.Refusals.{RefusedWith}
 use Rattle.pgo_check.specs.declared.verdict.Verdict.{Verdict}
 use Rattle.pgo_front.specs.declared.status.Status.{Status}

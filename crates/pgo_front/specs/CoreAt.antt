@@ -10,7 +10,7 @@ use Rattle.pgo_front.specs.declared.instance.Instance.{Instance}
 use Rattle.pgo_front.specs.declared.instance.Place.{Place}
 use Rattle.pgo_front.specs.declared.instance.Place.TheVariants.{Start, Taken, Read, Written, PreCommitted, Committed}
 use Rattle.pgo_counter.specs.WellNamed.{IsWellNamed, most, most_statements, HasSmallNumbers}
-use Rattle.pgo_counter.specs.Counters.{counter_bound, counter_state, next_name, sum_value, sum_reads}
+use Rattle.pgo_counter.specs.Counters.{counter_system, counter_state, next_name, sum_value, sum_reads}
 use Rattle.pgo_front.specs.CounterRuns.{settings, counter_entries, steps_from, last_value}
 
 -- a counter whose names, numbers and length are those of the form
@@ -22,7 +22,7 @@ pub record IsInForm (c : Counter) : Type 0 where
 
 -- what the machine of a counter stands on
 unfoldable pub counter_rules : Counter → Rules Vars Effect
-counter_rules c = rules_of (counter_bound c) settings
+counter_rules c = rules_of (counter_system c) settings
 
 -- the statements that have no value yet
 abbrev pub rest_of : Counter → Instance → List Sum

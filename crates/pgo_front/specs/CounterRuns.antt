@@ -9,7 +9,7 @@ use Rattle.pgo_model.specs.Core.{Settings, rules_of}
 use Rattle.pgo_model.specs.Written.{pc}
 use Rattle.pgo_counter.specs.declared.counter.Sum.{Sum}
 use Rattle.pgo_counter.specs.declared.counter.Counter.{Counter}
-use Rattle.pgo_counter.specs.Counters.{label_name, next_name, counter_state, counter_bound, sum_value, sum_reads}
+use Rattle.pgo_counter.specs.Counters.{label_name, next_name, counter_state, counter_system, sum_value, sum_reads}
 
 -- the seed is 0, and attempts and steps are 10,000
 abbrev pub settings : Settings
@@ -71,4 +71,4 @@ pub record IsAt (c : Counter) (m : Machine Effect) (values : List ℕ) : Type 0 
   pub few : length values ≤ length c.body
   pub entries : m.entries ≡ counter_entries c 1 c.start c.body values
   pub records : (m.workers 0).records ≡ steps_from 1 (length values)
-  pub state : last_state (rules_of (counter_bound c) settings) m ≡ counter_state c (last_value c.start values) (next_name c (drop (length values) c.body))
+  pub state : last_state (rules_of (counter_system c) settings) m ≡ counter_state c (last_value c.start values) (next_name c (drop (length values) c.body))

@@ -1,6 +1,6 @@
 -- The log that the bundle of a run has: the run's entries, without whose a component is and without what was printed.
 use Rattle.std.specs.Prelude.{List, [], map}
-use Rattle.pgo_model.specs.Bound.{Bound}
+use Rattle.pgo_model.specs.System.{System, ids_of}
 use Rattle.pgo_model.specs.Machine.{Entry}
 use Rattle.pgo_model.specs.Log.{Unowned, Change, Effect, Log}
 
@@ -20,5 +20,5 @@ entry_read e = record {
 }
 
 -- the log of these entries
-abbrev pub log_of : Bound → List (Entry Effect) → Log
-log_of b entries = record { ids = map (λ i. i.id) b.instances; start = b.start; entries = map entry_read entries }
+abbrev pub log_of : System → List (Entry Effect) → Log
+log_of y entries = record { ids = ids_of y; start = y.start; entries = map entry_read entries }

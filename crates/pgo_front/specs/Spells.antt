@@ -1,6 +1,6 @@
 -- Which texts spell a specification today.
 use Rattle.std.specs.Prelude.{◌≡◌, ℕ, List}
-use Rattle.pgo_model.specs.Spec.{Spec}
+use Rattle.pgo_counter.specs.Spec.{Spec}
 use Rattle.pgo_counter.specs.declared.counter.Counter.{Counter}
 use Rattle.pgo_counter_read.specs.Form.{SpellsCounter}
 use Rattle.pgo_counter.specs.Counters.{spec_of}

@@ -2,12 +2,12 @@
 ghost use Rattle.std.specs.Prelude.{◌≡◌, ◌≤◌, ◌∷◌, ◌++◌, ◌↔◌, [], List, ℕ, length, codes, map, decimal, IfOk, IsTrue, nat_eq, if◌then◌else◌, Some, None};
 ghost use Rattle.pgo_model.specs.ModuleText.{line, flatten};
 ghost use Rattle.pgo_model.specs.Machine.{Machine, finished_of};
-ghost use Rattle.pgo_model.specs.Bound.{Resource};
+ghost use Rattle.pgo_model.specs.System.{Resource};
 ghost use Rattle.pgo_model.specs.Log.{Effect};
 ghost use Rattle.pgo_model.specs.Core.{Done, status_of};
 ghost use Rattle.pgo_model.specs.Bundle.{fields, value_line, entry_lines, entries_lines, end_text, record_lines, change_line, accounts_lines, bundle_lines};
 ghost use Rattle.pgo_counter.specs.WellNamed.{IsWellNamed, most_statements};
-ghost use Rattle.pgo_counter.specs.Counters.{next_name, counter_state, counter_bound, counter_module};
+ghost use Rattle.pgo_counter.specs.Counters.{next_name, counter_state, counter_system, counter_module};
 ghost use Rattle.pgo_front.specs.CounterRuns.{IsAt, settings, counter_changes, counter_entry, counter_entries, steps_from};
 
 use pgo_base::text::Text;
@@ -29,7 +29,7 @@ pub fn status(counter: &Counter, values: &[u64]) -> u8
     requires named { IsWellNamed counter.now }
     requires few { length counter.now.body ≤ most_statements }
     ensures number { result ≡ (if nat_eq (length values.now) (length counter.now.body) then 0 else 21) }
-    ensures machine { (m : Machine Effect) → IsAt counter.now m values.now → result ≡ status_of (counter_bound counter.now) settings (finished_of m) }
+    ensures machine { (m : Machine Effect) → IsAt counter.now m values.now → result ≡ status_of (counter_system counter.now) settings (finished_of m) }
 {
     if is_done(counter, values) { 0 } else { 21 }
 }
@@ -244,8 +244,8 @@ fn push_account(
     requires named { IsWellNamed counter.now }
     requires few { length counter.now.body ≤ most_statements }
     ensures { IfOk result (λ _. (m : Machine Effect) → IsAt counter.now m values.now → lines.new ≡ lines.old
-        ++ (accounts_lines (counter_bound counter.now) settings (finished_of m) 0 (counter_bound counter.now).instances
-        ++ line (codes "end " ++ decimal (length m.entries) ++ codes " " ++ decimal (status_of (counter_bound counter.now) settings (finished_of m))) ∷ [])) }
+        ++ (accounts_lines (counter_system counter.now) settings (finished_of m) 0 (counter_system counter.now).members
+        ++ line (codes "end " ++ decimal (length m.entries) ++ codes " " ++ decimal (status_of (counter_system counter.now) settings (finished_of m))) ∷ [])) }
 {
     let steps = values.len() as u64;
     push_instance(
@@ -288,7 +288,7 @@ pub fn bundle(alloc: Global, counter: &Counter, values: &[u64]) -> Result<Lines,
     requires greatest { length counter.now.body ≤ most_statements }
     requires few { length values.now ≤ length counter.now.body }
     ensures { IfOk result (λ ls. (m : Machine Effect) → IsAt counter.now m values.now
-        → ls ≡ bundle_lines (counter_module counter.now) [] (counter_bound counter.now) settings (finished_of m) (status_of (counter_bound counter.now) settings (finished_of m))) }
+        → ls ≡ bundle_lines (counter_module counter.now) [] (counter_system counter.now) settings (finished_of m) (status_of (counter_system counter.now) settings (finished_of m))) }
 {
     let tla = module_lines(alloc, counter)?;
     let first = next_label(alloc, counter, counter.body.as_slice())?;

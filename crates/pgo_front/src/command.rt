@@ -4,7 +4,7 @@ ghost use Rattle.pgo_io.specs.Faults.{Rose};
 ghost use Rattle.pgo_io.specs.Sink.{Grows, GrowsByPrefix};
 ghost use Rattle.pgo_base.specs.Data.{Data};
 ghost use Rattle.pgo_base.specs.Lookup.{Name};
-ghost use Rattle.pgo_model.specs.Spec.{Spec};
+ghost use Rattle.pgo_counter.specs.Spec.{Spec};
 ghost use Rattle.pgo_model.specs.Module.{Module};
 ghost use Rattle.pgo_model.specs.ModuleText.{flatten};
 ghost use Rattle.pgo_model.specs.Log.{Log};

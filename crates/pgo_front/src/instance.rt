@@ -4,7 +4,7 @@ ghost use Rattle.pgo_model.specs.Core.{Core};
 ghost use Rattle.pgo_model.specs.Machine.{opened};
 ghost use Rattle.pgo_front.specs.declared.instance.Place.TheVariants.{Written};
 ghost use Rattle.pgo_counter.specs.WellNamed.{IsWellNamed, most, most_statements, HasSmallNumbers};
-ghost use Rattle.pgo_counter.specs.Counters.{counter_bound, term_value, sum_value, is_parameter, sum_reads};
+ghost use Rattle.pgo_counter.specs.Counters.{counter_system, term_value, sum_value, is_parameter, sum_reads};
 ghost use Rattle.pgo_front.specs.CounterRuns.{IsAt, settings};
 ghost use Rattle.pgo_front.specs.CoreAt.{IsInForm, IsSound, Tracks, MakesTurn, Commits, counter_rules, rest_of};
 
@@ -153,7 +153,7 @@ pub fn run_turns(alloc: Global, counter: &Counter, turns: &[u32]) -> Result<Valu
     requires few { length counter.now.body ≤ most_statements }
     requires start { counter.now.start ≤ most }
     requires numbers { HasSmallNumbers counter.now.body }
-    ensures { IfOk result (λ vs. IsAt counter.now (Core (counter_bound counter.now) settings turns.now) vs) }
+    ensures { IfOk result (λ vs. IsAt counter.now (Core (counter_system counter.now) settings turns.now) vs) }
 {
     let mut instance = Instance::open(alloc, counter)?;
     for number in turns {

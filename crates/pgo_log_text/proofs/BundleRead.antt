@@ -9,18 +9,18 @@ use Rattle.pgo_model.specs.ModuleText.{line, flatten, module_lines, Text}
 use Rattle.pgo_model.specs.Log.{Log}
 use Rattle.pgo_model.specs.IsBundle.{IsBundle}
 use Rattle.pgo_counter.specs.CounterModules.{IsCounterModule}
+use Rattle.pgo_module_read.proofs.ModuleReads.{same_text}
 use Rattle.pgo_log_text.specs.declared.errors.LogStop.{LogStop}
 use Rattle.pgo_log_text.specs.declared.errors.LogStop.TheVariants.{BadLog, NoMemory}
 use Rattle.pgo_log_text.specs.Parsers.{ReadsAs}
-use Rattle.pgo_log_text.specs.Bytes.{expect, number, taken}
 use Rattle.pgo_log_text.specs.Head.{opening, module_part}
 use Rattle.pgo_log_text.specs.Lines.{log_and_end}
-use Rattle.pgo_log_text.specs.IsLogText.{head_lines, IsLogText}
+use Rattle.pgo_log_text.specs.IsLogText.{head_lines}
 use Rattle.pgo_log_text.specs.ReadBundle.{IsReadBundle, IsOnlyBundle, IsNoBundle, IsRefused, SpellsModule, SpellsNone, HasNoModule}
 use Rattle.pgo_log_text.proofs.BytesSteps.{bind_then, then_at, some_pair}
-use Rattle.pgo_log_text.proofs.Bytes.{expect_some, expect_finds, number_some, number_finds, taken_some, taken_finds}
+use Rattle.pgo_log_text.proofs.Bytes.{expect_some, number_some, number_finds, taken_some, taken_finds}
 use Rattle.pgo_log_text.proofs.LinesLog.{log_some, log_finds}
-use Rattle.pgo_log_text.proofs.LinesBundle.{Parted, bundle_is_parted, parted_is_bundle}
+use Rattle.pgo_log_text.proofs.LinesBundle.{bundle_is_parted, parted_is_bundle}
 
 -- ---- the head
 
@@ -98,6 +98,15 @@ found text m consts l b =
       head = ap module_part parted.text_is ∙ module_finds m parted.log_text parted.module_count;
       log = log_finds m.variables parted.log_text l parted.is_log_text;
     }
+
+-- a text is the bundle of one module, constants and log alone
+pub one_bundle : (text : List ℕ) (m : Module) (consts : List (Name × Data)) (l : Log) → IsReadBundle text m consts l → IsOnlyBundle text m consts l
+one_bundle text m consts l b n cs k c =
+    let f = found text m consts l b in let g = found text n cs k c in
+    let parts = some_pair (Text m) (Text n) f.log_text g.log_text (sym f.head ∙ g.head) in
+    let module_is : n ≡ m = same_text n m c.0 b.0 (sym parts.0) in
+    let log_is : log_and_end m.variables f.log_text ≡ Some (k, []) = (λ i. log_and_end (sym module_is i).variables (parts.1 i)) ∙ g.log in
+    (module_is, g.none ∙ sym f.none, (some_pair k l [] [] (sym log_is ∙ f.log)).0)
 
 -- of a bundle and of what was read: the module's bytes and the log's text are the same
 same_parts : (text x r : List ℕ) (m : Module) (consts : List (Name × Data)) (l : Log) → module_part text ≡ Some (x, r) → (f : Found text m consts l)

@@ -1,2 +1,2 @@
 pub mod Rows
-mod CounterRows
+mod ElementBound

@@ -52,12 +52,6 @@ ReachedBefore (Noted kind p) r trace = IsAmong r trace
 ReachedBefore (Full n) r trace = IsAmong r trace
 ReachedBefore (Down q o) r trace = IsAmong r trace
 
--- each entry, and each note, is told by the record of its attempt
-abbrev pub Named : {D : Type 0} → Finished D → Type 0
-Named {D} f =
-    ((p : ℕ) (e : Entry D) → nth f.entries p ≡ Some e → (i : ℕ) × (e.attempt ≡ suc i) × (nth (f.records e.instance) i ≡ Some (Step (suc p))))
-    × ((j : ℕ) (n : Note) → nth f.notes j ≡ Some n → (i : ℕ) × (n.attempt ≡ suc i) × (nth (f.records n.instance) i ≡ Some (Noted n.kind n.position)))
-
 module _ {S D : Type 0} (R : Rules S D) where
   -- the state after n entries. Where each change of the journal is there, as on the machine's own, it is the state by
   -- components (Entries.journal_states)
@@ -115,23 +109,31 @@ module _ {S D : Type 0} (R : Rules S D) where
       Told f k i (Noted kind p) =
           (j : ℕ) × (nth f.notes j ≡ Some (record { instance = k; attempt = suc i; kind = kind; position = p }))
           × NoteTrue f (record { instance = k; attempt = suc i; kind = kind; position = p })
-      Told f k i (Held r h) = (h ≡ k → ⊥) × ((Reaches k r × Reaches h r) ⊎ ((r ≡ journal) × (run ≡ true)))
+      Told f k i (Held r h) = (h ≡ k → ⊥) × (h < R.instances) × ((Reaches k r × Reaches h r) ⊎ ((r ≡ journal) × (run ≡ true)))
       Told f k i (Down r o) = R.fails r o ≡ true
-      Told f k i (Full n) = (n ≡ R.steps) × (length f.entries ≡ R.steps)
+      Told f k i (Full n) = n ≡ R.steps
 
-      -- records number the attempts from 1; entries and notes are exactly those that the records name, in order;
-      -- no attempt has two notes; no failing pre-commit is answered twice; Full is a last record; of a run each refusal
-      -- has its cause
-      pub record Accounts (f : Finished D) : Type 0 where
-        pub told : (k i : ℕ) (x : Record) → nth (f.records k) i ≡ Some x → Told f k i x
-        pub named : Named f
-        pub notes_once : (i j : ℕ) (x y : Note) → nth f.notes i ≡ Some x → nth f.notes j ≡ Some y → x.instance ≡ y.instance → x.attempt ≡ y.attempt → i ≡ j
+      -- of instance k: its records number its attempts from 1, and each says what became of its attempt; the entries and
+      -- notes of k are exactly those that its records name, in order; no attempt has two notes; Full is a last record; a
+      -- number that has a record is an instance's
+      pub record Accounts (f : Finished D) (k : ℕ) : Type 0 where
+        pub told : (i : ℕ) (x : Record) → nth (f.records k) i ≡ Some x → Told f k i x
+        pub entries : (p : ℕ) (e : Entry D) → nth f.entries p ≡ Some e → e.instance ≡ k
+            → (i : ℕ) × (e.attempt ≡ suc i) × (nth (f.records k) i ≡ Some (Step (suc p)))
+        pub notes : (j : ℕ) (n : Note) → nth f.notes j ≡ Some n → n.instance ≡ k
+            → (i : ℕ) × (n.attempt ≡ suc i) × (nth (f.records k) i ≡ Some (Noted n.kind n.position))
+        pub notes_once : (i j : ℕ) (x y : Note) → nth f.notes i ≡ Some x → nth f.notes j ≡ Some y → x.instance ≡ k → y.instance ≡ k → x.attempt ≡ y.attempt → i ≡ j
+        pub ordered : (i j : ℕ) (x y : Record) → nth (f.records k) i ≡ Some x → nth (f.records k) j ≡ Some y → i < j → ComesAfter y x
+        pub bounded : length (f.records k) ≤ R.attempts
+        pub last : (i n : ℕ) → nth (f.records k) i ≡ Some (Full n) → suc i ≡ length (f.records k)
+        pub number : (i : ℕ) (x : Record) → nth (f.records k) i ≡ Some x → k < R.instances
+
+      -- of all instances: no failing pre-commit is answered twice; the number of a Full is the journal's length, which is at
+      -- most `steps`; of a run each refusal has its cause
+      pub record JointAccounts (f : Finished D) : Type 0 where
         pub once : (k l i j r o : ℕ) → nth (f.records k) i ≡ Some (Down r o) → nth (f.records l) j ≡ Some (Down r o) → (k ≡ l) × (i ≡ j)
-        pub ordered : (k i j : ℕ) (x y : Record) → nth (f.records k) i ≡ Some x → nth (f.records k) j ≡ Some y → i < j → ComesAfter y x
-        pub bounded : (k : ℕ) → length (f.records k) ≤ R.attempts
-        pub last : (k i n : ℕ) → nth (f.records k) i ≡ Some (Full n) → suc i ≡ length (f.records k)
+        pub full : (k i n : ℕ) → nth (f.records k) i ≡ Some (Full n) → n ≡ length f.entries
         pub room : length f.entries ≤ R.steps
-        pub numbers : (k i : ℕ) (x : Record) → nth (f.records k) i ≡ Some x → k < R.instances
         pub contended : run ≡ true → Contended f
 
     -- the premises, of good states: the run starts in one and a section leads from one to one; there an entry's record

@@ -1,5 +1,5 @@
 -- What a written module says of a starting state and of a step.
-use Rattle.std.specs.Prelude.{◌≡◌, true, List, [], ◌∷◌, Option, Some, None}
+use Rattle.std.specs.Prelude.{◌≡◌, true, List, [], ◌∷◌, reverse, Option, Some, None}
 use Rattle.pgo_base.specs.Data.{Data, boolean}
 use Rattle.pgo_base.specs.Tree.{Tree}
 use Rattle.pgo_base.specs.Lookup.{Name, Names, Vars, find}
@@ -16,7 +16,8 @@ IsTrueOn m consts names s t e =
 abbrev pub Begins : Module → List (Name × Data) → Vars → Type 0
 Begins m consts s = IsTrueOn m consts [] s None m.init
 
--- the module has the action, and its body is TRUE of the pair with `self` as this identifier
+-- the module has the action, and its body is TRUE of the pair with `self` as this identifier; of several actions of one name
+-- the last counts
 abbrev pub Acts : Module → List (Name × Data) → Name → Data → Vars → Vars → Type 0
 Acts m consts a id s t =
-    (body : Tree) × (find a (actions_of m) ≡ Some body) × IsTrueOn m consts ((self_name, Some id) ∷ []) s (Some t) body
+    (body : Tree) × (find a (reverse (actions_of m)) ≡ Some body) × IsTrueOn m consts ((self_name, Some id) ∷ []) s (Some t) body

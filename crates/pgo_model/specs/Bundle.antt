@@ -4,7 +4,7 @@ use Rattle.pgo_base.specs.Data.{Data}
 use Rattle.pgo_base.specs.Lookup.{Name, Vars}
 use Rattle.pgo_model.specs.ValueText.{value_text}
 use Rattle.pgo_model.specs.Outcome.{Kind, Blocked, NoValue, AssertFails}
-use Rattle.pgo_model.specs.Bound.{Bound, Instance, Resource}
+use Rattle.pgo_model.specs.System.{System, Member, Resource}
 use Rattle.pgo_model.specs.Machine.{Entry, Record, Step, Noted, Held, Down, Full, Finished, nth}
 use Rattle.pgo_model.specs.Accounts.{journal}
 use Rattle.pgo_model.specs.Log.{Component, Change, Effect}
@@ -75,14 +75,14 @@ end_text (Some Spent) = codes "spent"
 end_text None = codes "paused"
 
 -- the account of instance k
-abbrev pub account_lines : Bound → Settings → Finished Effect → ℕ → Instance → List Line
-account_lines b settings f k i =
-    line (fields (codes "inst" ∷ decimal k ∷ decimal (length (f.records k)) ∷ end_text (end_of b settings f k) ∷ value_text i.id ∷ []))
-    ∷ record_lines b.resources 1 (f.records k)
+abbrev pub account_lines : System → Settings → Finished Effect → ℕ → Member → List Line
+account_lines y settings f k i =
+    line (fields (codes "inst" ∷ decimal k ∷ decimal (length (f.records k)) ∷ end_text (end_of y settings f k) ∷ value_text i.id ∷ []))
+    ∷ record_lines y.resources 1 (f.records k)
 
-abbrev pub accounts_lines : Bound → Settings → Finished Effect → ℕ → List Instance → List Line
-accounts_lines b settings f k [] = []
-accounts_lines b settings f k (i ∷ is) = account_lines b settings f k i ++ accounts_lines b settings f (suc k) is
+abbrev pub accounts_lines : System → Settings → Finished Effect → ℕ → List Member → List Line
+accounts_lines y settings f k [] = []
+accounts_lines y settings f k (i ∷ is) = account_lines y settings f k i ++ accounts_lines y settings f (suc k) is
 
 -- the lines of a bundle: version, constants, module, start and entries, the lines of the accounts, and the end
 abbrev pub lines_of : Module → List (Name × Data) → Vars → List (Entry Effect) → (accounts : List Line) → (status : ℕ) → List Line
@@ -95,8 +95,8 @@ lines_of m consts start entries accounts status =
     ++ (line (codes "end " ++ decimal (length entries) ++ codes " " ++ decimal status) ∷ [])
 
 -- the lines of the bundle of what a run leaves
-abbrev pub bundle_lines : Module → List (Name × Data) → Bound → Settings → Finished Effect → ℕ → List Line
-bundle_lines m consts b settings f status = lines_of m consts b.start f.entries (accounts_lines b settings f 0 b.instances) status
+abbrev pub bundle_lines : Module → List (Name × Data) → System → Settings → Finished Effect → ℕ → List Line
+bundle_lines m consts y settings f status = lines_of m consts y.start f.entries (accounts_lines y settings f 0 y.members) status
 
-abbrev pub Bundle : Module → List (Name × Data) → Bound → Settings → Finished Effect → ℕ → List ℕ
-Bundle m consts b settings f status = flatten (bundle_lines m consts b settings f status)
+abbrev pub Bundle : Module → List (Name × Data) → System → Settings → Finished Effect → ℕ → List ℕ
+Bundle m consts y settings f status = flatten (bundle_lines m consts y settings f status)

@@ -1,12 +1,18 @@
 -- The words of choice of an attempt, from a seed. Source: this project's choice, over PCG (O'Neill).
-use Rattle.std.specs.Prelude.{ℕ, zero, suc, ◌+◌, ◌%◌, ◌^◌, List}
+use Rattle.std.specs.Prelude.{ℕ, zero, suc, ◌+◌, ◌%◌, ◌^◌, List, [], ◌∷◌}
 use Rattle.rand_pcg.specs.Lcg.{Lcg, started, increment_of}
 use Rattle.rand_pcg.specs.Pcg.{pcg32, multiplier_64}
-use Rattle.pgo_model.specs.Section.{Words, word_at}
+use Rattle.pgo_model.specs.System.{Words}
 
 -- the number that a word picks among n
 abbrev pub pick : (word n : ℕ) → ℕ
 pick w n = w % n
+
+-- a list of words, which is 0 past its end
+abbrev pub word_at : List ℕ → Words
+word_at [] d = 0
+word_at (w ∷ ws) zero = w
+word_at (w ∷ ws) (suc d) = word_at ws d
 
 -- a list of words, or a seed with an instance and an attempt
 pub data Source : Type 0 where

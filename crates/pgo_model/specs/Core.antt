@@ -1,12 +1,11 @@
--- The core machine of a bound specification under settings and a list of turns; how the instances of a run ended, and its status.
+-- The core machine of a system under settings and a list of turns; how the instances of a run ended, and its status.
 use Rattle.std.specs.Prelude.{◌≡◌, ℕ, suc, Bool, true, false, ◌||◌, ◌&&◌, if◌then◌else◌, nat_eq, List, [], ◌∷◌, length, Option, Some, None, unwrap_or}
 use Rattle.pgo_base.specs.Data.{Data, string}
 use Rattle.pgo_base.specs.Lookup.{Name, Vars, same_name}
 use Rattle.pgo_model.specs.Operators.{same_data}
 use Rattle.pgo_model.specs.Outcome.{Blocked, NoValue, AssertFails, Section}
-use Rattle.pgo_model.specs.Bound.{Bound, Instance, Resource}
-use Rattle.pgo_model.specs.Declares.{place_of}
-use Rattle.pgo_model.specs.Section.{Touched, Sect}
+use Rattle.pgo_model.specs.System.{System, Member, Resource, Touched}
+use Rattle.pgo_model.specs.Variables.{place_of}
 use Rattle.pgo_model.specs.Options.{on}
 use Rattle.pgo_model.specs.Choice.{Seeded, words_of}
 use Rattle.pgo_model.specs.Machine.{Rules, Record, Step, Noted, Held, Down, Full, Machine, Finished, nth, state_at, run_turns}
@@ -40,23 +39,23 @@ abbrev pub numbers_of : List Resource → List Touched → List ℕ
 numbers_of rs [] = []
 numbers_of rs (c ∷ cs) = on (numbers_of rs cs) (number_among rs c) (λ n. n ∷ numbers_of rs cs)
 
-abbrev pub numbered : Bound → Section Touched Vars → Section ℕ Vars
-numbered b x = record { trace = numbers_of b.resources x.trace; end = x.end }
+abbrev pub numbered : System → Section Touched Vars → Section ℕ Vars
+numbered y x = record { trace = numbers_of y.resources x.trace; end = x.end }
 
 abbrev pub is_place : Name → Option Data → Bool
 is_place l (Some (string m)) = same_name l m
 is_place l _ = false
 
-abbrev pub is_at_done : Bound → ℕ → Vars → Bool
-is_at_done b k s = on false (nth b.instances k) (λ i. is_place done (place_of i.id s))
+abbrev pub is_at_done : System → ℕ → Vars → Bool
+is_at_done y k s = on false (nth y.members k) (λ i. is_place done (place_of i.id s))
 
-abbrev pub rules_of : Bound → Settings → Rules Vars Effect
-rules_of b settings = record {
-  start = b.start;
-  instances = length b.instances;
-  sect = λ k a s. numbered b (Sect b k s (words_of (Seeded settings.seed k a)));
-  at_done = is_at_done b;
-  between = effect_between b;
+abbrev pub rules_of : System → Settings → Rules Vars Effect
+rules_of y settings = record {
+  start = y.start;
+  instances = length y.members;
+  sect = λ k a s. numbered y (y.sect k s (words_of (Seeded settings.seed k a)));
+  at_done = is_at_done y;
+  between = effect_between y;
   patched = λ s e. unwrap_or (After s e) s;
   printed = λ e. e.prints;
   steps = settings.steps;
@@ -65,16 +64,16 @@ rules_of b settings = record {
 }
 
 -- the machine of a list of turns, stopped
-abbrev pub Core : Bound → Settings → List ℕ → Machine Effect
-Core b settings turns = run_turns (rules_of b settings) turns
+abbrev pub Core : System → Settings → List ℕ → Machine Effect
+Core y settings turns = run_turns (rules_of y settings) turns
 
--- instance k has a parameter bound to this global
-abbrev pub IsBoundTo : Instance → Name → Type 0
-IsBoundTo i g = (n : ℕ) × (x : Name) × (nth i.bindings n ≡ Some (x, g))
+-- the instance is bound to this global
+abbrev pub IsBoundTo : Member → Name → Type 0
+IsBoundTo i g = (n : ℕ) × (nth i.globals n ≡ Some g)
 
 -- instance k is bound to the global of resource r
-abbrev pub Reaches : Bound → (k r : ℕ) → Type 0
-Reaches b k r = (i : Instance) × (q : Resource) × (nth b.instances k ≡ Some i) × (nth b.resources r ≡ Some q) × IsBoundTo i q.global
+abbrev pub Reaches : System → (k r : ℕ) → Type 0
+Reaches y k r = (i : Member) × (q : Resource) × (nth y.members k ≡ Some i) × (nth y.resources r ≡ Some q) × IsBoundTo i q.global
 
 pub data End : Type 0 where
   Done Stopped JournalFull Spent : End
@@ -97,14 +96,15 @@ end_or_spent None true = Some Spent
 end_or_spent None false = None
 
 -- how an instance ended; none where it hasn't. Where several ends hold the order is Done, Stopped, Full, Spent
-abbrev pub end_of : Bound → Settings → Finished Effect → ℕ → Option End
-end_of b settings f k =
-    if is_at_done b k (state_at (rules_of b settings) b.start f.entries (length f.entries)) then Some Done
+abbrev pub end_of : System → Settings → Finished Effect → ℕ → Option End
+end_of y settings f k =
+    if is_at_done y k (state_at (rules_of y settings) y.start f.entries (length f.entries)) then Some Done
     else end_or_spent (end_by (f.records k)) (nat_eq (length (f.records k)) settings.attempts)
 
-abbrev pub ends_from : Bound → Settings → Finished Effect → ℕ → List Instance → List (Option End)
-ends_from b settings f k [] = []
-ends_from b settings f k (i ∷ is) = end_of b settings f k ∷ ends_from b settings f (suc k) is
+-- the ends that the last records show, of the instances from k on
+abbrev pub last_ends_from : Finished Effect → ℕ → List Member → List (Option End)
+last_ends_from f k [] = []
+last_ends_from f k (i ∷ is) = end_by (f.records k) ∷ last_ends_from f (suc k) is
 
 abbrev pub has_stopped : List (Option End) → Bool
 has_stopped [] = false
@@ -116,14 +116,15 @@ has_full [] = false
 has_full (Some JournalFull ∷ es) = true
 has_full (e ∷ es) = has_full es
 
-abbrev pub all_done : List (Option End) → Bool
-all_done [] = true
-all_done (Some Done ∷ es) = all_done es
-all_done (e ∷ es) = false
+-- each instance from k on is at Done in this state
+abbrev pub are_at_done : System → Vars → ℕ → List Member → Bool
+are_at_done y s k [] = true
+are_at_done y s k (i ∷ is) = is_at_done y k s && are_at_done y s (suc k) is
 
--- 20: some instance's last record is a note NoValue or AssertFails; else 23: one was refused Full;
--- else 21: some instance isn't at Done; else 0
-abbrev pub status_of : Bound → Settings → Finished Effect → ℕ
-status_of b settings f =
-    let ends = ends_from b settings f 0 b.instances in
-    if has_stopped ends then 20 else if has_full ends then 23 else if all_done ends then 0 else 21
+-- 20: some instance's last record is a note NoValue or AssertFails; else 23: some instance's last record is a refusal Full;
+-- else 21: some instance isn't at Done in the last state; else 0
+abbrev pub status_of : System → Settings → Finished Effect → ℕ
+status_of y settings f =
+    let last = last_ends_from f 0 y.members in
+    if has_stopped last then 20 else if has_full last then 23
+    else if are_at_done y (state_at (rules_of y settings) y.start f.entries (length f.entries)) 0 y.members then 0 else 21

@@ -2,7 +2,7 @@
 use Rattle.std.proofs.Common.{◌≡◌, ◌≤◌, ℕ, zero, suc, List, [], ◌∷◌, length, Some, refl, ap, ◌∙◌, arith}
 use Rattle.std.specs.Prelude.{option_and_then}
 use Rattle.pgo_base.specs.Lookup.{Vars}
-use Rattle.pgo_model.specs.Bound.{Bound}
+use Rattle.pgo_model.specs.System.{System}
 use Rattle.pgo_model.specs.Log.{Effect, After, StateAt}
 use Rattle.pgo_model.specs.Machine.{Rules, Entry, nth, state_at}
 use Rattle.pgo_model.specs.Core.{Settings, rules_of}
@@ -19,7 +19,7 @@ states_along R s (e ∷ l) h (suc n) b =
     ap (λ o. option_and_then (λ t. StateAt t l n) o) (h zero e refl)
     ∙ states_along R (R.patched s e.change) l (λ p d q. h (suc p) d q) n (let q : n ≤ length l = omega (arith, b) in q)
 
--- at the rules of a bound specification, from its start
-pub journal_states : (b : Bound) (settings : Settings) (l : List (Entry Effect)) → AllLead (rules_of b settings) b.start l
-    → (n : ℕ) → n ≤ length l → StateAt b.start l n ≡ Some (state_at (rules_of b settings) b.start l n)
-journal_states b settings l h n le = states_along (rules_of b settings) b.start l h n le
+-- at the rules of a system, from its start
+pub journal_states : (y : System) (settings : Settings) (l : List (Entry Effect)) → AllLead (rules_of y settings) y.start l
+    → (n : ℕ) → n ≤ length l → StateAt y.start l n ≡ Some (state_at (rules_of y settings) y.start l n)
+journal_states y settings l h n le = states_along (rules_of y settings) y.start l h n le

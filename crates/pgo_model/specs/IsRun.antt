@@ -2,7 +2,7 @@
 use Rattle.std.specs.Prelude.{◌≡◌, ℕ, suc, List, Some}
 use Rattle.pgo_base.specs.Data.{Data, string}
 use Rattle.pgo_base.specs.Lookup.{Name, Vars}
-use Rattle.pgo_model.specs.Declares.{place_of}
+use Rattle.pgo_model.specs.Variables.{place_of}
 use Rattle.pgo_model.specs.Log.{Effect, StateAt}
 use Rattle.pgo_model.specs.Machine.{Entry, nth}
 use Rattle.pgo_model.specs.Module.{Module}

@@ -3,12 +3,10 @@ use Rattle.std.specs.Prelude.{ℕ, zero, suc, Bool, true, false, not, ◌&&◌, 
 use Rattle.pgo_base.specs.Data.{Data, string, function, pairs, graph}
 use Rattle.pgo_base.specs.Lookup.{Name, Vars, find}
 use Rattle.pgo_model.specs.Operators.{same_data, apply, lookup, replace_at}
-use Rattle.pgo_model.specs.Bound.{Bound, Instance, Resource}
-use Rattle.pgo_model.specs.Section.{store}
+use Rattle.pgo_model.specs.System.{System, Member, Resource}
+use Rattle.pgo_model.specs.Variables.{place_of, store}
 use Rattle.pgo_model.specs.Options.{on}
-use Rattle.pgo_model.specs.Declares.{place_of}
 use Rattle.pgo_model.specs.Machine.{Entry, nth}
-use Rattle.pgo_model.specs.Written.{pc}
 
 -- whose a component is
 pub data Owner : Type 0 where
@@ -49,17 +47,21 @@ differs None (Some v) = true
 differs (Some v) None = true
 differs (Some v) (Some w) = not (same_data v w)
 
--- the components of a bound system: the resources by number, then the places of the instances by number
+-- the components of a system: the resources by number, and then what belongs to each instance, by number
 abbrev pub resource_components : List Resource → List Component
 resource_components [] = []
 resource_components (r ∷ rs) = record { variable = r.global; index = r.index; owner = OfResource r.number } ∷ resource_components rs
 
-abbrev pub place_components : List Instance → List Component
-place_components [] = []
-place_components (i ∷ is) = record { variable = pc; index = Some i.id; owner = OfInstance i.number } ∷ place_components is
+abbrev pub parts_at : ℕ → Data → List Name → List Component
+parts_at k id [] = []
+parts_at k id (x ∷ xs) = record { variable = x; index = Some id; owner = OfInstance k } ∷ parts_at k id xs
 
-abbrev pub components_of : Bound → List Component
-components_of b = resource_components b.resources ++ place_components b.instances
+abbrev pub own_components : ℕ → List Member → List Component
+own_components k [] = []
+own_components k (i ∷ is) = parts_at k i.id i.own ++ own_components (suc k) is
+
+abbrev pub components_of : System → List Component
+components_of y = resource_components y.resources ++ own_components 0 y.members
 
 -- the components that differ, with their values in t
 abbrev pub changes_between : List Component → Vars → Vars → List Change
@@ -73,12 +75,12 @@ abbrev pub label_in : Option Data → Name
 label_in (Some (string l)) = l
 label_in _ = []
 
-abbrev pub label_of : Bound → ℕ → Vars → Name
-label_of b k s = on [] (nth b.instances k) (λ i. label_in (place_of i.id s))
+abbrev pub label_of : System → ℕ → Vars → Name
+label_of y k s = on [] (nth y.members k) (λ i. label_in (place_of i.id s))
 
-abbrev pub effect_between : Bound → ℕ → Vars → Vars → List Data → Effect
-effect_between b k s t ps =
-    record { label = label_of b k s; next = label_of b k t; changes = changes_between (components_of b) s t; prints = ps }
+abbrev pub effect_between : System → ℕ → Vars → Vars → List Data → Effect
+effect_between y k s t ps =
+    record { label = label_of y k s; next = label_of y k t; changes = changes_between (components_of y) s t; prints = ps }
 
 -- a function with another value at an index in its domain
 abbrev pub with_part : Data → Data → Data → Option Data

@@ -19,6 +19,9 @@ less a b h e = let d = (equal_or a b false e).1 refl in omega (arith, h, d)
 some_same : (a b : ℕ) → Some a ≡ Some b → a ≡ b
 some_same a b h = grind arith
 
+full_is : (n q : ℕ) → Full n ≡ Full q → q ≡ n
+full_is n q h = grind arith
+
 not_busy : {P : Type 0} → nat_eq 0 0 ≡ false → P
 not_busy e = absurd (grind (arith, e))
 
@@ -35,10 +38,14 @@ module _ {S D : Type 0} (R : Rules S D) (Reaches : ℕ → ℕ → Type 0) (Good
   abbrev pub AllGood : List (Entry D) → Type 0
   AllGood l = (n : ℕ) → n ≤ length l → Good (state_at R R.start l n)
 
-  -- what each turn keeps; a holder reaches what it holds
+  -- an instance that may hold the resource
+  abbrev pub IsHolder : (h r : ℕ) → Type 0
+  IsHolder h r = Reaches h r × (h < R.instances)
+
+  -- what each turn keeps; a holder is an instance, and reaches what it holds
   pub record Invariant (m : Machine D) : Type 0 where
     pub accounts : AccountsOf R Reaches m
-    pub holding : (r h : ℕ) → m.holder r ≡ Some h → Reaches h r
+    pub holding : (r h : ℕ) → m.holder r ≡ Some h → IsHolder h r
     pub busy : Busy m
     pub counts : Counted m
     pub good : AllGood m.entries
@@ -100,8 +107,8 @@ module _ {S D : Type 0} (R : Rules S D) (Reaches : ℕ → ℕ → Type 0) (Good
     good = g.good;
   }
     where
-      go : (q h : ℕ) (b : Bool) → nat_eq q r ≡ b → (if b then Some k else m.holder q) ≡ Some h → Reaches h q
-      go q h true e s = subst (λ h. Reaches h q) (some_same k h s) (subst (Reaches k) (sym ((equal_or q r true e).0 refl)) reach)
+      go : (q h : ℕ) (b : Bool) → nat_eq q r ≡ b → (if b then Some k else m.holder q) ≡ Some h → IsHolder h q
+      go q h true e s = subst (λ h. IsHolder h q) (some_same k h s) (subst (Reaches k) (sym ((equal_or q r true e).0 refl)) reach, may.2)
       go q h false e s = g.holding q h s
 
   gives_keeps : (m : Machine D) (k : ℕ) (held : List ℕ) → Invariant m → Invariant (gives m k held)
@@ -114,15 +121,15 @@ module _ {S D : Type 0} (R : Rules S D) (Reaches : ℕ → ℕ → Type 0) (Good
     good = g.good;
   }
     where
-      go : (q h : ℕ) (b : Bool) → (if b then None else m.holder q) ≡ Some h → Reaches h q
+      go : (q h : ℕ) (b : Bool) → (if b then None else m.holder q) ≡ Some h → IsHolder h q
       go q h true s = absurd (grind arith)
       go q h false s = g.holding q h s
 
   -- a record alone
   tells_keeps : (m : Machine D) (k : ℕ) (x : Record) → Tells R Reaches m k (length (m.workers k).records) x → ((r o l j : ℕ) → x ≡ Down r o → nth (m.workers l).records j ≡ Some (Down r o) → ⊥) → ((r o : ℕ) → x ≡ Down r o → o ≤ m.counts r)
-      → ((y : Record) → ComesAfter x y) → MayRecord R k (m.workers k) → Invariant m → Invariant (tells m k x)
-  tells_keeps m k x new down count fresh may g = record {
-    accounts = accounts_added R Reaches m m k x (same_journal R m m refl refl) g.accounts new (λ p e h. inl h) (λ p e h. inl h) down (λ i y h. fresh y) g.accounts.room may;
+      → ((q : ℕ) → x ≡ Full q → q ≡ length m.entries) → ((y : Record) → ComesAfter x y) → MayRecord R k (m.workers k) → Invariant m → Invariant (tells m k x)
+  tells_keeps m k x new down count full fresh may g = record {
+    accounts = accounts_added R Reaches m m k x (same_journal R m m refl refl) g.accounts new (λ p e h. inl h) (λ p e h. inl h) down full (λ i y h. fresh y) g.accounts.joint.room may;
     holding = g.holding;
     busy = busy_put m k _ g.busy not_busy;
     counts = counts_added m k x count g.counts;
@@ -135,7 +142,7 @@ module _ {S D : Type 0} (R : Rules S D) (Reaches : ℕ → ℕ → Type 0) (Good
     where
       go : (b : Bool) → nat_eq h k ≡ b → Invariant (if b then takes m k r else tells m k (Held r h))
       go true q = takes_keeps m k r reach may g
-      go false q = tells_keeps m k (Held r h) ((equal_or h k false q).1 refl, inl (reach, g.holding r h e)) (λ r o l j d. absurd (grind arith)) (λ r o d. absurd (grind arith)) (λ y. tt) may g
+      go false q = tells_keeps m k (Held r h) ((equal_or h k false q).1 refl, (g.holding r h e).1, inl (reach, (g.holding r h e).0)) (λ r o l j d. absurd (grind arith)) (λ r o d. absurd (grind arith)) (λ q d. absurd (grind arith)) (λ y. tt) may g
 
   counts_rise : (m : Machine D) (r q : ℕ) → m.counts q ≤ put r (suc (m.counts r)) m.counts q
   counts_rise m r q = go (nat_eq q r) refl
@@ -171,7 +178,7 @@ module _ {S D : Type 0} (R : Rules S D) (Reaches : ℕ → ℕ → Type 0) (Good
       absurd (omega (arith, t, c, p1))) (λ q o d.
       let p = down_parts r (suc (m.counts r)) q o d in let t = ap (put r (suc (m.counts r)) m.counts) p.0 in
       let c = count_new m r in let p1 = p.1 in
-      omega (arith, t, c, p1)) (λ y. tt) may (counted_keeps m r g)
+      omega (arith, t, c, p1)) (λ q d. absurd (grind arith)) (λ y. tt) may (counted_keeps m r g)
 
   noting_keeps : (m : Machine D) (k : ℕ) (kind : Kind) → (section R m k).end ≡ Stuck kind → MayRecord R k (m.workers k) → Invariant m → Invariant (noting m k kind)
   noting_keeps m k kind stuck may g =
@@ -184,7 +191,7 @@ module _ {S D : Type 0} (R : Rules S D) (Reaches : ℕ → ℕ → Type 0) (Good
             (length m.notes, nth_last m.notes note, (omega arith, stuck))
             (λ p e h. inl h)
             (λ j e h. go j e note refl (nth_end m.notes note j e h))
-            (λ r o l j d. absurd (grind arith)) (λ i y h. note_later R Reaches m k i (length m.entries) kind y (omega arith) (g.accounts.told k i y h)) g.accounts.room may;
+            (λ r o l j d. absurd (grind arith)) (λ q d. absurd (grind arith)) (λ i y h. note_later R Reaches m k i (length m.entries) kind y (omega arith) ((g.accounts.each k).told i y h)) g.accounts.joint.room may;
         holding = g.holding;
         busy = busy_put m k _ g.busy not_busy;
         counts = counts_added m k (Noted kind (length m.entries)) (λ r o d. absurd (grind arith)) g.counts;
@@ -201,7 +208,7 @@ module _ {S D : Type 0} (R : Rules S D) (Reaches : ℕ → ℕ → Type 0) (Good
   committing_keeps fits m k b Nowhere full end may g = g
   committing_keeps fits m k true (Next t ps) full end may g =
       let e : length m.entries ≡ R.steps = (equal_or (length m.entries) R.steps true full).0 refl in
-      tells_keeps m k (Full (length m.entries)) (e, e) (λ r o l j d. absurd (grind arith)) (λ r o d. absurd (grind arith)) (λ y. tt) may g
+      tells_keeps m k (Full (length m.entries)) e (λ r o l j d. absurd (grind arith)) (λ r o d. absurd (grind arith)) (λ q d. full_is (length m.entries) q d) (λ y. tt) may g
   committing_keeps fits m k false (Next t ps) full end may g =
       let x : Entry D = record { instance = k; attempt = attempt_of m k; change = R.between k (last_state R m) t ps } in
       let d = (equal_or (length m.entries) R.steps false full).1 refl in
@@ -217,8 +224,9 @@ module _ {S D : Type 0} (R : Rules S D) (Reaches : ℕ → ℕ → Type 0) (Good
             (λ p e h. go t ps p e x refl (nth_end m.entries x p e h))
             (λ j e h. inl h)
             (λ r o l j d. absurd (grind arith))
-            (λ i y h. step_later R Reaches m k i (length m.entries) y (omega arith) (g.accounts.told k i y h))
-            (let a = g.accounts.room in let l = length-append m.entries (x ∷ []) in room (length m.entries) (length (m.entries ++ (x ∷ []))) a d l) may;
+            (λ q d. absurd (grind arith))
+            (λ i y h. step_later R Reaches m k i (length m.entries) y (omega arith) ((g.accounts.each k).told i y h))
+            (let a = g.accounts.joint.room in let l = length-append m.entries (x ∷ []) in room (length m.entries) (length (m.entries ++ (x ∷ []))) a d l) may;
         holding = g.holding;
         busy = busy_put m k _ g.busy not_busy;
         counts = counts_added m k (Step (suc (length m.entries))) (λ r o d. absurd (grind arith)) g.counts;
@@ -252,7 +260,7 @@ module _ {S D : Type 0} (R : Rules S D) (Reaches : ℕ → ℕ → Type 0) (Good
       go true false q r true d l n w h = absurd (grind (arith, h))
       go true false q r false true l n w h = absurd (grind (arith, h))
       go true false q r false false l true w h = absurd (grind (arith, h))
-      go true false q r false false l false w h = (l, less (length (m.workers k).records) R.attempts (g.accounts.bounded k) w, lt)
+      go true false q r false false l false w h = (l, less (length (m.workers k).records) R.attempts (g.accounts.each k).bounded w, lt)
 
   -- a turn keeps the invariant
   pub step_keeps : Fits R Reaches Good → (m : Machine D) (k : ℕ) → Invariant m → Invariant (step R m k)

@@ -102,10 +102,10 @@ module _ {S D : Type 0} (R : Rules S D) where
 
     entry_made : Fits R Reaches Good → (m : Machine D) → StepsAreSections R (finished_of m) → AccountsOf R Reaches m → AllMade m.entries → EntriesMade R (finished_of m)
     entry_made fits m steps a all p e h =
-        let q = all p e h in let n = a.named.0 p e h in
+        let q = all p e h in let n = (a.each e.instance).entries p e h refl in
         let print : R.printed e.change ≡ q.0 = ap R.printed q.1 ∙ fits.prints e.instance (state_at R R.start m.entries p) (state_at R R.start m.entries (suc p)) q.0 in
         record {
-          instance = a.numbers e.instance n.0 (Step (suc p)) n.2;
+          instance = (a.each e.instance).number n.0 (Step (suc p)) n.2;
           prints = q.0;
           change = q.1;
           outcome = steps p e h ∙ ap (λ ps. Next (state_at R R.start m.entries (suc p)) ps) print;

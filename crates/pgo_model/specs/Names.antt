@@ -1,5 +1,5 @@
--- When two names are one.
-use Rattle.std.specs.Prelude.{◌≡◌, ℕ, Bool, true, false, ◌&&◌, nat_eq, [], ◌∷◌, refl}
+-- When two names are one, and what stands under a name in two lists together.
+use Rattle.std.specs.Prelude.{◌≡◌, ℕ, Bool, true, false, ◌&&◌, nat_eq, if◌then◌else◌, List, [], ◌∷◌, ◌++◌, Option, Some, None, refl}
 use Rattle.std.proofs.Common.{ap, arith}
 use Rattle.std.specs.declared.cmp.Ordering.{Ordering}
 use Rattle.std.specs.declared.cmp.Ordering.TheVariants.{Less, Equal, Greater}
@@ -7,7 +7,7 @@ use Rattle.std.specs.Ordering.{nat_cmp, is_eq}
 use Rattle.std.specs.Cmp.Lexicographic.{slice_cmp}
 use Rattle.pgo_base.specs.Data.{string}
 use Rattle.pgo_base.specs.Exact.{data_exact, data_itself}
-use Rattle.pgo_base.specs.Lookup.{Name, same_name}
+use Rattle.pgo_base.specs.Lookup.{Name, same_name, find}
 use Rattle.pgo_model.specs.ValueText.{same_bytes}
 
 pub same_name-self : (x : Name) → same_name x x ≡ true
@@ -49,3 +49,16 @@ same_bytes-is (x ∷ xs) [] h = absurd (grind (arith, h))
 same_bytes-is (x ∷ xs) (y ∷ ys) h =
     let p = both_true (nat_eq x y) (same_bytes xs ys) h in
     let e = number_is x y p.0 in let f = same_bytes-is xs ys p.1 in λ i. e i ∷ f i
+
+-- this, or where there is none that
+abbrev pub or_that : {A : Type 0} → Option A → Option A → Option A
+or_that None o = o
+or_that (Some e) o = Some e
+
+pub find_append : {A : Type 0} (x : Name) (xs ys : List (Name × A)) → find x (xs ++ ys) ≡ or_that (find x xs) (find x ys)
+find_append x [] ys = refl
+find_append {A} x (a ∷ xs) ys = go (same_name x a.0) (find_append x xs ys)
+  where
+    go : (b : Bool) → find x (xs ++ ys) ≡ or_that (find x xs) (find x ys) → (if b then Some a.1 else find x (xs ++ ys)) ≡ or_that (if b then Some a.1 else find x xs) (find x ys)
+    go true ih = refl
+    go false ih = ih

@@ -3,7 +3,7 @@ use Rattle.std.specs.Prelude.{◌≡◌, ◌<◌, ℕ, suc, if◌then◌else◌,
 use Rattle.pgo_base.specs.Data.{Data, string}
 use Rattle.pgo_base.specs.Lookup.{Name, Vars, same_name}
 use Rattle.pgo_model.specs.Acts.{Acts}
-use Rattle.pgo_model.specs.Declares.{place_of}
+use Rattle.pgo_model.specs.Variables.{place_of}
 use Rattle.pgo_model.specs.Log.{Effect, After}
 use Rattle.pgo_model.specs.Machine.{Entry, nth}
 use Rattle.pgo_model.specs.Module.{Module}

@@ -2,27 +2,30 @@
 #![tactic(auto)]
 
 ghost use Rattle.std.specs.Prelude.{false, ℕ, List};
-ghost use Rattle.pgo_model.specs.Bound.{Bound};
-ghost use Rattle.pgo_model.specs.State.{IsState};
+ghost use Rattle.pgo_model.specs.System.{System};
+ghost use Rattle.pgo_model.specs.SystemState.{IsSystemState};
 ghost use Rattle.pgo_model.specs.Machine.{finished_of};
 ghost use Rattle.pgo_model.specs.Core.{Settings, Core, rules_of, Reaches};
-ghost use Rattle.pgo_model.specs.Accounts.{Fits, StepsAreSections, EntriesMade, Accounts};
+ghost use Rattle.pgo_model.specs.Accounts.{Fits, StepsAreSections, EntriesMade, Accounts, JointAccounts};
 
-/// The law of the core machine, for every bound specification, settings and list of turns.
+/// The law of the core machine, for every system, settings and list of turns.
 ///
-/// Its premise: the run starts in a state, and a section leads from a state to a state; there what an entry records of
-/// a step leads to the end of the step's section, with its prints, and a section reaches only resources that its
-/// instance is bound to.
+/// Its premise speaks of the system's states, in which each element-bound global has its domain in the start: the run
+/// starts in one, and a section leads from one to one; there what an entry records of a step leads to the end of the
+/// step's section, with its prints, and a section reaches only resources that its instance is bound to.
 ///
 /// - `runs`: each entry of the journal is what its instance's section does on the state after the entries before it.
 /// - `entries`: each entry records the difference between the states before and after it.
-/// - `accounts`: the records of an instance number its attempts from 1, and each says what became of its attempt;
-///   entries and notes are exactly those that the records name, in order; no attempt has two notes; no failing
-///   pre-commit is answered twice; `Full` is a last record.
+/// - `accounts`: the records of an instance number its attempts from 1, and each says what became of its attempt, a
+///   refusal by a holder that it names an instance; its entries and notes are exactly those that its records name, in
+///   order; no attempt has two notes; `Full` is a last record. A number that is no instance's has no record.
+/// - `joint`: over all instances no failing pre-commit is answered twice, and the number of a `Full` is the journal's
+///   length.
 ///
 /// Source: this project's choice.
 pub fn core_accounts()
-    ensures runs { (b : Bound) (s : Settings) (turns : List ℕ) → Fits (rules_of b s) (Reaches b) (IsState b) → StepsAreSections (rules_of b s) (finished_of (Core b s turns)) }
-    ensures entries { (b : Bound) (s : Settings) (turns : List ℕ) → Fits (rules_of b s) (Reaches b) (IsState b) → EntriesMade (rules_of b s) (finished_of (Core b s turns)) }
-    ensures accounts { (b : Bound) (s : Settings) (turns : List ℕ) → Fits (rules_of b s) (Reaches b) (IsState b) → Accounts (rules_of b s) (Reaches b) false (finished_of (Core b s turns)) }
+    ensures runs { (y : System) (s : Settings) (turns : List ℕ) → Fits (rules_of y s) (Reaches y) (IsSystemState y) → StepsAreSections (rules_of y s) (finished_of (Core y s turns)) }
+    ensures entries { (y : System) (s : Settings) (turns : List ℕ) → Fits (rules_of y s) (Reaches y) (IsSystemState y) → EntriesMade (rules_of y s) (finished_of (Core y s turns)) }
+    ensures accounts { (y : System) (s : Settings) (turns : List ℕ) → Fits (rules_of y s) (Reaches y) (IsSystemState y) → (k : ℕ) → Accounts (rules_of y s) (Reaches y) false (finished_of (Core y s turns)) k }
+    ensures joint { (y : System) (s : Settings) (turns : List ℕ) → Fits (rules_of y s) (Reaches y) (IsSystemState y) → JointAccounts (rules_of y s) (Reaches y) false (finished_of (Core y s turns)) }
 {}

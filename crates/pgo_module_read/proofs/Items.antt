@@ -6,8 +6,8 @@ use Rattle.pgo_base.specs.declared.expr.Quantifier.TheVariants as quantifiers
 use Rattle.pgo_base.specs.Tree.{Tree, name, primed, binary, quantified, set_of, trees, bound}
 use Rattle.pgo_base.specs.Lookup.{Name}
 use Rattle.pgo_model.specs.Written.{made}
-use Rattle.pgo_model.specs.Code.{value_base}
-use Rattle.pgo_model.specs.Translate.{moves_to}
+use Rattle.pgo_counter.specs.Code.{value_base}
+use Rattle.pgo_counter.specs.Translate.{moves_to}
 use Rattle.pgo_counter.specs.declared.counter.Sum.{Sum}
 use Rattle.pgo_counter.specs.declared.counter.Counter.{Counter}
 use Rattle.pgo_counter.specs.Counters.{sum_tree, sum_items}

@@ -1,5 +1,5 @@
 -- What is read from a text: the one counter's module of which it is the text, or none.
-use Rattle.std.proofs.Common.{◌≡◌, ◌≢◌, ◌≤◌, ℕ, zero, suc, Bool, true, false, not, ◌&&◌, List, [], ◌∷◌, length, ap, sym, ◌∙◌, subst, arith}
+use Rattle.std.proofs.Common.{◌≡◌, ◌≢◌, ◌≤◌, ℕ, zero, suc, Bool, true, false, not, ◌&&◌, List, [], ◌∷◌, length, refl, ap, sym, ◌∙◌, subst, arith}
 use Rattle.std.specs.Prelude.{if◌then◌else◌, ◌==◌}
 use Rattle.std.proofs.lemmas.Bool.Decides.{nat_tests}
 use Rattle.pgo_model.specs.ValueText.{is_one_of}
@@ -97,6 +97,10 @@ has t n k e =
     let c = k.counter in let h = written_form c k.is_counter in
     let f : found t ≡ bare c = ap found (e ∙ ap Text k.means) ∙ found_is c h in
     record { form = subst HasWrittenForm (sym f) (bare_form c h); means = k.means ∙ ap counter_module (sym f) }
+
+-- two counters' modules of one text are one
+pub same_text : (n m : Module) → IsCounterModule n → IsCounterModule m → Text n ≡ Text m → n ≡ m
+same_text n m k l e = (has (Text m) n k (sym e)).means ∙ sym (has (Text m) m l refl).means
 
 -- ---- the clauses of the reader, where k is the counter that is found
 

@@ -5,7 +5,7 @@ ghost use Rattle.pgo_base.specs.declared.expr.Infix.TheVariants as infixs;
 ghost use Rattle.pgo_model.specs.Written.{pc, self_name, proc_set};
 ghost use Rattle.pgo_model.specs.Module.{stands_at};
 ghost use Rattle.pgo_model.specs.ModuleView.{module_view, process_view};
-ghost use Rattle.pgo_model.specs.Translate.{moves_to};
+ghost use Rattle.pgo_counter.specs.Translate.{moves_to};
 ghost use Rattle.pgo_counter.specs.Counters.{term_tree, sum_tree, sum_items, sum_action, counter_actions, counter_init, counter_module, id_set, label_name, next_name};
 
 use pgo_base::expr::{Arms, Binders, Expr, Exprs, Infix, Names, Quantifier, Sub, Update, Updates};

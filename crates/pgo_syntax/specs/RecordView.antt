@@ -1,4 +1,5 @@
 -- Notes, records and settings as they lie in memory, as what they stand for in the core machine.
+use Rattle.std.specs.Prelude.{ℕ}
 use Rattle.pgo_syntax.specs.declared.records.NoteKind as kinds
 use Rattle.pgo_syntax.specs.declared.records.NoteKind.TheVariants as kind
 use Rattle.pgo_syntax.specs.declared.records.Note as notes
@@ -25,14 +26,14 @@ refusal_view (refusal.Held r h) = Held r h
 refusal_view (refusal.Down r o) = Down r o
 refusal_view (refusal.Full n) = Full n
 
--- the number of the attempt is the record's place
 abbrev pub result_view : results.AttemptResult → Record
 result_view (result.Step n) = Step n
 result_view (result.Noted k n) = Noted (kind_view k) n
 result_view (result.Refused r) = refusal_view r
 
-abbrev pub record_view : records.Record → Record
-record_view r = result_view r.result
+-- the number of an attempt, and what became of it
+abbrev pub record_view : records.Record → ℕ × Record
+record_view r = (r.attempt, result_view r.result)
 
 -- whether blocked instances wait is no part of the machine
 abbrev pub settings_view : settings.Settings → Settings

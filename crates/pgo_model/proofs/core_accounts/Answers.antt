@@ -1,15 +1,18 @@
 -- The core machine's law at the product's types.
 use Rattle.pgo_model.specs.Core.{rules_of, Reaches}
-use Rattle.pgo_model.specs.State.{IsState}
+use Rattle.pgo_model.specs.SystemState.{IsSystemState}
 use Rattle.pgo_model.specs.MachineLaw.{run_turns_law}
 use Rattle.pgo_model.specs.MachineRuns.{run_turns_entries}
 use Rattle.pgo_model.proofs.core_accounts.Goals as goal
 
 pub returns-clause-runs : goal.returns-clause-runs
-returns-clause-runs c b s turns fits = (run_turns_law (rules_of b s) (Reaches b) (IsState b) fits turns).0
+returns-clause-runs c y s turns fits = (run_turns_law (rules_of y s) (Reaches y) (IsSystemState y) fits turns).0
 
 pub returns-clause-entries : goal.returns-clause-entries
-returns-clause-entries c b s turns fits = run_turns_entries (rules_of b s) (Reaches b) (IsState b) fits turns
+returns-clause-entries c y s turns fits = run_turns_entries (rules_of y s) (Reaches y) (IsSystemState y) fits turns
 
 pub returns-clause-accounts : goal.returns-clause-accounts
-returns-clause-accounts c b s turns fits = (run_turns_law (rules_of b s) (Reaches b) (IsState b) fits turns).1
+returns-clause-accounts c y s turns fits = (run_turns_law (rules_of y s) (Reaches y) (IsSystemState y) fits turns).1.each
+
+pub returns-clause-joint : goal.returns-clause-joint
+returns-clause-joint c y s turns fits = (run_turns_law (rules_of y s) (Reaches y) (IsSystemState y) fits turns).1.joint

@@ -5,7 +5,7 @@ use Rattle.pgo_base.specs.Lookup.{find}
 use Rattle.pgo_model.specs.Log.{with_part}
 use Rattle.pgo_model.specs.LogView.{change_view}
 use Rattle.pgo_model.specs.Options.{on}
-use Rattle.pgo_model.specs.Section.{store}
+use Rattle.pgo_model.specs.Variables.{store}
 use Rattle.pgo_model.specs.Steps.{place_in}
 use Rattle.pgo_check.proofs.Stored.{place_none, placed_at, changed_none, changed_some}
 use Rattle.pgo_check.proofs.states.changed.Goals as goal

@@ -1,5 +1,5 @@
 use Rattle.std.proofs.Common.{◌≡◌, ◌++◌, ◌-◌, List, suc}
-use Rattle.pgo_model.specs.Bound.{Resource}
+use Rattle.pgo_model.specs.System.{Resource}
 use Rattle.pgo_model.specs.Bundle.{record_lines}
 use Rattle.pgo_front.specs.CounterRuns.{steps_from}
 use Rattle.pgo_front.proofs.bundle_writer.push_records.Given as goal

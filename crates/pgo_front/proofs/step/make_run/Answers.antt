@@ -1,6 +1,6 @@
 use Rattle.std.proofs.Common.{◌≡◌, ap, sym, subst, ◌∙◌, length, nat_eq, if◌then◌else◌}
 use Rattle.pgo_model.specs.Core.{Core}
-use Rattle.pgo_counter.specs.Counters.{counter_bound}
+use Rattle.pgo_counter.specs.Counters.{counter_system}
 use Rattle.pgo_front.specs.CounterRuns.{IsAt, settings}
 use Rattle.pgo_front.specs.Statuses.{number_of}
 use Rattle.pgo_front.proofs.CounterEnds.{test_is}
@@ -12,7 +12,7 @@ pub returns-clause-ran : goal.returns-clause-ran
 returns-clause-ran c =
     let counter = c.args.counter.now in
     let values = c.as_slice.result.now in
-    let at = subst (IsAt counter (Core (counter_bound counter) settings c.args.turns.now)) (sym c.as_slice.ensures) c.in_ok-values.ensures in
+    let at = subst (IsAt counter (Core (counter_system counter) settings c.args.turns.now)) (sym c.as_slice.ensures) c.in_ok-values.ensures in
     let at_end : c.is_done.result ≡ nat_eq (length values) (length counter.body)
     = test_is c.is_done.result _ (length counter.body) c.is_done.ensures
     ∙ ap (λ vs. nat_eq (length vs) (length counter.body)) (c.as_slice-2.ensures ∙ sym c.as_slice.ensures)

@@ -5,11 +5,11 @@ use Rattle.pgo_base.specs.declared.expr.Infix.TheVariants as infixs
 use Rattle.pgo_base.specs.declared.expr.Quantifier.TheVariants as quantifiers
 use Rattle.pgo_base.specs.Tree.{Tree, name, primed, text, binary, quantified, set_of, fun_of, case_of, except, unchanged, trees, bound, arms, paths}
 use Rattle.pgo_base.specs.Lookup.{Name, same_name, find}
-use Rattle.pgo_model.specs.Spec.{Spec, Process, Identifiers, One, Equals, Declaration}
-use Rattle.pgo_model.specs.Code.{Code}
-use Rattle.pgo_model.specs.Bound.{bindings_of, archetype_named, sections_of, variables_of, first_name}
+use Rattle.pgo_counter.specs.Spec.{Spec, Process, Identifiers, One, Equals, Declaration}
+use Rattle.pgo_counter.specs.Code.{Code}
+use Rattle.pgo_counter.specs.Bound.{bindings_of, archetype_named, sections_of, variables_of, first_name}
 use Rattle.pgo_model.specs.Options.{on}
-use Rattle.pgo_model.specs.Expansion.{Expansion, With, End, expansion}
+use Rattle.pgo_counter.specs.Expansion.{Expansion, With, End, expansion}
 use Rattle.pgo_model.specs.Module.{Module, WrittenProcess, all_of, stands_at}
 use Rattle.pgo_model.specs.Written.{pc, self_name, proc_set}
 

@@ -3,10 +3,11 @@
 use Rattle.std.specs.Prelude.{◌≡◌, ℕ, List, ◌↔◌, Some}
 use Rattle.pgo_base.specs.Data.{Data, string}
 use Rattle.pgo_base.specs.Lookup.{Name, Vars}
-use Rattle.pgo_model.specs.Bound.{Bound, Instance}
-use Rattle.pgo_model.specs.State.{IsState}
-use Rattle.pgo_model.specs.Declares.{Declares, IsLabel, place_of}
-use Rattle.pgo_model.specs.Section.{Allows}
+use Rattle.pgo_counter.specs.Bound.{Bound, Instance}
+use Rattle.pgo_counter.specs.State.{IsState}
+use Rattle.pgo_counter.specs.Declares.{Declares, IsLabel}
+use Rattle.pgo_model.specs.Variables.{place_of}
+use Rattle.pgo_counter.specs.Section.{Allows}
 use Rattle.pgo_model.specs.Machine.{nth}
 use Rattle.pgo_model.specs.Module.{Module}
 use Rattle.pgo_model.specs.Acts.{Begins, Acts}

@@ -1,20 +1,22 @@
 -- The meaning of a section: one step of one instance on a whole state.
 -- Source: one step of PlusCal (A PlusCal User's Manual) and one critical section of Modular PlusCal.
-use Rattle.std.specs.Prelude.{◌≡◌, ℕ, zero, suc, if◌then◌else◌, List, [], ◌∷◌, ◌++◌, Option, Some, None, option_and_then}
+use Rattle.std.specs.Prelude.{◌≡◌, ℕ, if◌then◌else◌, List, [], ◌∷◌, ◌++◌, Option, Some, None, option_and_then}
 use Rattle.pgo_base.specs.Data.{Data, string}
 use Rattle.pgo_base.specs.Tree.{Tree}
-use Rattle.pgo_base.specs.Lookup.{Name, Names, Vars, same_name, find}
+use Rattle.pgo_base.specs.Lookup.{Name, Names, Vars, find}
 use Rattle.pgo_model.specs.Options.{on}
 use Rattle.pgo_model.specs.Operators.{put_at}
 use Rattle.pgo_model.specs.Val.{Meaning, meanings, val}
-use Rattle.pgo_model.specs.Code.{Code, Let, Skip, Become, Seq, Goto}
+use Rattle.pgo_counter.specs.Code.{Code, Let, Skip, Become, Seq, Goto}
 use Rattle.pgo_model.specs.Occurrences.{names_in, first_occurrences}
 use Rattle.pgo_model.specs.Outcome.{Kind, NoValue, Outcome, Next, Stuck, Nowhere, Section}
-use Rattle.pgo_model.specs.Bound.{Bound, Instance, sections_of}
+use Rattle.pgo_counter.specs.Bound.{Bound, Instance, sections_of}
 use Rattle.pgo_model.specs.State.{is_shallow}
-use Rattle.pgo_model.specs.Declares.{place_of}
+use Rattle.pgo_model.specs.Choice.{word_at}
+use Rattle.pgo_model.specs.Variables.{place_of, store, store_value}
 use Rattle.pgo_model.specs.Machine.{nth}
 use Rattle.pgo_model.specs.Written.{pc, self_name}
+use Rattle.pgo_model.specs.System.{Words, Touched}
 
 -- where a section runs: its instance's identifier, the variable that each parameter is, and the definitions
 pub record Context : Type 0 where
@@ -38,28 +40,11 @@ pub data Out : Type 0 where
   Jump : (label : Name) → (run : Run) → Out
   Stop : (kind : Kind) → Out
 
--- the words of choice
-abbrev pub Words : Type 0
-Words = ℕ → ℕ
-
--- a read or a write of a resource: a global, and the index of its element
-abbrev pub Touched : Type 0
-Touched = Name × Option Data
-
 -- what comes where the statement went on, and what where it did not
 abbrev pub go_on : {A : Type 0} → Out → (Run → A) → (Out → A) → A
 go_on (Go run) f out = f run
 go_on (Jump l run) f out = out (Jump l run)
 go_on (Stop kind) f out = out (Stop kind)
-
--- the variable becomes v
-abbrev pub store : Name → Data → Vars → Vars
-store x v [] = []
-store x v (p ∷ s) = if same_name x p.0 then (p.0, v) ∷ s else p ∷ store x v s
-
-abbrev pub store_value : Name → Option Data → Vars → Vars
-store_value x None s = s
-store_value x (Some v) s = store x v s
 
 module _ (k : Context) where
   -- each parameter with its value now, and `self`
@@ -132,12 +117,6 @@ nothing = record { trace = []; end = Nowhere }
 abbrev pub Sect : Bound → ℕ → Vars → Words → Section Touched Vars
 Sect b k s d =
     on nothing (nth b.instances k) (λ i. on nothing (code_at i (place_of i.id s)) (λ c. runs (context_of b i) c s d))
-
--- a list of words, which is 0 past its end
-abbrev pub word_at : List ℕ → Words
-word_at [] d = 0
-word_at (w ∷ ws) zero = w
-word_at (w ∷ ws) (suc d) = word_at ws d
 
 -- some words of choice lead from s to t
 pub record Allows (b : Bound) (k : ℕ) (s t : Vars) : Type 0 where

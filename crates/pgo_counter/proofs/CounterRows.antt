@@ -4,11 +4,13 @@ use Rattle.pgo_base.specs.declared.expr.Infix.TheVariants as infixs
 use Rattle.pgo_base.specs.Data.{Data, boolean, integer, string, function, pair, no_pairs}
 use Rattle.pgo_base.specs.Tree.{name, number, binary}
 use Rattle.pgo_base.specs.Lookup.{Name, Vars}
-use Rattle.pgo_model.specs.Spec.{Spec, Whole, Assign, ByRef, RefTo, One, Equals}
-use Rattle.pgo_model.specs.Bound.{Bound, bound_of}
-use Rattle.pgo_model.specs.Section.{Sect, word_at}
+use Rattle.pgo_counter.specs.Spec.{Spec, Whole, Assign, ByRef, RefTo, One, Equals}
+use Rattle.pgo_counter.specs.Bound.{Bound, bound_of}
+use Rattle.pgo_counter.specs.Section.{Sect}
+use Rattle.pgo_model.specs.Choice.{word_at}
+use Rattle.pgo_counter.specs.BoundSystem.{system_of}
 use Rattle.pgo_model.specs.Outcome.{Next, Section}
-use Rattle.pgo_model.specs.Translate.{module_of}
+use Rattle.pgo_counter.specs.Translate.{module_of}
 use Rattle.pgo_model.specs.Val.{meanings, val}
 use Rattle.pgo_model.specs.Module.{defs_of}
 use Rattle.pgo_model.specs.Core.{Core, Settings, status_of}
@@ -54,7 +56,7 @@ unfolding counter state
 row_init = refl
 
 status : Option Bound → List ℕ → Option ℕ
-status (Some b) turns = Some (status_of b settings (finished_of (Core b settings turns)))
+status (Some b) turns = Some (status_of (system_of b) settings (finished_of (Core (system_of b) settings turns)))
 status None turns = None
 
 row_done : status (bound_of counter []) (0 ∷ 0 ∷ 0 ∷ 0 ∷ 0 ∷ 0 ∷ []) ≡ Some 0
@@ -91,7 +93,7 @@ unfolding two state section_of
 row_second = refl
 
 entries : Option Bound → List ℕ → Option (List (Entry Effect))
-entries (Some b) turns = Some (Core b settings turns).entries
+entries (Some b) turns = Some (Core (system_of b) settings turns).entries
 entries None turns = None
 
 -- an entry of instance 0 that changes the global and the place

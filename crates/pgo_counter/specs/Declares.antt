@@ -1,23 +1,20 @@
 -- The declared starts of a bound specification, and when it is sound.
-use Rattle.std.specs.Prelude.{◌≡◌, ℕ, ◌≤◌, if◌then◌else◌, List, [], ◌∷◌, length, Option, Some, None, ◌⊎◌}
+use Rattle.std.specs.Prelude.{◌≡◌, ℕ, ◌≤◌, if◌then◌else◌, List, [], ◌∷◌, length, Some, ◌⊎◌}
 use Rattle.pgo_base.specs.Data.{Data, string, function, Pairs, graph, keys}
 use Rattle.pgo_base.specs.Sets.{in_order}
 use Rattle.pgo_model.specs.Options.{on}
 use Rattle.pgo_base.specs.Lookup.{Name, Vars, same_name, find}
-use Rattle.pgo_model.specs.Operators.{apply}
-use Rattle.pgo_model.specs.Spec.{Labeled, Declaration, Initial, Equals}
-use Rattle.pgo_model.specs.Bound.{Bound, Instance, Resource, closed_value, first_label}
-use Rattle.pgo_model.specs.State.{IsState}
+use Rattle.pgo_counter.specs.Spec.{Labeled, Declaration, Initial, Equals}
+use Rattle.pgo_counter.specs.Bound.{Bound, Instance, closed_value, first_label}
+use Rattle.pgo_model.specs.System.{Resource}
+use Rattle.pgo_counter.specs.State.{IsState}
 use Rattle.pgo_model.specs.Machine.{nth}
 use Rattle.pgo_model.specs.Written.{pc, done, written}
+use Rattle.pgo_model.specs.Variables.{place_of}
 
 -- the variable starts as the declaration says
 abbrev pub StartsAs : Bound → Vars → Name → Initial → Type 0
 StartsAs b s x (Equals e) = (v : Data) × (closed_value b.defs e ≡ Some v) × (find x s ≡ Some v)
-
--- where the instance with this identifier stands
-abbrev pub place_of : Data → Vars → Option Data
-place_of id s = elim (find pc s) as (λ o. Option Data) [ None ↦ None | Some f ↦ apply f id ]
 
 -- each global has its initial value, and `pc` each identifier's first label
 pub record Declares (b : Bound) (s : Vars) : Type 0 where

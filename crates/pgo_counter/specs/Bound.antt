@@ -5,9 +5,10 @@ use Rattle.pgo_base.specs.Tree.{Tree}
 use Rattle.pgo_base.specs.Lookup.{Name, Vars, same_name}
 use Rattle.pgo_model.specs.Operators.{both, each, function_from}
 use Rattle.pgo_model.specs.Val.{Defined, Given, meanings, val}
-use Rattle.pgo_model.specs.Spec.{Spec, Process, Archetype, Parameter, ByRef, Argument, RefTo, Identifiers, One, Equals, Declaration}
+use Rattle.pgo_counter.specs.Spec.{Spec, Process, Archetype, Parameter, ByRef, Argument, RefTo, Identifiers, One, Equals, Declaration}
 use Rattle.pgo_model.specs.Written.{pc, done, written, default_init_value}
-use Rattle.pgo_model.specs.Code.{Code, sections}
+use Rattle.pgo_counter.specs.Code.{Code, sections}
+use Rattle.pgo_model.specs.System.{Resource}
 
 -- one process identifier running one archetype; `bindings` says which global each parameter is
 pub record Instance : Type 0 where
@@ -16,12 +17,6 @@ pub record Instance : Type 0 where
   pub process : Name
   pub archetype : Archetype
   pub bindings : List (Name × Name)
-
--- a global as a whole, or one element of it
-pub record Resource : Type 0 where
-  pub number : ℕ
-  pub global : Name
-  pub index : Option Data
 
 pub record Bound : Type 0 where
   pub spec : Spec

@@ -2,7 +2,7 @@
 use Rattle.std.specs.Prelude.{ℕ, suc, List, [], ◌∷◌, ◌++◌, Option, Some, None, codes, replicate}
 use Rattle.pgo_base.specs.Tree.{Tree}
 use Rattle.pgo_base.specs.Lookup.{Name}
-use Rattle.pgo_model.specs.Spec.{Left, Whole, Assignment, Statement, Assign, Labeled}
+use Rattle.pgo_counter.specs.Spec.{Left, Whole, Assignment, Statement, Assign, Labeled}
 use Rattle.pgo_model.specs.Written.{done}
 
 -- b is the base of the name that the translation binds for a value
