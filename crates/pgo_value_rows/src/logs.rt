@@ -3,11 +3,13 @@ use crate::answers::text_of;
 use pgo_base::log::{Change, Entry, Log};
 use pgo_base::scope::State;
 use pgo_base::value::Value;
+use pgo_sheet::answers::push_word;
 use std::alloc::{AllocError, Global};
 
-/// The part of this name: `ids`, `start` or `entries`; another name stands for none.
+/// The part of this name: `ids`, `start` or `entries`. Without a name it is said that the log is read; another name stands for none.
 pub fn part_of(alloc: Global, log: &Log, part: &str) -> Result<String, AllocError> {
     match part {
+        "" => String::from_str(alloc, "read"),
         "ids" => ids(alloc, log.ids.as_slice()),
         "start" => start(alloc, &log.start),
         "entries" => entries(alloc, log.entries.as_slice()),
@@ -19,8 +21,8 @@ pub fn part_of(alloc: Global, log: &Log, part: &str) -> Result<String, AllocErro
 fn ids(alloc: Global, ids: &[Value]) -> Result<String, AllocError> {
     let mut text = String::new(alloc);
     for id in ids {
-        separate(&mut text, ", ")?;
-        text.push_str(text_of(alloc, id)?.as_str())?;
+        let id = text_of(alloc, id)?;
+        push_word(&mut text, ", ", id.as_str())?;
     }
     Ok(text)
 }
@@ -29,10 +31,10 @@ fn ids(alloc: Global, ids: &[Value]) -> Result<String, AllocError> {
 fn start(alloc: Global, state: &State) -> Result<String, AllocError> {
     let mut text = String::new(alloc);
     for (x, value) in state.as_slice() {
-        separate(&mut text, ", ")?;
         let name = String::from_utf8_lossy(alloc, x.as_bytes())?;
         let value = text_of(alloc, value)?;
-        write!(text, "{name} = {value}")?;
+        let word = format!(in alloc; "{name} = {value}")?;
+        push_word(&mut text, ", ", word.as_str())?;
     }
     Ok(text)
 }
@@ -41,8 +43,8 @@ fn start(alloc: Global, state: &State) -> Result<String, AllocError> {
 fn entries(alloc: Global, entries: &[Entry]) -> Result<String, AllocError> {
     let mut text = String::new(alloc);
     for entry in entries {
-        separate(&mut text, "; ")?;
-        text.push_str(entry_text(alloc, entry)?.as_str())?;
+        let word = entry_text(alloc, entry)?;
+        push_word(&mut text, "; ", word.as_str())?;
     }
     Ok(text)
 }
@@ -69,12 +71,4 @@ fn change_text(alloc: Global, change: &Change) -> Result<String, AllocError> {
             format!(in alloc; " {name}[{index}] = {value}")
         }
     }
-}
-
-/// The separator behind a text that isn't empty.
-fn separate(text: &mut String, separator: &str) -> Result<(), AllocError> {
-    if !text.as_str().is_empty() {
-        text.push_str(separator)?;
-    }
-    Ok(())
 }

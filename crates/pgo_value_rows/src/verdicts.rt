@@ -1,5 +1,5 @@
 // Verdicts: whether a log is a run of a module, where it first isn't one, and why.
-use crate::answers::{name, other_than, value};
+use crate::answers::{name, value};
 use crate::operators::operands::elements;
 use crate::scene::HEIGHT;
 use pgo_base::consts::Consts;
@@ -12,6 +12,7 @@ use pgo_base::value::Value;
 use pgo_check::checker::check;
 use pgo_check::verdict::{Verdict, Why};
 use pgo_expr_read::reader::read_expr;
+use pgo_sheet::answers::unless_same;
 use pgo_sheet::sheet::{Subject, halves};
 use std::alloc::{AllocError, Global};
 use std::mem;
@@ -193,27 +194,22 @@ impl Subject for Verdicts {
     fn end(&mut self, wanted: &str) -> Result<Option<String>, AllocError> {
         let answer = self.answer()?;
         self.log.entries = Entries::new(self.alloc);
-        Ok(other_than(answer, wanted))
+        Ok(unless_same(answer, wanted))
     }
 }
 
 /// `x` or `x[INDEX]`; none where the index is no value text.
 fn component(alloc: Global, place: &str) -> Result<Option<Component>, AllocError> {
-    let Some((x, index)) = place.split_once('[') else {
-        return Ok(Some(unowned(name(alloc, place)?, None)));
-    };
-    match value(alloc, index.strip_suffix("]").unwrap_or(""))? {
-        Some(index) => Ok(Some(unowned(name(alloc, x)?, Some(index)))),
-        None => Ok(None),
+    let (x, index) = place.split_once('[').unwrap_or((place, ""));
+    let index = value(alloc, index.strip_suffix("]").unwrap_or(""))?;
+    if index.is_none() && x.len() < place.len() {
+        return Ok(None);
     }
-}
-
-fn unowned(variable: Text, index: Option<Value>) -> Component {
-    Component {
-        variable,
+    Ok(Some(Component {
+        variable: name(alloc, x)?,
         index,
         owner: Owner::Unowned,
-    }
+    }))
 }
 
 /// `run of N`, or `no init at N` or `no step at N`
