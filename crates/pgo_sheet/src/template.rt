@@ -5,14 +5,16 @@ use std::alloc::{AllocError, Global};
 /// How a text begins that says that a place of it was not there.
 pub const NO_PLACE: &str = "no such place: ";
 
-/// A part of a text: its name, what stands there where no row changes it, and what the row puts there. Of an optional part nothing stands
-/// there where no row changes it, and what a row puts there are whole lines.
+/// A part of a text: its name, how its places are marked, what stands there where no row changes it, and else what the row puts there and
+/// the end of that.
 #[derive(Drop)]
 struct Part {
     name: String,
+    mark: String,
     unchanged: String,
-    is_optional: bool,
-    new: Option<String>,
+    is_changed: bool,
+    new: String,
+    end: &'static str,
 }
 
 /// A place of the changed text, and what stands there instead.
@@ -35,31 +37,27 @@ pub struct Template {
 
 impl Part {
     /// Puts a piece behind what the row has put there, with a text between.
-    fn add(&mut self, alloc: Global, between: &str, piece: &str) -> Result<(), AllocError> {
-        match &mut self.new {
-            Some(new) => {
-                new.push_str(between)?;
-                new.push_str(piece)
-            }
-            None => {
-                self.new = Some(String::from_str(alloc, piece)?);
-                Ok(())
-            }
+    fn add(&mut self, between: &str, piece: &str) -> Result<(), AllocError> {
+        if self.is_changed {
+            self.new.push_str(between)?;
         }
+        self.is_changed = true;
+        self.new.push_str(piece)
     }
 
     /// The text with this part in its places. A text without them says so.
     fn put(&self, alloc: Global, text: &str) -> Result<String, AllocError> {
-        let end = if self.is_optional { "\n" } else { "" };
-        let new = match &self.new {
-            Some(new) => format!(in alloc; "{new}{end}")?,
-            None => String::from_str(alloc, self.unchanged.as_str())?,
-        };
-        let mark = format!(in alloc; "@{}@", self.name)?;
-        if text.contains(mark.as_str()) {
-            return text.replace(alloc, mark.as_str(), new.as_str());
+        let mark = self.mark.as_str();
+        if !text.contains(mark) {
+            return format!(in alloc; "{NO_PLACE}{mark}");
         }
-        format!(in alloc; "{NO_PLACE}{mark}")
+        let (new, end) = if self.is_changed {
+            (self.new.as_str(), self.end)
+        } else {
+            (self.unchanged.as_str(), "")
+        };
+        let new = format!(in alloc; "{new}{end}")?;
+        text.replace(alloc, mark, new.as_str())
     }
 }
 
@@ -81,8 +79,8 @@ impl Template {
         match key {
             "text" => *self = Template::new(self.alloc),
             "|" => write!(self.text, "{text}\n")?,
-            "part" => self.add_part(first, second, false)?,
-            "optional" => self.add_part(text, "", true)?,
+            "part" => self.add_part(first, second, "")?,
+            "optional" => self.add_part(text, "", "\n")?,
             _ => return self.take_change(key, text),
         }
         Ok(true)
@@ -103,17 +101,20 @@ impl Template {
         }
     }
 
+    /// A part. Of an optional one nothing stands there where no row changes it, and what a row puts there are whole lines.
     fn add_part(
         &mut self,
         name: &str,
         unchanged: &str,
-        is_optional: bool,
+        end: &'static str,
     ) -> Result<(), AllocError> {
         self.parts.push(Part {
             name: String::from_str(self.alloc, name)?,
+            mark: format!(in self.alloc; "@{name}@")?,
             unchanged: String::from_str(self.alloc, unchanged)?,
-            is_optional,
-            new: None,
+            is_changed: false,
+            new: String::new(self.alloc),
+            end,
         })?;
         Ok(())
     }
@@ -142,7 +143,7 @@ impl Template {
     fn add(&mut self, name: &str, between: &str, piece: &str) -> Result<bool, AllocError> {
         for part in &mut self.parts {
             if part.name.as_str() == name {
-                part.add(self.alloc, between, piece)?;
+                part.add(between, piece)?;
                 return Ok(true);
             }
         }
@@ -201,7 +202,8 @@ impl Template {
     /// The next row changes nothing so far.
     pub fn end_row(&mut self) {
         for part in &mut self.parts {
-            part.new = None;
+            part.is_changed = false;
+            part.new.clear();
         }
         self.places.clear();
         self.blanks = 0;

@@ -2,6 +2,7 @@
 use crate::answers::given;
 use pgo_base::compare::compare;
 use pgo_base::expr::{Expr, Sub};
+use pgo_base::results::both;
 use pgo_base::value::Value;
 use pgo_sets::build::set_of;
 use pgo_sets::errors::EvalStop;
@@ -50,8 +51,8 @@ impl Subject for Copies {
 fn chain(alloc: Global, count: u32) -> Result<Stmt, AllocError> {
     let mut branches = Branches::new(alloc);
     for place in 0..count {
-        let condition = Sub::new(alloc, Expr::Truth(true))?;
-        let nested = Nested::new(alloc, Stmt::Skip(place))?;
+        let condition = Sub::new(alloc, Expr::Truth(true));
+        let (condition, nested) = both(condition, Nested::new(alloc, Stmt::Skip(place)))?;
         branches.push(place, condition, nested)?;
     }
     Ok(Stmt::If(0, branches))

@@ -1,6 +1,7 @@
 // The parts of a log as texts of one line.
 use crate::answers::text_of;
 use pgo_base::log::{Change, Entry, Log};
+use pgo_base::results::both;
 use pgo_base::scope::State;
 use pgo_base::value::Value;
 use pgo_sheet::answers::push_word;
@@ -31,8 +32,8 @@ fn ids(alloc: Global, ids: &[Value]) -> Result<String, AllocError> {
 fn start(alloc: Global, state: &State) -> Result<String, AllocError> {
     let mut text = String::new(alloc);
     for (x, value) in state.as_slice() {
-        let name = String::from_utf8_lossy(alloc, x.as_bytes())?;
-        let value = text_of(alloc, value)?;
+        let name = String::from_utf8_lossy(alloc, x.as_bytes());
+        let (name, value) = both(name, text_of(alloc, value))?;
         let word = format!(in alloc; "{name} = {value}")?;
         push_word(&mut text, ", ", word.as_str())?;
     }
@@ -51,8 +52,10 @@ fn entries(alloc: Global, entries: &[Entry]) -> Result<String, AllocError> {
 
 /// The instance, the attempt, the labels before and after, and the changes.
 fn entry_text(alloc: Global, entry: &Entry) -> Result<String, AllocError> {
-    let label = String::from_utf8_lossy(alloc, entry.label.as_bytes())?;
-    let next = String::from_utf8_lossy(alloc, entry.next.as_bytes())?;
+    let (label, next) = both(
+        String::from_utf8_lossy(alloc, entry.label.as_bytes()),
+        String::from_utf8_lossy(alloc, entry.next.as_bytes()),
+    )?;
     let mut text = format!(in alloc; "{} {} {label} {next}:", entry.instance, entry.attempt)?;
     for change in entry.changes.as_slice() {
         text.push_str(change_text(alloc, change)?.as_str())?;
@@ -62,8 +65,8 @@ fn entry_text(alloc: Global, entry: &Entry) -> Result<String, AllocError> {
 
 /// ` x = 1` or ` x[2] = 1`
 fn change_text(alloc: Global, change: &Change) -> Result<String, AllocError> {
-    let name = String::from_utf8_lossy(alloc, change.component.variable.as_bytes())?;
-    let value = text_of(alloc, &change.value)?;
+    let name = String::from_utf8_lossy(alloc, change.component.variable.as_bytes());
+    let (name, value) = both(name, text_of(alloc, &change.value))?;
     match &change.component.index {
         None => format!(in alloc; " {name} = {value}"),
         Some(index) => {

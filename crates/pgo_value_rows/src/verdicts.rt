@@ -6,6 +6,7 @@ use pgo_base::consts::Consts;
 use pgo_base::expr::{Expr, Names, Sub};
 use pgo_base::log::{Change, Changes, Component, Entries, Entry, Ids, Log, Owner};
 use pgo_base::module::{Action, Actions, Defs, Module, Processes, WrittenProcess};
+use pgo_base::results::both;
 use pgo_base::scope::State;
 use pgo_base::text::Text;
 use pgo_base::value::Value;
@@ -32,14 +33,15 @@ pub struct Verdicts {
 impl Verdicts {
     /// A module without variables, processes and actions, in which every state is a start, and a log without instances, variables and entries.
     pub fn new(alloc: Global) -> Result<Verdicts, AllocError> {
+        let (name, init) = both(name(alloc, "Module"), Sub::new(alloc, Expr::Truth(true)))?;
         Ok(Verdicts {
             alloc,
             module: Module {
-                name: name(alloc, "Module")?,
+                name,
                 constants: Names::from_vec(Vec::new(alloc)),
                 definitions: Defs::new(alloc),
                 variables: Names::from_vec(Vec::new(alloc)),
-                init: Sub::new(alloc, Expr::Truth(true))?,
+                init,
                 processes: Processes::new(alloc),
             },
             actions: Actions::new(alloc),
@@ -61,8 +63,8 @@ impl Verdicts {
         };
         match read_expr(self.alloc, body.as_bytes(), HEIGHT) {
             Ok(e) => {
-                let body = Sub::new(self.alloc, e)?;
-                self.put(key, name(self.alloc, x)?, body)?;
+                let (name, body) = both(name(self.alloc, x), Sub::new(self.alloc, e))?;
+                self.put(key, name, body)?;
                 Ok(true)
             }
             Err(_) => Ok(false),
@@ -89,13 +91,11 @@ impl Verdicts {
     /// A line whose text is a value behind a name.
     fn take_value(&mut self, key: &str, text: &str) -> Result<bool, AllocError> {
         let (x, text) = halves(text);
-        let Some(v) = value(self.alloc, text)? else {
-            return Ok(false);
-        };
-        match key {
-            "constant" => self.constants.push((name(self.alloc, x)?, v))?,
-            "start" => self.begin_at(name(self.alloc, x)?, v)?,
-            "set" => return self.add_change(x, v),
+        let (name, v) = both(name(self.alloc, x), value(self.alloc, text))?;
+        match (key, v) {
+            ("constant", Some(v)) => self.constants.push((name, v))?,
+            ("start", Some(v)) => self.begin_at(name, v)?,
+            ("set", Some(v)) => return self.add_change(x, v),
             _ => return Ok(false),
         }
         Ok(true)
@@ -130,11 +130,12 @@ impl Verdicts {
             return Ok(false);
         };
         self.end_entry()?;
+        let (label, next) = both(name(self.alloc, label), name(self.alloc, next))?;
         self.last = Some(Entry {
             instance,
             attempt: 1,
-            label: name(self.alloc, label)?,
-            next: name(self.alloc, next)?,
+            label,
+            next,
             changes: Changes::new(self.alloc),
         });
         Ok(true)
