@@ -1,5 +1,5 @@
 // What a command answers.
-use crate::failing::{FailingSink, FailingSource};
+use crate::failing_sink::FailingSink;
 use crate::output::WantedOutput;
 use crate::streams::Streams;
 use pgo_base::word::Word;
@@ -7,7 +7,7 @@ use pgo_front::pgo;
 use pgo_io::sure_sink::SureSink;
 use pgo_io::sure_source::SureSource;
 use pgo_sheet::escapes::escaped;
-use pgo_sheet::sheet::halves;
+use pgo_text_rows::failing_source::FailingSource;
 use std::alloc::{AllocError, Global};
 
 /// A status, and what was written and read.
@@ -55,13 +55,13 @@ impl Answer {
         faults: u64,
         output: &WantedOutput,
     ) -> Result<Option<String>, AllocError> {
-        let (status, line) = halves(wanted);
         if !self.is_whole {
             let reason = "more is written than there is room for";
             return Ok(Some(String::from_str(alloc, reason)?));
         }
-        if !(self.has_status(status) && self.has_line(line)) {
-            return Ok(Some(self.said(alloc)?));
+        let said = self.said(alloc)?;
+        if !self.is_said(said.as_str(), wanted) {
+            return Ok(Some(escaped(alloc, said.as_str())?));
         }
         if self.faults != faults {
             return Ok(Some(format!(in alloc; "{} failed reads", self.faults)?));
@@ -69,39 +69,22 @@ impl Answer {
         if output.is_of(self) {
             return Ok(None);
         }
-        Ok(Some(self.written(alloc)?))
-    }
-
-    fn has_status(&self, status: &str) -> bool {
-        match status.parse::<u8>() {
-            Ok(status) => status == self.status,
-            Err(_) => false,
-        }
-    }
-
-    fn has_line(&self, line: &str) -> bool {
-        if line.is_empty() {
-            return self.err.is_empty();
-        }
-        match self.err.as_str().strip_suffix("\n") {
-            Some(given) => given == line,
-            None => false,
-        }
-    }
-
-    /// The output and its size.
-    fn written(&self, alloc: Global) -> Result<String, AllocError> {
         let out = escaped(alloc, self.out.as_str())?;
-        format!(in alloc; "{} bytes of output: {out}", self.out.len())
+        Ok(Some(format!(in alloc; "{} bytes of output: {out}", self.out.len())?))
     }
 
     /// The status and the line on the error output.
     fn said(&self, alloc: Global) -> Result<String, AllocError> {
-        if self.err.is_empty() {
-            return self.status.to_string(alloc);
+        let blank = if self.err.is_empty() { "" } else { " " };
+        format!(in alloc; "{}{blank}{}", self.status, self.err)
+    }
+
+    /// Whether what is said is this, but for the end of the line.
+    fn is_said(&self, said: &str, wanted: &str) -> bool {
+        match said.strip_suffix("\n") {
+            Some(line) => line == wanted,
+            None => self.err.is_empty() && said == wanted,
         }
-        let line = escaped(alloc, self.err.as_str())?;
-        format!(in alloc; "{} {line}", self.status)
     }
 }
 

@@ -1,17 +1,17 @@
 // Commands: the words, the text on the input, and the answer.
 use crate::answer::Answer;
-use crate::given_text::{GivenText, lacks_place};
 use crate::output::WantedOutput;
 use crate::streams::Streams;
 use pgo_base::word::Word;
 use pgo_sheet::sheet::Subject;
+use pgo_sheet::template::{NO_PLACE, Template};
 use std::alloc::{AllocError, Global};
 
 /// What the lines of a sheet of commands have made so far.
 #[derive(Drop)]
 pub struct Commands {
     alloc: Global,
-    text: GivenText,
+    text: Template,
     row: Row,
 }
 
@@ -35,28 +35,29 @@ impl Commands {
     pub fn new(alloc: Global) -> Commands {
         Commands {
             alloc,
-            text: GivenText::new(alloc),
+            text: Template::new(alloc),
             row: Row::new(alloc),
         }
     }
 
     /// The text on the input.
-    fn input(&self) -> Result<Vec<u8>, AllocError> {
+    fn input(&self) -> Result<String, AllocError> {
         let text = self.text.changed()?;
         if self.row.first.is_empty() {
             return self.text.with_places(text);
         }
         let words = self.row.first.as_slice();
-        let made = Answer::of(self.alloc, words, &Streams::sound(), text)?;
-        self.text.with_places(made.out.into_bytes())
+        let made = Answer::of(self.alloc, words, &Streams::sound(), text.into_bytes())?;
+        self.text.with_places(made.out)
     }
 
     /// The row's answer, where it is not what is wanted.
     fn wrong_answer(&self, wanted: &str) -> Result<Option<String>, AllocError> {
         let input = self.input()?;
-        if lacks_place(input.as_slice()) {
-            return Ok(Some(String::from_utf8_lossy(self.alloc, input.as_slice())?));
+        if input.as_str().starts_with(NO_PLACE) {
+            return Ok(Some(input));
         }
+        let input = input.into_bytes();
         let words = self.row.all_words()?;
         let answer = Answer::of(self.alloc, words.as_slice(), &self.row.streams, input)?;
         let faults = self.row.streams.faults;

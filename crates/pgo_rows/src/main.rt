@@ -1,39 +1,44 @@
-// Runs sheets of rows on whole specifications, each named by an argument, and prints each row that gives another answer than the one that is
-// wanted, then how many rows there are. What a sheet's rows ask is said by its ending: `commands`, or `bound` for bound systems.
+// Runs sheets of rows, each named by an argument, and prints each row that gives another answer than the one that is wanted, then how many
+// rows there are. What a sheet's rows ask is said by its ending, and by its folder: those in `values` and `texts` are run by the
+// libraries on these. Here are `commands`, on whole specifications, and `bound`, on what specifications are bound to.
 #![tactic(auto)]
 
 mod answer;
 mod bound_systems;
 mod commands;
 mod described;
-mod failing;
-mod given_text;
+mod failing_sink;
 mod output;
 mod streams;
 
 use crate::bound_systems::BoundSystems;
 use crate::commands::Commands;
 use pgo_sheet::files::{Counts, ending, not_run, run_sheet};
+use pgo_text_rows::run_texts;
+use pgo_value_rows::run_values;
 use std::rt::Files;
 use std::{env, io};
 
 fn main(rt: HostRuntime) -> io::Result<()> {
     let mut files = env::args(&rt)?;
     let _name = files.next();
-    let mut all = Counts::none();
+    let (mut rows, mut wrong) = (0u64, 0u64);
     for file in files {
         let counts = run_file(&rt, file.as_str())?;
-        all.add(&counts);
+        rows = rows.saturating_add(counts.rows);
+        wrong = wrong.saturating_add(counts.wrong);
     }
-    println!(rt; "all: {} rows, {} wrong", all.rows, all.wrong)
+    println!(rt; "all: {rows} rows, {wrong} wrong")
 }
 
-/// Runs the sheet of a file, by its ending.
+/// Runs the sheet of a file, by its folder and its ending.
 fn run_file<R: Files + AllocGlobal + Print>(rt: &R, file: &str) -> io::Result<Counts> {
-    let alloc = rt.alloc();
-    match ending(file) {
-        "commands" => run_sheet(rt, file, Commands::new(alloc)),
-        "bound" => run_sheet(rt, file, BoundSystems::new(alloc)),
+    let (folder, _) = file.split_once('/').unwrap_or(("", ""));
+    match (folder, ending(file)) {
+        ("values", _) => run_values(rt, file),
+        ("texts", _) => run_texts(rt, file),
+        (_, "commands") => run_sheet(rt, file, Commands::new(rt.alloc())),
+        (_, "bound") => run_sheet(rt, file, BoundSystems::new(rt.alloc())),
         _ => not_run(rt, file, "no subject has this ending"),
     }
 }

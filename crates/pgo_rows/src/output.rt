@@ -24,11 +24,10 @@ impl WantedOutput {
     /// Takes a line of this key; false: there is no such key, or no number behind it.
     pub fn take(&mut self, key: &str, text: &str) -> Result<bool, AllocError> {
         match key {
-            "out" => {
-                self.is_whole = true;
-                self.add_line(text)?;
+            "out" | "ends" => {
+                self.is_whole = self.is_whole || key == "out";
+                write!(self.lines, "{text}\n")?;
             }
-            "ends" => self.add_line(text)?,
             "silent" => self.is_whole = true,
             "bytes" => {
                 self.bytes = text.parse::<usize>().ok();
@@ -39,21 +38,13 @@ impl WantedOutput {
         Ok(true)
     }
 
-    fn add_line(&mut self, line: &str) -> Result<(), AllocError> {
-        self.lines.push_str(line)?;
-        self.lines.push('\n')
-    }
-
     /// Whether this is the output. Where nothing is said of it, there is output only where there is no line on the error output.
     pub fn is_of(&self, answer: &Answer) -> bool {
-        self.has_size(answer) && self.has_text(answer)
-    }
-
-    fn has_size(&self, answer: &Answer) -> bool {
-        match self.bytes {
+        let has_size = match self.bytes {
             Some(bytes) => answer.out.len() == bytes,
             None => true,
-        }
+        };
+        has_size && self.has_text(answer)
     }
 
     fn has_text(&self, answer: &Answer) -> bool {

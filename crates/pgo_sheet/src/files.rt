@@ -1,5 +1,6 @@
 // Sheets as files, which a program of rows is given by their names.
 use crate::sheet::{Sheet, Subject};
+use std::alloc::AllocError;
 use std::rt::Files;
 use std::{fs, io};
 
@@ -8,19 +9,6 @@ use std::{fs, io};
 pub struct Counts {
     pub rows: u64,
     pub wrong: u64,
-}
-
-impl Counts {
-    /// No row.
-    pub fn none() -> Counts {
-        Counts { rows: 0, wrong: 0 }
-    }
-
-    /// Those of another sheet too.
-    pub fn add(&mut self, more: &Counts) {
-        self.rows = self.rows.saturating_add(more.rows);
-        self.wrong = self.wrong.saturating_add(more.wrong);
-    }
 }
 
 /// What stands behind the last point of a file's name: what the rows of the sheet are about.
@@ -44,38 +32,38 @@ pub fn run_sheet<R: Files + AllocGlobal + Print, S: Subject + Drop>(
     file: &str,
     subject: S,
 ) -> io::Result<Counts> {
-    match fs::read_to_string(rt, file) {
-        Ok(text) => {
-            let mut sheet = Sheet::new(rt.alloc(), subject);
-            for line in text.as_str().lines() {
-                take_line(rt, file, line, &mut sheet)?;
-            }
-            let (rows, wrong) = (sheet.rows(), sheet.wrong());
-            println!(rt; "{file}: {rows} rows, {wrong} wrong")?;
-            Ok(Counts { rows, wrong })
-        }
-        Err(_) => not_run(rt, file, "cannot be read"),
+    let Ok(text) = fs::read_to_string(rt, file) else {
+        return not_run(rt, file, "cannot be read");
+    };
+    let mut sheet = Sheet {
+        alloc: rt.alloc(),
+        file,
+        subject,
+        line: 0,
+        rows: 0,
+        wrong: 0,
+        said: String::new(rt.alloc()),
+    };
+    for line in text.as_str().lines() {
+        sheet.line = sheet.line.wrapping_add(1);
+        take_line(rt, line, &mut sheet)?;
     }
+    let (rows, wrong) = (sheet.rows, sheet.wrong);
+    println!(rt; "{}{file}: {rows} rows, {wrong} wrong", sheet.said)?;
+    Ok(Counts { rows, wrong })
 }
 
 /// Takes a line of a file, or those of the file that it includes. The sheet has no key for a file that cannot be read.
-fn take_line<R: Files + AllocGlobal + Print, S: Subject + Drop>(
+fn take_line<R: Files + AllocGlobal, S: Subject + Drop>(
     rt: &R,
-    file: &str,
     line: &str,
-    sheet: &mut Sheet<S>,
-) -> io::Result<()> {
+    sheet: &mut Sheet<'_, S>,
+) -> Result<(), AllocError> {
     match included(rt, line) {
-        None => {
-            let wrong = sheet.take_line(line)?;
-            say(rt, file, wrong)
-        }
+        None => sheet.take_line(line),
         Some(text) => {
-            let wrong = sheet.take_line("")?;
-            say(rt, file, wrong)?;
             for line in text.as_str().lines() {
-                let wrong = sheet.take_included(line)?;
-                say(rt, file, wrong)?;
+                sheet.take_line(line)?;
             }
             Ok(())
         }
@@ -86,12 +74,4 @@ fn take_line<R: Files + AllocGlobal + Print, S: Subject + Drop>(
 fn included<R: Files + AllocGlobal>(rt: &R, line: &str) -> Option<String> {
     let file = line.strip_prefix("include ")?;
     fs::read_to_string(rt, file).ok()
-}
-
-/// Says what is wrong in a file.
-fn say<R: Print>(rt: &R, file: &str, wrong: Option<String>) -> io::Result<()> {
-    match wrong {
-        Some(wrong) => println!(rt; "{file}: {wrong}"),
-        None => Ok(()),
-    }
 }

@@ -6,7 +6,9 @@
 // and % before any other character for that character.
 #![tactic(auto)]
 
+pub mod answers;
 pub mod escapes;
 pub mod files;
 pub mod sheet;
 pub mod template;
+pub mod text_builder;

@@ -11,36 +11,25 @@ pub trait Subject {
     fn end(&mut self, wanted: &str) -> Result<Option<String>, AllocError>;
 }
 
-/// What the lines so far have made.
+/// The sheet of a file, and what its lines so far have made.
 #[derive(Drop)]
-pub struct Sheet<S: Subject + Drop> {
-    alloc: Global,
-    subject: S,
-    lines: u64,
-    rows: u64,
-    wrong: u64,
+pub struct Sheet<'file, S: Subject + Drop> {
+    pub alloc: Global,
+    pub file: &'file str,
+    pub subject: S,
+    /// the number of the line
+    pub line: u64,
+    /// how many rows there were
+    pub rows: u64,
+    /// how many rows had another answer, and how many lines no key
+    pub wrong: u64,
+    /// what is said of these, a line each
+    pub said: String,
 }
 
-impl<S: Subject + Drop> Sheet<S> {
-    /// A sheet without lines.
-    pub fn new(alloc: Global, subject: S) -> Sheet<S> {
-        Sheet {
-            alloc,
-            subject,
-            lines: 0,
-            rows: 0,
-            wrong: 0,
-        }
-    }
-
-    /// Takes a line. Where it ends a row with another answer, or has no key of the subject, says so with the number of the line.
-    pub fn take_line(&mut self, line: &str) -> Result<Option<String>, AllocError> {
-        self.lines = self.lines.wrapping_add(1);
-        self.take_included(line)
-    }
-
-    /// The same of a line that the last line brings in, and which has that line's number.
-    pub fn take_included(&mut self, line: &str) -> Result<Option<String>, AllocError> {
+impl<'file, S: Subject + Drop> Sheet<'file, S> {
+    /// Takes the text of a line.
+    pub fn take_line(&mut self, line: &str) -> Result<(), AllocError> {
         let (key, text) = halves(line);
         match key.strip_suffix("%") {
             Some(key) => {
@@ -51,48 +40,39 @@ impl<S: Subject + Drop> Sheet<S> {
         }
     }
 
-    /// How many rows there were.
-    pub fn rows(&self) -> u64 {
-        self.rows
-    }
-
-    /// How many rows had another answer, and how many lines no key.
-    pub fn wrong(&self) -> u64 {
-        self.wrong
-    }
-
-    fn take(&mut self, key: &str, text: &str) -> Result<Option<String>, AllocError> {
+    fn take(&mut self, key: &str, text: &str) -> Result<(), AllocError> {
         match key {
-            "" | "#" | "##" => Ok(None),
+            "" | "#" | "##" => Ok(()),
             "=>" => self.end_row(text),
-            _ => self.take_part(key, text),
-        }
-    }
-
-    fn take_part(&mut self, key: &str, text: &str) -> Result<Option<String>, AllocError> {
-        if self.subject.take(key, text)? {
-            return Ok(None);
-        }
-        self.wrong = self.wrong.wrapping_add(1);
-        Ok(Some(format!(in self.alloc; "line {}: no key {key}", self.lines)?))
-    }
-
-    fn end_row(&mut self, wanted: &str) -> Result<Option<String>, AllocError> {
-        self.rows = self.rows.wrapping_add(1);
-        match self.subject.end(wanted)? {
-            None => Ok(None),
-            Some(answer) => {
-                self.wrong = self.wrong.wrapping_add(1);
-                Ok(Some(format!(in self.alloc; "line {}: {answer}", self.lines)?))
+            _ => {
+                if self.subject.take(key, text)? {
+                    return Ok(());
+                }
+                self.say("no key ", key)
             }
         }
+    }
+
+    fn end_row(&mut self, wanted: &str) -> Result<(), AllocError> {
+        self.rows = self.rows.wrapping_add(1);
+        match self.subject.end(wanted)? {
+            None => Ok(()),
+            Some(answer) => self.say("", answer.as_str()),
+        }
+    }
+
+    /// Says what is wrong in the line.
+    fn say(&mut self, what: &str, which: &str) -> Result<(), AllocError> {
+        self.wrong = self.wrong.wrapping_add(1);
+        write!(
+            self.said,
+            "{}: line {}: {what}{which}\n",
+            self.file, self.line
+        )
     }
 }
 
 /// The text before the first blank, and the text behind it.
 pub fn halves(line: &str) -> (&str, &str) {
-    match line.split_once(' ') {
-        Some(halves) => halves,
-        None => (line, ""),
-    }
+    line.split_once(' ').unwrap_or((line, ""))
 }

@@ -1,5 +1,5 @@
 // What the reader made of a specification, as texts.
-use crate::word_list::push_word;
+use pgo_sheet::answers::push_word;
 use pgo_syntax::spec::Spec;
 use pgo_syntax::statement::Stmt;
 use std::alloc::{AllocError, Global};
@@ -27,10 +27,9 @@ fn first_statement(spec: &Spec) -> Option<&Stmt> {
 /// The branches of the first statement, and of the statement in its first branch.
 pub fn branches(alloc: Global, spec: &Spec) -> Result<String, AllocError> {
     let outer = first_statement(spec);
-    let mut words = branches_of(alloc, outer)?;
     let inner = branches_of(alloc, first_inner(outer))?;
-    push_word(&mut words, ", in the first ", inner.as_str())?;
-    Ok(words)
+    let outer = branches_of(alloc, outer)?;
+    format!(in alloc; "{outer}, in the first {inner}")
 }
 
 /// How many branches an `if` has, and whether it has an `else`.

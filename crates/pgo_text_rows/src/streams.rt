@@ -3,10 +3,8 @@
 // `memory N` takes a source or a sink in memory, the sink with room for N bytes; `standard N` takes those over the standard
 // traits, the sink over a slice of N bytes; `failing N` takes those that fail after N calls. `read N` reads the text up to N
 // bytes, `write T` writes T; a row reads or writes once for each of its lines.
-use crate::answer::unless_same;
-use crate::failing::{FailingSink, FailingSource};
-use crate::text_builder::TextBuilder;
-use crate::word_list::push_word;
+use crate::failing_sink::FailingSink;
+use crate::failing_source::FailingSource;
 use pgo_io::read_all::{ReadStop, read_all};
 use pgo_io::sink::Sink;
 use pgo_io::source::Source;
@@ -14,7 +12,9 @@ use pgo_io::standard::{StdSink, StdSource};
 use pgo_io::sure_sink::SureSink;
 use pgo_io::sure_source::SureSource;
 use pgo_io::write_all::write_all;
+use pgo_sheet::answers::{push_word, unless_same};
 use pgo_sheet::sheet::Subject;
+use pgo_sheet::text_builder::TextBuilder;
 use std::alloc::{AllocError, Global};
 
 /// What is read from and written to.
@@ -48,47 +48,38 @@ impl Streams {
         }
     }
 
-    fn set_medium(&mut self, medium: Medium, text: &str) -> bool {
-        match text.parse::<u32>() {
-            Ok(size) => {
-                self.medium = medium;
-                self.size = size;
-                true
+    /// Takes a line whose text is a number.
+    fn set(&mut self, key: &str, number: u32) -> Result<bool, AllocError> {
+        self.medium = match key {
+            "memory" => Medium::Memory,
+            "standard" => Medium::Standard,
+            "failing" => Medium::Failing,
+            "read" => {
+                self.reads.push(u64::from(number))?;
+                return Ok(true);
             }
-            Err(_) => false,
-        }
-    }
-
-    fn add_read(&mut self, text: &str) -> Result<bool, AllocError> {
-        match text.parse::<u64>() {
-            Ok(limit) => {
-                self.reads.push(limit)?;
-                Ok(true)
-            }
-            Err(_) => Ok(false),
-        }
+            _ => return Ok(false),
+        };
+        self.size = number;
+        Ok(true)
     }
 
     fn add_write(&mut self, text: &str) -> Result<bool, AllocError> {
-        let text = String::from_str(self.alloc, text)?;
-        self.writes.push(text)?;
+        self.writes.push(String::from_str(self.alloc, text)?)?;
         Ok(true)
     }
 
     fn answer(&self) -> Result<String, AllocError> {
-        if self.writes.is_empty() {
-            self.read()
-        } else {
-            self.write()
-        }
-    }
-
-    fn read(&self) -> Result<String, AllocError> {
-        let text = self.builder.text();
-        match self.medium {
-            Medium::Memory => self.read_from(&mut SureSource::new(text.to_vec(self.alloc)?)),
-            Medium::Standard => self.read_from(&mut StdSource::new(text)),
-            Medium::Failing => self.read_failing(text),
+        let text = self.builder.text.as_slice();
+        match (self.medium, self.writes.is_empty()) {
+            (Medium::Memory, true) => {
+                self.read_from(&mut SureSource::new(text.to_vec(self.alloc)?))
+            }
+            (Medium::Standard, true) => self.read_from(&mut StdSource::new(text)),
+            (Medium::Failing, true) => self.read_failing(text),
+            (Medium::Memory, false) => self.write_memory(),
+            (Medium::Standard, false) => self.write_standard(),
+            (Medium::Failing, false) => self.write_failing(),
         }
     }
 
@@ -110,14 +101,6 @@ impl Streams {
         };
         let words = self.read_from(&mut source)?;
         format!(in self.alloc; "{words}, {} faults", source.faults)
-    }
-
-    fn write(&self) -> Result<String, AllocError> {
-        match self.medium {
-            Medium::Memory => self.write_memory(),
-            Medium::Standard => self.write_standard(),
-            Medium::Failing => self.write_failing(),
-        }
     }
 
     /// Whether each write succeeds.
@@ -164,16 +147,11 @@ impl Streams {
 
 impl Subject for Streams {
     fn take(&mut self, key: &str, text: &str) -> Result<bool, AllocError> {
-        if self.builder.take(key, text)? {
-            return Ok(true);
-        }
-        match key {
-            "memory" => Ok(self.set_medium(Medium::Memory, text)),
-            "standard" => Ok(self.set_medium(Medium::Standard, text)),
-            "failing" => Ok(self.set_medium(Medium::Failing, text)),
-            "read" => self.add_read(text),
-            "write" => self.add_write(text),
-            _ => Ok(false),
+        match (key, text.parse::<u32>()) {
+            ("text", _) => self.builder.begin(text),
+            ("write", _) => self.add_write(text),
+            (_, Ok(number)) => Ok(self.set(key, number)? || self.builder.take(key, text)?),
+            _ => self.builder.take(key, text),
         }
     }
 

@@ -4,98 +4,27 @@
 // asks for all. `limit N` is the most tokens from there on.
 use crate::answer::Answer;
 use crate::spellings::spelling;
-use crate::text_builder::TextBuilder;
-use crate::word_list::push_word;
+use crate::texts::{Asked, Question};
 use pgo_base::text::Text;
 use pgo_lexer::symbol::Junction;
 use pgo_lexer::token::{Lexeme, Token};
 use pgo_lexer::tokenizer::tokens;
-use pgo_sheet::sheet::Subject;
+use pgo_sheet::answers::push_word;
 use std::alloc::{AllocError, Global};
 
-/// What a row asks of the tokens.
-#[derive(Clone, Copy)]
-pub enum Question {
-    All,
-    Count,
-    Last,
-    One(usize),
-}
-
-#[derive(Drop)]
-pub struct TokenLists {
-    alloc: Global,
-    builder: TextBuilder,
-    limit: u32,
-    question: Question,
-}
-
-impl TokenLists {
-    pub fn new(alloc: Global) -> TokenLists {
-        TokenLists {
-            alloc,
-            builder: TextBuilder::new(alloc),
-            limit: 99,
-            question: Question::All,
-        }
-    }
-
-    fn set_limit(&mut self, text: &str) -> bool {
-        match text.parse::<u32>() {
-            Ok(limit) => {
-                self.limit = limit;
-                true
-            }
-            Err(_) => false,
-        }
-    }
-
-    fn ask(&mut self, key: &str, text: &str) -> bool {
-        self.question = match (key, text.parse::<usize>()) {
-            ("count", _) => Question::Count,
-            ("last", _) => Question::Last,
-            ("token", Ok(number)) => Question::One(number),
-            _ => return false,
-        };
-        true
-    }
-
-    fn answer(&self) -> Result<Answer, AllocError> {
-        match tokens(self.alloc, self.builder.text(), self.limit) {
-            Ok(list) => {
-                let answer = asked(self.alloc, list.as_slice(), self.question)?;
-                Ok(Answer::Read(answer))
-            }
-            Err(stop) => Answer::refused(self.alloc, stop, 0),
-        }
+pub fn answer(asked: &Asked<'_>) -> Result<Answer, AllocError> {
+    match tokens(asked.alloc, asked.text, asked.limit) {
+        Ok(list) => Ok(Answer::Read(asked_of(asked, list.as_slice())?)),
+        Err(stop) => Answer::refused(asked.alloc, stop, 0),
     }
 }
 
-impl Subject for TokenLists {
-    fn take(&mut self, key: &str, text: &str) -> Result<bool, AllocError> {
-        if self.builder.take(key, text)? {
-            return Ok(true);
-        }
-        match key {
-            "limit" => Ok(self.set_limit(text)),
-            _ => Ok(self.ask(key, text)),
-        }
-    }
-
-    fn end(&mut self, wanted: &str) -> Result<Option<String>, AllocError> {
-        let answer = self.answer()?;
-        self.question = Question::All;
-        Ok(answer.unless_wanted(wanted))
-    }
-}
-
-/// What a question asks of these tokens.
-pub fn asked(alloc: Global, list: &[Lexeme], question: Question) -> Result<String, AllocError> {
-    match question {
-        Question::All => all(alloc, list),
-        Question::Count => format!(in alloc; "{}", list.len()),
-        Question::Last => placed(alloc, list.last()),
-        Question::One(number) => placed(alloc, list.get(number)),
+fn asked_of(asked: &Asked<'_>, list: &[Lexeme]) -> Result<String, AllocError> {
+    match asked.question {
+        Question::Count => list.len().to_string(asked.alloc),
+        Question::LastToken => placed(asked.alloc, list.last()),
+        Question::Token => placed(asked.alloc, list.get(asked.number)),
+        _ => all(asked.alloc, list),
     }
 }
 
@@ -110,7 +39,7 @@ pub fn all(alloc: Global, list: &[Lexeme]) -> Result<String, AllocError> {
 }
 
 /// A token with its column and its bytes: the first, and the one behind the last.
-fn placed(alloc: Global, lexeme: Option<&Lexeme>) -> Result<String, AllocError> {
+pub fn placed(alloc: Global, lexeme: Option<&Lexeme>) -> Result<String, AllocError> {
     match lexeme {
         Some(lexeme) => {
             let word = token_word(alloc, &lexeme.token)?;

@@ -44,12 +44,3 @@ pub fn wanted(alloc: Global, text: &str) -> Result<String, AllocError> {
         None => String::from_str(alloc, text),
     }
 }
-
-/// The answer, where it isn't what is wanted.
-pub fn other_than(answer: String, wanted: &str) -> Option<String> {
-    if answer.as_str() == wanted {
-        None
-    } else {
-        Some(answer)
-    }
-}

@@ -1,10 +1,12 @@
 // Copies of statements and values that are as long or as deep as they may be.
-use crate::answers::{given, other_than};
+use crate::answers::given;
 use pgo_base::compare::compare;
 use pgo_base::expr::{Expr, Sub};
+use pgo_base::results::both;
 use pgo_base::value::Value;
 use pgo_sets::build::set_of;
 use pgo_sets::errors::EvalStop;
+use pgo_sheet::answers::unless_same;
 use pgo_sheet::sheet::Subject;
 use pgo_syntax::statement::{Block, Branches, Nested, Stmt};
 use std::alloc::{AllocError, Global};
@@ -30,18 +32,18 @@ impl Subject for Copies {
         let Ok(count) = text.parse::<u32>() else {
             return Ok(false);
         };
-        match key {
-            "branches" => self.answer = branches_of_copy(self.alloc, count)?,
-            "blocks" => self.answer = place_of_copy(self.alloc, count)?,
-            "sets" => self.answer = given(self.alloc, is_set_copied(self.alloc, count))?,
+        self.answer = match key {
+            "branches" => shape_of_copy(self.alloc, chain(self.alloc, count))?,
+            "blocks" => shape_of_copy(self.alloc, blocks(self.alloc, count))?,
+            "sets" => given(self.alloc, is_set_copied(self.alloc, count))?,
             _ => return Ok(false),
-        }
+        };
         Ok(true)
     }
 
     fn end(&mut self, wanted: &str) -> Result<Option<String>, AllocError> {
         let answer = self.answer.clone()?;
-        Ok(other_than(answer, wanted))
+        Ok(unless_same(answer, wanted))
     }
 }
 
@@ -49,25 +51,11 @@ impl Subject for Copies {
 fn chain(alloc: Global, count: u32) -> Result<Stmt, AllocError> {
     let mut branches = Branches::new(alloc);
     for place in 0..count {
-        let condition = Sub::new(alloc, Expr::Truth(true))?;
-        let nested = Nested::new(alloc, Stmt::Skip(place))?;
+        let condition = Sub::new(alloc, Expr::Truth(true));
+        let (condition, nested) = both(condition, Nested::new(alloc, Stmt::Skip(place)))?;
         branches.push(place, condition, nested)?;
     }
     Ok(Stmt::If(0, branches))
-}
-
-/// How many branches its copy has.
-fn branches_of_copy(alloc: Global, count: u32) -> Result<String, AllocError> {
-    let whole = chain(alloc, count)?;
-    let copy = whole.copy(alloc)?;
-    branches_of(alloc, &copy)
-}
-
-fn branches_of(alloc: Global, s: &Stmt) -> Result<String, AllocError> {
-    match s {
-        Stmt::If(_, branches) => format!(in alloc; "{} branches", branches.as_slice().len()),
-        _ => String::from_str(alloc, "no if"),
-    }
 }
 
 /// `skip` in so many blocks, which stand at the places from 0 on.
@@ -81,15 +69,17 @@ fn blocks(alloc: Global, count: u32) -> Result<Stmt, AllocError> {
     Ok(inner)
 }
 
-/// The place of its copy.
-fn place_of_copy(alloc: Global, count: u32) -> Result<String, AllocError> {
-    let whole = blocks(alloc, count)?;
-    let copy = whole.copy(alloc)?;
-    place_of(alloc, &copy)
+/// What the copy of a statement is: the branches of an `if`, or the place of another.
+fn shape_of_copy(alloc: Global, whole: Result<Stmt, AllocError>) -> Result<String, AllocError> {
+    let copy = whole?.copy(alloc)?;
+    shape_of(alloc, &copy)
 }
 
-fn place_of(alloc: Global, s: &Stmt) -> Result<String, AllocError> {
-    format!(in alloc; "at {}", s.place())
+fn shape_of(alloc: Global, s: &Stmt) -> Result<String, AllocError> {
+    match s {
+        Stmt::If(_, branches) => format!(in alloc; "{} branches", branches.as_slice().len()),
+        _ => format!(in alloc; "at {}", s.place()),
+    }
 }
 
 /// The set of the set of .. of the empty set, this deep.

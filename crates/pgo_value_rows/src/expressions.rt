@@ -1,10 +1,11 @@
 // Expressions: the value that one gives where it sees what the sheet says.
-use crate::answers::{given, other_than, wanted};
-use crate::asked::Asked;
+use crate::answers::{given, wanted};
 use crate::scene::{HEIGHT, Scene};
 use pgo_base::expr::{Expr, Exprs, Infix, Prefix};
 use pgo_expr_read::reader::read_expr;
+use pgo_sheet::answers::unless_same;
 use pgo_sheet::sheet::Subject;
+use pgo_sheet::text_builder::TextBuilder;
 use std::alloc::{AllocError, Global};
 
 /// What the expressions see, the expression that the row asks about, and how its tree is turned into one that no text has.
@@ -12,7 +13,7 @@ use std::alloc::{AllocError, Global};
 pub struct Expressions {
     alloc: Global,
     scene: Scene,
-    asked: Asked,
+    text: TextBuilder,
     turn: String,
 }
 
@@ -21,13 +22,13 @@ impl Expressions {
         Expressions {
             alloc,
             scene: Scene::new(alloc),
-            asked: Asked::new(alloc),
+            text: TextBuilder::new(alloc),
             turn: String::new(alloc),
         }
     }
 
     fn answer(&self) -> Result<String, AllocError> {
-        match read_expr(self.alloc, self.asked.as_str().as_bytes(), HEIGHT) {
+        match read_expr(self.alloc, self.text.text.as_slice(), HEIGHT) {
             Ok(e) => {
                 let e = turned(self.alloc, e, self.turn.as_str());
                 given(self.alloc, self.scene.value_of(&e))
@@ -40,10 +41,10 @@ impl Expressions {
 impl Subject for Expressions {
     fn take(&mut self, key: &str, text: &str) -> Result<bool, AllocError> {
         match key {
-            "eval" => self.asked.begin(text)?,
+            "eval" => return self.text.begin(text),
             "turn" => self.turn = String::from_str(self.alloc, text)?,
             "clear" => self.scene = Scene::new(self.alloc),
-            _ => return Ok(self.asked.take(key, text)? || self.scene.take(key, text)?),
+            _ => return Ok(self.text.take(key, text)? || self.scene.take(key, text)?),
         }
         Ok(true)
     }
@@ -52,7 +53,7 @@ impl Subject for Expressions {
         let answer = self.answer()?;
         self.turn = String::new(self.alloc);
         let wanted = wanted(self.alloc, text)?;
-        Ok(other_than(answer, wanted.as_str()))
+        Ok(unless_same(answer, wanted.as_str()))
     }
 }
 

@@ -1,13 +1,16 @@
 // The parts of a log as texts of one line.
 use crate::answers::text_of;
 use pgo_base::log::{Change, Entry, Log};
+use pgo_base::results::both;
 use pgo_base::scope::State;
 use pgo_base::value::Value;
+use pgo_sheet::answers::push_word;
 use std::alloc::{AllocError, Global};
 
-/// The part of this name: `ids`, `start` or `entries`; another name stands for none.
+/// The part of this name: `ids`, `start` or `entries`. Without a name it is said that the log is read; another name stands for none.
 pub fn part_of(alloc: Global, log: &Log, part: &str) -> Result<String, AllocError> {
     match part {
+        "" => String::from_str(alloc, "read"),
         "ids" => ids(alloc, log.ids.as_slice()),
         "start" => start(alloc, &log.start),
         "entries" => entries(alloc, log.entries.as_slice()),
@@ -19,8 +22,8 @@ pub fn part_of(alloc: Global, log: &Log, part: &str) -> Result<String, AllocErro
 fn ids(alloc: Global, ids: &[Value]) -> Result<String, AllocError> {
     let mut text = String::new(alloc);
     for id in ids {
-        separate(&mut text, ", ")?;
-        text.push_str(text_of(alloc, id)?.as_str())?;
+        let id = text_of(alloc, id)?;
+        push_word(&mut text, ", ", id.as_str())?;
     }
     Ok(text)
 }
@@ -29,10 +32,10 @@ fn ids(alloc: Global, ids: &[Value]) -> Result<String, AllocError> {
 fn start(alloc: Global, state: &State) -> Result<String, AllocError> {
     let mut text = String::new(alloc);
     for (x, value) in state.as_slice() {
-        separate(&mut text, ", ")?;
-        let name = String::from_utf8_lossy(alloc, x.as_bytes())?;
-        let value = text_of(alloc, value)?;
-        write!(text, "{name} = {value}")?;
+        let name = String::from_utf8_lossy(alloc, x.as_bytes());
+        let (name, value) = both(name, text_of(alloc, value))?;
+        let word = format!(in alloc; "{name} = {value}")?;
+        push_word(&mut text, ", ", word.as_str())?;
     }
     Ok(text)
 }
@@ -41,16 +44,18 @@ fn start(alloc: Global, state: &State) -> Result<String, AllocError> {
 fn entries(alloc: Global, entries: &[Entry]) -> Result<String, AllocError> {
     let mut text = String::new(alloc);
     for entry in entries {
-        separate(&mut text, "; ")?;
-        text.push_str(entry_text(alloc, entry)?.as_str())?;
+        let word = entry_text(alloc, entry)?;
+        push_word(&mut text, "; ", word.as_str())?;
     }
     Ok(text)
 }
 
 /// The instance, the attempt, the labels before and after, and the changes.
 fn entry_text(alloc: Global, entry: &Entry) -> Result<String, AllocError> {
-    let label = String::from_utf8_lossy(alloc, entry.label.as_bytes())?;
-    let next = String::from_utf8_lossy(alloc, entry.next.as_bytes())?;
+    let (label, next) = both(
+        String::from_utf8_lossy(alloc, entry.label.as_bytes()),
+        String::from_utf8_lossy(alloc, entry.next.as_bytes()),
+    )?;
     let mut text = format!(in alloc; "{} {} {label} {next}:", entry.instance, entry.attempt)?;
     for change in entry.changes.as_slice() {
         text.push_str(change_text(alloc, change)?.as_str())?;
@@ -60,8 +65,8 @@ fn entry_text(alloc: Global, entry: &Entry) -> Result<String, AllocError> {
 
 /// ` x = 1` or ` x[2] = 1`
 fn change_text(alloc: Global, change: &Change) -> Result<String, AllocError> {
-    let name = String::from_utf8_lossy(alloc, change.component.variable.as_bytes())?;
-    let value = text_of(alloc, &change.value)?;
+    let name = String::from_utf8_lossy(alloc, change.component.variable.as_bytes());
+    let (name, value) = both(name, text_of(alloc, &change.value))?;
     match &change.component.index {
         None => format!(in alloc; " {name} = {value}"),
         Some(index) => {
@@ -69,12 +74,4 @@ fn change_text(alloc: Global, change: &Change) -> Result<String, AllocError> {
             format!(in alloc; " {name}[{index}] = {value}")
         }
     }
-}
-
-/// The separator behind a text that isn't empty.
-fn separate(text: &mut String, separator: &str) -> Result<(), AllocError> {
-    if !text.as_str().is_empty() {
-        text.push_str(separator)?;
-    }
-    Ok(())
 }

@@ -2,10 +2,11 @@
 mod calls;
 pub mod operands;
 
-use crate::answers::{given, other_than, value, wanted};
+use crate::answers::{given, value, wanted};
 use crate::operators::calls::called;
 use pgo_base::value::Value;
 use pgo_sets::errors::EvalStop;
+use pgo_sheet::answers::unless_same;
 use pgo_sheet::sheet::Subject;
 use std::alloc::{AllocError, Global};
 
@@ -81,6 +82,6 @@ impl Subject for Operators {
             None => String::from_str(self.alloc, "no such operator")?,
         };
         let wanted = wanted(self.alloc, text)?;
-        Ok(other_than(answer, wanted.as_str()))
+        Ok(unless_same(answer, wanted.as_str()))
     }
 }

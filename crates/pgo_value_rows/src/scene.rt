@@ -3,6 +3,7 @@ use crate::answers::{name, value};
 use pgo_base::bindings::{Bindings, NamedValue};
 use pgo_base::expr::{Expr, Names, Sub};
 use pgo_base::module::{Defined, Defs};
+use pgo_base::results::both;
 use pgo_base::scope::{Env, State};
 use pgo_base::value::Value;
 use pgo_eval::eval::eval;
@@ -76,12 +77,9 @@ impl Scene {
 
     /// A name with its value; without a text it has none.
     fn add_name(&mut self, x: &str, text: &str) -> Result<bool, AllocError> {
-        let value = value(self.alloc, text)?;
+        let (name, value) = both(name(self.alloc, x), value(self.alloc, text))?;
         let is_good = value.is_some() || text.is_empty();
-        self.names.push(NamedValue {
-            name: name(self.alloc, x)?,
-            value,
-        })?;
+        self.names.push(NamedValue { name, value })?;
         Ok(is_good)
     }
 
@@ -129,11 +127,11 @@ fn definition(alloc: Global, head: &str, body: &str) -> Result<Option<Defined>, 
         None => (head, ""),
     };
     match read_expr(alloc, body.as_bytes(), HEIGHT) {
-        Ok(body) => Ok(Some(Defined::Means {
-            name: name(alloc, x)?,
-            params: parameters(alloc, params)?,
-            body: Sub::new(alloc, body)?,
-        })),
+        Ok(body) => {
+            let names = both(name(alloc, x), parameters(alloc, params));
+            let ((name, params), body) = both(names, Sub::new(alloc, body))?;
+            Ok(Some(Defined::Means { name, params, body }))
+        }
         Err(_) => Ok(None),
     }
 }

@@ -1,7 +1,8 @@
 // Value texts: the canonical text of the value, or where a text is no value text.
-use crate::answers::{other_than, text_of};
-use crate::asked::Asked;
+use crate::answers::text_of;
+use pgo_sheet::answers::unless_same;
 use pgo_sheet::sheet::Subject;
+use pgo_sheet::text_builder::TextBuilder;
 use pgo_value_text::errors::ValueStop;
 use pgo_value_text::read::read_value;
 use std::alloc::{AllocError, Global};
@@ -10,19 +11,19 @@ use std::alloc::{AllocError, Global};
 #[derive(Drop)]
 pub struct Values {
     alloc: Global,
-    asked: Asked,
+    text: TextBuilder,
 }
 
 impl Values {
     pub fn new(alloc: Global) -> Values {
         Values {
             alloc,
-            asked: Asked::new(alloc),
+            text: TextBuilder::new(alloc),
         }
     }
 
     fn answer(&self) -> Result<String, AllocError> {
-        match read_value(self.alloc, self.asked.as_str().as_bytes()) {
+        match read_value(self.alloc, self.text.text.as_slice()) {
             Ok(v) => text_of(self.alloc, &v),
             Err(ValueStop::NoMemory) => Err(AllocError),
             Err(stop) => format!(in self.alloc; "{stop}"),
@@ -33,17 +34,16 @@ impl Values {
 impl Subject for Values {
     fn take(&mut self, key: &str, text: &str) -> Result<bool, AllocError> {
         if key == "value" {
-            self.asked.begin(text)?;
-            return Ok(true);
+            return self.text.begin(text);
         }
-        self.asked.take(key, text)
+        self.text.take(key, text)
     }
 
     fn end(&mut self, wanted: &str) -> Result<Option<String>, AllocError> {
         let answer = self.answer()?;
-        match wanted {
-            "as given" => Ok(other_than(answer, self.asked.as_str())),
-            _ => Ok(other_than(answer, wanted)),
+        if wanted == "as given" && answer.as_bytes() == self.text.text.as_slice() {
+            return Ok(None);
         }
+        Ok(unless_same(answer, wanted))
     }
 }

@@ -1,17 +1,19 @@
 // Verdicts: whether a log is a run of a module, where it first isn't one, and why.
-use crate::answers::{name, other_than, value};
+use crate::answers::{name, value};
 use crate::operators::operands::elements;
 use crate::scene::HEIGHT;
 use pgo_base::consts::Consts;
 use pgo_base::expr::{Expr, Names, Sub};
 use pgo_base::log::{Change, Changes, Component, Entries, Entry, Ids, Log, Owner};
 use pgo_base::module::{Action, Actions, Defs, Module, Processes, WrittenProcess};
+use pgo_base::results::both;
 use pgo_base::scope::State;
 use pgo_base::text::Text;
 use pgo_base::value::Value;
 use pgo_check::checker::check;
 use pgo_check::verdict::{Verdict, Why};
 use pgo_expr_read::reader::read_expr;
+use pgo_sheet::answers::unless_same;
 use pgo_sheet::sheet::{Subject, halves};
 use std::alloc::{AllocError, Global};
 use std::mem;
@@ -31,14 +33,15 @@ pub struct Verdicts {
 impl Verdicts {
     /// A module without variables, processes and actions, in which every state is a start, and a log without instances, variables and entries.
     pub fn new(alloc: Global) -> Result<Verdicts, AllocError> {
+        let (name, init) = both(name(alloc, "Module"), Sub::new(alloc, Expr::Truth(true)))?;
         Ok(Verdicts {
             alloc,
             module: Module {
-                name: name(alloc, "Module")?,
+                name,
                 constants: Names::from_vec(Vec::new(alloc)),
                 definitions: Defs::new(alloc),
                 variables: Names::from_vec(Vec::new(alloc)),
-                init: Sub::new(alloc, Expr::Truth(true))?,
+                init,
                 processes: Processes::new(alloc),
             },
             actions: Actions::new(alloc),
@@ -60,8 +63,8 @@ impl Verdicts {
         };
         match read_expr(self.alloc, body.as_bytes(), HEIGHT) {
             Ok(e) => {
-                let body = Sub::new(self.alloc, e)?;
-                self.put(key, name(self.alloc, x)?, body)?;
+                let (name, body) = both(name(self.alloc, x), Sub::new(self.alloc, e))?;
+                self.put(key, name, body)?;
                 Ok(true)
             }
             Err(_) => Ok(false),
@@ -88,13 +91,11 @@ impl Verdicts {
     /// A line whose text is a value behind a name.
     fn take_value(&mut self, key: &str, text: &str) -> Result<bool, AllocError> {
         let (x, text) = halves(text);
-        let Some(v) = value(self.alloc, text)? else {
-            return Ok(false);
-        };
-        match key {
-            "constant" => self.constants.push((name(self.alloc, x)?, v))?,
-            "start" => self.begin_at(name(self.alloc, x)?, v)?,
-            "set" => return self.add_change(x, v),
+        let (name, v) = both(name(self.alloc, x), value(self.alloc, text))?;
+        match (key, v) {
+            ("constant", Some(v)) => self.constants.push((name, v))?,
+            ("start", Some(v)) => self.begin_at(name, v)?,
+            ("set", Some(v)) => return self.add_change(x, v),
             _ => return Ok(false),
         }
         Ok(true)
@@ -129,11 +130,12 @@ impl Verdicts {
             return Ok(false);
         };
         self.end_entry()?;
+        let (label, next) = both(name(self.alloc, label), name(self.alloc, next))?;
         self.last = Some(Entry {
             instance,
             attempt: 1,
-            label: name(self.alloc, label)?,
-            next: name(self.alloc, next)?,
+            label,
+            next,
             changes: Changes::new(self.alloc),
         });
         Ok(true)
@@ -193,27 +195,22 @@ impl Subject for Verdicts {
     fn end(&mut self, wanted: &str) -> Result<Option<String>, AllocError> {
         let answer = self.answer()?;
         self.log.entries = Entries::new(self.alloc);
-        Ok(other_than(answer, wanted))
+        Ok(unless_same(answer, wanted))
     }
 }
 
 /// `x` or `x[INDEX]`; none where the index is no value text.
 fn component(alloc: Global, place: &str) -> Result<Option<Component>, AllocError> {
-    let Some((x, index)) = place.split_once('[') else {
-        return Ok(Some(unowned(name(alloc, place)?, None)));
-    };
-    match value(alloc, index.strip_suffix("]").unwrap_or(""))? {
-        Some(index) => Ok(Some(unowned(name(alloc, x)?, Some(index)))),
-        None => Ok(None),
+    let (x, index) = place.split_once('[').unwrap_or((place, ""));
+    let index = value(alloc, index.strip_suffix("]").unwrap_or(""))?;
+    if index.is_none() && x.len() < place.len() {
+        return Ok(None);
     }
-}
-
-fn unowned(variable: Text, index: Option<Value>) -> Component {
-    Component {
-        variable,
+    Ok(Some(Component {
+        variable: name(alloc, x)?,
         index,
         owner: Owner::Unowned,
-    }
+    }))
 }
 
 /// `run of N`, or `no init at N` or `no step at N`

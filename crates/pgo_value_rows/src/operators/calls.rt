@@ -12,7 +12,7 @@ use pgo_sets::powers::power;
 use pgo_sets::ranges::range;
 use pgo_sets::sequences::{append, concat, head, len, sequence_of, sub_seq, tail};
 use pgo_sets::set_operators::{cardinality, flatten, intersect, minus, union};
-use std::alloc::Global;
+use std::alloc::{AllocError, Global};
 
 type Answer = Result<Value, EvalStop>;
 
@@ -75,30 +75,27 @@ fn built(alloc: Global, name: &str, x: &Value, y: &Value) -> Option<Answer> {
     match name {
         "product" => Some(product(alloc, x, y)),
         "functions" => Some(functions(alloc, x, y)),
-        "set_of" => Some(built_set(alloc, x)),
-        "sequence_of" => Some(built_sequence(alloc, x)),
         "function_of" => Some(built_function(alloc, x)),
-        "product_of" => Some(built_product(alloc, x)),
         "records" => Some(built_records(alloc, x)),
+        _ => built_from(alloc, name, elements(alloc, x)),
+    }
+}
+
+/// Those that build a value from a list of values.
+fn built_from(alloc: Global, name: &str, list: Result<Vec<Value>, AllocError>) -> Option<Answer> {
+    let Ok(list) = list else {
+        return Some(Err(EvalStop::NoMemory));
+    };
+    match name {
+        "set_of" => Some(set_of(list)),
+        "sequence_of" => Some(sequence_of(alloc, list)),
+        "product_of" => Some(product_of(alloc, list.as_slice())),
         _ => None,
     }
 }
 
-fn built_set(alloc: Global, x: &Value) -> Answer {
-    set_of(elements(alloc, x)?)
-}
-
-fn built_sequence(alloc: Global, x: &Value) -> Answer {
-    sequence_of(alloc, elements(alloc, x)?)
-}
-
 fn built_function(alloc: Global, x: &Value) -> Answer {
     function_of(pairs(alloc, x)?)
-}
-
-fn built_product(alloc: Global, x: &Value) -> Answer {
-    let factors = elements(alloc, x)?;
-    product_of(alloc, factors.as_slice())
 }
 
 fn built_records(alloc: Global, x: &Value) -> Answer {

@@ -1,4 +1,5 @@
 // Operands that an operator takes apart.
+use pgo_base::results::both;
 use pgo_base::value::Value;
 use pgo_sets::errors::EvalStop;
 use std::alloc::{AllocError, Global};
@@ -19,7 +20,7 @@ pub fn fields(alloc: Global, v: &Value) -> Result<Vec<(Value, Value)>, AllocErro
     let mut list = Vec::new(alloc);
     if let Value::Fun(f) = v {
         for pair in f.pairs() {
-            list.push((pair.0.copy(alloc)?, pair.1.copy(alloc)?))?;
+            list.push(both(pair.0.copy(alloc), pair.1.copy(alloc))?)?;
         }
     }
     Ok(list)
@@ -32,7 +33,7 @@ pub fn pairs(alloc: Global, v: &Value) -> Result<Vec<(Value, Value)>, AllocError
         for pair in f.pairs() {
             if let Value::Fun(two) = &pair.1 {
                 if let [first, second] = two.pairs() {
-                    list.push((first.1.copy(alloc)?, second.1.copy(alloc)?))?;
+                    list.push(both(first.1.copy(alloc), second.1.copy(alloc))?)?;
                 }
             }
         }

@@ -1,0 +1,169 @@
+// Texts, and what a row asks of them.
+use crate::answer::Answer;
+use crate::{counters, expressions, labels, modules, parts, specifications, tokens};
+use pgo_sheet::sheet::Subject;
+use pgo_sheet::text_builder::TextBuilder;
+use std::alloc::{AllocError, Global};
+
+/// What the texts of a sheet are read by.
+#[derive(Clone, Copy, PartialEq, Eq)]
+pub enum Reader {
+    Tokens,
+    Parts,
+    Expressions,
+    Specifications,
+    Labels,
+    Modules,
+    Counters,
+}
+
+/// What a row asks of what is read.
+#[derive(Clone, Copy)]
+pub enum Question {
+    /// all of it
+    Whole,
+    /// how many tokens there are
+    Count,
+    /// one token, by its number
+    Token,
+    LastToken,
+    HeaderToken,
+    AlgorithmToken,
+    /// the canonical text of a body
+    Body,
+    /// that of a text that stands in a block of a mapping macro
+    Mapped,
+    Operators,
+    Counts,
+    Branches,
+    Assigned,
+}
+
+/// The keys that ask, with the texts behind them, where N is any number.
+const QUESTIONS: [(Reader, &str, &str, Question); 10] = [
+    (Reader::Tokens, "token", "N", Question::Token),
+    (Reader::Tokens, "last", "", Question::LastToken),
+    (Reader::Tokens, "count", "", Question::Count),
+    (Reader::Parts, "header", "N", Question::HeaderToken),
+    (Reader::Parts, "algorithm", "N", Question::AlgorithmToken),
+    (Reader::Parts, "count", "", Question::Count),
+    (Reader::Expressions, "operators", "", Question::Operators),
+    (Reader::Specifications, "ask", "counts", Question::Counts),
+    (
+        Reader::Specifications,
+        "ask",
+        "branches",
+        Question::Branches,
+    ),
+    (
+        Reader::Specifications,
+        "ask",
+        "assigned",
+        Question::Assigned,
+    ),
+];
+
+/// The text of a row, and what it asks.
+#[derive(Clone, Copy)]
+pub struct Asked<'text> {
+    pub alloc: Global,
+    /// the text with what stands around it, and where it begins in it
+    pub text: &'text [u8],
+    pub start: usize,
+    /// the most tokens, or the greatest height of an expression
+    pub limit: u32,
+    pub question: Question,
+    pub number: usize,
+}
+
+#[derive(Drop)]
+pub struct Texts {
+    alloc: Global,
+    reader: Reader,
+    builder: TextBuilder,
+    limit: u32,
+    question: Question,
+    number: usize,
+}
+
+impl Texts {
+    pub fn new(alloc: Global, reader: Reader) -> Texts {
+        Texts {
+            alloc,
+            reader,
+            builder: TextBuilder::new(alloc),
+            limit: match reader {
+                Reader::Tokens => 99,
+                _ => 128,
+            },
+            question: Question::Whole,
+            number: 0,
+        }
+    }
+
+    fn begin(&mut self, question: Question, text: &str) -> Result<bool, AllocError> {
+        self.question = question;
+        self.builder.begin(text)
+    }
+
+    /// Takes what is asked; false: there is no such question.
+    fn ask(&mut self, key: &str, text: &str) -> bool {
+        let (text, number) = match text.parse::<usize>() {
+            Ok(number) => ("N", number),
+            Err(_) => (text, 0),
+        };
+        for row in &QUESTIONS {
+            if row.0 == self.reader && row.1 == key && row.2 == text {
+                self.question = row.3;
+                self.number = number;
+                return true;
+            }
+        }
+        false
+    }
+}
+
+impl Subject for Texts {
+    fn take(&mut self, key: &str, text: &str) -> Result<bool, AllocError> {
+        match (self.reader, key, text.parse::<u32>()) {
+            (_, "text", _) => self.begin(Question::Whole, text),
+            (Reader::Expressions, "body", _) => self.begin(Question::Body, text),
+            (Reader::Expressions, "mapped", _) => self.begin(Question::Mapped, text),
+            (Reader::Expressions, "height", Ok(limit)) | (Reader::Tokens, "limit", Ok(limit)) => {
+                self.limit = limit;
+                Ok(true)
+            }
+            _ => Ok(self.ask(key, text) || self.builder.take(key, text)?),
+        }
+    }
+
+    fn end(&mut self, wanted: &str) -> Result<Option<String>, AllocError> {
+        let text = self.builder.whole()?;
+        let answer = answer(
+            self.reader,
+            &Asked {
+                alloc: self.alloc,
+                text: text.as_slice(),
+                start: self.builder.before.len(),
+                limit: self.limit,
+                question: self.question,
+                number: self.number,
+            },
+        )?;
+        self.question = Question::Whole;
+        Ok(answer.unless_wanted(wanted))
+    }
+}
+
+/// What the row's text is answered.
+fn answer(reader: Reader, asked: &Asked<'_>) -> Result<Answer, AllocError> {
+    match reader {
+        Reader::Tokens => tokens::answer(asked),
+        Reader::Parts => parts::answer(asked),
+        Reader::Expressions => expressions::answer(asked),
+        Reader::Specifications => specifications::answer(asked),
+        Reader::Labels => labels::answer(asked),
+        Reader::Modules => modules::answer(asked),
+        Reader::Counters => counters::answer(asked),
+    }
+}
