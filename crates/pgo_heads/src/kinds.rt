@@ -11,7 +11,7 @@ use pgo_syntax::archetype::Extent;
 use pgo_syntax::process::Argument;
 
 /// What a global is among the resources.
-#[derive(Clone, Copy, Debug, PartialEq, Eq)]
+#[derive(Clone, Copy)]
 pub enum Kind {
     /// No instance binds it: it is none.
     Unbound,
