@@ -1,7 +1,7 @@
 // What a global is among the resources.
 
 /// What a global is among the resources.
-#[derive(Clone, Copy, Debug, PartialEq, Eq)]
+#[derive(Clone, Copy)]
 pub enum Kind {
     /// No instance binds it: it is none.
     Unbound,

@@ -37,7 +37,7 @@ impl Values {
 
 /// The last event of the attempt that is done: none yet, a take, a read, a write, a pre-commit or a commit. Behind the
 /// commit the give is left.
-#[derive(Clone, Copy, Debug, PartialEq, Eq)]
+#[derive(Clone, Copy, PartialEq, Eq)]
 enum Place {
     Start,
     Taken,

@@ -44,7 +44,7 @@ pub fn cut(text: &str, at: char) -> Option<(&str, &str)>
 }
 
 /// So many turns of one instance.
-#[derive(Clone, Copy, Debug, PartialEq, Eq)]
+#[derive(Clone, Copy)]
 struct Item {
     instance: u32,
     count: u32,

@@ -2,7 +2,7 @@
 use pgo_base::text::Text;
 
 /// What is wrong with the set behind `\in`.
-#[derive(Clone, Copy, Debug, PartialEq, Eq)]
+#[derive(Clone, Copy)]
 pub enum Lack {
     /// There is none.
     NoSet,

@@ -1,9 +1,23 @@
 -- What breaks a rule.
 use Rattle.std.specs.Prelude.{ℕ, Bool, if◌then◌else◌, nat_lt, List, [], ◌∷◌, ◌++◌, Option, Some, None, option_map}
+use Rattle.pgo_base.specs.Lookup.{Name}
 use Rattle.pgo_syntax.specs.declared.name.PlacedName.{PlacedName}
 use Rattle.pgo_uses.specs.declared.uses.Use.{Use}
 use Rattle.pgo_scope.specs.declared.errors.ScopeError.{ScopeError}
+use Rattle.pgo_scope.specs.declared.errors.ScopeError.TheVariants as errors
 use Rattle.pgo_scope.specs.declared.finding.Finding.{Finding}
+use Rattle.pgo_scope.specs.declared.finding.Cause.{Cause}
+use Rattle.pgo_scope.specs.declared.finding.Cause.TheVariants as causes
+
+-- the error about a name
+abbrev pub error_about : Cause → Name → ScopeError
+error_about causes.Unknown x = errors.Unknown x
+error_about causes.Twice x = errors.Twice x
+error_about causes.GlobalInArchetype x = errors.GlobalInArchetype x
+error_about causes.AssignedNotRef x = errors.AssignedNotRef x
+error_about causes.MappedReadHere x = errors.MappedReadHere x
+error_about causes.DoubleUnderscore x = errors.DoubleUnderscore x
+error_about causes.UnknownModule x = errors.UnknownModule x
 
 -- one finding where the test holds
 abbrev pub found_if : Bool → ℕ → ScopeError → List Finding

@@ -15,4 +15,6 @@ pub mod Seen
 pub mod Underscores
 pub mod Doubles
 pub mod Modules
+pub mod Rules
+pub mod RulesView
 pub mod Refusal

@@ -1,6 +1,5 @@
 // Rule 3: a name has another number of arguments than its meaning takes.
 ghost use Rattle.std.specs.Prelude.{◌≡◌, ◌++◌, IfOk};
-ghost use Rattle.pgo_scope.specs.Findings.{each_use};
 ghost use Rattle.pgo_scope.specs.Arity as spec;
 
 use crate::errors::ScopeError;
@@ -62,7 +61,8 @@ fn add_wrong_number(
     add_if_other(alloc, takes, got, place, x, out)
 }
 
-fn add_arity_use(
+/// Adds the name where it has a wrong number of arguments.
+pub fn add_arity_use(
     alloc: Global,
     t: &Tables,
     u: &Use,
@@ -82,21 +82,6 @@ fn add_arity_use(
         }
         Form::Bound | Form::Named | Form::Field | Form::Label | Form::Target => Ok(()),
     }
-}
-
-/// Adds what breaks the rule among names in the text.
-pub fn add_arity_uses(
-    alloc: Global,
-    t: &Tables,
-    uses: &[Use],
-    out: &mut Vec<Finding>,
-) -> Result<(), AllocError>
-    ensures { IfOk result (λ _. out.new.items ≡ out.old.items ++ each_use (spec.arity_use t.now) uses.now) }
-{
-    for u in uses {
-        add_arity_use(alloc, t, u, out)?;
-    }
-    Ok(())
 }
 
 /// Adds what breaks the rule in the heads of processes.

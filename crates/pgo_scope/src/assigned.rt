@@ -4,12 +4,11 @@ ghost use Rattle.pgo_uses.specs.AllUses.{names_of};
 ghost use Rattle.pgo_uses.specs.Names.{is_member};
 ghost use Rattle.pgo_scope.specs.declared.errors.ScopeError.TheVariants as errors;
 ghost use Rattle.pgo_base.specs.ExprView.{tree};
-ghost use Rattle.pgo_scope.specs.Findings.{each_use};
+ghost use Rattle.pgo_scope.specs.Findings.{found_if};
 ghost use Rattle.pgo_scope.specs.KnownView.{see_known, see_ways};
 ghost use Rattle.pgo_scope.specs.Assigned as spec;
 
-use crate::errors::ScopeError;
-use crate::finding::Finding;
+use crate::finding::{Cause, Finding, add_if};
 use crate::known::{Known, ParameterWays, parameters_of};
 use crate::unknown::is_variable;
 use crate::ways::left_base;
@@ -87,20 +86,17 @@ fn may_assign(s: &Spec, home: Home, x: &Text) -> bool
     }
 }
 
+/// Adds a name, where it may not be assigned.
 fn add_assigned(
     alloc: Global,
+    wrong: bool,
     place: u32,
     x: &Text,
     out: &mut Vec<Finding>,
 ) -> Result<(), AllocError>
-    ensures { IfOk result (λ _. out.new.items ≡ out.old.items ++ record { place = place; error = errors.AssignedNotRef x.now } ∷ []) }
+    ensures { IfOk result (λ _. out.new.items ≡ out.old.items ++ found_if wrong place (errors.AssignedNotRef x.now)) }
 {
-    let name = x.copy(alloc)?;
-    out.push(Finding {
-        place,
-        error: ScopeError::AssignedNotRef { name },
-    })?;
-    Ok(())
+    add_if(alloc, wrong, Cause::AssignedNotRef, place, x, out)
 }
 
 /// Adds what is wrong with an argument for the parameter p, which the macro assigns.
@@ -117,14 +113,12 @@ fn add_argument(
     match base {
         Some(x) => {
             if is_word(x, b"$value") {
-                return add_assigned(alloc, u.around.place, p, out);
+                return add_assigned(alloc, true, u.around.place, p, out);
             }
-            if may_assign(s, u.around.home, x) {
-                return Ok(());
-            }
-            add_assigned(alloc, u.around.place, x, out)
+            let wrong = !may_assign(s, u.around.home, x);
+            add_assigned(alloc, wrong, u.around.place, x, out)
         }
-        None => add_assigned(alloc, u.around.place, p, out),
+        None => add_assigned(alloc, true, u.around.place, p, out),
     }
 }
 
@@ -164,7 +158,8 @@ fn add_arguments(
     Ok(())
 }
 
-fn add_assigned_use(
+/// Adds the name where it is assigned and may not be, or an argument of its macro is.
+pub fn add_assigned_use(
     alloc: Global,
     s: &Spec,
     known: &[Known],
@@ -175,10 +170,8 @@ fn add_assigned_use(
 {
     match &u.form {
         Form::Assigned(_) => {
-            if may_assign(s, u.around.home, &u.name) {
-                return Ok(());
-            }
-            add_assigned(alloc, u.around.place, &u.name, out)
+            let wrong = !may_assign(s, u.around.home, &u.name);
+            add_assigned(alloc, wrong, u.around.place, &u.name, out)
         }
         Form::Called(list) => {
             let params = parameters_of(known, &u.name);
@@ -186,20 +179,4 @@ fn add_assigned_use(
         }
         _ => Ok(()),
     }
-}
-
-/// Adds what breaks the rule among names in the text.
-pub fn add_assigned_uses(
-    alloc: Global,
-    s: &Spec,
-    known: &[Known],
-    uses: &[Use],
-    out: &mut Vec<Finding>,
-) -> Result<(), AllocError>
-    ensures { IfOk result (λ _. out.new.items ≡ out.old.items ++ each_use (spec.assigned_use s.now (map see_known known.now)) uses.now) }
-{
-    for u in uses {
-        add_assigned_use(alloc, s, known, u, out)?;
-    }
-    Ok(())
 }

@@ -8,8 +8,7 @@ ghost use Rattle.pgo_scope.specs.CaptureView.{see_test, see_tests, see_captures}
 ghost use Rattle.pgo_scope.specs.Findings.{each_use};
 ghost use Rattle.pgo_scope.specs.Twice as spec;
 
-use crate::finding::Finding;
-use crate::twice::add_twice;
+use crate::finding::{Cause, Finding, add_if};
 use pgo_base::expr::Expr;
 use pgo_base::text::Text;
 use pgo_syntax::macros::Macro;
@@ -240,10 +239,8 @@ fn add_captured_use(
     match &u.form {
         Form::Field => Ok(()),
         _ => {
-            if test.has(&u.name) {
-                add_twice(alloc, u.around.place, &u.name, out)?;
-            }
-            Ok(())
+            let wrong = test.has(&u.name);
+            add_if(alloc, wrong, Cause::Twice, u.around.place, &u.name, out)
         }
     }
 }
@@ -314,7 +311,7 @@ fn add_captured_in(
     add_captured_behind(alloc, behind, around, &args[tests.len()..], out)
 }
 
-fn add_capture_use(
+pub fn add_capture_use(
     alloc: Global,
     known: &[Captures],
     u: &Use,
@@ -332,19 +329,4 @@ fn add_capture_use(
         }
         _ => Ok(()),
     }
-}
-
-/// Adds each name in an argument of a macro's call that may not stand there.
-pub fn add_capture_uses(
-    alloc: Global,
-    known: &[Captures],
-    uses: &[Use],
-    out: &mut Vec<Finding>,
-) -> Result<(), AllocError>
-    ensures { IfOk result (λ _. out.new.items ≡ out.old.items ++ each_use (spec.capture_use (map see_captures known.now)) uses.now) }
-{
-    for u in uses {
-        add_capture_use(alloc, known, u, out)?;
-    }
-    Ok(())
 }

@@ -1,10 +1,8 @@
 // Rule 4: a global's name stands where it means the global and may not stand.
 ghost use Rattle.std.specs.Prelude.{◌≡◌, ◌++◌, IfOk};
-ghost use Rattle.pgo_scope.specs.Findings.{each_use};
 ghost use Rattle.pgo_scope.specs.Globals as spec;
 
-use crate::errors::ScopeError;
-use crate::finding::Finding;
+use crate::finding::{Cause, Finding, add_if};
 use pgo_uses::tables::Tables;
 use pgo_uses::uses::{Form, Use};
 use std::alloc::{AllocError, Global};
@@ -20,23 +18,16 @@ fn is_global(t: &Tables, u: &Use) -> bool
     }
 }
 
-/// Adds what breaks the rule among names in the text.
-pub fn add_global_uses(
+/// Adds the name where it means a global and may not stand.
+pub fn add_global_use(
     alloc: Global,
     t: &Tables,
-    uses: &[Use],
+    u: &Use,
     out: &mut Vec<Finding>,
 ) -> Result<(), AllocError>
-    ensures { IfOk result (λ _. out.new.items ≡ out.old.items ++ each_use (spec.global_finding t.now) uses.now) }
+    ensures { IfOk result (λ _. out.new.items ≡ out.old.items ++ spec.global_finding t.now u.now) }
 {
-    for u in uses {
-        if is_global(t, u) {
-            let name = u.name.copy(alloc)?;
-            out.push(Finding {
-                place: u.around.place,
-                error: ScopeError::GlobalInArchetype { name },
-            })?;
-        }
-    }
-    Ok(())
+    let wrong = is_global(t, u);
+    let cause = Cause::GlobalInArchetype;
+    add_if(alloc, wrong, cause, u.around.place, &u.name, out)
 }

@@ -11,6 +11,7 @@ mod globals;
 mod known;
 mod mapped;
 mod modules;
+mod rules;
 pub mod scope;
 mod things;
 mod twice;

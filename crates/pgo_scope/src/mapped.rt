@@ -6,8 +6,7 @@ ghost use Rattle.pgo_scope.specs.Findings.{each_use, found_if, found_where};
 ghost use Rattle.pgo_scope.specs.KnownView.{see_known, see_ways};
 ghost use Rattle.pgo_scope.specs.Mapped as spec;
 
-use crate::errors::ScopeError;
-use crate::finding::Finding;
+use crate::finding::{Cause, Finding, add_if};
 use crate::known::{Known, ParameterWays, add_left_uses, parameters_of, plainly, read_around};
 use crate::ways::{Ways, join, left_base, left_shape};
 use pgo_base::expr::Expr;
@@ -162,14 +161,7 @@ fn add_mapped(
 ) -> Result<(), AllocError>
     ensures { IfOk result (λ _. out.new.items ≡ out.old.items ++ found_if wrong place (errors.MappedReadHere x.now)) }
 {
-    if wrong {
-        let name = x.copy(alloc)?;
-        out.push(Finding {
-            place,
-            error: ScopeError::MappedReadHere { name },
-        })?;
-    }
-    Ok(())
+    add_if(alloc, wrong, Cause::MappedReadHere, place, x, out)
 }
 
 fn add_mapped_read(
@@ -337,7 +329,8 @@ fn add_arguments(
     Ok(())
 }
 
-fn add_mapped_use(
+/// Adds the name where it is a mapped parameter that stands as it may not, or an argument of its macro is.
+pub fn add_mapped_use(
     alloc: Global,
     s: &Spec,
     known: &[Known],
@@ -360,20 +353,4 @@ fn add_mapped_use(
         }
         _ => Ok(()),
     }
-}
-
-/// Adds what breaks the rule among names in the text.
-pub fn add_mapped_uses(
-    alloc: Global,
-    s: &Spec,
-    known: &[Known],
-    uses: &[Use],
-    out: &mut Vec<Finding>,
-) -> Result<(), AllocError>
-    ensures { IfOk result (λ _. out.new.items ≡ out.old.items ++ each_use (spec.mapped_use s.now (map see_known known.now)) uses.now) }
-{
-    for u in uses {
-        add_mapped_use(alloc, s, known, u, out)?;
-    }
-    Ok(())
 }

@@ -1,26 +1,23 @@
 // Rule 9: EXTENDS names a module that there is not.
-ghost use Rattle.std.specs.Prelude.{◌≡◌, IfOk};
+ghost use Rattle.std.specs.Prelude.{◌≡◌, ◌++◌, IfOk};
 ghost use Rattle.pgo_scope.specs.Modules as spec;
 
-use crate::errors::ScopeError;
-use crate::finding::Finding;
+use crate::finding::{Cause, Finding, add_if};
 use crate::words::is_module;
 use pgo_syntax::spec::Spec;
 use std::alloc::{AllocError, Global};
 
-/// What breaks the rule, in order.
-pub fn unknown_modules(alloc: Global, s: &Spec) -> Result<Vec<Finding>, AllocError>
-    ensures { IfOk result (λ v. v.items ≡ spec.unknown_modules s.now) }
+/// Adds what breaks the rule.
+pub fn add_unknown_modules(
+    alloc: Global,
+    s: &Spec,
+    out: &mut Vec<Finding>,
+) -> Result<(), AllocError>
+    ensures { IfOk result (λ _. out.new.items ≡ out.old.items ++ spec.unknown_modules s.now) }
 {
-    let mut found = Vec::new(alloc);
     for x in s.extends.as_slice() {
-        if !is_module(&x.name) {
-            let name = x.name.copy(alloc)?;
-            found.push(Finding {
-                place: x.place,
-                error: ScopeError::UnknownModule { name },
-            })?;
-        }
+        let wrong = !is_module(&x.name);
+        add_if(alloc, wrong, Cause::UnknownModule, x.place, &x.name, out)?;
     }
-    Ok(found)
+    Ok(())
 }

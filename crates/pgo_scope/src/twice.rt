@@ -1,14 +1,12 @@
 // Rule 2: a name has two meanings, but for macros' arguments.
-ghost use Rattle.std.specs.Prelude.{◌≡◌, [], ◌∷◌, ◌++◌, IfOk};
+ghost use Rattle.std.specs.Prelude.{◌≡◌, [], ◌++◌, IfOk};
 ghost use Rattle.pgo_uses.specs.Heads as heads;
 ghost use Rattle.pgo_uses.specs.PieceView.{placed_names};
-ghost use Rattle.pgo_scope.specs.declared.errors.ScopeError.TheVariants as errors;
-ghost use Rattle.pgo_scope.specs.Findings.{each_use, each_name};
+ghost use Rattle.pgo_scope.specs.Findings.{each_name};
 ghost use Rattle.pgo_scope.specs.TextOrder.{in_text_order};
 ghost use Rattle.pgo_scope.specs.Twice as spec;
 
-use crate::errors::ScopeError;
-use crate::finding::Finding;
+use crate::finding::{Cause, Finding, add_if};
 use crate::unknown::knows_self;
 use crate::words::{is_default, is_self, operator_count};
 use pgo_base::text::Text;
@@ -31,23 +29,6 @@ fn sorted<'a>(list: Vec<&'a PlacedName>) -> Result<Vec<&'a PlacedName>, AllocErr
     Ok(list)
 }
 
-/// Adds a name that has another meaning already.
-pub fn add_twice(
-    alloc: Global,
-    place: u32,
-    x: &Text,
-    out: &mut Vec<Finding>,
-) -> Result<(), AllocError>
-    ensures { IfOk result (λ _. out.new.items ≡ out.old.items ++ record { place = place; error = errors.Twice x.now } ∷ []) }
-{
-    let name = x.copy(alloc)?;
-    out.push(Finding {
-        place,
-        error: ScopeError::Twice { name },
-    })?;
-    Ok(())
-}
-
 /// Adds each of these names that stands before among them.
 fn add_repeated(
     alloc: Global,
@@ -58,9 +39,8 @@ fn add_repeated(
 {
     let mut before = Names::new(alloc);
     for x in list {
-        if before.has(&x.name) {
-            add_twice(alloc, x.place, &x.name, out)?;
-        }
+        let again = before.has(&x.name);
+        add_if(alloc, again, Cause::Twice, x.place, &x.name, out)?;
         before.push(alloc, &x.name, 0)?;
     }
     Ok(())
@@ -148,9 +128,8 @@ pub fn add_reserved(
     ensures { IfOk result (λ _. out.new.items ≡ out.old.items ++ each_name spec.reserved_name (placed_names list.now)) }
 {
     for x in list {
-        if is_reserved(&x.name) {
-            add_twice(alloc, x.place, &x.name, out)?;
-        }
+        let reserved = is_reserved(&x.name);
+        add_if(alloc, reserved, Cause::Twice, x.place, &x.name, out)?;
     }
     Ok(())
 }
@@ -183,19 +162,15 @@ fn is_hiding(t: &Tables, u: &Use) -> bool
     }
 }
 
-/// Adds each name that is bound or declared in a unit and hides another.
-pub fn add_hiding(
+/// Adds the name where it is bound or declared in a unit and hides another.
+pub fn add_hiding_use(
     alloc: Global,
     t: &Tables,
-    uses: &[Use],
+    u: &Use,
     out: &mut Vec<Finding>,
 ) -> Result<(), AllocError>
-    ensures { IfOk result (λ _. out.new.items ≡ out.old.items ++ each_use (spec.hiding_use t.now) uses.now) }
+    ensures { IfOk result (λ _. out.new.items ≡ out.old.items ++ spec.hiding_use t.now u.now) }
 {
-    for u in uses {
-        if is_hiding(t, u) {
-            add_twice(alloc, u.around.place, &u.name, out)?;
-        }
-    }
-    Ok(())
+    let wrong = is_hiding(t, u);
+    add_if(alloc, wrong, Cause::Twice, u.around.place, &u.name, out)
 }

@@ -1,33 +1,21 @@
 // Rule 8: an identifier holds `__`.
 ghost use Rattle.std.specs.Prelude.{◌≡◌, ◌++◌, map, IfOk};
-ghost use Rattle.pgo_scope.specs.Findings.{each_use, each_name};
+ghost use Rattle.pgo_scope.specs.Findings.{each_name};
 ghost use Rattle.pgo_scope.specs.Underscores as spec;
 
-use crate::errors::ScopeError;
-use crate::finding::Finding;
+use crate::finding::{Cause, Finding, add_if};
 use crate::words::has_double_underscore;
 use pgo_syntax::name::PlacedName;
 use pgo_uses::uses::Use;
 use std::alloc::{AllocError, Global};
 
-/// Adds what breaks the rule among names in the text.
-pub fn add_double_uses(
-    alloc: Global,
-    uses: &[Use],
-    out: &mut Vec<Finding>,
-) -> Result<(), AllocError>
-    ensures { IfOk result (λ _. out.new.items ≡ out.old.items ++ each_use spec.double_use uses.now) }
+/// Adds the name where it breaks the rule.
+pub fn add_double_use(alloc: Global, u: &Use, out: &mut Vec<Finding>) -> Result<(), AllocError>
+    ensures { IfOk result (λ _. out.new.items ≡ out.old.items ++ spec.double_use u.now) }
 {
-    for u in uses {
-        if has_double_underscore(&u.name) {
-            let name = u.name.copy(alloc)?;
-            out.push(Finding {
-                place: u.around.place,
-                error: ScopeError::DoubleUnderscore { name },
-            })?;
-        }
-    }
-    Ok(())
+    let wrong = has_double_underscore(&u.name);
+    let cause = Cause::DoubleUnderscore;
+    add_if(alloc, wrong, cause, u.around.place, &u.name, out)
 }
 
 /// Adds what breaks the rule among names in heads.
@@ -39,13 +27,8 @@ pub fn add_double_names(
     ensures { IfOk result (λ _. out.new.items ≡ out.old.items ++ each_name spec.double_name (map (λ x. x.now) names.now)) }
 {
     for x in names {
-        if has_double_underscore(&x.name) {
-            let name = x.name.copy(alloc)?;
-            out.push(Finding {
-                place: x.place,
-                error: ScopeError::DoubleUnderscore { name },
-            })?;
-        }
+        let wrong = has_double_underscore(&x.name);
+        add_if(alloc, wrong, Cause::DoubleUnderscore, x.place, &x.name, out)?;
     }
     Ok(())
 }

@@ -2,11 +2,9 @@
 ghost use Rattle.std.specs.Prelude.{◌≡◌, ◌++◌, IfOk};
 ghost use Rattle.pgo_uses.specs.Names.{is_member};
 ghost use Rattle.pgo_uses.specs.AllUses.{parameter_names, variable_names};
-ghost use Rattle.pgo_scope.specs.Findings.{each_use};
 ghost use Rattle.pgo_scope.specs.Unknown as spec;
 
-use crate::errors::ScopeError;
-use crate::finding::Finding;
+use crate::finding::{Cause, Finding, add_if};
 use crate::words::{is_default, is_self, operator_count};
 use pgo_base::text::Text;
 use pgo_syntax::archetype::{Archetype, Parameter};
@@ -118,26 +116,18 @@ fn is_unknown(t: &Tables, rs: &[Archetype], u: &Use) -> bool
     }
 }
 
-/// Adds what breaks the rule among names in the text.
-pub fn add_unknown_uses(
+/// Adds the name where it has no meaning.
+pub fn add_unknown_use(
     alloc: Global,
     t: &Tables,
     rs: &[Archetype],
-    uses: &[Use],
+    u: &Use,
     out: &mut Vec<Finding>,
 ) -> Result<(), AllocError>
-    ensures { IfOk result (λ _. out.new.items ≡ out.old.items ++ each_use (spec.unknown_use t.now rs.now) uses.now) }
+    ensures { IfOk result (λ _. out.new.items ≡ out.old.items ++ spec.unknown_use t.now rs.now u.now) }
 {
-    for u in uses {
-        if is_unknown(t, rs, u) {
-            let name = u.name.copy(alloc)?;
-            out.push(Finding {
-                place: u.around.place,
-                error: ScopeError::Unknown { name },
-            })?;
-        }
-    }
-    Ok(())
+    let wrong = is_unknown(t, rs, u);
+    add_if(alloc, wrong, Cause::Unknown, u.around.place, &u.name, out)
 }
 
 /// Adds a name in the head of a process that is not one of these.
@@ -149,14 +139,8 @@ fn add_unknown_in(
 ) -> Result<(), AllocError>
     ensures { IfOk result (λ _. out.new.items ≡ out.old.items ++ spec.unknown_in names.now x.now) }
 {
-    if !names.has(&x.name) {
-        let name = x.name.copy(alloc)?;
-        out.push(Finding {
-            place: x.place,
-            error: ScopeError::Unknown { name },
-        })?;
-    }
-    Ok(())
+    let wrong = !names.has(&x.name);
+    add_if(alloc, wrong, Cause::Unknown, x.place, &x.name, out)
 }
 
 fn add_unknown_argument(

@@ -10,14 +10,14 @@ use std::alloc::{AllocError, Global};
 
 /// How much of a global a parameter, an argument or a mapping clause speaks of: the global as a whole, or with `[_]` one
 /// element at a time.
-#[derive(Clone, Copy, Debug, PartialEq, Eq)]
+#[derive(Clone, Copy)]
 pub enum Extent {
     Whole,
     Element,
 }
 
 /// What a parameter stands for: a value, `x`, or a global, `ref x` and `ref x[_]`.
-#[derive(Clone, Copy, Debug, PartialEq, Eq)]
+#[derive(Clone, Copy)]
 pub enum ParameterKind {
     Value,
     Ref(Extent),

@@ -8,7 +8,7 @@ use std::marker::Model;
 
 /// Why an attempt found no end: an `await` is FALSE or a `with` has no member, an expression has no value, or an
 /// `assert` is FALSE.
-#[derive(Clone, Copy, Debug, PartialEq, Eq)]
+#[derive(Clone, Copy)]
 pub enum NoteKind {
     Blocked,
     NoValue,
@@ -16,7 +16,7 @@ pub enum NoteKind {
 }
 
 /// An attempt that found no end, with the number of entries before it.
-#[derive(Clone, Copy, Debug, PartialEq, Eq)]
+#[derive(Clone, Copy)]
 pub struct Note {
     pub instance: u32,
     pub attempt: u32,
@@ -28,7 +28,7 @@ pub struct Note {
 pub type Notes = Items<Note>;
 
 /// Why an attempt was refused.
-#[derive(Clone, Copy, Debug, PartialEq, Eq)]
+#[derive(Clone, Copy)]
 pub enum Refusal {
     /// another instance holds the resource; 1,024 stands for the journal
     Held { resource: u32, holder: u32 },
@@ -39,7 +39,7 @@ pub enum Refusal {
 }
 
 /// What became of an attempt: entry n (from 1), a note with n entries before it, or a refusal.
-#[derive(Clone, Copy, Debug, PartialEq, Eq)]
+#[derive(Clone, Copy)]
 pub enum AttemptResult {
     Step { n: u32 },
     Noted { kind: NoteKind, n: u32 },
@@ -47,7 +47,7 @@ pub enum AttemptResult {
 }
 
 /// An attempt, numbered from 1, and what became of it.
-#[derive(Clone, Copy, Debug, PartialEq, Eq)]
+#[derive(Clone, Copy)]
 pub struct Record {
     pub attempt: u32,
     pub result: AttemptResult,
@@ -58,7 +58,7 @@ pub type Records = Items<Record>;
 
 /// Why an instance makes no more attempts: it is at "Done"; its last record is a note that no retry can mend, or the
 /// refusal Full; it has made all its attempts; memory was wanting; or no instance has the number.
-#[derive(Clone, Copy, Debug, PartialEq, Eq)]
+#[derive(Clone, Copy)]
 pub enum End {
     Done,
     Stopped,

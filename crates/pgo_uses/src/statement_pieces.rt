@@ -184,29 +184,27 @@ fn add_with<'a>(
     ensures parts { IfOk result (λ _. map see_part parts.new.items ≡ map see_part parts.old.items ++ (spec.with_parts 0 names.now ++ spec.nested s.now (length (with_names names.now)) ∷ [])) }
     ensures bound { IfOk result (λ _. texts bound.new.items ≡ with_names names.now) }
 {
-    add_with_names(parts, bound, names)?;
+    add_with_parts(parts, names)?;
+    add_with_names(bound, names)?;
     add(parts, &[Part::Nested(s, bound.len())])
 }
 
-/// Adds the names of a `with`, behind these names.
-fn add_with_names<'a>(
-    parts: &mut Vec<Part<'a>>,
-    bound: &mut Vec<&'a Text>,
-    names: &'a WithNames,
-) -> Result<(), AllocError>
-    ensures parts { IfOk result (λ _. map see_part parts.new.items ≡ map see_part parts.old.items ++ spec.with_parts (length bound.old.items) names.now) }
-    ensures bound { IfOk result (λ _. texts bound.new.items ≡ texts bound.old.items ++ with_names names.now) }
+/// Adds the names of a `with`, each before its expression, which sees the names before it.
+fn add_with_parts<'a>(parts: &mut Vec<Part<'a>>, names: &'a WithNames) -> Result<(), AllocError>
+    ensures { IfOk result (λ _. map see_part parts.new.items ≡ map see_part parts.old.items ++ spec.with_parts 0 names.now) }
+{
+    for (i, w) in names.as_slice().iter().enumerate() {
+        let operand = Part::Operand(w.name.place, origin_of(&w.origin), i);
+        add(parts, &[Part::Named(&w.name, i), operand])?;
+    }
+    Ok(())
+}
+
+/// Adds the names that a `with` binds.
+fn add_with_names<'a>(bound: &mut Vec<&'a Text>, names: &'a WithNames) -> Result<(), AllocError>
+    ensures { IfOk result (λ _. texts bound.new.items ≡ texts bound.old.items ++ with_names names.now) }
 {
     for w in names.as_slice() {
-        let count = bound.len();
-        let e = origin_of(&w.origin);
-        add(
-            parts,
-            &[
-                Part::Named(&w.name, count),
-                Part::Operand(w.name.place, e, count),
-            ],
-        )?;
         bound.push(&w.name.name)?;
     }
     Ok(())

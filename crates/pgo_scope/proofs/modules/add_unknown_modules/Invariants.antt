@@ -2,7 +2,7 @@
 use Rattle.std.proofs.Common.{◌≡◌, ◌++◌, drop}
 use Rattle.pgo_scope.specs.Findings.{each_name}
 use Rattle.pgo_scope.specs.Modules.{unknown_module}
-use Rattle.pgo_scope.proofs.modules.unknown_modules.Given as goal
+use Rattle.pgo_scope.proofs.modules.add_unknown_modules.Given as goal
 
 abbrev pub invariant-loop-x : goal.invariant-loop-x
-invariant-loop-x l = l.found.items ++ each_name unknown_module (drop l.x-index l.x-items) ≡ each_name unknown_module l.x-items
+invariant-loop-x l = l.out.items ++ each_name unknown_module (drop l.x-index l.x-items) ≡ l.initial.out.items ++ each_name unknown_module l.x-items

@@ -1,8 +1,0 @@
--- What the loop keeps: what is made and what is left are the whole.
-use Rattle.std.proofs.Common.{◌≡◌, ◌++◌, drop}
-use Rattle.pgo_scope.specs.Findings.{each_use}
-use Rattle.pgo_scope.specs.Arity.{arity_use}
-use Rattle.pgo_scope.proofs.arity.add_arity_uses.Given as goal
-
-abbrev pub invariant-loop-u : goal.invariant-loop-u
-invariant-loop-u l = l.out.items ++ each_use (arity_use l.t) (drop l.u-index l.uses) ≡ l.initial.out.items ++ each_use (arity_use l.t) l.uses
