@@ -52,12 +52,11 @@ uses_findings r c = each_use (use_findings r c) c.uses
 abbrev pub unknown : Context → List Finding
 unknown c = uses_findings use_rules.Unknown c ++ unknown_heads c.tables c.spec.processes
 
+abbrev pub hidden : Context → List Finding
+hidden c = uses_findings use_rules.Hiding c ++ uses_findings use_rules.Captured c
+
 abbrev pub twice : Context → List Finding
-twice c =
-    declared_twice c.spec
-    ++ each_name reserved_name (unit_names c.spec)
-    ++ uses_findings use_rules.Hiding c
-    ++ uses_findings use_rules.Captured c
+twice c = declared_twice c.spec ++ each_name reserved_name (unit_names c.spec) ++ hidden c
 
 abbrev pub arities : Context → List Finding
 arities c = uses_findings use_rules.Arity c ++ arity_heads c.tables c.spec.processes

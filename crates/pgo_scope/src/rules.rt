@@ -123,14 +123,21 @@ fn add_unknown(alloc: Global, c: &Context<'_>, out: &mut Vec<Finding>) -> Result
     add_unknown_heads(alloc, c.tables, c.spec.processes.as_slice(), out)
 }
 
+/// Adds the names that hide another, and those in arguments that a macro captures.
+fn add_hidden(alloc: Global, c: &Context<'_>, out: &mut Vec<Finding>) -> Result<(), AllocError>
+    ensures { IfOk result (λ _. out.new.items ≡ out.old.items ++ spec.hidden (see c.now)) }
+{
+    add_uses(alloc, UseRule::Hiding, c, out)?;
+    add_uses(alloc, UseRule::Captured, c, out)
+}
+
 fn add_twice(alloc: Global, c: &Context<'_>, out: &mut Vec<Finding>) -> Result<(), AllocError>
     ensures { IfOk result (λ _. out.new.items ≡ out.old.items ++ spec.twice (see c.now)) }
 {
     add_declared_twice(alloc, c.spec, out)?;
     let names = unit_names(alloc, c.spec)?;
     add_reserved(alloc, names.as_slice(), out)?;
-    add_uses(alloc, UseRule::Hiding, c, out)?;
-    add_uses(alloc, UseRule::Captured, c, out)
+    add_hidden(alloc, c, out)
 }
 
 fn add_arities(alloc: Global, c: &Context<'_>, out: &mut Vec<Finding>) -> Result<(), AllocError>
