@@ -39,26 +39,36 @@ pub enum Question {
     Assigned,
 }
 
-/// The keys that ask, with the texts behind them, where N is any number.
-const QUESTIONS: [(Reader, &str, &str, Question); 10] = [
-    (Reader::Tokens, "token", "N", Question::Token),
-    (Reader::Tokens, "last", "", Question::LastToken),
-    (Reader::Tokens, "count", "", Question::Count),
-    (Reader::Parts, "header", "N", Question::HeaderToken),
-    (Reader::Parts, "algorithm", "N", Question::AlgorithmToken),
-    (Reader::Parts, "count", "", Question::Count),
-    (Reader::Expressions, "operators", "", Question::Operators),
-    (Reader::Specifications, "ask", "counts", Question::Counts),
+/// The keys that ask, with the texts behind them, or any number.
+const QUESTIONS: [(Reader, &str, Option<&str>, Question); 10] = [
+    (Reader::Tokens, "token", None, Question::Token),
+    (Reader::Tokens, "last", Some(""), Question::LastToken),
+    (Reader::Tokens, "count", Some(""), Question::Count),
+    (Reader::Parts, "header", None, Question::HeaderToken),
+    (Reader::Parts, "algorithm", None, Question::AlgorithmToken),
+    (Reader::Parts, "count", Some(""), Question::Count),
+    (
+        Reader::Expressions,
+        "operators",
+        Some(""),
+        Question::Operators,
+    ),
     (
         Reader::Specifications,
         "ask",
-        "branches",
+        Some("counts"),
+        Question::Counts,
+    ),
+    (
+        Reader::Specifications,
+        "ask",
+        Some("branches"),
         Question::Branches,
     ),
     (
         Reader::Specifications,
         "ask",
-        "assigned",
+        Some("assigned"),
         Question::Assigned,
     ),
 ];
@@ -108,14 +118,15 @@ impl Texts {
 
     /// Takes what is asked; false: there is no such question.
     fn ask(&mut self, key: &str, text: &str) -> bool {
-        let (text, number) = match text.parse::<usize>() {
-            Ok(number) => ("N", number),
-            Err(_) => (text, 0),
-        };
+        let number = text.parse::<usize>().ok();
         for row in &QUESTIONS {
-            if row.0 == self.reader && row.1 == key && row.2 == text {
+            let is_text = match row.2 {
+                Some(word) => word == text,
+                None => number.is_some(),
+            };
+            if row.0 == self.reader && row.1 == key && is_text {
                 self.question = row.3;
-                self.number = number;
+                self.number = number.unwrap_or(0);
                 return true;
             }
         }
