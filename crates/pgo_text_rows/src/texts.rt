@@ -116,6 +116,16 @@ impl Texts {
         self.builder.begin(text)
     }
 
+    fn set_limit(&mut self, text: &str) -> bool {
+        match text.parse::<u32>() {
+            Ok(limit) => {
+                self.limit = limit;
+                true
+            }
+            Err(_) => false,
+        }
+    }
+
     /// Takes what is asked; false: there is no such question.
     fn ask(&mut self, key: &str, text: &str) -> bool {
         let number = text.parse::<usize>().ok();
@@ -136,14 +146,12 @@ impl Texts {
 
 impl Subject for Texts {
     fn take(&mut self, key: &str, text: &str) -> Result<bool, AllocError> {
-        match (self.reader, key, text.parse::<u32>()) {
-            (_, "text", _) => self.begin(Question::Whole, text),
-            (Reader::Expressions, "body", _) => self.begin(Question::Body, text),
-            (Reader::Expressions, "mapped", _) => self.begin(Question::Mapped, text),
-            (Reader::Expressions, "height", Ok(limit)) | (Reader::Tokens, "limit", Ok(limit)) => {
-                self.limit = limit;
-                Ok(true)
-            }
+        match (self.reader, key) {
+            (_, "text") => self.begin(Question::Whole, text),
+            (Reader::Expressions, "body") => self.begin(Question::Body, text),
+            (Reader::Expressions, "mapped") => self.begin(Question::Mapped, text),
+            (Reader::Expressions, "height") => Ok(self.set_limit(text)),
+            (Reader::Tokens, "limit") => Ok(self.set_limit(text)),
             _ => Ok(self.ask(key, text) || self.builder.take(key, text)?),
         }
     }
