@@ -39,26 +39,36 @@ pub enum Question {
     Assigned,
 }
 
-/// The keys that ask, with the texts behind them, where N is any number.
-const QUESTIONS: [(Reader, &str, &str, Question); 10] = [
-    (Reader::Tokens, "token", "N", Question::Token),
-    (Reader::Tokens, "last", "", Question::LastToken),
-    (Reader::Tokens, "count", "", Question::Count),
-    (Reader::Parts, "header", "N", Question::HeaderToken),
-    (Reader::Parts, "algorithm", "N", Question::AlgorithmToken),
-    (Reader::Parts, "count", "", Question::Count),
-    (Reader::Expressions, "operators", "", Question::Operators),
-    (Reader::Specifications, "ask", "counts", Question::Counts),
+/// The keys that ask, with the texts behind them, or any number.
+const QUESTIONS: [(Reader, &str, Option<&str>, Question); 10] = [
+    (Reader::Tokens, "token", None, Question::Token),
+    (Reader::Tokens, "last", Some(""), Question::LastToken),
+    (Reader::Tokens, "count", Some(""), Question::Count),
+    (Reader::Parts, "header", None, Question::HeaderToken),
+    (Reader::Parts, "algorithm", None, Question::AlgorithmToken),
+    (Reader::Parts, "count", Some(""), Question::Count),
+    (
+        Reader::Expressions,
+        "operators",
+        Some(""),
+        Question::Operators,
+    ),
     (
         Reader::Specifications,
         "ask",
-        "branches",
+        Some("counts"),
+        Question::Counts,
+    ),
+    (
+        Reader::Specifications,
+        "ask",
+        Some("branches"),
         Question::Branches,
     ),
     (
         Reader::Specifications,
         "ask",
-        "assigned",
+        Some("assigned"),
         Question::Assigned,
     ),
 ];
@@ -106,16 +116,27 @@ impl Texts {
         self.builder.begin(text)
     }
 
+    fn set_limit(&mut self, text: &str) -> bool {
+        match text.parse::<u32>() {
+            Ok(limit) => {
+                self.limit = limit;
+                true
+            }
+            Err(_) => false,
+        }
+    }
+
     /// Takes what is asked; false: there is no such question.
     fn ask(&mut self, key: &str, text: &str) -> bool {
-        let (text, number) = match text.parse::<usize>() {
-            Ok(number) => ("N", number),
-            Err(_) => (text, 0),
-        };
+        let number = text.parse::<usize>().ok();
         for row in &QUESTIONS {
-            if row.0 == self.reader && row.1 == key && row.2 == text {
+            let is_text = match row.2 {
+                Some(word) => word == text,
+                None => number.is_some(),
+            };
+            if row.0 == self.reader && row.1 == key && is_text {
                 self.question = row.3;
-                self.number = number;
+                self.number = number.unwrap_or(0);
                 return true;
             }
         }
@@ -125,14 +146,12 @@ impl Texts {
 
 impl Subject for Texts {
     fn take(&mut self, key: &str, text: &str) -> Result<bool, AllocError> {
-        match (self.reader, key, text.parse::<u32>()) {
-            (_, "text", _) => self.begin(Question::Whole, text),
-            (Reader::Expressions, "body", _) => self.begin(Question::Body, text),
-            (Reader::Expressions, "mapped", _) => self.begin(Question::Mapped, text),
-            (Reader::Expressions, "height", Ok(limit)) | (Reader::Tokens, "limit", Ok(limit)) => {
-                self.limit = limit;
-                Ok(true)
-            }
+        match (self.reader, key) {
+            (_, "text") => self.begin(Question::Whole, text),
+            (Reader::Expressions, "body") => self.begin(Question::Body, text),
+            (Reader::Expressions, "mapped") => self.begin(Question::Mapped, text),
+            (Reader::Expressions, "height") => Ok(self.set_limit(text)),
+            (Reader::Tokens, "limit") => Ok(self.set_limit(text)),
             _ => Ok(self.ask(key, text) || self.builder.take(key, text)?),
         }
     }
