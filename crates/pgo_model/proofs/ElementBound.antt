@@ -7,7 +7,7 @@ use Rattle.pgo_base.specs.Data.{Data, integer, string, function, Pairs, pair, no
 use Rattle.pgo_base.specs.Exact.{data_exact}
 use Rattle.pgo_base.specs.Lookup.{Name, Vars, find}
 use Rattle.pgo_base.specs.Order.{data_cmp}
-use Rattle.pgo_base.specs.Sets.{IsSorted, in_order}
+use Rattle.pgo_base.specs.Sets.{IsSorted}
 use Rattle.std.specs.declared.cmp.Ordering.{Ordering}
 use Rattle.std.specs.declared.cmp.Ordering.TheVariants.{Less, Equal, Greater}
 use Rattle.std.specs.Ordering.{is_eq}
@@ -18,7 +18,7 @@ use Rattle.pgo_model.specs.Machine.{nth}
 use Rattle.pgo_model.specs.Operators.{fits_i64, both, except, same_data}
 use Rattle.pgo_model.specs.Outcome.{NoValue, Outcome, Next, Stuck, Nowhere, Section}
 use Rattle.pgo_model.specs.System.{System, Member, Resource, Touched, Words}
-use Rattle.pgo_model.specs.SystemState.{IsSystemState, IsElementBound, HasKeys, HasOneDomain, owners}
+use Rattle.pgo_model.specs.SystemState.{IsSystemState, IsElementBound, HasOneDomain}
 use Rattle.pgo_model.specs.Variables.{store}
 use Rattle.pgo_model.specs.Written.{pc, done}
 
@@ -53,13 +53,13 @@ sect zero s d = record { trace = (x, Some one) ∷ []; end = end_of (assigned s)
 sect (suc k) s d = record { trace = []; end = Nowhere }
 
 abbrev member : Member
-member = record { id = one; own = pc ∷ []; globals = x ∷ [] }
+member = record { id = one; globals = x ∷ [] }
 
 abbrev element : Resource
 element = record { number = 0; global = x; index = Some one }
 
 abbrev system : List Resource → Data → System
-system rs f = record { members = member ∷ []; resources = rs; start = at f (string (codes "P_l")); sect = sect }
+system rs f = record { members = member ∷ []; own = []; resources = rs; start = at f (string (codes "P_l")); sect = sect }
 
 -- x is a function on 1
 abbrev with_element : System
@@ -123,11 +123,6 @@ module _ (rs : List Resource) (ps : Pairs) where
 
   -- what a state of the system has beside its values
   module _ (global : (n : ℕ) (r : Resource) → nth rs n ≡ Some r → r.global ≡ x) (qs : Pairs) (same : keys (graph qs) ≡ keys (graph ps)) (l : Name) where
-    own : (k n : ℕ) (i : Member) (z : Name) → nth y.members k ≡ Some i → nth i.own n ≡ Some z → HasKeys z (in_order (owners z y.members)) (at (function qs) (string l))
-    own k n i z e f =
-        subst (λ z. HasKeys z (in_order (owners z y.members)) (at (function qs) (string l))) (only pc z n (ap (λ j. nth j.own n) (only member i k e) ∙ f))
-        (pair one (string l) no_pairs, refl, refl)
-
     domains : (g : Name) → IsElementBound y g → HasOneDomain g (at (function qs) (string l)) y.start
     domains g b = subst (λ g. HasOneDomain g (at (function qs) (string l)) y.start) (is_x b.shared) (keys (graph ps), (qs, refl, same), (ps, refl, refl))
       where
@@ -168,7 +163,7 @@ good z l f = record {
   values = (((refl, f, tt), one_key one), (((refl, tt, tt), one_key one), tt));
   shallow = refl;
   places = (on_one (string l), refl, refl);
-  own = own (element ∷ []) (on_one (integer (pos 0))) (λ n r e. ap (λ r. r.global) (sym (only element r n e))) (on_one (integer z)) refl l;
+  own = λ n o e. absurd (grind (arith, e));
   domains = domains (element ∷ []) (on_one (integer (pos 0))) (λ n r e. ap (λ r. r.global) (sym (only element r n e))) (on_one (integer z)) refl l;
 }
 
@@ -235,7 +230,7 @@ empty l = record {
   values = ((tt, no_key), (((refl, tt, tt), one_key one), tt));
   shallow = refl;
   places = (on_one (string l), refl, refl);
-  own = own [] no_pairs (λ n r e. absurd (grind (arith, e))) no_pairs refl l;
+  own = λ n o e. absurd (grind (arith, e));
   domains = domains [] no_pairs (λ n r e. absurd (grind (arith, e))) no_pairs refl l;
 }
 
