@@ -28,7 +28,7 @@ use Rattle.pgo_counter.specs.Counters.{counter_bound, counter_system, counter_in
 use Rattle.pgo_front.specs.CounterRuns.{settings, sum_fits, sum_end, counter_changes}
 use Rattle.pgo_counter.specs.CounterNames.{names, section_found, next_apart}
 use Rattle.pgo_front.proofs.CounterSections.{end_is, end_at, sum_data}
-use Rattle.pgo_front.proofs.CounterLaws.{sections_are, section_is, section_at_done, fits, effect_is, place_is, is_state, declares}
+use Rattle.pgo_front.proofs.CounterLaws.{sections_are, section_is, section_at_done, fits, system_fits, effect_is, place_is, is_state, declares}
 use Rattle.pgo_front.proofs.CounterAgrees.{agrees}
 
 -- the instance stands before the statements of `after`, and the global is an integer of 64 bits
@@ -161,7 +161,7 @@ module _ (c : Counter) (w : IsWellNamed c) where
         record { x = s.x; before = s.before; sum = s.sum; after = s.after; body = s.body; fits = s.fits; instance = is_zero e.instance d.instance; change = change_is p e d s }
 
     stored : (n : ℕ) → n ≤ length m.entries → StateAt (counter_bound c).start m.entries n ≡ Some (at n)
-    stored n h = run_states (counter_system c) settings (fits c w start_small id_small) turns n h
+    stored n h = run_states (counter_system c) settings (system_fits c w start_small id_small) turns n h
 
     -- a step is allowed by its section, whose end hangs on no word of choice
     allowed : (s t : Vars) (ps : List Data) → Moves c s t ps → Allows (counter_bound c) 0 s t

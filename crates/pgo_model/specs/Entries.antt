@@ -14,7 +14,7 @@ use Rattle.pgo_model.specs.Machine.{Rules, Entry, nth, state_at}
 use Rattle.pgo_model.specs.MachineLists.{nth_below}
 use Rattle.pgo_model.specs.MachineLaw.{run_turns_good}
 use Rattle.pgo_model.specs.MachineRuns.{run_turns_entries}
-use Rattle.pgo_model.specs.Accounts.{Fits}
+use Rattle.pgo_model.specs.SystemFits.{SystemFits}
 use Rattle.pgo_model.specs.Core.{Settings, Core, Reaches, rules_of}
 
 -- each entry of the journal leads from the state before it to the state after it
@@ -53,7 +53,7 @@ record_leads y k s t ps h = go (After s (effect_between y k s t ps)) refl h
     go None e h = still h
     go (Some u) e h = e ∙ ap Some h
 
-module _ (y : System) (settings : Settings) (fits : Fits (rules_of y settings) (Reaches y) (IsSystemState y)) (turns : List ℕ) where
+module _ (y : System) (settings : Settings) (fits : SystemFits y settings) (turns : List ℕ) where
   abbrev entries : List (Entry Effect)
   entries = (Core y settings turns).entries
 
@@ -63,11 +63,11 @@ module _ (y : System) (settings : Settings) (fits : Fits (rules_of y settings) (
   -- each entry of the machine's journal leads from the state before it to the state after it
   pub run_leads : AllLead (rules_of y settings) y.start entries
   run_leads p e h =
-      let made = run_turns_entries (rules_of y settings) (Reaches y) (IsSystemState y) fits turns p e h in
+      let made = run_turns_entries (rules_of y settings) (Reaches y) (IsSystemState y) fits.rules turns p e h in
       let b = nth_below entries p e h in
-      let good : IsSystemState y (at p) = run_turns_good (rules_of y settings) (Reaches y) (IsSystemState y) fits turns p (omega (arith, b)) in
+      let good : IsSystemState y (at p) = run_turns_good (rules_of y settings) (Reaches y) (IsSystemState y) fits.rules turns p (omega (arith, b)) in
       ap (After (at p)) made.change
-      ∙ record_leads y e.instance (at p) (at (suc p)) made.prints (fits.patches e.instance e.attempt (at p) (at (suc p)) made.prints good made.outcome)
+      ∙ record_leads y e.instance (at p) (at (suc p)) made.prints (fits.rules.patches e.instance e.attempt (at p) (at (suc p)) made.prints good made.outcome)
 
   -- so its states by components are the machine's
   pub run_states : (n : ℕ) → n ≤ length entries → StateAt y.start entries n ≡ Some (at n)
