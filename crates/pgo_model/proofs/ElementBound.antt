@@ -21,8 +21,8 @@ use Rattle.pgo_model.specs.SystemFits.{AreOfResources, SystemFits}
 use Rattle.pgo_model.specs.Operators.{apply, fits_i64, both, except, same_data}
 use Rattle.pgo_model.specs.Outcome.{NoValue, Outcome, Next, Stuck, Nowhere, Section}
 use Rattle.pgo_model.specs.System.{System, Member, Owned, Resource, Touched, Words}
-use Rattle.pgo_model.specs.SystemState.{IsSystemState, IsElementBound, HasKeys, HasOneDomain}
-use Rattle.pgo_model.specs.Variables.{place_of, store}
+use Rattle.pgo_model.specs.SystemState.{IsSystemState, IsElementBound}
+use Rattle.pgo_model.specs.Variables.{place_of, store, IsFunctionOn, HasOneDomain}
 use Rattle.pgo_model.specs.Written.{pc, done}
 
 abbrev one : Data
@@ -148,17 +148,17 @@ module _ (rs : List Resource) (ps : Pairs) where
         let o = h.own 0 local refl in
         let none : n.2 ≡ function no_pairs = some_is _ _ (sym (ap (find v) n.3) ∙ o.1) ∙ ap function (by_none o.0 o.2) in
         let d = h.domains x bound in
-        let value : n.0 ≡ function d.1.0 = some_is _ _ (sym (ap (find x) n.3) ∙ d.1.1) in
-        let same : ps ≡ d.2.0 = pairs_are ps d.2.0 d.2.1 in
-        (d.1.0, k.0, n.3 ∙ (λ i. (x, value i) ∷ (pc, place i) ∷ (v, none i) ∷ []), d.1.2 ∙ sym d.2.2 ∙ ap (λ qs. keys (graph qs)) (sym same))
+        let value : n.0 ≡ function d.2.0 = some_is _ _ (sym (ap (find x) n.3) ∙ d.2.1) in
+        let same : ps ≡ d.1.0 = pairs_are ps d.1.0 d.1.1 in
+        (d.2.0, k.0, n.3 ∙ (λ i. (x, value i) ∷ (pc, place i) ∷ (v, none i) ∷ []), d.2.2 ∙ sym d.1.2 ∙ ap (λ qs. keys (graph qs)) (sym same))
 
   -- what a state of the system has beside its values
   module _ (global : (n : ℕ) (r : Resource) → nth rs n ≡ Some r → r.global ≡ x) (qs : Pairs) (same : keys (graph qs) ≡ keys (graph ps)) (l : Name) where
-    own : (n : ℕ) (o : Owned) → nth y.own n ≡ Some o → HasKeys o.variable (in_order o.ids) (at (function qs) (string l))
-    own n o e = subst (λ o. HasKeys o.variable (in_order o.ids) (at (function qs) (string l))) (only local o n e) (no_pairs, refl, refl)
+    own : (n : ℕ) (o : Owned) → nth y.own n ≡ Some o → IsFunctionOn (in_order o.ids) (find o.variable (at (function qs) (string l)))
+    own n o e = subst (λ o. IsFunctionOn (in_order o.ids) (find o.variable (at (function qs) (string l)))) (only local o n e) (no_pairs, refl, refl)
 
-    domains : (g : Name) → IsElementBound y g → HasOneDomain g (at (function qs) (string l)) y.start
-    domains g b = subst (λ g. HasOneDomain g (at (function qs) (string l)) y.start) (is_x b.shared) (keys (graph ps), (qs, refl, same), (ps, refl, refl))
+    domains : (g : Name) → IsElementBound y g → HasOneDomain y.start (at (function qs) (string l)) g
+    domains g b = subst (λ g. HasOneDomain y.start (at (function qs) (string l)) g) (is_x b.shared) (keys (graph ps), (ps, refl, refl), (qs, refl, same))
       where
         is_x : ((k n : ℕ) × (i : Member) × (nth y.members k ≡ Some i) × (nth i.globals n ≡ Some g)) ⊎ ((n : ℕ) × (r : Resource) × (nth y.resources n ≡ Some r) × (r.global ≡ g)) → x ≡ g
         is_x (inl h) = only x g h.1 (ap (λ j. nth j.globals h.1) (only member h.2 h.0 h.3) ∙ h.4)

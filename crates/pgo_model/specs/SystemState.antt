@@ -1,20 +1,12 @@
 -- When a list of variables with values is a state of a system.
-use Rattle.std.specs.Prelude.{◌≡◌, ℕ, IsTrue, List, map, Some, None, ◌⊎◌}
-use Rattle.pgo_base.specs.Data.{Data, function, Pairs, graph, keys}
+use Rattle.std.specs.Prelude.{◌≡◌, ℕ, IsTrue, map, Some, None, ◌⊎◌}
 use Rattle.pgo_base.specs.Sets.{in_order}
 use Rattle.pgo_base.specs.Lookup.{Name, Vars, find}
 use Rattle.pgo_model.specs.Machine.{nth}
 use Rattle.pgo_model.specs.State.{AllValues, is_shallow}
 use Rattle.pgo_model.specs.System.{System, Member, Owned, Resource, ids_of}
+use Rattle.pgo_model.specs.Variables.{IsFunctionOn, HasOneDomain}
 use Rattle.pgo_model.specs.Written.{pc}
-
--- the variable is a function with these keys
-abbrev pub HasKeys : Name → List Data → Vars → Type 0
-HasKeys x ids s = (ps : Pairs) × (find x s ≡ Some (function ps)) × (keys (graph ps) ≡ ids)
-
--- the variable is a function in both states, with one domain
-abbrev pub HasOneDomain : Name → Vars → Vars → Type 0
-HasOneDomain x s t = (ids : List Data) × HasKeys x ids s × HasKeys x ids t
 
 -- a member is bound to the global, or a resource is of it
 abbrev pub IsShared : System → Name → Type 0
@@ -34,6 +26,6 @@ pub record IsSystemState (y : System) (s : Vars) : Type 0 where
   pub variables : map (λ p. p.0) s ≡ map (λ p. p.0) y.start
   pub values : AllValues s
   pub shallow : IsTrue (is_shallow s)
-  pub places : HasKeys pc (in_order (ids_of y)) s
-  pub own : (n : ℕ) (o : Owned) → nth y.own n ≡ Some o → HasKeys o.variable (in_order o.ids) s
-  pub domains : (g : Name) → IsElementBound y g → HasOneDomain g s y.start
+  pub places : IsFunctionOn (in_order (ids_of y)) (find pc s)
+  pub own : (n : ℕ) (o : Owned) → nth y.own n ≡ Some o → IsFunctionOn (in_order o.ids) (find o.variable s)
+  pub domains : (g : Name) → IsElementBound y g → HasOneDomain y.start s g
