@@ -14,7 +14,8 @@ IsShared y g =
     ((k n : ℕ) × (i : Member) × (nth y.members k ≡ Some i) × (nth i.globals n ≡ Some g))
     ⊎ ((n : ℕ) × (r : Resource) × (nth y.resources n ≡ Some r) × (r.global ≡ g))
 
--- a shared global of which no resource is the whole: each of its elements is a resource, and there may be none
+-- a shared global of which no resource is the whole: each of its elements is a resource, and there may be none. A global to
+-- which a member is bound as a whole, but of which there is no resource, counts as one here; binding never gives such a global
 pub record IsElementBound (y : System) (g : Name) : Type 0 where
   pub shared : IsShared y g
   pub elements : (n : ℕ) (r : Resource) → nth y.resources n ≡ Some r → r.global ≡ g → r.index ≡ None → ⊥
