@@ -20,7 +20,8 @@ use Rattle.pgo_bound.specs.declared.kinds.Kind.TheVariants.{ByElement}
 use Rattle.pgo_bound.specs.Values.{beginning, local_start, argument_start}
 use Rattle.pgo_bound.specs.Runs.{Run, handed_from, archetype_named, run_with, run_of, runs_of, run_ids}
 use Rattle.pgo_bound.specs.BoundOf.{GlobalStart, global_of, globals_of, places_of, first_place, first_places, function_at, instances_of, expression_of, start_of, bound_by}
-use Rattle.pgo_bound.specs.State.{AreDifferent, IsState, IsFunctionOn, value_name, names_with, names_or_none, own_names, id_of, kind_in}
+use Rattle.pgo_model.specs.Variables.{IsFunctionOn}
+use Rattle.pgo_bound.specs.State.{AreDifferent, IsState, value_name, names_with, names_or_none, own_names, id_of, kind_in}
 use Rattle.pgo_bound.specs.Sound.{WellNamed}
 use Rattle.pgo_bound.specs.Among.{IsAmong, among_append, among_nth, among_map, among_filter_map, from_map, from_filter_map}
 use Rattle.pgo_bound.specs.Different.{different_left, runs_different, instances_of_process, ids_of_instances}

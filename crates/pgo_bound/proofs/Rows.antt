@@ -21,7 +21,8 @@ use Rattle.pgo_syntax.specs.declared.process.Process.{Process}
 use Rattle.pgo_syntax.specs.declared.spec.Spec.{Spec}
 use Rattle.pgo_bound.specs.declared.kinds.Kind.TheVariants.{ByElement}
 use Rattle.pgo_bound.specs.BoundOf.{bound_of, indices}
-use Rattle.pgo_bound.specs.State.{IsState, HasOneDomain, IsStateOnDomains, IsFunctionOn, identifiers_of, kind_in, own_names}
+use Rattle.pgo_model.specs.Variables.{IsFunctionOn, HasOneDomain}
+use Rattle.pgo_bound.specs.State.{IsState, IsStateOnDomains, identifiers_of, kind_in, own_names}
 use Rattle.pgo_bound.specs.Among.{some_is}
 
 abbrev placed : ℕ → Name → PlacedName

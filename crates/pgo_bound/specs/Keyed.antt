@@ -10,8 +10,8 @@ use Rattle.pgo_base.specs.Sets.{insert_member, in_order}
 use Rattle.pgo_base.specs.Pairs.{insert_pair, pairs_in_order}
 use Rattle.pgo_base.specs.Size.{depth, graph_size}
 use Rattle.pgo_base.specs.Falls.{pairs_depth-pairs}
+use Rattle.pgo_model.specs.Variables.{IsFunctionOn}
 use Rattle.pgo_bound.specs.BoundOf.{function_on, function_at}
-use Rattle.pgo_bound.specs.State.{IsFunctionOn}
 use Rattle.pgo_bound.specs.Among.{IsAmong}
 
 keys_insert : (p : Data × Data) (qs : List (Data × Data)) → keys (insert_pair p qs) ≡ insert_member p.0 (keys qs)

@@ -1,12 +1,13 @@
 -- When a list of variables with values is a state of a bound specification, and when it has the domains of the start.
 use Rattle.std.specs.Prelude.{◌≡◌, ℕ, false, if◌then◌else◌, IsTrue, List, [], ◌∷◌, ◌++◌, map, filter, Option, Some, None}
 use Rattle.std.specs.List.{AllByRecursion, filter_map, flat_map}
-use Rattle.pgo_base.specs.Data.{Data, function, Pairs, graph, keys}
+use Rattle.pgo_base.specs.Data.{Data, function, Pairs}
 use Rattle.pgo_base.specs.View.{data_of}
 use Rattle.pgo_base.specs.Sets.{in_order}
 use Rattle.pgo_base.specs.Lookup.{Name, Vars, same_name, find}
 use Rattle.pgo_model.specs.Machine.{nth}
 use Rattle.pgo_model.specs.State.{AllValues, is_shallow}
+use Rattle.pgo_model.specs.Variables.{IsFunctionOn, HasOneDomain}
 use Rattle.pgo_model.specs.Written.{pc, written}
 use Rattle.pgo_syntax.specs.declared.archetype.Archetype.{Archetype}
 use Rattle.pgo_syntax.specs.declared.archetype.Extent.{Extent}
@@ -61,10 +62,6 @@ identifiers b = in_order (map id_of b.instances)
 abbrev pub identifiers_of : Bound → Name → List Data
 identifiers_of b p = in_order (map id_of (filter (λ i. same_name p i.process) b.instances))
 
--- a function with this domain
-abbrev pub IsFunctionOn : List Data → Option Data → Type 0
-IsFunctionOn ids o = (ps : Pairs) × (o ≡ Some (function ps)) × (keys (graph ps) ≡ ids)
-
 abbrev pub target_extent : Name → Target → Option Extent
 target_extent g (targets.Value e) = None
 target_extent g (targets.Global x e m) = if same_name g x then Some e else None
@@ -84,10 +81,6 @@ pub record IsState (b : Bound) (s : Vars) : Type 0 where
       → IsFunctionOn (identifiers_of b p.name.name) (find (written p.name.name x) s)
   pub elements : (n : ℕ) (d : Declaration) → nth b.spec.globals n ≡ Some d → kind_in b d.name.name ≡ ByElement
       → (ps : Pairs) × (find d.name.name s ≡ Some (function ps))
-
--- the variable is a function in both, on one domain
-abbrev pub HasOneDomain : Vars → Vars → Name → Type 0
-HasOneDomain s t x = (ks : List Data) × IsFunctionOn ks (find x s) × IsFunctionOn ks (find x t)
 
 -- a state in which each element-bound global has the domain that it starts with
 pub record IsStateOnDomains (b : Bound) (s : Vars) : Type 0 where

@@ -9,6 +9,8 @@ use Rattle.pgo_model.specs.Outcome.{Nowhere, Next}
 use Rattle.pgo_model.specs.Accounts.{Fits}
 use Rattle.pgo_model.specs.Core.{rules_of, Reaches}
 use Rattle.pgo_model.specs.SystemState.{IsSystemState}
+use Rattle.pgo_model.specs.SystemFits.{SystemFits}
+use Rattle.pgo_model.specs.Choice.{Seeded, words_of}
 use Rattle.pgo_model.specs.Log.{After, effect_between}
 use Rattle.pgo_model.specs.Written.{pc, done}
 use Rattle.pgo_counter.specs.declared.counter.Sum.{Sum}
@@ -19,7 +21,7 @@ use Rattle.pgo_front.specs.CounterRuns.{settings, counter_section}
 use Rattle.pgo_counter.specs.NameBytes.{Apart}
 use Rattle.pgo_counter.specs.CounterNames.{names, section_found, no_section_at_done}
 use Rattle.pgo_front.proofs.CounterEffects.{changes_lead}
-use Rattle.pgo_front.proofs.CounterSections.{Steps, steps, section_on, at_none, trace_reaches}
+use Rattle.pgo_front.proofs.CounterSections.{Steps, steps, section_on, at_none, trace_reaches, trace_of_resources}
 use Rattle.pgo_front.proofs.CounterKept.{section_kept, start_is_state}
 use Rattle.pgo_front.proofs.CounterSystem.{bound_state, system_state}
 
@@ -62,3 +64,11 @@ fits c w start id = record {
         → unwrap_or (After s (effect_between (counter_system c) k s t ps)) s ≡ t
     patches zero a s t ps h e = let g = (names c w).global.pc in step_leads c g s t ps ps (steps c g a s t ps e)
     patches (suc k) a s t ps h e = absurd (grind (arith, e))
+
+-- a counter's system is one of which the law of the core machine speaks
+pub system_fits : (c : Counter) → IsWellNamed c → c.start ≤ 999999 → c.id ≤ 999999 → SystemFits (counter_system c) settings
+system_fits c w start id = record {
+  rules = fits c w start id;
+  numbers = (sound c w start id).resource_numbers;
+  resources = λ k a s g. trace_of_resources c k s (words_of (Seeded settings.seed k a));
+}

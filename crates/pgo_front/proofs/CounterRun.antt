@@ -14,8 +14,8 @@ use Rattle.pgo_model.specs.Machine.{Rules, Machine, Entry, finished_of, nth, sta
 use Rattle.pgo_model.specs.Accounts.{EntryMade}
 use Rattle.pgo_model.specs.MachineLists.{nth_below}
 use Rattle.pgo_model.specs.MachineRuns.{run_turns_entries}
-use Rattle.pgo_model.specs.Entries.{AllLead, states_along}
-use Rattle.pgo_model.specs.Log.{Effect, After, StateAt, effect_between}
+use Rattle.pgo_model.specs.Entries.{run_states}
+use Rattle.pgo_model.specs.Log.{Effect, StateAt, effect_between}
 use Rattle.pgo_model.specs.Core.{Core, rules_of, Reaches}
 use Rattle.pgo_counter.specs.State.{IsState}
 use Rattle.pgo_model.specs.SystemState.{IsSystemState}
@@ -28,7 +28,7 @@ use Rattle.pgo_counter.specs.Counters.{counter_bound, counter_system, counter_in
 use Rattle.pgo_front.specs.CounterRuns.{settings, sum_fits, sum_end, counter_changes}
 use Rattle.pgo_counter.specs.CounterNames.{names, section_found, next_apart}
 use Rattle.pgo_front.proofs.CounterSections.{end_is, end_at, sum_data}
-use Rattle.pgo_front.proofs.CounterLaws.{sections_are, section_is, section_at_done, fits, effect_is, after_is, place_is, is_state, declares}
+use Rattle.pgo_front.proofs.CounterLaws.{sections_are, section_is, section_at_done, fits, system_fits, effect_is, place_is, is_state, declares}
 use Rattle.pgo_front.proofs.CounterAgrees.{agrees}
 
 -- the instance stands before the statements of `after`, and the global is an integer of 64 bits
@@ -138,18 +138,12 @@ module _ (c : Counter) (w : IsWellNamed c) where
         let d = made p e.0 e.1 in
         stands_then (at p) (at (suc p)) d.prints (step_at p e.0 d (stands_at p (omega (arith, h))))
 
-    -- what the entry of such a step records, and where it leads
+    -- what the entry of such a step records
     change_is : (p : ℕ) (e : Entry Effect) → (d : EntryMade R (finished_of m) p e) → (h : Moves c (at p) (at (suc p)) d.prints)
         → e.change ≡ record { label = label_name c h.sum; next = next_name c h.after; changes = counter_changes c h.x (sum_value h.x h.sum) (next_name c h.after); prints = [] }
     change_is p e d h =
         d.change ∙ (λ i. effect_between (counter_system c) (is_zero e.instance d.instance i) (h.from i) (h.to i) (h.silent i))
         ∙ effect_is c (names c w) h.x (sum_value h.x h.sum) (label_name c h.sum) (next_name c h.after) (next_apart c (names c w) h.before h.after h.sum h.body)
-
-    leads : (s t : Vars) (ps : List Data) → (h : Moves c s t ps)
-        → After s (record { label = label_name c h.sum; next = next_name c h.after; changes = counter_changes c h.x (sum_value h.x h.sum) (next_name c h.after); prints = [] }) ≡ Some t
-    leads s t ps h =
-        ap (λ s. After s (record { label = label_name c h.sum; next = next_name c h.after; changes = counter_changes c h.x (sum_value h.x h.sum) (next_name c h.after); prints = [] })) h.from
-        ∙ after_is c (names c w) h.x (sum_value h.x h.sum) (label_name c h.sum) (next_name c h.after) ∙ ap Some (sym h.to)
 
     below : (p : ℕ) (e : Entry Effect) → nth m.entries p ≡ Some e → p ≤ length m.entries
     below p e h = let b = nth_below m.entries p e h in omega (arith, b)
@@ -166,13 +160,8 @@ module _ (c : Counter) (w : IsWellNamed c) where
         let d = made p e h in let s = move_at p e h in
         record { x = s.x; before = s.before; sum = s.sum; after = s.after; body = s.body; fits = s.fits; instance = is_zero e.instance d.instance; change = change_is p e d s }
 
-    all_lead : AllLead R (counter_bound c).start m.entries
-    all_lead p e h =
-        let s = move_at p e h in
-        ap (λ k. After (at p) k) (change_is p e (made p e h) s) ∙ leads (at p) (at (suc p)) (made p e h).prints s
-
     stored : (n : ℕ) → n ≤ length m.entries → StateAt (counter_bound c).start m.entries n ≡ Some (at n)
-    stored n h = states_along R (counter_bound c).start m.entries all_lead n h
+    stored n h = run_states (counter_system c) settings (system_fits c w start_small id_small) turns n h
 
     -- a step is allowed by its section, whose end hangs on no word of choice
     allowed : (s t : Vars) (ps : List Data) → Moves c s t ps → Allows (counter_bound c) 0 s t

@@ -1,5 +1,5 @@
 -- What a counter's section does on any state.
-use Rattle.std.proofs.Common.{◌≡◌, ℕ, ℤ, zero, suc, pos, ◌+ℤ◌, Bool, true, false, ◌||◌, ◌&&◌, List, [], ◌∷◌, ◌++◌, Option, Some, None, refl, ap, sym, ◌∙◌, arith, append-nil}
+use Rattle.std.proofs.Common.{◌≡◌, ℕ, ℤ, zero, suc, pos, ◌+ℤ◌, Bool, true, false, ◌||◌, ◌&&◌, List, [], ◌∷◌, ◌++◌, Option, Some, None, refl, ap, sym, ◌∙◌, subst, arith, append-nil}
 use Rattle.std.specs.Prelude.{if◌then◌else◌}
 use Rattle.pgo_base.specs.Data.{Data, boolean, integer, string, model, set, function, Pairs, no_pairs, pair, graph}
 use Rattle.pgo_base.specs.Lookup.{Name, Vars, same_name, find}
@@ -15,7 +15,8 @@ use Rattle.pgo_model.specs.Variables.{store}
 use Rattle.pgo_model.specs.State.{is_shallow}
 use Rattle.pgo_model.specs.Choice.{Seeded, words_of}
 use Rattle.pgo_model.specs.Accounts.{AllIn}
-use Rattle.pgo_model.specs.Core.{rules_of, numbered, numbers_of, same_index, Reaches}
+use Rattle.pgo_model.specs.Core.{rules_of, number_among, numbered, numbers_of, same_index, Reaches}
+use Rattle.pgo_model.specs.SystemFits.{AreOfResources}
 use Rattle.pgo_model.specs.Written.{pc}
 use Rattle.pgo_counter.specs.declared.counter.Term.{Term}
 use Rattle.pgo_counter.specs.declared.counter.Term.TheVariants.{Parameter, Number}
@@ -254,6 +255,34 @@ numbers_reach c (t ∷ cs) = go (same_name c.global t.0 && same_index None t.1) 
 pub trace_reaches : (c : Counter) (k a : ℕ) (st : Vars) → AllIn (Reaches (counter_system c) k) ((rules_of (counter_system c) settings).sect k a st).trace
 trace_reaches c zero a st = numbers_reach c (Sect (counter_bound c) 0 st (words_of (Seeded 0 0 a))).trace
 trace_reaches c (suc k) a st = tt
+
+one_resource : (c : Counter) → number_among (counter_bound c).resources (c.global, None) ≡ Some 0
+one_resource c = rw (same_name-self c.global) refl
+
+-- what a statement reads and writes is the one resource
+touched_are : (c : Counter) (s : Sum) (o : Option Data) → AreOfResources (counter_bound c).resources (touched c s o)
+touched_are c s o = go (sum_reads s) o
+  where
+    go : (b : Bool) (o : Option Data)
+        → AreOfResources (counter_bound c).resources ((if b then (c.global, None) ∷ [] else []) ++ on {B = List Touched} [] o (λ v. (c.global, None) ∷ []))
+    go true None = ((0, one_resource c), tt)
+    go true (Some v) = ((0, one_resource c), ((0, one_resource c), tt))
+    go false None = tt
+    go false (Some v) = ((0, one_resource c), tt)
+
+-- a section reads and writes nothing but resources
+pub trace_of_resources : (c : Counter) (k : ℕ) (st : Vars) (d : Words) → AreOfResources (counter_bound c).resources ((counter_system c).sect k st d).trace
+trace_of_resources c zero st d = go (code_at (counter_instance c) (place_of (integer (pos c.id)) st)) refl
+  where
+    go : (o : Option Code) → code_at (counter_instance c) (place_of (integer (pos c.id)) st) ≡ o
+        → AreOfResources (counter_bound c).resources (on nothing o (λ k. runs (context c) k st d)).trace
+    go None e = tt
+    go (Some code) e =
+        let p = stands c st code (place_of (integer (pos c.id)) st) refl e in
+        let q = of_sum c p.label code c.body p.section in
+        subst (λ k. AreOfResources (counter_bound c).resources (runs (context c) k st d).trace) (sym q.is)
+        (subst (AreOfResources (counter_bound c).resources) (sym (trace_is c q.sum q.next st d)) (touched_are c q.sum (sum_data (find c.global st) q.sum)))
+trace_of_resources c (suc k) st d = tt
 
 -- what the right side is where the global is x
 sum_data_is : (x : ℕ) (s : Sum) → sum_data (Some (integer (pos x))) s ≡ (if sum_fits x s then Some (integer (pos (sum_value x s))) else None)

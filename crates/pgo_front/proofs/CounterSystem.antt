@@ -1,11 +1,8 @@
 -- A state of a counter's system is one of its bound specification, and the other way round.
-use Rattle.std.proofs.Common.{◌≡◌, ℕ, pos, [], ◌∷◌, Some, refl, ap, sym, ◌∙◌, subst, inl, inr}
-use Rattle.pgo_base.specs.Data.{integer}
+use Rattle.std.proofs.Common.{refl, ap, sym, ◌∙◌, arith, inl, inr}
 use Rattle.pgo_base.specs.Lookup.{Name, Vars}
-use Rattle.pgo_base.specs.Sets.{in_order}
 use Rattle.pgo_model.specs.Machine.{nth}
-use Rattle.pgo_model.specs.SystemState.{IsSystemState, IsElementBound, IsShared, HasKeys, owners}
-use Rattle.pgo_model.specs.Written.{pc}
+use Rattle.pgo_model.specs.SystemState.{IsSystemState, IsElementBound, IsShared}
 use Rattle.pgo_counter.specs.State.{IsState}
 use Rattle.pgo_counter.specs.BoundSystem.{member_of}
 use Rattle.pgo_counter.specs.declared.counter.Counter.{Counter}
@@ -16,13 +13,6 @@ pub bound_state : (c : Counter) (s : Vars) → IsSystemState (counter_system c) 
 bound_state c s h = record { variables = h.variables; values = h.values; shallow = h.shallow; places = h.places }
 
 module _ (c : Counter) (s : Vars) where
-  -- a variable that belongs to instances is a function on these
-  abbrev OfMembers : Name → Type 0
-  OfMembers x = HasKeys x (in_order (owners x (counter_system c).members)) s
-
-  place : HasKeys pc (in_order (integer (pos c.id) ∷ [])) s → (n : ℕ) (x : Name) → nth (pc ∷ []) n ≡ Some x → OfMembers x
-  place h n x e = subst OfMembers (only pc x n e).1 h
-
   -- the one global is a resource as a whole
   is_whole : (g : Name) → IsElementBound (counter_system c) g → ⊥
   is_whole g b = go b.shared
@@ -37,6 +27,6 @@ module _ (c : Counter) (s : Vars) where
     values = h.values;
     shallow = h.shallow;
     places = h.places;
-    own = λ k n i x e f. place h.places n x (ap (λ j. nth j.own n) (only (member_of (counter_instance c)) i k e).1 ∙ f);
+    own = λ n o e. absurd (grind (arith, e));
     domains = λ g b. absurd (is_whole g b);
   }

@@ -53,8 +53,7 @@ ReachedBefore (Full n) r trace = IsAmong r trace
 ReachedBefore (Down q o) r trace = IsAmong r trace
 
 module _ {S D : Type 0} (R : Rules S D) where
-  -- the state after n entries. Where each change of the journal is there, as on the machine's own, it is the state by
-  -- components (Entries.journal_states)
+  -- the state after n entries. Of a system's machine it is the state by components (Entries.run_states)
   abbrev pub at : Finished D → ℕ → S
   at f n = state_at R R.start f.entries n
 
@@ -73,14 +72,13 @@ module _ {S D : Type 0} (R : Rules S D) where
   abbrev pub StepsAreSections : Finished D → Type 0
   StepsAreSections f = (p : ℕ) (e : Entry D) → nth f.entries p ≡ Some e → outcome f e.instance e.attempt p ≡ Next (at f (suc p)) (R.printed e.change)
 
-  -- entry number p + 1: its instance is one, its section ended in the state after it with these prints, it records the
-  -- difference of the states before and after it, and it leads from the one to the other
+  -- entry number p + 1: its instance is one, its section ended in the state after it with these prints, and it records the
+  -- difference of the states before and after it
   pub record EntryMade (f : Finished D) (p : ℕ) (e : Entry D) : Type 0 where
     pub instance : e.instance < R.instances
     pub prints : List Data
     pub change : e.change ≡ R.between e.instance (at f p) (at f (suc p)) prints
     pub outcome : (R.sect e.instance e.attempt (at f p)).end ≡ Next (at f (suc p)) prints
-    pub after : at f (suc p) ≡ R.patched (at f p) e.change
 
   abbrev pub EntriesMade : Finished D → Type 0
   EntriesMade f = (p : ℕ) (e : Entry D) → nth f.entries p ≡ Some e → EntryMade f p e

@@ -30,7 +30,7 @@ same_index None (Some w) = false
 same_index (Some v) None = false
 same_index (Some v) (Some w) = same_data v w
 
--- the numbers of the resources that were touched
+-- the numbers of the resources that were touched. What is no resource is left out, and SystemFits says that nothing is
 abbrev pub number_among : List Resource → Touched → Option ℕ
 number_among [] c = None
 number_among (r ∷ rs) c = if same_name r.global c.0 && same_index r.index c.1 then Some r.number else number_among rs c

@@ -20,8 +20,9 @@ pub mod State
 pub mod SystemState
 pub mod Choice
 pub mod Log
-pub mod Entries
 pub mod Core
+pub mod SystemFits
+pub mod Entries
 pub mod Module
 pub mod Acts
 pub mod IsRun

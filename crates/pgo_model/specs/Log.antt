@@ -2,9 +2,10 @@
 use Rattle.std.specs.Prelude.{ℕ, zero, suc, Bool, true, false, not, ◌&&◌, if◌then◌else◌, List, [], ◌∷◌, ◌++◌, Option, Some, None, option_and_then, option_map, is_some}
 use Rattle.pgo_base.specs.Data.{Data, string, function, pairs, graph}
 use Rattle.pgo_base.specs.Lookup.{Name, Vars, find}
-use Rattle.pgo_model.specs.Operators.{same_data, apply, lookup, replace_at}
-use Rattle.pgo_model.specs.System.{System, Member, Resource}
+use Rattle.pgo_model.specs.Operators.{same_data, contains, apply, lookup, replace_at}
+use Rattle.pgo_model.specs.System.{System, Member, Owned, Resource}
 use Rattle.pgo_model.specs.Variables.{place_of, store}
+use Rattle.pgo_model.specs.Written.{pc}
 use Rattle.pgo_model.specs.Options.{on}
 use Rattle.pgo_model.specs.Machine.{Entry, nth}
 
@@ -47,7 +48,8 @@ differs None (Some v) = true
 differs (Some v) None = true
 differs (Some v) (Some w) = not (same_data v w)
 
--- the components of a system: the resources by number, and then what belongs to each instance, by number
+-- the components of a system: the resources by number, and then what belongs to each instance, by number: its part of `pc`
+-- and of each variable of its process
 abbrev pub resource_components : List Resource → List Component
 resource_components [] = []
 resource_components (r ∷ rs) = record { variable = r.global; index = r.index; owner = OfResource r.number } ∷ resource_components rs
@@ -56,12 +58,17 @@ abbrev pub parts_at : ℕ → Data → List Name → List Component
 parts_at k id [] = []
 parts_at k id (x ∷ xs) = record { variable = x; index = Some id; owner = OfInstance k } ∷ parts_at k id xs
 
-abbrev pub own_components : ℕ → List Member → List Component
-own_components k [] = []
-own_components k (i ∷ is) = parts_at k i.id i.own ++ own_components (suc k) is
+-- the variables of which the process has this identifier
+abbrev pub own_names : Data → List Owned → List Name
+own_names id [] = []
+own_names id (o ∷ os) = if contains id o.ids then o.variable ∷ own_names id os else own_names id os
+
+abbrev pub own_components : List Owned → ℕ → List Member → List Component
+own_components os k [] = []
+own_components os k (i ∷ is) = parts_at k i.id (pc ∷ own_names i.id os) ++ own_components os (suc k) is
 
 abbrev pub components_of : System → List Component
-components_of y = resource_components y.resources ++ own_components 0 y.members
+components_of y = resource_components y.resources ++ own_components y.own 0 y.members
 
 -- the components that differ, with their values in t
 abbrev pub changes_between : List Component → Vars → Vars → List Change

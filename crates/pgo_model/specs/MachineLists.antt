@@ -44,9 +44,3 @@ module _ {S D : Type 0} (R : Rules S D) where
   pub state_next : (s : S) (l : List (Entry D)) (e : Entry D) → state_at R s (l ++ (e ∷ [])) (suc (length l)) ≡ R.patched (state_at R s l (length l)) e.change
   state_next s [] e = refl
   state_next s (d ∷ l) e = state_next (R.patched s d.change) l e
-
-  -- the state after an entry of the journal
-  pub state_after : (s : S) (l : List (Entry D)) (p : ℕ) (e : Entry D) → nth l p ≡ Some e → state_at R s l (suc p) ≡ R.patched (state_at R s l p) e.change
-  state_after s [] p e h = absurd (grind arith)
-  state_after s (d ∷ l) zero e h = ap (λ x. R.patched s x.change) (some_same d e h)
-  state_after s (d ∷ l) (suc p) e h = state_after (R.patched s d.change) l p e h

@@ -5,7 +5,7 @@ use Rattle.pgo_base.specs.Data.{Data}
 use Rattle.pgo_model.specs.Outcome.{Outcome, Next, Stuck, Nowhere}
 use Rattle.pgo_model.specs.Machine.{Rules, Entry, Step, Held, Machine, Event, Take, Operate, PreCommit, Commit, Noting, events, finished_of, nth, state_at, last_state, attempt_of, section, has_ended, tells, takes, taking, pre_committing, committing, does, gives, step, opened, after_turns, run_turns}
 use Rattle.pgo_model.specs.Accounts.{StepsAreSections, EntriesMade, Fits}
-use Rattle.pgo_model.specs.MachineLists.{nth_below, nth_end, state_below, state_next, state_after}
+use Rattle.pgo_model.specs.MachineLists.{nth_below, nth_end, state_below, state_next}
 use Rattle.pgo_model.specs.MachineAccounts.{AccountsOf, steps_are_sections}
 use Rattle.pgo_model.specs.MachineLaw.{Invariant, step_keeps, opened_keeps, after_turns_keep, run_turns_law}
 
@@ -109,7 +109,6 @@ module _ {S D : Type 0} (R : Rules S D) where
           prints = q.0;
           change = q.1;
           outcome = steps p e h ∙ ap (λ ps. Next (state_at R R.start m.entries (suc p)) ps) print;
-          after = state_after R R.start m.entries p e h;
         }
 
     opened_made : Fits R Reaches Good → (turns : List ℕ) → AllMade (after_turns R opened turns).entries

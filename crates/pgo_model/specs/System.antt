@@ -19,16 +19,21 @@ Words = ℕ → ℕ
 abbrev pub Touched : Type 0
 Touched = Name × Option Data
 
--- an instance: its identifier; the variables of which it has the part at its identifier, in the order of the start: `pc`, and
--- then its value parameters and locals; and the globals that it is bound to
+-- an instance: its identifier, and the globals that it is bound to
 pub record Member : Type 0 where
   pub id : Data
-  pub own : List Name
   pub globals : List Name
 
--- members and resources stand at their numbers; a section is of a member, on a state, with words of choice
+-- a value parameter or a local of a process, with the identifiers of the process, of which there may be none
+pub record Owned : Type 0 where
+  pub variable : Name
+  pub ids : List Data
+
+-- members and resources stand at their numbers, and the variables that belong to instances in the order of the start, where
+-- `pc` belongs to all; a section is of a member, on a state, with words of choice
 pub record System : Type 0 where
   pub members : List Member
+  pub own : List Owned
   pub resources : List Resource
   pub start : Vars
   pub sect : ℕ → Vars → Words → Section Touched Vars
