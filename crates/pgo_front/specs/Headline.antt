@@ -30,8 +30,8 @@ use Rattle.pgo_front.specs.Verdicts.{Judged, most_bundle_bytes}
 abbrev pub AllDone : System → Vars → Type 0
 AllDone y s = (n : ℕ) (i : Member) → nth y.members n ≡ Some i → place_of i.id s ≡ Some (string done)
 
--- of a run of a counter: its bytes are no more than `check` reads, and its status is 0 or 21, since every value is there and
--- the journal has room
+-- of a run of a counter: its bytes are no more than `check` reads, and its status is 0 or 21, since each right side has a value
+-- and the journal has room
 pub record CounterRan (status : ℕ) (written : List ℕ) : Type 0 where
   pub short : length written ≤ most_bundle_bytes
   pub either : (status ≡ 0) ⊎ (status ≡ 21)
@@ -49,9 +49,9 @@ pub record Ran (spec : Spec) (turns : List ℕ) (status : ℕ) (written : List �
   pub agrees : Agrees (module_of spec) [] bound
   -- the entries, in order, are steps of the module from its initial state
   pub run : IsRun (module_of spec) [] (ids_of (system_of bound)) bound.start (Core (system_of bound) settings turns).entries
-  -- the bytes are a bundle that `check` reads, of this module and of the log of these entries
+  -- the bytes are a bundle of the form that `check` reads, of this module and of the log of these entries
   pub is_read : IsReadBundle written (module_of spec) [] (log_of (system_of bound) (Core (system_of bound) settings turns).entries)
-  -- they are the bundle of nothing else
+  -- of what is read today they are the bundle of no other module, constants and log
   pub only : IsOnlyBundle written (module_of spec) [] (log_of (system_of bound) (Core (system_of bound) settings turns).entries)
   -- and that log is a run of the module as well
   pub read_run : IsRun (module_of spec) [] (ids_of (system_of bound)) bound.start (log_of (system_of bound) (Core (system_of bound) settings turns).entries).entries

@@ -14,7 +14,7 @@ use Rattle.pgo_log_text.specs.declared.errors.LogStop.TheVariants.{BadLog, NoMem
 abbrev pub IsReadBundle : List ℕ → Module → List (Name × Data) → Log → Type 0
 IsReadBundle text m consts l = IsCounterModule m × IsBundle text m consts l
 
--- it is the bundle of nothing else
+-- of what is read today it is the bundle of nothing else
 abbrev pub IsOnlyBundle : List ℕ → Module → List (Name × Data) → Log → Type 0
 IsOnlyBundle text m consts l =
     (n : Module) (cs : List (Name × Data)) (other : Log) → IsReadBundle text n cs other → (n ≡ m) × (cs ≡ consts) × (other ≡ l)
