@@ -2,4 +2,5 @@ mod Answered
 mod Clashing
 mod Doubled
 mod Only
+mod Ruled
 mod Sorting
