@@ -5,8 +5,8 @@ ghost use Rattle.pgo_counter.specs.WellNamed as spec;
 ghost use Rattle.pgo_counter.specs.CounterModules.{module_names, has_module_names};
 
 use crate::counter::Counter;
-use pgo_words::bytes::{is_digit, is_letter};
-use pgo_words::names::{is_one_of, is_reserved};
+use pgo_text::bytes::{is_digit, is_letter};
+use pgo_text::names::{is_one_of, is_reserved};
 use std::alloc::{AllocError, Global};
 
 /// The names that a written module has already, and the operators of the standard modules that expressions have here.

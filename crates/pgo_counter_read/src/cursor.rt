@@ -9,7 +9,7 @@ use crate::reader::ReadStop;
 use crate::token::{Lexeme, Token};
 use pgo_base::text::Text;
 use pgo_counter::counter::Term;
-use pgo_words::names::same_bytes;
+use pgo_text::names::same_bytes;
 use std::alloc::Global;
 use std::marker::Model;
 

@@ -7,8 +7,8 @@ ghost use Rattle.pgo_counter_read.specs.Lexing as spec;
 
 use crate::token::{Lexeme, Token};
 use pgo_base::text::Text;
-use pgo_words::bytes::is_word_byte;
-use pgo_words::names::same_bytes;
+use pgo_text::bytes::is_word_byte;
+use pgo_text::names::same_bytes;
 use std::alloc::{AllocError, Global};
 
 /// A token, and how many bytes spell it.

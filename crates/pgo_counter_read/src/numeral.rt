@@ -2,7 +2,7 @@
 ghost use Rattle.std.specs.Prelude.{◌≡◌};
 ghost use Rattle.pgo_counter_read.specs.Reading as spec;
 
-use pgo_words::bytes::is_digit;
+use pgo_text::bytes::is_digit;
 
 /// The greatest number of the form.
 const MOST: u32 = 999_999;

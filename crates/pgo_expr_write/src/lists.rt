@@ -7,7 +7,7 @@ ghost use Rattle.pgo_expr_write.specs.Pieces as spec;
 
 use crate::parts::{Part, add, add_between};
 use pgo_base::expr::{Arms, Binders, Expr, Exprs, Named, Names, Update, Updates};
-use pgo_words::names::is_name;
+use pgo_text::names::is_name;
 use std::alloc::AllocError;
 
 /// Adds expressions with a word between them.

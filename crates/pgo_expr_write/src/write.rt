@@ -14,7 +14,7 @@ use crate::laws::canonical_text_is_read_back;
 use crate::parts::Part;
 use pgo_base::expr::Expr;
 use pgo_base::text::Text;
-use pgo_words::strings::{push_integer, push_string};
+use pgo_text::strings::{push_integer, push_string};
 use std::alloc::{AllocError, Global};
 
 /// The canonical text of an expression: each application of an operator and each open form stands in `( )`, the

@@ -8,8 +8,8 @@ ghost use Rattle.pgo_log_text.specs.Parsers.{Reads, ReadsAs};
 use crate::errors::LogStop;
 use crate::numbers::{natural_of, negative, positive};
 use pgo_base::text::Text;
-use pgo_words::bytes::{is_digit, is_word_byte};
-use pgo_words::names::is_name;
+use pgo_text::bytes::{is_digit, is_word_byte};
+use pgo_text::names::is_name;
 use std::alloc::Global;
 use std::marker::Model;
 

@@ -2,7 +2,7 @@
 ghost use Rattle.std.specs.Prelude.{◌≡◌};
 ghost use Rattle.pgo_log_text.specs.Bytes as spec;
 
-use pgo_words::bytes::is_digit;
+use pgo_text::bytes::is_digit;
 
 /// Whether there is one byte, or some of which the first is no zero.
 fn is_shortest(digits: &[u8]) -> bool

@@ -3,7 +3,7 @@ ghost use Rattle.std.specs.Prelude.{◌≡◌, ◌≤◌, ◌++◌, List, ℕ, l
 ghost use Rattle.pgo_model.specs.ModuleText.{flatten};
 
 use pgo_module_write::line::Line;
-use pgo_words::names::same_bytes;
+use pgo_text::names::same_bytes;
 
 /// How many bytes at the front are the same.
 fn common_length(a: &[u8], b: &[u8]) -> usize

@@ -5,7 +5,7 @@ ghost use Rattle.pgo_module_read.specs.Finding as spec;
 
 use pgo_base::text::Text;
 use pgo_counter::counter::{Counter, Sum, Sums, Term};
-use pgo_words::bytes::is_digit;
+use pgo_text::bytes::is_digit;
 use std::alloc::{AllocError, Global};
 use std::marker::Model;
 

@@ -5,7 +5,7 @@ ghost use Rattle.pgo_module_write.specs.Pieces.{piece_text, pieces_text, rows_li
 
 use itoa::Buffer;
 use pgo_base::text::Text;
-use pgo_words::strings::push_string;
+use pgo_text::strings::push_string;
 use std::alloc::{AllocError, Global};
 use std::marker::Model;
 

@@ -10,7 +10,7 @@ use crate::stop::Stop;
 use crate::words::are_digits;
 use pgo_base::text::Text;
 use pgo_base::value::Value;
-use pgo_words::names::{is_name, same_bytes};
+use pgo_text::names::{is_name, same_bytes};
 use std::alloc::{AllocError, Global};
 
 /// The value that a word spells.

@@ -9,7 +9,7 @@ ghost use Rattle.pgo_value_text.specs.Parsers.{Reads};
 use crate::stop::Stop;
 use crate::words::is_blank;
 use pgo_base::text::Text;
-use pgo_words::bytes::is_word_byte;
+use pgo_text::bytes::is_word_byte;
 use std::alloc::Global;
 use std::marker::Model;
 

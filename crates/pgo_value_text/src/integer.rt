@@ -4,7 +4,7 @@ ghost use Rattle.pgo_value_text.specs.IsValueText as text;
 ghost use Rattle.pgo_value_text.specs.Reading as spec;
 
 use crate::words::are_digits;
-use pgo_words::bytes::is_digit;
+use pgo_text::bytes::is_digit;
 
 /// The number that digits spell, leading zeros among them, where it has 64 bits.
 #[tactic(auto, unfolding(crate::specs::Reading::natural_from))]

@@ -2,7 +2,7 @@
 ghost use Rattle.std.specs.Prelude.{◌≡◌};
 ghost use Rattle.pgo_value_text.specs.IsValueText as spec;
 
-use pgo_words::bytes::is_digit;
+use pgo_text::bytes::is_digit;
 
 pub fn is_blank(b: u8) -> bool
     ensures { result ≡ spec.is_blank b }

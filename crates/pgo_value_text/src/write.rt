@@ -8,8 +8,8 @@ ghost use Rattle.pgo_value_text.specs.Writing as writing;
 use crate::errors::NoMemory;
 use pgo_base::text::Text;
 use pgo_base::value::Value;
-use pgo_words::names::is_name;
-use pgo_words::strings::{push_integer, push_string};
+use pgo_text::names::is_name;
+use pgo_text::strings::{push_integer, push_string};
 use std::alloc::{AllocError, Global};
 
 /// The canonical text of a value.

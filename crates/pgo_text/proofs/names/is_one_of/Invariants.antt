@@ -1,7 +1,7 @@
 -- What the loop keeps: the test of what is left is the test of all.
 use Rattle.std.proofs.Common.{◌≡◌, map, drop}
 use Rattle.pgo_model.specs.ValueText as text
-use Rattle.pgo_words.proofs.names.is_one_of.Given as goal
+use Rattle.pgo_text.proofs.names.is_one_of.Given as goal
 
 abbrev pub invariant-loop-w : goal.invariant-loop-w
 invariant-loop-w l =
