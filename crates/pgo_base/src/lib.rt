@@ -6,6 +6,7 @@ pub mod compare;
 pub mod consts;
 pub mod depth;
 pub mod expr;
+pub mod items;
 pub mod log;
 pub mod module;
 mod order;

@@ -1,11 +1,12 @@
 // A log: the instances, the state at the start, and which components each step changed.
-ghost use Rattle.std.specs.Prelude.{◌≡◌, List, [], ◌∷◌, ◌++◌, map, IfOk};
+ghost use Rattle.std.specs.Prelude.{◌≡◌, [], map};
 ghost use Rattle.pgo_base.specs.View.{data_of};
 
+use crate::items::Items;
 use crate::scope::State;
 use crate::text::Text;
 use crate::value::Value;
-use std::alloc::{AllocError, Global};
+use std::alloc::Global;
 use std::marker::Model;
 
 /// Whose a component is. A log that was read does not say it.
@@ -32,57 +33,10 @@ pub struct Change {
 }
 
 /// Changes in order.
-#[derive(Drop)]
-pub struct Changes {
-    list: Vec<Change>,
-}
+pub type Changes = Items<Change>;
 
-impl Model for Changes {
-    ghost use Rattle.std.specs.Prelude.{List};
-    ghost use Rattle.pgo_base.specs.declared.log.Change.{Change};
-    ghost use Rattle.pgo_base.specs.ChangeCode.{coded_changes};
-
-    ghost Value = { List Change };
-
-    ghost coded = { coded_changes };
-
-    ghost view = { λ c. c.list.items };
-}
-
-impl Changes {
-    /// No change.
-    pub fn new(alloc: Global) -> Changes
-        ensures { result ≡ [] }
-    {
-        Changes {
-            list: Vec::new(alloc),
-        }
-    }
-
-    /// One change more, at the end.
-    pub fn push(&mut self, change: Change) -> Result<(), AllocError>
-        ensures { IfOk result (λ _. self.new ≡ self.old ++ change ∷ []) }
-    {
-        self.list.push(change)?;
-        Ok(())
-    }
-
-    /// The changes as a slice.
-    pub fn as_slice(&self) -> &[Change]
-        ensures { result.now ≡ self.now }
-    {
-        self.list.as_slice()
-    }
-
-    /// These changes.
-    pub fn from_vec(list: Vec<Change>) -> Changes
-        ensures { result ≡ list.items }
-    {
-        Changes { list }
-    }
-}
-
-/// A committed attempt: which instance's, its number, the labels before and after, and what it changed.
+/// A committed attempt: which instance's, its number, the labels before and after, what it changed, and what it printed.
+/// Of an entry that was read nothing is printed, since no text of a log says it.
 #[derive(Drop)]
 pub struct Entry {
     pub instance: u32,
@@ -90,66 +44,19 @@ pub struct Entry {
     pub label: Text,
     pub next: Text,
     pub changes: Changes,
+    pub prints: Values,
 }
 
 /// Entries in order.
+pub type Entries = Items<Entry>;
+
+/// Values in order.
 #[derive(Drop)]
-pub struct Entries {
-    list: Vec<Entry>,
-}
-
-impl Model for Entries {
-    ghost use Rattle.std.specs.Prelude.{List};
-    ghost use Rattle.pgo_base.specs.declared.log.Entry.{Entry};
-    ghost use Rattle.pgo_base.specs.EntryCode.{coded_entries};
-
-    ghost Value = { List Entry };
-
-    ghost coded = { coded_entries };
-
-    ghost view = { λ e. e.list.items };
-}
-
-impl Entries {
-    /// No entry.
-    pub fn new(alloc: Global) -> Entries
-        ensures { result ≡ [] }
-    {
-        Entries {
-            list: Vec::new(alloc),
-        }
-    }
-
-    /// One entry more, at the end.
-    pub fn push(&mut self, entry: Entry) -> Result<(), AllocError>
-        ensures { IfOk result (λ _. self.new ≡ self.old ++ entry ∷ []) }
-    {
-        self.list.push(entry)?;
-        Ok(())
-    }
-
-    /// The entries as a slice.
-    pub fn as_slice(&self) -> &[Entry]
-        ensures { result.now ≡ self.now }
-    {
-        self.list.as_slice()
-    }
-
-    /// These entries.
-    pub fn from_vec(list: Vec<Entry>) -> Entries
-        ensures { result ≡ list.items }
-    {
-        Entries { list }
-    }
-}
-
-/// The identifiers of instances, by their numbers.
-#[derive(Drop)]
-pub struct Ids {
+pub struct Values {
     list: Vec<Value>,
 }
 
-impl Model for Ids {
+impl Model for Values {
     ghost use Rattle.std.specs.Prelude.{List, map};
     ghost use Rattle.pgo_base.specs.Data.{Data};
     ghost use Rattle.pgo_base.specs.Code.{coded_members};
@@ -163,26 +70,35 @@ impl Model for Ids {
     ghost view = { λ i. map data_of i.list.items };
 }
 
-impl Ids {
-    /// The identifiers as a slice.
+impl Values {
+    /// No value.
+    pub fn new(alloc: Global) -> Values
+        ensures { result ≡ [] }
+    {
+        Values {
+            list: Vec::new(alloc),
+        }
+    }
+
+    /// The values as a slice.
     pub fn as_slice(&self) -> &[Value]
         ensures { map data_of result.now ≡ self.now }
     {
         self.list.as_slice()
     }
 
-    /// These identifiers.
-    pub fn from_vec(list: Vec<Value>) -> Ids
+    /// These values.
+    pub fn from_vec(list: Vec<Value>) -> Values
         ensures { result ≡ map data_of list.items }
     {
-        Ids { list }
+        Values { list }
     }
 }
 
-/// A log: the identifiers of the instances, the state before the first entry, and the entries.
+/// A log: the identifiers of the instances by their numbers, the state before the first entry, and the entries.
 #[derive(Drop)]
 pub struct Log {
-    pub ids: Ids,
+    pub ids: Values,
     pub start: State,
     pub entries: Entries,
 }

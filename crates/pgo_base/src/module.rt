@@ -3,6 +3,7 @@ ghost use Rattle.std.specs.Prelude.{◌≡◌, List, [], ◌∷◌, ◌++◌, ma
 ghost use Rattle.pgo_base.specs.ActionView.{action_pair};
 
 use crate::expr::{Names, Sub};
+use crate::items::Items;
 use crate::text::Text;
 use crate::value::Value;
 use std::alloc::{AllocError, Global};
@@ -77,55 +78,7 @@ pub struct WrittenProcess {
 }
 
 /// Processes in order.
-#[derive(Drop)]
-pub struct Processes {
-    list: Vec<WrittenProcess>,
-}
-
-impl Model for Processes {
-    ghost use Rattle.std.specs.Prelude.{List};
-    ghost use Rattle.pgo_base.specs.declared.module.WrittenProcess.{WrittenProcess};
-    ghost use Rattle.pgo_base.specs.ProcessCode.{coded_processes};
-
-    ghost Value = { List WrittenProcess };
-
-    ghost coded = { coded_processes };
-
-    ghost view = { λ p. p.list.items };
-}
-
-impl Processes {
-    /// No process.
-    pub fn new(alloc: Global) -> Processes
-        ensures { result ≡ [] }
-    {
-        Processes {
-            list: Vec::new(alloc),
-        }
-    }
-
-    /// One process more, at the end.
-    pub fn push(&mut self, process: WrittenProcess) -> Result<(), AllocError>
-        ensures { IfOk result (λ _. self.new ≡ self.old ++ process ∷ []) }
-    {
-        self.list.push(process)?;
-        Ok(())
-    }
-
-    /// The processes as a slice.
-    pub fn as_slice(&self) -> &[WrittenProcess]
-        ensures { result.now ≡ self.now }
-    {
-        self.list.as_slice()
-    }
-
-    /// These processes.
-    pub fn from_vec(list: Vec<WrittenProcess>) -> Processes
-        ensures { result ≡ list.items }
-    {
-        Processes { list }
-    }
-}
+pub type Processes = Items<WrittenProcess>;
 
 /// A definition of a module: a constant with its value, or a name with its parameters and its body.
 #[derive(Drop)]
@@ -142,55 +95,7 @@ pub enum Defined {
 }
 
 /// Definitions in order; the values of constants may be among them.
-#[derive(Drop)]
-pub struct Defs {
-    list: Vec<Defined>,
-}
-
-impl Model for Defs {
-    ghost use Rattle.std.specs.Prelude.{List};
-    ghost use Rattle.pgo_base.specs.declared.module.Defined.{Defined};
-    ghost use Rattle.pgo_base.specs.DefinedCode.{coded_definitions};
-
-    ghost Value = { List Defined };
-
-    ghost coded = { coded_definitions };
-
-    ghost view = { λ d. d.list.items };
-}
-
-impl Defs {
-    /// No definition.
-    pub fn new(alloc: Global) -> Defs
-        ensures { result ≡ [] }
-    {
-        Defs {
-            list: Vec::new(alloc),
-        }
-    }
-
-    /// One definition more, at the end.
-    pub fn push(&mut self, definition: Defined) -> Result<(), AllocError>
-        ensures { IfOk result (λ _. self.new ≡ self.old ++ definition ∷ []) }
-    {
-        self.list.push(definition)?;
-        Ok(())
-    }
-
-    /// The definitions as a slice.
-    pub fn as_slice(&self) -> &[Defined]
-        ensures { result.now ≡ self.now }
-    {
-        self.list.as_slice()
-    }
-
-    /// These definitions.
-    pub fn from_vec(list: Vec<Defined>) -> Defs
-        ensures { result ≡ list.items }
-    {
-        Defs { list }
-    }
-}
+pub type Defs = Items<Defined>;
 
 /// A written module, in the order of its lines.
 #[derive(Drop)]

@@ -3,6 +3,7 @@ ghost use Rattle.std.specs.Cmp.Lexicographic.{slice_cmp};
 ghost use Rattle.std.specs.Ordering.{nat_cmp};
 ghost use Rattle.pgo_base.specs.Lookup.{same_name};
 
+use crate::items::Copied;
 use std::alloc::{AllocError, Global};
 use std::cmp::Ordering;
 use std::marker::Model;
@@ -83,5 +84,11 @@ impl Text {
         Ok(Text {
             bytes: Vec::from_slice(alloc, bytes)?,
         })
+    }
+}
+
+impl Copied for Text {
+    fn copy(&self, alloc: Global) -> Result<Text, AllocError> {
+        Text::copy(self, alloc)
     }
 }

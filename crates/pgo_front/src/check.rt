@@ -1,5 +1,5 @@
 // The command `check`: whether the log of a bundle is a run of its module.
-ghost use Rattle.std.specs.Prelude.{◌≡◌, ◌≤◌, length, IfOk, IfErr, IfSome, OnOk};
+ghost use Rattle.std.specs.Prelude.{◌≡◌, ◌≤◌, ◌⊎◌, length, IfOk, IfErr, IfSome, OnOk};
 ghost use Rattle.pgo_front.specs.Verdicts.{most_bundle_bytes, why_text};
 ghost use Rattle.pgo_front.specs.Answers.{IsAtEnd, ReadsAll};
 ghost use Rattle.pgo_front.specs.Makes.{IsVerdictStatus, MakesJudged, MakesVerdict, StopsCheck, StopsJudging};
@@ -25,6 +25,8 @@ pub fn make_check<S: Source>(alloc: Global, input: &mut S) -> Result<Made, Statu
     ensures either { IfOk result IsVerdictStatus }
     ensures err { IfErr result (StopsCheck (S.left input.old) (S.faults input.old) (S.faults input.new)) }
     ensures ended { OnOk result (IsAtEnd (S.left input.old) (S.left input.new)) }
+    ensures steady { OnOk result (S.faults input.new ≡ S.faults input.old) }
+    ensures failed { IfErr result (λ s. (s ≡ Status.ReadFault) ⊎ (S.faults input.new ≡ S.faults input.old)) }
     ensures ended_refused { IfErr result (λ s. ReadsAll s → IsAtEnd (S.left input.old) (S.left input.new)) }
 {
     let text = read_input(alloc, input, MOST_BUNDLE_BYTES)?;

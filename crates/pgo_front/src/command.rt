@@ -74,6 +74,10 @@ pub fn pgo<S: Source, O: Sink, E: Sink>(
         ¬ Rose (S.faults input.old) (S.faults input.new) → ¬ Rose (O.faults out.old) (O.faults out.new) →
         length text ≤ most_bundle_bytes → IsReadBundle text m consts l → ¬ IsRun m consts l.ids l.start l.entries → OrNoMemory result Status.NotARun }
 
+    // A failure of the input or the output is never passed over.
+    ensures read_failed { (result ≡ Status.ReadFault) ⊎ (S.faults input.new ≡ S.faults input.old) }
+    ensures write_failed { (result ≡ Status.WriteFault) ⊎ (O.faults out.new ≡ O.faults out.old) }
+
     // A refusal writes nothing but its line.
     ensures kept { IsRefusal result → out.new ≡ out.old }
     ensures unread { AsksNothing words.now → input.new ≡ input.old }
@@ -116,6 +120,8 @@ fn run<S: Source, O: Sink>(alloc: Global, words: &[Word], input: &mut S, out: &m
     ensures line { HasLine (S.left input.old) (RefusedBy words.now) result.status result.line }
     ensures write_fault { result.status ≡ Status.WriteFault → Rose (O.faults out.old) (O.faults out.new) }
     ensures prefix { result.status ≡ Status.WriteFault → WritesPrefix words.now (S.left input.old) (O.held out.old) (O.held out.new) }
+    ensures read_failed { (result.status ≡ Status.ReadFault) ⊎ (S.faults input.new ≡ S.faults input.old) }
+    ensures write_failed { (result.status ≡ Status.WriteFault) ⊎ (O.faults out.new ≡ O.faults out.old) }
     ensures kept { IsRefusal result.status → out.new ≡ out.old }
     ensures unread { AsksNothing words.now → input.new ≡ input.old }
     ensures ended { ReadsAll result.status → IsAtEnd (S.left input.old) (S.left input.new) }
@@ -134,7 +140,7 @@ fn write_lines<O: Sink>(out: &mut O, lines: &Lines) -> Result<(), Failed>
     ensures all { OnOk result (Grows (O.held out.old) (O.held out.new) (flatten lines.now)) }
     ensures prefix { OnErr result (GrowsByPrefix (O.held out.old) (O.held out.new) (flatten lines.now)) }
     ensures cause { OnErr result (Rose (O.faults out.old) (O.faults out.new)) }
-    ensures count { O.faults out.old ≤ O.faults out.new }
+    ensures steady { OnOk result (O.faults out.new ≡ O.faults out.old) }
 {
     for line in lines.as_slice() {
         write_all(out, line.as_bytes())?;
@@ -150,6 +156,8 @@ fn make<S: Source>(alloc: Global, words: &[Word], input: &mut S) -> Result<Made,
     ensures refusal { IfErr result (λ e. IsRefusal e.status) }
     ensures unread { AsksNothing words.now → input.new ≡ input.old }
     ensures ended { OnOk result (IsAtEnd (S.left input.old) (S.left input.new)) }
+    ensures steady { OnOk result (S.faults input.new ≡ S.faults input.old) }
+    ensures failed { IfErr result (λ e. (e.status ≡ Status.ReadFault) ⊎ (S.faults input.new ≡ S.faults input.old)) }
     ensures ended_refused { IfErr result (λ e. ReadsAll e.status → IsAtEnd (S.left input.old) (S.left input.new)) }
 {
     match read_words(alloc, words) {

@@ -1,5 +1,5 @@
 // The input of a command, read to its end.
-ghost use Rattle.std.specs.Prelude.{◌≡◌, ◌≤◌, length, IfOk, IfErr, IfSome, OnOk};
+ghost use Rattle.std.specs.Prelude.{◌≡◌, ◌≤◌, ◌⊎◌, length, IfOk, IfErr, IfSome, OnOk};
 ghost use Rattle.pgo_front.specs.Answers.{IsAtEnd};
 ghost use Rattle.pgo_front.specs.Makes.{StopsReading};
 
@@ -14,6 +14,8 @@ pub fn read_input<S: Source>(alloc: Global, input: &mut S, limit: u64) -> Result
     ensures within { IfOk result (λ v. length v.items ≤ limit) }
     ensures err { IfErr result (StopsReading limit (S.left input.old) (S.faults input.old) (S.faults input.new)) }
     ensures ended { OnOk result (IsAtEnd (S.left input.old) (S.left input.new)) }
+    ensures steady { OnOk result (S.faults input.new ≡ S.faults input.old) }
+    ensures failed { IfErr result (λ s. (s ≡ Status.ReadFault) ⊎ (S.faults input.new ≡ S.faults input.old)) }
 {
     match read_all(alloc, input, limit) {
         Ok(text) => Ok(text),

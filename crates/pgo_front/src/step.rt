@@ -38,6 +38,8 @@ pub fn make_step<S: Source>(
     ensures err { IfErr result (λ e. StopsStep consts.now (S.left input.old) (S.faults input.old) (S.faults input.new) e.status) }
     ensures line { IfErr result (λ e. HasLine (S.left input.old) (λ text l. RefusedWith text consts.now l) e.status e.line) }
     ensures ended { OnOk result (IsAtEnd (S.left input.old) (S.left input.new)) }
+    ensures steady { OnOk result (S.faults input.new ≡ S.faults input.old) }
+    ensures failed { IfErr result (λ e. (e.status ≡ Status.ReadFault) ⊎ (S.faults input.new ≡ S.faults input.old)) }
     ensures ended_refused { IfErr result (λ e. ReadsAll e.status → IsAtEnd (S.left input.old) (S.left input.new)) }
 {
     match read_input(alloc, input, MOST_BYTES) {

@@ -8,7 +8,7 @@ use crate::mapping::{bindings_of, copy_bindings};
 use crate::runs::Run;
 use pgo_base::value::Value;
 use pgo_syntax::bound::{Binding, Bindings, Instance};
-use pgo_syntax::items::Copied;
+use pgo_base::items::Copied;
 use pgo_syntax::spec::Spec;
 use std::alloc::{AllocError, Global};
 

@@ -8,7 +8,7 @@ use crate::runs::{Handed, Run};
 use pgo_base::text::Text;
 use pgo_syntax::archetype::Extent;
 use pgo_syntax::bound::{Binding, Mapping, Target};
-use pgo_syntax::items::Copied;
+use pgo_base::items::Copied;
 use pgo_syntax::macros::MappingMacro;
 use pgo_syntax::process::{Argument, MappingClause, MappingTarget};
 use pgo_syntax::spec::Spec;

@@ -1,4 +1,4 @@
-ghost use Rattle.std.specs.Prelude.{◌≡◌, ℕ, ◌+◌, ◌<◌, ◌≤◌, [], length, vec_len, IfOk, OnOk, IfSome, IsErrOf};
+ghost use Rattle.std.specs.Prelude.{◌≡◌, ℕ, ◌+◌, ◌<◌, ◌≤◌, ◌⊎◌, [], length, vec_len, IfOk, OnOk, IfSome, IsErrOf};
 ghost use Rattle.pgo_io.specs.Faults.{Rose};
 ghost use Rattle.pgo_io.specs.Source.{LosesAtMost};
 ghost use Rattle.pgo_io.specs.declared.read_all.ReadStop.TheVariants.{Fault, NoMemory};
@@ -57,6 +57,8 @@ pub fn read_all<S: Source>(alloc: Global, source: &mut S, limit: u64) -> Result<
         IfSome (S.left source.old) (λ bs. limit < length bs) }
 
     ensures taken { LosesAtMost (S.left source.old) (S.left source.new) (limit + BLOCK) }
+    // A failure is never passed over.
+    ensures steady { IsErrOf result ReadStop.Fault ⊎ (S.faults source.new ≡ S.faults source.old) }
     ensures count { S.faults source.old ≤ S.faults source.new }
 {
     let mut bytes = Vec::new(alloc);

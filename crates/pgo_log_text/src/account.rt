@@ -7,7 +7,7 @@ ghost use Rattle.pgo_log_text.specs.Parsers.{Reads, ReadsAs};
 use crate::cursor::Cursor;
 use crate::errors::LogStop;
 use crate::field::{last_number, last_value, number_field, this_field, this_number};
-use pgo_base::log::Ids;
+use pgo_base::log::Values;
 use pgo_base::value::Value;
 use std::alloc::Global;
 
@@ -66,7 +66,7 @@ fn account(alloc: Global, cursor: &mut Cursor<'_>, number: u32) -> Result<Value,
 }
 
 /// The accounts, numbered from 0.
-pub fn accounts(alloc: Global, cursor: &mut Cursor<'_>) -> Result<Ids, LogStop>
+pub fn accounts(alloc: Global, cursor: &mut Cursor<'_>) -> Result<Values, LogStop>
     ensures { Reads (spec.accounts spec.most_parts 0 [] cursor.old) result cursor.new }
 {
     let mut ids = Vec::new(alloc);
@@ -78,5 +78,5 @@ pub fn accounts(alloc: Global, cursor: &mut Cursor<'_>) -> Result<Ids, LogStop>
         ids.push(account(alloc, cursor, count)?)?;
         count += 1;
     }
-    Ok(Ids::from_vec(ids))
+    Ok(Values::from_vec(ids))
 }

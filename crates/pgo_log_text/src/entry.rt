@@ -8,7 +8,7 @@ ghost use Rattle.pgo_log_text.specs.Parsers.{ReadsAs};
 use crate::cursor::Cursor;
 use crate::errors::LogStop;
 use crate::field::{last_number, last_value, name_field, number_field, this_field};
-use pgo_base::log::{Change, Changes, Component, Entries, Entry, Owner};
+use pgo_base::log::{Change, Changes, Component, Entries, Entry, Owner, Values};
 use pgo_base::value::Value;
 use std::alloc::Global;
 
@@ -86,6 +86,7 @@ fn entry(alloc: Global, cursor: &mut Cursor<'_>, number: u32) -> Result<Entry, L
         label,
         next,
         changes,
+        prints: Values::new(alloc),
     })
 }
 

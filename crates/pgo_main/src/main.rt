@@ -1,12 +1,20 @@
 // The program: the words of the command line and the standard streams, handed to `pgo`.
 #![tactic(auto)]
 
-ghost use Rattle.std.specs.Prelude.{◌≡◌, IfOk, IsOk, IsErr};
+ghost use Rattle.std.specs.Prelude.{◌≡◌, ◌≤◌, ◌<◌, ◌⊎◌, ℕ, List, [], length, IfOk, IsOk, IsErr};
 ghost use Rattle.std.specs.Process.{exit_status};
 ghost use Rattle.pgo_io.specs.Faults.{Rose};
+ghost use Rattle.pgo_base.specs.Data.{Data};
+ghost use Rattle.pgo_base.specs.Lookup.{Name};
+ghost use Rattle.pgo_model.specs.IsRun.{IsRun};
+ghost use Rattle.pgo_model.specs.Log.{Log};
+ghost use Rattle.pgo_model.specs.Module.{Module};
+ghost use Rattle.pgo_counter.specs.Spec.{Spec};
+ghost use Rattle.pgo_log_text.specs.ReadBundle.{IsReadBundle, IsNoBundle};
 ghost use Rattle.pgo_front.specs.Statuses.{number_of, IsSilent};
-ghost use Rattle.pgo_front.specs.Answers.{AsksNothing, EndsWell, WritesBundle, WritesVerdict, Stops, IsRefusal, OrNoMemory, SaysLine, SaysRefusal};
-ghost use Rattle.pgo_front.specs.Verdicts.{IsBadVerdict};
+ghost use Rattle.pgo_front.specs.Answers.{AsksNothing, IsNotRun, EndsWell, WritesBundle, WritesVerdict, WritesPrefix, Stops, IsRefusal, ReadsAll, IsAtEnd, OrNoMemory, SaysLine, SaysRefusal, IsToldToStep, IsToldToCheck};
+ghost use Rattle.pgo_front.specs.Spells.{Spells, most_bytes};
+ghost use Rattle.pgo_front.specs.Verdicts.{most_bundle_bytes, IsBadVerdict};
 ghost use Rattle.pgo_main.specs.Arguments.{words_behind_name, words_of, LacksMemory, LacksText};
 
 use pgo_base::word::Word;
@@ -52,11 +60,37 @@ fn run<S: Source, O: Sink, E: Sink>(
     ensures stopped { IsRefusal result →
         Stops (words_of arguments) (S.left input.old) (S.faults input.old) (S.faults input.new) result }
     ensures write_fault { result ≡ Status.WriteFault → Rose (O.faults out.old) (O.faults out.new) }
+    ensures prefix { result ≡ Status.WriteFault → WritesPrefix (words_of arguments) (S.left input.old) (O.held out.old) (O.held out.new) }
+
+    // Each cause has its status, or there is no memory.
     ensures usage { AsksNothing (words_of arguments) → OrNoMemory result Status.Usage }
+    ensures too_long { (turns text : List ℕ) (consts : List (Name × Data)) → IsToldToStep (words_of arguments) (S.left input.old) turns consts text →
+        ¬ Rose (S.faults input.old) (S.faults input.new) → most_bytes < length text → OrNoMemory result Status.TooLong }
+    ensures refused { (turns text : List ℕ) (consts : List (Name × Data)) → IsToldToStep (words_of arguments) (S.left input.old) turns consts text →
+        ¬ Rose (S.faults input.old) (S.faults input.new) →
+        length text ≤ most_bytes → IsNotRun text consts → OrNoMemory result Status.SpecRefused }
+    ensures runs { (turns text : List ℕ) (spec : Spec) → IsToldToStep (words_of arguments) (S.left input.old) turns [] text →
+        ¬ Rose (S.faults input.old) (S.faults input.new) → ¬ Rose (O.faults out.old) (O.faults out.new) →
+        length text ≤ most_bytes → Spells text spec → (result ≡ Status.Fine) ⊎ OrNoMemory result Status.Spent }
+    ensures no_bundle { (text : List ℕ) → IsToldToCheck (words_of arguments) (S.left input.old) text → ¬ Rose (S.faults input.old) (S.faults input.new) →
+        length text ≤ most_bundle_bytes → IsNoBundle text → OrNoMemory result Status.BadBundle }
+    ensures too_long_bundle { (text : List ℕ) → IsToldToCheck (words_of arguments) (S.left input.old) text → ¬ Rose (S.faults input.old) (S.faults input.new) →
+        most_bundle_bytes < length text → OrNoMemory result Status.TooLong }
+    ensures is_run { (text : List ℕ) (m : Module) (consts : List (Name × Data)) (l : Log) → IsToldToCheck (words_of arguments) (S.left input.old) text →
+        ¬ Rose (S.faults input.old) (S.faults input.new) → ¬ Rose (O.faults out.old) (O.faults out.new) →
+        length text ≤ most_bundle_bytes → IsReadBundle text m consts l → IsRun m consts l.ids l.start l.entries → OrNoMemory result Status.Fine }
+    ensures is_no_run { (text : List ℕ) (m : Module) (consts : List (Name × Data)) (l : Log) → IsToldToCheck (words_of arguments) (S.left input.old) text →
+        ¬ Rose (S.faults input.old) (S.faults input.new) → ¬ Rose (O.faults out.old) (O.faults out.new) →
+        length text ≤ most_bundle_bytes → IsReadBundle text m consts l → ¬ IsRun m consts l.ids l.start l.entries → OrNoMemory result Status.NotARun }
+
+    // A failure of the input or the output is never passed over.
+    ensures read_failed { (result ≡ Status.ReadFault) ⊎ (S.faults input.new ≡ S.faults input.old) }
+    ensures write_failed { (result ≡ Status.WriteFault) ⊎ (O.faults out.new ≡ O.faults out.old) }
 
     // A refusal writes nothing but its line.
     ensures kept { IsRefusal result → out.new ≡ out.old }
     ensures unread { AsksNothing (words_of arguments) → input.new ≡ input.old }
+    ensures ended { ReadsAll result → IsAtEnd (S.left input.old) (S.left input.new) }
     ensures no_memory { LacksMemory arguments → result ≡ Status.NoMemory }
     ensures says { ¬ Rose (E.faults err.old) (E.faults err.new) → SaysLine result (E.held err.old) (E.held err.new) }
     ensures says_refusal { result ≡ Status.SpecRefused → ¬ Rose (E.faults err.old) (E.faults err.new) →

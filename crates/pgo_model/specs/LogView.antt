@@ -1,5 +1,5 @@
 -- A log as it lies in memory, as the entries that it stands for.
-use Rattle.std.specs.Prelude.{[], map, option_map}
+use Rattle.std.specs.Prelude.{map, option_map}
 use Rattle.pgo_base.specs.View.{data_of}
 use Rattle.pgo_base.specs.declared.log.Owner as base_owner
 use Rattle.pgo_base.specs.declared.log.Owner.TheVariants as base_owners
@@ -21,12 +21,11 @@ component_view c = record { variable = c.variable; index = option_map data_of c.
 abbrev pub change_view : base_change.Change → Change
 change_view c = record { component = component_view c.component; value = data_of c.value }
 
--- nothing is printed
 abbrev pub entry_view : base_entry.Entry → Entry Effect
 entry_view e = record {
   instance = e.instance;
   attempt = e.attempt;
-  change = record { label = e.label; next = e.next; changes = map change_view e.changes; prints = [] };
+  change = record { label = e.label; next = e.next; changes = map change_view e.changes; prints = e.prints };
 }
 
 abbrev pub log_view : base_log.Log → Log

@@ -2,9 +2,9 @@
 ghost use Rattle.std.specs.Prelude.{◌≡◌, [], ◌∷◌, ◌++◌, IfOk};
 
 use crate::declaration::Declarations;
-use crate::items::{Copied, Items};
 use crate::name::PlacedName;
 use crate::statement::Block;
+use pgo_base::items::{Copied, Items};
 use pgo_base::results::both;
 use std::alloc::{AllocError, Global};
 

@@ -1,9 +1,9 @@
 // Assignments: left sides with their paths, and right sides.
 ghost use Rattle.std.specs.Prelude.{◌≡◌, [], ◌∷◌, ◌++◌, IfOk};
 
-use crate::items::{Copied, Items};
 use crate::name::PlacedName;
 use pgo_base::expr::Sub;
+use pgo_base::items::{Copied, Items};
 use pgo_base::text::Text;
 use std::alloc::{AllocError, Global};
 

@@ -1,9 +1,9 @@
 // Names that a `with` binds, and where a value comes from.
 ghost use Rattle.std.specs.Prelude.{◌≡◌, [], ◌∷◌, ◌++◌, IfOk};
 
-use crate::items::{Copied, Items};
 use crate::name::PlacedName;
 use pgo_base::expr::Sub;
+use pgo_base::items::{Copied, Items};
 use std::alloc::{AllocError, Global};
 
 /// What stands behind a name: `= e`, the value of e, or `\in e`, a member of e.

@@ -2,10 +2,10 @@
 ghost use Rattle.std.specs.Prelude.{◌≡◌, [], ◌∷◌, ◌++◌, IfOk};
 
 use crate::archetype::{Archetype, Extent};
-use crate::items::{Copied, Items};
 use crate::macros::MappingMacro;
 use crate::spec::Spec;
 use pgo_base::expr::Sub;
+use pgo_base::items::{Copied, Items};
 use pgo_base::module::Defs;
 use pgo_base::scope::State;
 use pgo_base::text::Text;

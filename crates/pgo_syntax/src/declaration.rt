@@ -2,9 +2,9 @@
 ghost use Rattle.std.specs.Prelude.{◌≡◌, [], ◌∷◌, ◌++◌, IfOk};
 
 use crate::binding::Origin;
-use crate::items::{Copied, Items};
 use crate::name::{PlacedName, PlacedNames};
 use pgo_base::expr::Sub;
+use pgo_base::items::{Copied, Items};
 use std::alloc::{AllocError, Global};
 
 /// A variable, and what it starts with: `v`, `v = e` or `v \in e`.

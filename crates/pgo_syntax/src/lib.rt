@@ -6,7 +6,6 @@ pub mod assignment;
 pub mod binding;
 pub mod bound;
 pub mod declaration;
-pub mod items;
 pub mod macros;
 pub mod name;
 pub mod process;

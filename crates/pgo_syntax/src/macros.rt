@@ -1,9 +1,9 @@
 // Macros and mapping macros.
 ghost use Rattle.std.specs.Prelude.{◌≡◌, [], ◌∷◌, ◌++◌, IfOk};
 
-use crate::items::{Copied, Items};
 use crate::name::{PlacedName, PlacedNames};
 use crate::statement::Block;
+use pgo_base::items::{Copied, Items};
 use std::alloc::{AllocError, Global};
 
 /// `macro name (params) body`.

@@ -1,7 +1,7 @@
 // Names with their places in the text.
 ghost use Rattle.std.specs.Prelude.{◌≡◌, [], ◌∷◌, ◌++◌, IfOk};
 
-use crate::items::{Copied, Items};
+use pgo_base::items::{Copied, Items};
 use pgo_base::text::Text;
 use std::alloc::{AllocError, Global};
 

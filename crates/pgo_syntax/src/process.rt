@@ -3,9 +3,9 @@ ghost use Rattle.std.specs.Prelude.{◌≡◌, [], ◌∷◌, ◌++◌, IfOk};
 
 use crate::archetype::Extent;
 use crate::binding::Origin;
-use crate::items::{Copied, Items};
 use crate::name::PlacedName;
 use pgo_base::expr::Sub;
+use pgo_base::items::{Copied, Items};
 use pgo_base::results::both;
 use std::alloc::{AllocError, Global};
 

@@ -2,7 +2,7 @@
 ghost use Rattle.std.specs.Prelude.{◌≡◌, [], ◌∷◌, ◌++◌, IfOk};
 ghost use Rattle.pgo_model.specs.Core.{is_listed};
 
-use crate::items::Items;
+use pgo_base::items::Items;
 use std::alloc::{AllocError, Global};
 use std::marker::Model;
 

@@ -3,10 +3,10 @@ ghost use Rattle.std.specs.Prelude.{◌≡◌, IfOk};
 
 use crate::archetype::Archetypes;
 use crate::declaration::{Declarations, Definitions};
-use crate::items::Copied;
 use crate::macros::{Macros, MappingMacros};
 use crate::name::{PlacedName, PlacedNames};
 use crate::process::Processes;
+use pgo_base::items::Copied;
 use pgo_base::results::both;
 use std::alloc::{AllocError, Global};
 

@@ -4,7 +4,7 @@ use crate::operators::operands::elements;
 use crate::scene::HEIGHT;
 use pgo_base::consts::Consts;
 use pgo_base::expr::{Expr, Names, Sub};
-use pgo_base::log::{Change, Changes, Component, Entries, Entry, Ids, Log, Owner};
+use pgo_base::log::{Change, Changes, Component, Entries, Entry, Log, Owner, Values};
 use pgo_base::module::{Action, Actions, Defs, Module, Processes, WrittenProcess};
 use pgo_base::results::both;
 use pgo_base::scope::State;
@@ -46,7 +46,7 @@ impl Verdicts {
             },
             actions: Actions::new(alloc),
             log: Log {
-                ids: Ids::from_vec(Vec::new(alloc)),
+                ids: Values::new(alloc),
                 start: State::from_vec(Vec::new(alloc)),
                 entries: Entries::new(alloc),
             },
@@ -137,6 +137,7 @@ impl Verdicts {
             label,
             next,
             changes: Changes::new(self.alloc),
+            prints: Values::new(self.alloc),
         });
         Ok(true)
     }
@@ -182,7 +183,7 @@ impl Subject for Verdicts {
             "init" | "action" | "process" => self.take_expression(key, text),
             "ids" => match value(self.alloc, text)? {
                 Some(v) => {
-                    self.log.ids = Ids::from_vec(elements(self.alloc, &v)?);
+                    self.log.ids = Values::from_vec(elements(self.alloc, &v)?);
                     Ok(true)
                 }
                 None => Ok(false),

@@ -2,22 +2,9 @@
 ghost use Rattle.std.specs.Prelude.{◌≡◌, IfOk};
 ghost use Rattle.pgo_base.specs.ExprView.{tree};
 
-use crate::expr::{Arms, Binders, Expr, Exprs, Named, Names, Sub, Update, Updates};
+use crate::expr::{Arms, Binders, Expr, Exprs, Named, Sub, Update, Updates};
 use crate::results::both;
 use std::alloc::{AllocError, Global};
-
-impl Names {
-    /// The same names once more.
-    pub fn copy(&self, alloc: Global) -> Result<Names, AllocError>
-        ensures { IfOk result (λ names. names ≡ self.now) }
-    {
-        let mut list = Vec::with_capacity(alloc, self.list.len())?;
-        for name in &self.list {
-            list.push(name.copy(alloc)?)?;
-        }
-        Ok(Names { list })
-    }
-}
 
 impl Expr {
     /// The same expression once more.

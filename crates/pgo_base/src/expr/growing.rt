@@ -13,23 +13,6 @@ impl Exprs {
     }
 }
 
-impl Names {
-    pub fn new(alloc: Global) -> Names
-        ensures { result ≡ [] }
-    {
-        Names {
-            list: Vec::new(alloc),
-        }
-    }
-
-    pub fn push(&mut self, name: Text) -> Result<(), AllocError>
-        ensures { IfOk result (λ _. self.new ≡ self.old ++ name ∷ []) }
-    {
-        self.list.push(name)?;
-        Ok(())
-    }
-}
-
 impl Named {
     pub fn new(alloc: Global) -> Named
         ensures { result ≡ [] }

@@ -1,7 +1,16 @@
 -- The words that `pgo` is given are those of the arguments.
-use Rattle.std.proofs.Common.{◌≡◌, subst, ◌∙◌}
+use Rattle.std.proofs.Common.{◌≡◌, ◌≤◌, ◌<◌, ◌⊎◌, ℕ, List, [], length, subst, ◌∙◌}
 use Rattle.pgo_io.specs.Faults.{Rose}
-use Rattle.pgo_front.specs.Answers.{AsksNothing, OrNoMemory, Stops, IsRefusal, EndsWell, SaysRefusal}
+use Rattle.pgo_base.specs.Data.{Data}
+use Rattle.pgo_base.specs.Lookup.{Name}
+use Rattle.pgo_model.specs.IsRun.{IsRun}
+use Rattle.pgo_model.specs.Log.{Log}
+use Rattle.pgo_model.specs.Module.{Module}
+use Rattle.pgo_counter.specs.Spec.{Spec}
+use Rattle.pgo_log_text.specs.ReadBundle.{IsReadBundle, IsNoBundle}
+use Rattle.pgo_front.specs.Answers.{AsksNothing, IsNotRun, OrNoMemory, Stops, IsRefusal, EndsWell, WritesPrefix, SaysRefusal, IsToldToStep, IsToldToCheck}
+use Rattle.pgo_front.specs.Spells.{Spells, most_bytes}
+use Rattle.pgo_front.specs.Verdicts.{most_bundle_bytes}
 use Rattle.pgo_front.specs.declared.status.Status.TheVariants as status
 use Rattle.pgo_main.proofs.run.Goals as goal
 
@@ -31,3 +40,51 @@ returns-in-Ok-clause-says_refusal g c =
     subst
     (λ ws. c.pgo.result ≡ status.SpecRefused → (Rose (g.E.Sink.faults c.args.err.now) (g.E.Sink.faults c.pgo.new.err) → ⊥) → SaysRefusal ws (g.S.Source.left c.args.input.now) (g.E.Sink.held c.args.err.now) (g.E.Sink.held c.pgo.new.err))
     (c.as_slice.ensures.value ∙ c.in-Ok.ensures.words) c.pgo.ensures.says_refusal
+
+pub returns-in-Ok-clause-prefix : goal.returns-in-Ok-clause-prefix
+returns-in-Ok-clause-prefix g c =
+    subst
+    (λ ws. c.pgo.result ≡ status.WriteFault → WritesPrefix ws (g.S.Source.left c.args.input.now) (g.O.Sink.held c.args.out.now) (g.O.Sink.held c.pgo.new.out))
+    (c.as_slice.ensures.value ∙ c.in-Ok.ensures.words) c.pgo.ensures.prefix
+
+pub returns-in-Ok-clause-too_long : goal.returns-in-Ok-clause-too_long
+returns-in-Ok-clause-too_long g c =
+    subst
+    (λ ws. (turns text : List ℕ) (consts : List (Name × Data)) → IsToldToStep ws (g.S.Source.left c.args.input.now) turns consts text → (Rose (g.S.Source.faults c.args.input.now) (g.S.Source.faults c.pgo.new.input) → ⊥) → most_bytes < length text → OrNoMemory c.pgo.result status.TooLong)
+    (c.as_slice.ensures.value ∙ c.in-Ok.ensures.words) c.pgo.ensures.too_long
+
+pub returns-in-Ok-clause-refused : goal.returns-in-Ok-clause-refused
+returns-in-Ok-clause-refused g c =
+    subst
+    (λ ws. (turns text : List ℕ) (consts : List (Name × Data)) → IsToldToStep ws (g.S.Source.left c.args.input.now) turns consts text → (Rose (g.S.Source.faults c.args.input.now) (g.S.Source.faults c.pgo.new.input) → ⊥) → length text ≤ most_bytes → IsNotRun text consts → OrNoMemory c.pgo.result status.SpecRefused)
+    (c.as_slice.ensures.value ∙ c.in-Ok.ensures.words) c.pgo.ensures.refused
+
+pub returns-in-Ok-clause-runs : goal.returns-in-Ok-clause-runs
+returns-in-Ok-clause-runs g c =
+    subst
+    (λ ws. (turns text : List ℕ) (spec : Spec) → IsToldToStep ws (g.S.Source.left c.args.input.now) turns [] text → (Rose (g.S.Source.faults c.args.input.now) (g.S.Source.faults c.pgo.new.input) → ⊥) → (Rose (g.O.Sink.faults c.args.out.now) (g.O.Sink.faults c.pgo.new.out) → ⊥) → length text ≤ most_bytes → Spells text spec → (c.pgo.result ≡ status.Fine) ⊎ OrNoMemory c.pgo.result status.Spent)
+    (c.as_slice.ensures.value ∙ c.in-Ok.ensures.words) c.pgo.ensures.runs
+
+pub returns-in-Ok-clause-no_bundle : goal.returns-in-Ok-clause-no_bundle
+returns-in-Ok-clause-no_bundle g c =
+    subst
+    (λ ws. (text : List ℕ) → IsToldToCheck ws (g.S.Source.left c.args.input.now) text → (Rose (g.S.Source.faults c.args.input.now) (g.S.Source.faults c.pgo.new.input) → ⊥) → length text ≤ most_bundle_bytes → IsNoBundle text → OrNoMemory c.pgo.result status.BadBundle)
+    (c.as_slice.ensures.value ∙ c.in-Ok.ensures.words) c.pgo.ensures.no_bundle
+
+pub returns-in-Ok-clause-too_long_bundle : goal.returns-in-Ok-clause-too_long_bundle
+returns-in-Ok-clause-too_long_bundle g c =
+    subst
+    (λ ws. (text : List ℕ) → IsToldToCheck ws (g.S.Source.left c.args.input.now) text → (Rose (g.S.Source.faults c.args.input.now) (g.S.Source.faults c.pgo.new.input) → ⊥) → most_bundle_bytes < length text → OrNoMemory c.pgo.result status.TooLong)
+    (c.as_slice.ensures.value ∙ c.in-Ok.ensures.words) c.pgo.ensures.too_long_bundle
+
+pub returns-in-Ok-clause-is_run : goal.returns-in-Ok-clause-is_run
+returns-in-Ok-clause-is_run g c =
+    subst
+    (λ ws. (text : List ℕ) (m : Module) (consts : List (Name × Data)) (l : Log) → IsToldToCheck ws (g.S.Source.left c.args.input.now) text → (Rose (g.S.Source.faults c.args.input.now) (g.S.Source.faults c.pgo.new.input) → ⊥) → (Rose (g.O.Sink.faults c.args.out.now) (g.O.Sink.faults c.pgo.new.out) → ⊥) → length text ≤ most_bundle_bytes → IsReadBundle text m consts l → IsRun m consts l.ids l.start l.entries → OrNoMemory c.pgo.result status.Fine)
+    (c.as_slice.ensures.value ∙ c.in-Ok.ensures.words) c.pgo.ensures.is_run
+
+pub returns-in-Ok-clause-is_no_run : goal.returns-in-Ok-clause-is_no_run
+returns-in-Ok-clause-is_no_run g c =
+    subst
+    (λ ws. (text : List ℕ) (m : Module) (consts : List (Name × Data)) (l : Log) → IsToldToCheck ws (g.S.Source.left c.args.input.now) text → (Rose (g.S.Source.faults c.args.input.now) (g.S.Source.faults c.pgo.new.input) → ⊥) → (Rose (g.O.Sink.faults c.args.out.now) (g.O.Sink.faults c.pgo.new.out) → ⊥) → length text ≤ most_bundle_bytes → IsReadBundle text m consts l → (IsRun m consts l.ids l.start l.entries → ⊥) → OrNoMemory c.pgo.result status.NotARun)
+    (c.as_slice.ensures.value ∙ c.in-Ok.ensures.words) c.pgo.ensures.is_no_run

@@ -2,9 +2,9 @@
 ghost use Rattle.std.specs.Prelude.{◌≡◌, IfOk};
 ghost use Rattle.pgo_syntax.specs.StatementView.{statement};
 
-use crate::items::Copied;
 use crate::name::copy_optional;
 use crate::statement::{Alternatives, Block, Branch, Branches, Labeled, Nested, Stmt};
+use pgo_base::items::Copied;
 use pgo_base::results::both;
 use std::alloc::{AllocError, Global};
 

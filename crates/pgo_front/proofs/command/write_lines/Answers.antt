@@ -1,4 +1,4 @@
-use Rattle.std.proofs.Common.{subst, arith}
+use Rattle.std.proofs.Common.{subst, ◌∙◌}
 use Rattle.pgo_io.specs.Sink.{Grows, GrowsByPrefix}
 use Rattle.pgo_model.specs.ModuleText.{flatten}
 use Rattle.pgo_front.proofs.LinesWritten.{line_written, prefix_written, on_err}
@@ -17,5 +17,5 @@ loop-line-preserved g c =
     let ls = c.as_slice-line-items.result.now in (
       line_written _ _ _ ls c.loop-line.line-index c.line-item.result c.loop-line-test.true c.line-item.is c.loop-line.invariant.0
           (subst (Grows (g.O.Sink.held c.loop-line.out) (g.O.Sink.held c.write_all.new.sink)) c.as_bytes.ensures c.in_ok-write_all.ensures.all),
-      (let before = c.loop-line.invariant.1 in let now = c.in_ok-write_all.ensures.count in omega (arith, before, now)),
+      c.in_ok-write_all.ensures.steady ∙ c.loop-line.invariant.1,
     )

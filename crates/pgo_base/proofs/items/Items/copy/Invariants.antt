@@ -1,5 +1,5 @@
 use Rattle.std.proofs.Common.{◌≡◌, take}
-use Rattle.pgo_syntax.proofs.items.Items.copy.Given as goal
+use Rattle.pgo_base.proofs.items.Items.copy.Given as goal
 
 abbrev pub invariant-loop-item : goal.invariant-loop-item
 invariant-loop-item g l = l.list.items ≡ take l.item-index l.item-items
