@@ -61,7 +61,7 @@ pub record Ran (spec : Spec) (turns : List ℕ) (status : ℕ) (written : List �
   -- another instance that is bound to the resource, by a pre-commit that is set to fail, or by a full journal
   pub accounts : (k : ℕ) → Accounts (rules_of (system_of bound) settings) (Reaches (system_of bound)) false (finished_of (Core (system_of bound) settings turns)) k
   -- over all instances no failing pre-commit is answered twice, and a full journal has as many entries as the refusal says
-  pub joint : JointAccounts (rules_of (system_of bound) settings) (Reaches (system_of bound)) false (finished_of (Core (system_of bound) settings turns))
+  pub joint : JointAccounts (rules_of (system_of bound) settings) false (finished_of (Core (system_of bound) settings turns))
   -- the status is that of the records and the last state: 0 exactly where every instance is at Done
   pub status_is : status ≡ status_of (system_of bound) settings (finished_of (Core (system_of bound) settings turns))
   pub fine : (status ≡ 0) ↔ AllDone (system_of bound) (last_state (rules_of (system_of bound) settings) (Core (system_of bound) settings turns))

@@ -96,8 +96,18 @@ module _ {S D : Type 0} (R : Rules S D) where
       × ((k i n : ℕ) → nth (f.records k) i ≡ Some (Full n) →
       (p : ℕ) × (t : S) × (ps : List Data) × (p ≤ length f.entries) × (outcome f k (suc i) p ≡ Next t ps))
 
+  -- `run`: the records are those of the command `run`, or of threads, and not those of a list of turns
+  module _ (run : Bool) where
+    -- of all instances: no failing pre-commit is answered twice; the number of a Full is the journal's length, which is at
+    -- most `steps`; of a run each refusal has its cause
+    pub record JointAccounts (f : Finished D) : Type 0 where
+      pub once : (k l i j r o : ℕ) → nth (f.records k) i ≡ Some (Down r o) → nth (f.records l) j ≡ Some (Down r o) → (k ≡ l) × (i ≡ j)
+      pub full : (k i n : ℕ) → nth (f.records k) i ≡ Some (Full n) → n ≡ length f.entries
+      pub room : length f.entries ≤ R.steps
+      pub contended : run ≡ true → Contended f
+
   module _ (Reaches : (k r : ℕ) → Type 0) where
-    -- `run`: the records are those of the command `run`, or of threads, and not those of a list of turns
+    -- of instance k alone; `run` as above
     module _ (run : Bool) where
       -- what record number i + 1 of k claims
       abbrev pub Told : Finished D → (k i : ℕ) → Record → Type 0
@@ -125,14 +135,6 @@ module _ {S D : Type 0} (R : Rules S D) where
         pub bounded : length (f.records k) ≤ R.attempts
         pub last : (i n : ℕ) → nth (f.records k) i ≡ Some (Full n) → suc i ≡ length (f.records k)
         pub number : (i : ℕ) (x : Record) → nth (f.records k) i ≡ Some x → k < R.instances
-
-      -- of all instances: no failing pre-commit is answered twice; the number of a Full is the journal's length, which is at
-      -- most `steps`; of a run each refusal has its cause
-      pub record JointAccounts (f : Finished D) : Type 0 where
-        pub once : (k l i j r o : ℕ) → nth (f.records k) i ≡ Some (Down r o) → nth (f.records l) j ≡ Some (Down r o) → (k ≡ l) × (i ≡ j)
-        pub full : (k i n : ℕ) → nth (f.records k) i ≡ Some (Full n) → n ≡ length f.entries
-        pub room : length f.entries ≤ R.steps
-        pub contended : run ≡ true → Contended f
 
     -- the premises, of good states: the run starts in one and a section leads from one to one; there an entry's record
     -- leads to its section's end, and a section reaches what its instance is bound to

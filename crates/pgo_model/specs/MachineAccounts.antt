@@ -94,7 +94,7 @@ module _ {S D : Type 0} (R : Rules S D) where
     -- the machine's accounts, and what its records tell
     pub record AccountsOf (m : Machine D) : Type 0 where
       pub each : (k : ℕ) → Accounts R Reaches false (finished_of m) k
-      pub joint : JointAccounts R Reaches false (finished_of m)
+      pub joint : JointAccounts R false (finished_of m)
 
     abbrev pub Tells : Machine D → (k i : ℕ) → Record → Type 0
     Tells m k i x = Told R Reaches false (finished_of m) k i x
@@ -140,7 +140,7 @@ module _ {S D : Type 0} (R : Rules S D) where
           number = λ i x h. b.number i x (ap (λ l. nth l i) (sym (recs k)) ∙ h);
         }
 
-        joint : JointAccounts R Reaches false (finished_of n)
+        joint : JointAccounts R false (finished_of n)
         joint = record {
           once = λ k l i j r o h h'. a.joint.once k l i j r o (ap (λ l. nth l i) (sym (recs k)) ∙ h) (ap (λ l. nth l j) (sym (recs l)) ∙ h');
           full = λ k i q h. a.joint.full k i q (ap (λ l. nth l i) (sym (recs k)) ∙ h) ∙ ap length (sym es);

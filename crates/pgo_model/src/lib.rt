@@ -34,5 +34,5 @@ pub fn core_accounts()
     ensures leads { (y : System) (s : Settings) (turns : List ℕ) → SystemFits y s → AllLead (rules_of y s) y.start (Core y s turns).entries }
     ensures states { (y : System) (s : Settings) (turns : List ℕ) → SystemFits y s → (n : ℕ) → n ≤ length (Core y s turns).entries → StateAt y.start (Core y s turns).entries n ≡ Some (at (rules_of y s) (finished_of (Core y s turns)) n) }
     ensures accounts { (y : System) (s : Settings) (turns : List ℕ) → SystemFits y s → (k : ℕ) → Accounts (rules_of y s) (Reaches y) false (finished_of (Core y s turns)) k }
-    ensures joint { (y : System) (s : Settings) (turns : List ℕ) → SystemFits y s → JointAccounts (rules_of y s) (Reaches y) false (finished_of (Core y s turns)) }
+    ensures joint { (y : System) (s : Settings) (turns : List ℕ) → SystemFits y s → JointAccounts (rules_of y s) false (finished_of (Core y s turns)) }
 {}
