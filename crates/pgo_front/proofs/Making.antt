@@ -9,7 +9,7 @@ use Rattle.pgo_model.specs.ModuleText.{flatten}
 use Rattle.pgo_check.specs.declared.verdict.Verdict.{Verdict}
 use Rattle.pgo_check.specs.declared.verdict.Verdict.TheVariants.{Run, Bad}
 use Rattle.pgo_log_text.specs.ReadBundle.{IsNoBundle}
-use Rattle.pgo_front.specs.declared.made.Made.{Made}
+use Rattle.pgo_front.specs.declared.output.Output.{Output}
 use Rattle.pgo_front.specs.declared.ended.Ended.{Ended}
 use Rattle.pgo_front.specs.declared.status.Status.{Status}
 use Rattle.pgo_front.specs.declared.status.Status.TheVariants as status
@@ -49,75 +49,75 @@ stops_check input before now text s told short (inr e) = inr (inr (inr e))
 -- ---- what a command made
 
 -- of a text, of the input that it came from
-pub makes_step : (input : Option (List ℕ)) (turns : List ℕ) (consts : List (Name × Data)) (text : List ℕ) (m : Made)
+pub makes_step : (input : Option (List ℕ)) (turns : List ℕ) (consts : List (Name × Data)) (text : List ℕ) (m : Output)
     → IfSome input (λ bs. text ≡ bs) → length text ≤ most_bytes → MakesOf text turns consts m → IfSome input (λ bs. (length bs ≤ most_bytes) × MakesOf bs turns consts m)
 makes_step None turns consts text m told short h = tt
 makes_step (Some bs) turns consts text m told short h = subst (λ bs. (length bs ≤ most_bytes) × MakesOf bs turns consts m) told (short, h)
 
-pub makes_check : (input : Option (List ℕ)) (text : List ℕ) (m : Made)
+pub makes_check : (input : Option (List ℕ)) (text : List ℕ) (m : Output)
     → IfSome input (λ bs. text ≡ bs) → length text ≤ most_bundle_bytes → MakesJudged text m → IfSome input (λ bs. (length bs ≤ most_bundle_bytes) × MakesJudged bs m)
 makes_check None text m told short h = tt
 makes_check (Some bs) text m told short h = subst (λ bs. (length bs ≤ most_bundle_bytes) × MakesJudged bs m) told (short, h)
 
 -- of the words that asked for it
-pub step_asked : (words : List (List ℕ)) (input : Option (List ℕ)) (turns : List ℕ) (consts : List (Name × Data)) (m : Made) → AsksStep words turns consts → IsStepStatus m
+pub step_asked : (words : List (List ℕ)) (input : Option (List ℕ)) (turns : List ℕ) (consts : List (Name × Data)) (m : Output) → AsksStep words turns consts → IsStepStatus m
     → IfSome input (λ text. (length text ≤ most_bytes) × MakesOf text turns consts m) → MakesAsked words input m
 step_asked words None turns consts m asks either h = inl ((turns, consts, asks), either, tt)
 step_asked words (Some text) turns consts m asks either h =
     inl ((turns, consts, asks), either, record { turns = turns; spec = h.1.1; asks = subst (AsksStep words turns) h.1.0 asks; short = h.0; spells = h.1.2; ran = h.1.3 })
 
-pub check_asked : (words : List (List ℕ)) (input : Option (List ℕ)) (m : Made) → AsksCheck words → IsVerdictStatus m
+pub check_asked : (words : List (List ℕ)) (input : Option (List ℕ)) (m : Output) → AsksCheck words → IsVerdictStatus m
     → IfSome input (λ text. (length text ≤ most_bundle_bytes) × MakesJudged text m) → MakesAsked words input m
 check_asked words None m asks either h = inr (asks, either, tt)
 check_asked words (Some text) m asks either h = inr (asks, either, (h.1.0, (h.0, h.1.1), h.1.2))
 
-pub step_made : (words : List (List ℕ)) (input : Option (List ℕ)) (turns : List ℕ) (consts : List (Name × Data)) (r : Result Made Ended) → AsksStep words turns consts
+pub step_made : (words : List (List ℕ)) (input : Option (List ℕ)) (turns : List ℕ) (consts : List (Name × Data)) (r : Result Output Ended) → AsksStep words turns consts
     → IfOk r IsStepStatus → IfOk r (λ m. IfSome input (λ text. (length text ≤ most_bytes) × MakesOf text turns consts m)) → IfOk r (MakesAsked words input)
 step_made words input turns consts (Ok m) asks either h = step_asked words input turns consts m asks either h
 step_made words input turns consts (Err e) asks either h = tt
 
 -- ---- what came to the output
 
-not_fine : (m : Made) → m.status ≡ status.Spent → m.status ≡ status.Fine → ⊥
+not_fine : (m : Output) → m.status ≡ status.Spent → m.status ≡ status.Fine → ⊥
 not_fine m e f = let g : 21 ≡ 0 = ap number_of (sym e ∙ f) in omega (arith, g)
 
-not_no_run : (m : Made) → m.status ≡ status.Spent → m.status ≡ status.NotARun → ⊥
+not_no_run : (m : Output) → m.status ≡ status.Spent → m.status ≡ status.NotARun → ⊥
 not_no_run m e f = let g : 21 ≡ 30 = ap number_of (sym e ∙ f) in omega (arith, g)
 
-fine_no_run : (m : Made) → m.status ≡ status.Fine → m.status ≡ status.NotARun → ⊥
+fine_no_run : (m : Output) → m.status ≡ status.Fine → m.status ≡ status.NotARun → ⊥
 fine_no_run m e f = let g : 0 ≡ 30 = ap number_of (sym e ∙ f) in omega (arith, g)
 
 -- a verdict with status 0 is that of a run, and with status 30 that of none
-is_run_verdict : (v : Verdict) (m : Made) → MakesVerdict v m → m.status ≡ status.Fine → IsRunVerdict v
+is_run_verdict : (v : Verdict) (m : Output) → MakesVerdict v m → m.status ≡ status.Fine → IsRunVerdict v
 is_run_verdict (Run n) m h e = tt
 is_run_verdict (Bad n w) m h e = absurd (fine_no_run m e h.status_is)
 
-is_bad_verdict : (v : Verdict) (m : Made) → MakesVerdict v m → m.status ≡ status.NotARun → IsBadVerdict v
+is_bad_verdict : (v : Verdict) (m : Output) → MakesVerdict v m → m.status ≡ status.NotARun → IsBadVerdict v
 is_bad_verdict (Run n) m h e = absurd (fine_no_run m h.status_is e)
 is_bad_verdict (Bad n w) m h e = tt
 
 -- a prefix of what was made
-pub into_fault : (words : List (List ℕ)) (input old new : Option (List ℕ)) (m : Made)
+pub into_fault : (words : List (List ℕ)) (input old new : Option (List ℕ)) (m : Output)
     → MakesAsked words input m → GrowsByPrefix old new (flatten m.lines) → WritesPrefix words input old new
 into_fault words None old new m (inl h) g = inl (h.0, tt)
 into_fault words (Some text) old new m (inl h) g = inl (h.0, (number_of m.status, flatten m.lines, h.2, g))
 into_fault words None old new m (inr h) g = inr (h.0, tt)
 into_fault words (Some text) old new m (inr h) g = inr (h.0, (h.2.0, h.2.1, subst (GrowsByPrefix old new) h.2.2.line_is g))
 
-ran_with : (words : List (List ℕ)) (input old new : Option (List ℕ)) (m : Made) (s : Status) → m.status ≡ s → AsksSomeStep words
+ran_with : (words : List (List ℕ)) (input old new : Option (List ℕ)) (m : Output) (s : Status) → m.status ≡ s → AsksSomeStep words
     → IfSome input (λ text. Asked words text (number_of m.status) (flatten m.lines)) → Grows old new (flatten m.lines) → WritesBundle words input (number_of s) old new
 ran_with words None old new m s e asks h g = (asks, tt)
 ran_with words (Some text) old new m s e asks h g = (asks, (flatten m.lines, subst (λ n. Asked words text n (flatten m.lines)) (ap number_of e) h, g))
 
 -- all of what was made, with each status
-pub fine_to : (words : List (List ℕ)) (input old new : Option (List ℕ)) (m : Made) → m.status ≡ status.Fine
+pub fine_to : (words : List (List ℕ)) (input old new : Option (List ℕ)) (m : Output) → m.status ≡ status.Fine
     → MakesAsked words input m → Grows old new (flatten m.lines) → EndsWell words input old new
 fine_to words input old new m e (inl h) g = inl (ran_with words input old new m status.Fine e h.0 h.2 g)
 fine_to words None old new m e (inr h) g = inr (h.0, tt)
 fine_to words (Some text) old new m e (inr h) g =
     inr (h.0, (h.2.0, is_run_verdict h.2.0 m h.2.2 e, h.2.1, subst (Grows old new) h.2.2.line_is g))
 
-pub spent_to : (words : List (List ℕ)) (input old new : Option (List ℕ)) (m : Made) → m.status ≡ status.Spent
+pub spent_to : (words : List (List ℕ)) (input old new : Option (List ℕ)) (m : Output) → m.status ≡ status.Spent
     → MakesAsked words input m → Grows old new (flatten m.lines) → WritesBundle words input 21 old new
 spent_to words input old new m e (inl h) g = ran_with words input old new m status.Spent e h.0 h.2 g
 spent_to words input old new m e (inr h) g = absurd (neither h.1)
@@ -126,7 +126,7 @@ spent_to words input old new m e (inr h) g = absurd (neither h.1)
     neither (inl f) = not_fine m e f
     neither (inr f) = not_no_run m e f
 
-pub not_a_run_to : (words : List (List ℕ)) (input old new : Option (List ℕ)) (m : Made) → m.status ≡ status.NotARun
+pub not_a_run_to : (words : List (List ℕ)) (input old new : Option (List ℕ)) (m : Output) → m.status ≡ status.NotARun
     → MakesAsked words input m → Grows old new (flatten m.lines) → WritesVerdict words input IsBadVerdict old new
 not_a_run_to words input old new m e (inl h) g = absurd (neither h.1)
   where
@@ -138,6 +138,6 @@ not_a_run_to words (Some text) old new m e (inr h) g =
     (h.0, (h.2.0, is_bad_verdict h.2.0 m h.2.2 e, h.2.1, subst (Grows old new) h.2.2.line_is g))
 
 -- a verdict's status is one of two
-pub verdict_status : (v : Verdict) (m : Made) → MakesVerdict v m → IsVerdictStatus m
+pub verdict_status : (v : Verdict) (m : Output) → MakesVerdict v m → IsVerdictStatus m
 verdict_status (Run n) m h = inl h.status_is
 verdict_status (Bad n w) m h = inr h.status_is

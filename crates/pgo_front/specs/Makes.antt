@@ -7,7 +7,7 @@ use Rattle.pgo_counter.specs.Spec.{Spec}
 use Rattle.pgo_model.specs.ModuleText.{flatten}
 use Rattle.pgo_check.specs.declared.verdict.Verdict.{Verdict}
 use Rattle.pgo_check.specs.declared.verdict.Verdict.TheVariants.{Run, Bad}
-use Rattle.pgo_front.specs.declared.made.Made.{Made}
+use Rattle.pgo_front.specs.declared.output.Output.{Output}
 use Rattle.pgo_front.specs.declared.status.Status.{Status}
 use Rattle.pgo_front.specs.declared.status.Status.TheVariants as status
 use Rattle.pgo_front.specs.declared.words.Request.{Request}
@@ -35,11 +35,11 @@ StopsReading limit input before now s =
 -- ---- the command `step`
 
 -- the command ran
-abbrev pub IsStepStatus : Made → Type 0
+abbrev pub IsStepStatus : Output → Type 0
 IsStepStatus m = (m.status ≡ status.Fine) ⊎ (m.status ≡ status.Spent)
 
 -- there are no constants, the text spells a specification, and this is what its run under the turns gives
-abbrev pub MakesOf : (text turns : List ℕ) → List (Name × Data) → Made → Type 0
+abbrev pub MakesOf : (text turns : List ℕ) → List (Name × Data) → Output → Type 0
 MakesOf text turns consts m = (consts ≡ []) × (spec : Spec) × Spells text spec × Ran spec turns (number_of m.status) (flatten m.lines)
 
 -- the text is refused, or there was no memory
@@ -64,16 +64,16 @@ abbrev pub status_of : Verdict → Status
 status_of (Run n) = status.Fine
 status_of (Bad n w) = status.NotARun
 
-abbrev pub IsVerdictStatus : Made → Type 0
+abbrev pub IsVerdictStatus : Output → Type 0
 IsVerdictStatus m = (m.status ≡ status.Fine) ⊎ (m.status ≡ status.NotARun)
 
 -- the status and the line of this verdict
-pub record MakesVerdict (v : Verdict) (m : Made) : Type 0 where
+pub record MakesVerdict (v : Verdict) (m : Output) : Type 0 where
   pub status_is : m.status ≡ status_of v
   pub line_is : flatten m.lines ≡ verdict_line v
 
 -- the text is a bundle, and this is the verdict on it
-abbrev pub MakesJudged : (text : List ℕ) → Made → Type 0
+abbrev pub MakesJudged : (text : List ℕ) → Output → Type 0
 MakesJudged text m = (v : Verdict) × Judged text v × MakesVerdict v m
 
 -- the text is no bundle that is read, or there was no memory
@@ -89,13 +89,13 @@ StopsCheck input before now s =
 -- ---- both
 
 -- what a command made of its words and its input
-abbrev pub MakesOfStep : List (List ℕ) → (input : Option (List ℕ)) → Made → Type 0
+abbrev pub MakesOfStep : List (List ℕ) → (input : Option (List ℕ)) → Output → Type 0
 MakesOfStep words input m =
     AsksSomeStep words × IsStepStatus m × IfSome input (λ text. Asked words text (number_of m.status) (flatten m.lines))
 
-abbrev pub MakesOfCheck : List (List ℕ) → (input : Option (List ℕ)) → Made → Type 0
+abbrev pub MakesOfCheck : List (List ℕ) → (input : Option (List ℕ)) → Output → Type 0
 MakesOfCheck words input m =
     AsksCheck words × IsVerdictStatus m × IfSome input (λ text. (v : Verdict) × Checked text v × MakesVerdict v m)
 
-abbrev pub MakesAsked : List (List ℕ) → (input : Option (List ℕ)) → Made → Type 0
+abbrev pub MakesAsked : List (List ℕ) → (input : Option (List ℕ)) → Output → Type 0
 MakesAsked words input m = MakesOfStep words input m ⊎ MakesOfCheck words input m

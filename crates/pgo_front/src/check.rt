@@ -5,7 +5,7 @@ ghost use Rattle.pgo_front.specs.Answers.{IsAtEnd, ReadsAll};
 ghost use Rattle.pgo_front.specs.Makes.{IsVerdictStatus, MakesJudged, MakesVerdict, StopsCheck, StopsJudging};
 
 use crate::input::read_input;
-use crate::made::Made;
+use crate::output::Output;
 use crate::status::Status;
 use pgo_check::checker::check;
 use pgo_check::verdict::{Verdict, Why};
@@ -20,7 +20,7 @@ use std::alloc::{AllocError, Global};
 const MOST_BUNDLE_BYTES: u64 = 268_435_456;
 
 /// Makes the line of the verdict on the bundle that the input is.
-pub fn make_check<S: Source>(alloc: Global, input: &mut S) -> Result<Made, Status>
+pub fn make_check<S: Source>(alloc: Global, input: &mut S) -> Result<Output, Status>
     ensures ok { IfOk result (λ m. IfSome (S.left input.old) (λ text. (length text ≤ most_bundle_bytes) × MakesJudged text m)) }
     ensures either { IfOk result IsVerdictStatus }
     ensures err { IfErr result (StopsCheck (S.left input.old) (S.faults input.old) (S.faults input.new)) }
@@ -34,7 +34,7 @@ pub fn make_check<S: Source>(alloc: Global, input: &mut S) -> Result<Made, Statu
 }
 
 /// Makes the line of the verdict on the bundle that the text is.
-fn judge(alloc: Global, text: &[u8]) -> Result<Made, Status>
+fn judge(alloc: Global, text: &[u8]) -> Result<Output, Status>
     ensures ok { IfOk result (MakesJudged text.now) }
     ensures either { IfOk result IsVerdictStatus }
     ensures err { IfErr result (StopsJudging text.now) }
@@ -51,25 +51,25 @@ fn judge(alloc: Global, text: &[u8]) -> Result<Made, Status>
 }
 
 /// The status and the line of a verdict; without memory, the status of that.
-fn make_verdict(alloc: Global, verdict: Verdict) -> Result<Made, Status>
+fn make_verdict(alloc: Global, verdict: Verdict) -> Result<Output, Status>
     ensures ok { IfOk result (MakesVerdict verdict) }
     ensures err { IfErr result (λ s. s ≡ Status.NoMemory) }
 {
     match verdict_made(alloc, verdict) {
-        Ok(made) => Ok(made),
+        Ok(output) => Ok(output),
         Err(_) => Err(Status::NoMemory),
     }
 }
 
 /// The status and the line of a verdict.
-fn verdict_made(alloc: Global, verdict: Verdict) -> Result<Made, AllocError>
+fn verdict_made(alloc: Global, verdict: Verdict) -> Result<Output, AllocError>
     ensures { IfOk result (MakesVerdict verdict) }
 {
     let mut lines = Lines::new(alloc);
     match verdict {
         Verdict::Run { steps } => {
             lines.push(alloc, &[Bytes(b"run "), Number(steps)])?;
-            Ok(Made {
+            Ok(Output {
                 lines,
                 status: Status::Fine,
             })
@@ -79,7 +79,7 @@ fn verdict_made(alloc: Global, verdict: Verdict) -> Result<Made, AllocError>
                 alloc,
                 &[Bytes(b"bad "), Number(at), Bytes(b" "), Bytes(reason(why))],
             )?;
-            Ok(Made {
+            Ok(Output {
                 lines,
                 status: Status::NotARun,
             })

@@ -18,7 +18,7 @@ ghost use Rattle.pgo_front.specs.Makes.{MakesAsked, HasLine};
 
 use crate::check::make_check;
 use crate::ended::Ended;
-use crate::made::Made;
+use crate::output::Output;
 use crate::status::Status;
 use crate::step::make_step;
 use crate::words::{Request, read_words};
@@ -127,8 +127,8 @@ fn run<S: Source, O: Sink>(alloc: Global, words: &[Word], input: &mut S, out: &m
     ensures ended { ReadsAll result.status → IsAtEnd (S.left input.old) (S.left input.new) }
 {
     match make(alloc, words, input) {
-        Ok(made) => match write_lines(out, &made.lines) {
-            Ok(()) => Ended::as_status(made.status),
+        Ok(output) => match write_lines(out, &output.lines) {
+            Ok(()) => Ended::as_status(output.status),
             Err(_) => Ended::as_status(Status::WriteFault),
         },
         Err(ended) => ended,
@@ -149,7 +149,7 @@ fn write_lines<O: Sink>(out: &mut O, lines: &Lines) -> Result<(), Failed>
 }
 
 /// Makes the output that the words ask for, from all of the input.
-fn make<S: Source>(alloc: Global, words: &[Word], input: &mut S) -> Result<Made, Ended>
+fn make<S: Source>(alloc: Global, words: &[Word], input: &mut S) -> Result<Output, Ended>
     ensures ok { IfOk result (MakesAsked words.now (S.left input.old)) }
     ensures err { IfErr result (λ e. Stops words.now (S.left input.old) (S.faults input.old) (S.faults input.new) e.status) }
     ensures line { IfErr result (λ e. HasLine (S.left input.old) (RefusedBy words.now) e.status e.line) }
@@ -165,7 +165,7 @@ fn make<S: Source>(alloc: Global, words: &[Word], input: &mut S) -> Result<Made,
             make_step(alloc, turns.as_slice(), &consts, input)
         }
         Ok(Some(Request::Check)) => match make_check(alloc, input) {
-            Ok(made) => Ok(made),
+            Ok(output) => Ok(output),
             Err(status) => Err(Ended::as_status(status)),
         },
         Ok(None) => Err(Ended::as_status(Status::Usage)),

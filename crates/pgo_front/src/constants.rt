@@ -9,9 +9,9 @@ use pgo_base::consts::Consts;
 use pgo_base::text::Text;
 use pgo_base::value::Value;
 use pgo_base::word::Word;
+use pgo_text::names::{is_name, same_bytes};
 use pgo_value_text::errors::ValueStop;
 use pgo_value_text::read::read_value;
-use pgo_text::names::{is_name, same_bytes};
 use std::alloc::{AllocError, Global};
 
 /// The constants of these words, `NAME=value` each; none where a word is no constant, or a name stands twice.

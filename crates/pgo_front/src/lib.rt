@@ -8,7 +8,7 @@ mod constants;
 mod ended;
 mod input;
 mod instance;
-mod made;
+mod output;
 mod status;
 mod step;
 mod words;

@@ -14,7 +14,7 @@ use crate::bundle_writer::{bundle, is_done};
 use crate::ended::Ended;
 use crate::input::read_input;
 use crate::instance::run_turns;
-use crate::made::Made;
+use crate::output::Output;
 use crate::status::Status;
 use pgo_accept::accept::refusal_line;
 use pgo_base::consts::Consts;
@@ -32,7 +32,7 @@ pub fn make_step<S: Source>(
     turns: &[u32],
     consts: &Consts,
     input: &mut S,
-) -> Result<Made, Ended>
+) -> Result<Output, Ended>
     ensures ok { IfOk result (λ m. IfSome (S.left input.old) (λ text. (length text ≤ most_bytes) × MakesOf text turns.now consts.now m)) }
     ensures either { IfOk result IsStepStatus }
     ensures err { IfErr result (λ e. StopsStep consts.now (S.left input.old) (S.faults input.old) (S.faults input.new) e.status) }
@@ -49,7 +49,7 @@ pub fn make_step<S: Source>(
 }
 
 /// Makes the bundle of a run of the specification that the text spells.
-fn make_from(alloc: Global, turns: &[u32], consts: &Consts, text: &[u8]) -> Result<Made, Ended>
+fn make_from(alloc: Global, turns: &[u32], consts: &Consts, text: &[u8]) -> Result<Output, Ended>
     ensures ok { IfOk result (MakesOf text.now turns.now consts.now) }
     ensures either { IfOk result IsStepStatus }
     ensures err { IfErr result (λ e. StopsAt text.now consts.now e.status) }
@@ -60,7 +60,7 @@ fn make_from(alloc: Global, turns: &[u32], consts: &Consts, text: &[u8]) -> Resu
     }
     match read_counter(alloc, text) {
         Ok(counter) => match make_run(alloc, &counter, turns) {
-            Ok(made) => Ok(made),
+            Ok(output) => Ok(output),
             Err(_) => Err(Ended::as_status(Status::NoMemory)),
         },
         Err(ReadStop::NotCounter) => Err(refused(alloc, consts, text)),
@@ -80,7 +80,7 @@ fn refused(alloc: Global, consts: &Consts, text: &[u8]) -> Ended
 }
 
 /// Makes the bundle of a run of a counter.
-fn make_run(alloc: Global, counter: &Counter, turns: &[u32]) -> Result<Made, AllocError>
+fn make_run(alloc: Global, counter: &Counter, turns: &[u32]) -> Result<Output, AllocError>
     requires { IsCounter counter.now }
     ensures ran { IfOk result (λ m. Ran (spec_of counter.now) turns.now (number_of m.status) (flatten m.lines)) }
     ensures either { IfOk result IsStepStatus }
@@ -92,5 +92,5 @@ fn make_run(alloc: Global, counter: &Counter, turns: &[u32]) -> Result<Made, All
     } else {
         Status::Spent
     };
-    Ok(Made { lines, status })
+    Ok(Output { lines, status })
 }

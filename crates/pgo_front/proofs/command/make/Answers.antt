@@ -16,5 +16,5 @@ pub returns-in-Ok-clause-ok : goal.returns-in-Ok-clause-ok
 returns-in-Ok-clause-ok g c =
     let words = c.args.words.now in
     let check = c.in-Ok-Some-Check in
-    check_asked words (g.S.Source.left c.args.input.now) c.in-Ok.made
+    check_asked words (g.S.Source.left c.args.input.now) c.in-Ok.output
     (subst (AsksFor words) (check.field-0-is ∙ ap Some check.field-0-0-is) check.ensures) c.in-Ok.ensures.either c.in-Ok.ensures.ok
