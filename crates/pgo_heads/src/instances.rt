@@ -6,9 +6,9 @@ ghost use Rattle.pgo_heads.specs.Views.{run_view};
 
 use crate::mapping::{bindings_of, copy_bindings};
 use crate::runs::Run;
+use pgo_base::items::Copied;
 use pgo_base::value::Value;
 use pgo_syntax::bound::{Binding, Bindings, Instance};
-use pgo_base::items::Copied;
 use pgo_syntax::spec::Spec;
 use std::alloc::{AllocError, Global};
 

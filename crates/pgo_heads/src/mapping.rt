@@ -5,10 +5,10 @@ ghost use Rattle.pgo_bound.specs.Runs as specs;
 ghost use Rattle.pgo_heads.specs.Views.{handed_view, run_view};
 
 use crate::runs::{Handed, Run};
+use pgo_base::items::Copied;
 use pgo_base::text::Text;
 use pgo_syntax::archetype::Extent;
 use pgo_syntax::bound::{Binding, Mapping, Target};
-use pgo_base::items::Copied;
 use pgo_syntax::macros::MappingMacro;
 use pgo_syntax::process::{Argument, MappingClause, MappingTarget};
 use pgo_syntax::spec::Spec;
