@@ -2,7 +2,6 @@ pub mod Choices
 pub mod Advance
 pub mod FewChoices
 pub mod Quantify
-pub mod Measures
 pub mod NewestFound
 pub mod Arguments
 pub mod PutAt
@@ -13,5 +12,4 @@ pub mod Ranges
 pub mod Filters
 pub mod UpdateSteps
 pub mod Operands
-pub mod InLists
 pub mod Walks

@@ -1,5 +1,5 @@
 -- What a name means among definitions, from the last one down.
-use Rattle.std.proofs.Common.{◌≡◌, ◌+◌, ◌≤◌, List, [], ◌∷◌, ◌++◌, length, map, refl, ap, ◌∙◌, arith}
+use Rattle.std.proofs.Common.{◌≡◌, List, [], ◌∷◌, ◌++◌, length, map, refl, ap, ◌∙◌}
 use Rattle.std.specs.Prelude.{Bool, true, false, ◌==◌, if◌then◌else◌, Option, None}
 use Rattle.std.proofs.lemmas.List.Sums.{fold-append}
 use Rattle.pgo_base.specs.Data.{Data}
@@ -8,7 +8,6 @@ use Rattle.pgo_base.specs.Lookup.{Name, Vars, same_name}
 use Rattle.pgo_model.specs.ModuleView.{defined_view}
 use Rattle.pgo_model.specs.Val.{Defined, Given, Means, Meaning, call_def, meaning_of, meanings, constant_meaning, body_meaning, default_meaning}
 use Rattle.pgo_eval.specs.Newest.{name_of, IsNewest}
-use Rattle.pgo_eval.specs.Weight.{given_weight, defined_weight}
 
 abbrev views : List base_defined.Defined → List Defined
 views ds = map defined_view ds
@@ -16,15 +15,10 @@ views ds = map defined_view ds
 -- the name means among all of these what it means among those that are left
 pub record Reaches (x : Name) (ds left : List base_defined.Defined) : Type 0 where
   pub means : (args : List Data) (now : Vars) (next : Option Vars) → call_def x args (meanings (views ds) now next) ≡ call_def x args (meanings (views left) now next)
-  pub lighter : given_weight (views left) ≤ given_weight (views ds)
 
 pushed : {A B : Type 0} (f : A → B) (xs : List A) (y : A) → map f (xs ++ y ∷ []) ≡ map f xs ++ f y ∷ []
 pushed f [] y = refl
 pushed f (x ∷ xs) y = ap (λ zs. f x ∷ zs) (pushed f xs y)
-
-weight_pushed : (ds : List Defined) (d : Defined) → given_weight (ds ++ d ∷ []) ≡ given_weight ds + defined_weight d
-weight_pushed [] d = omega arith
-weight_pushed (e ∷ ds) d = omega (arith, weight_pushed ds d)
 
 -- the last definition is given a meaning behind those before it
 last_meaning : (before : List base_defined.Defined) (d : base_defined.Defined) (now : Vars) (next : Option Vars) → meanings (views (before ++ d ∷ [])) now next ≡ meaning_of now next (meanings (views before) now next) (defined_view d)
@@ -41,13 +35,12 @@ passed_over x args (Means y ps e) now next before h =
     ap (λ (b : Bool). if b then (if length args == m.arity then m.gives args else None) else call_def x args before) h
 
 pub reaches_all : (x : Name) (ds : List base_defined.Defined) → Reaches x ds ds
-reaches_all x ds = record { means = λ args now next. refl; lighter = omega arith }
+reaches_all x ds = record { means = λ args now next. refl }
 
 -- one definition of another name less
 pub reaches_before : (x : Name) (ds left before : List base_defined.Defined) (d : base_defined.Defined) → left ≡ before ++ d ∷ [] → same_name x (name_of (defined_view d)) ≡ false → Reaches x ds left → Reaches x ds before
 reaches_before x ds left before d e h r = record {
   means = λ args now next. r.means args now next ∙ ap (λ l. call_def x args (meanings (views l) now next)) e ∙ ap (call_def x args) (last_meaning before d now next) ∙ passed_over x args (defined_view d) now next (meanings (views before) now next) h;
-  lighter = let w : given_weight (views left) ≡ given_weight (views before) + defined_weight (defined_view d) = ap (λ l. given_weight (views l)) e ∙ ap given_weight (pushed defined_view before d) ∙ weight_pushed (views before) (defined_view d) in omega (arith, r.lighter, w);
 }
 
 -- the definition of the name
@@ -55,7 +48,6 @@ pub newest_found : (x : Name) (ds left before : List base_defined.Defined) (d : 
 newest_found x ds left before d e h r = record {
   named = h;
   means = λ args now next. r.means args now next ∙ ap (λ l. call_def x args (meanings (views l) now next)) e ∙ ap (call_def x args) (last_meaning before d now next);
-  lighter = let w : given_weight (views left) ≡ given_weight (views before) + defined_weight (defined_view d) = ap (λ l. given_weight (views l)) e ∙ ap given_weight (pushed defined_view before d) ∙ weight_pushed (views before) (defined_view d) in omega (arith, r.lighter, w);
 }
 
 -- none is left

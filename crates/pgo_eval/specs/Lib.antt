@@ -2,7 +2,6 @@ pub mod ScopeView
 pub mod Strict
 pub mod Choices
 pub mod HeldView
-pub mod Weight
 pub mod Newest
 pub mod Decided
 pub mod Paths

@@ -1,11 +1,10 @@
 -- The newest definition of a name.
-use Rattle.std.specs.Prelude.{◌≡◌, ◌+◌, ◌≤◌, true, List, [], ◌∷◌, map, Option, Some, None}
+use Rattle.std.specs.Prelude.{◌≡◌, true, List, [], ◌∷◌, map, Option, Some, None}
 use Rattle.pgo_base.specs.Data.{Data}
 use Rattle.pgo_base.specs.Lookup.{Name, Vars, same_name}
 use Rattle.pgo_model.specs.ModuleView.{defined_view}
 use Rattle.pgo_model.specs.Val.{Defined, Given, Means, call_def, meaning_of, meanings, default_meaning}
 use Rattle.pgo_eval.specs.declared.definitions.Found.{Found}
-use Rattle.pgo_eval.specs.Weight.{given_weight, defined_weight}
 
 abbrev pub name_of : Defined → Name
 name_of (Given x v) = x
@@ -15,7 +14,6 @@ name_of (Means x ps e) = x
 pub record IsNewest (x : Name) (ds before : List Defined) (d : Defined) : Type 0 where
   pub named : same_name x (name_of d) ≡ true
   pub means : (args : List Data) (now : Vars) (next : Option Vars) → call_def x args (meanings ds now next) ≡ call_def x args (meaning_of now next (meanings before now next) d)
-  pub lighter : given_weight before + defined_weight d ≤ given_weight ds
 
 -- what a search for the name finds; where it finds none, the name means what it does without definitions
 abbrev pub IsFound : Name → List Defined → Option Found → Type 0

@@ -8,7 +8,7 @@ ghost use Rattle.pgo_sets.specs.Answers.{Answers};
 
 use crate::evaluate::held;
 use crate::held::owned;
-use crate::scope::Scope;
+use crate::scope::{MOST_LEVELS, Scope};
 use pgo_base::expr::Expr;
 use pgo_base::module::{Defined, Defs};
 use pgo_base::scope::Env;
@@ -47,6 +47,7 @@ fn value<'x>(
         state: env.state,
         next: env.next,
         defs,
+        left: MOST_LEVELS,
     };
     owned(alloc, held(alloc, e, &s)?)
 }

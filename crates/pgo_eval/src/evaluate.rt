@@ -25,7 +25,7 @@ use pgo_base::text::Text;
 use pgo_base::value::Value;
 use std::alloc::{AllocError, Global};
 
-/// The value of an expression, or none.
+/// The value of an expression, or none; want of memory where too many levels are open.
 #[cycle(evaluate)]
 pub fn held<'a>(
     alloc: Global,
@@ -34,7 +34,18 @@ pub fn held<'a>(
 ) -> Result<Option<Held<'a>>, AllocError>
     ensures { IfOk result (λ o. option_map held_data o ≡ val (tree e.now) (scope_view s.now)) }
 {
-    match evaluated(alloc, e, s)? {
+    if s.left == 0 {
+        return Err(AllocError);
+    }
+    let inner = Scope {
+        names: s.names,
+        part: s.part,
+        state: s.state,
+        next: s.next,
+        defs: s.defs,
+        left: s.left - 1,
+    };
+    match evaluated(alloc, e, &inner)? {
         Some(v) => v.into_held(alloc),
         None => Ok(None),
     }
@@ -126,7 +137,18 @@ fn membership<'a>(
     let Some(x) = x else {
         return Ok(None);
     };
-    match evaluated(alloc, e, s)? {
+    if s.left == 0 {
+        return Err(AllocError);
+    }
+    let inner = Scope {
+        names: s.names,
+        part: s.part,
+        state: s.state,
+        next: s.next,
+        defs: s.defs,
+        left: s.left - 1,
+    };
+    match evaluated(alloc, e, &inner)? {
         Some(set) => set.holds(alloc, x.get()),
         None => Ok(None),
     }

@@ -141,6 +141,7 @@ fn body_value<'a>(
         state: s.state,
         next: s.next,
         defs: before,
+        left: s.left,
     };
     value_with(alloc, &named, body, &inner)
 }

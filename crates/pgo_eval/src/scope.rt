@@ -4,7 +4,11 @@ use pgo_base::module::Defined;
 use pgo_base::scope::State;
 use pgo_base::value::Value;
 
-/// The names in scope, what `@` stands for, the variables now and next, and the definitions, the newest last.
+/// The most levels of expressions that are open at once, across definitions.
+pub const MOST_LEVELS: usize = 640;
+
+/// The names in scope, what `@` stands for, the variables now and next, the definitions, the newest last, and how many
+/// more levels of expressions may be opened.
 #[derive(Clone, Copy)]
 pub struct Scope<'names, 'part, 'around> {
     pub names: &'names Bindings<'names>,
@@ -12,4 +16,5 @@ pub struct Scope<'names, 'part, 'around> {
     pub state: &'around State,
     pub next: Option<&'around State>,
     pub defs: &'around [Defined],
+    pub left: usize,
 }

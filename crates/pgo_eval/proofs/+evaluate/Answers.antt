@@ -1,4 +1,4 @@
-use Rattle.std.proofs.Common.{◌≡◌, ◌≤◌, ◌<◌, ◌+◌, [], map, length, arith, sym, ap, subst, ◌∙◌, ◌++◌, drop, refl}
+use Rattle.std.proofs.Common.{◌≡◌, ◌≤◌, ◌+◌, [], map, length, arith, sym, ap, subst, ◌∙◌, ◌++◌, drop, refl}
 use Rattle.std.proofs.lemmas.Bool.Decides.{nat_tests}
 use Rattle.std.specs.Prelude.{Bool, true, false, Some, None, Option, option_map, option_and_then, IfOk, if◌then◌else◌, not, nat_lt}
 use Rattle.pgo_base.specs.BindingsView.{onto, named_view}
@@ -13,8 +13,6 @@ use Rattle.pgo_model.specs.Val.{values_of, val, sem, plain, unary_sem, binary_se
 use Rattle.pgo_eval.specs.HeldView.{held_data, sem_of}
 use Rattle.pgo_eval.specs.Decided.{is_membership}
 use Rattle.pgo_eval.specs.ScopeView.{scope_view}
-use Rattle.pgo_eval.specs.Weight.{weight, trees_weight, named_weight, arms_weight, bound_weight, paths_weight}
-use Rattle.pgo_eval.proofs.InLists.{weight_in, named_weight_in, arm_weight_in, bound_weight_in, path_weight_in}
 use Rattle.pgo_eval.proofs.Operands.{unary_values, binary_values, membership_holds}
 use Rattle.pgo_eval.proofs.Walks.{arms_done, let_more, several, assert_two, assert_other}
 use Rattle.pgo_eval.specs.Choices.{over_bound, AreAt, join, over_choices, still_left, sets_of}
@@ -30,27 +28,12 @@ use Rattle.pgo_eval.specs.Paths.{put_on}
 use Rattle.pgo_eval.proofs.PutAt.{put_nowhere, put_somewhere}
 use Rattle.pgo_eval.proofs.+evaluate.Goals as goal
 
-pub control::case_value-held-requires : goal.control::case_value-held-requires
-control::case_value-held-requires t c =
-    let w : weight (tree c.arm-item.result.0) + weight (tree c.arm-item.result.1) < arms_weight (arms (map arm_tree c.args.list.now)) = arm_weight_in c.args.list.now c.loop-arm.arm-index c.arm-item.result c.loop-arm-test.true c.arm-item.is in
-    (omega arith, tt)
-
-pub control::case_value-held-requires-in-Some-true : goal.control::case_value-held-requires-in-Some-true
-control::case_value-held-requires-in-Some-true t c =
-    let w : weight (tree c.arm-item.result.0) + weight (tree c.arm-item.result.1) < arms_weight (arms (map arm_tree c.args.list.now)) = arm_weight_in c.args.list.now c.loop-arm.arm-index c.arm-item.result c.loop-arm-test.true c.arm-item.is in
-    (omega arith, tt)
-
 pub control::case_value-returns-in-Some : goal.control::case_value-returns-in-Some
 control::case_value-returns-in-Some t c =
     let s = scope_view c.args.s.now in
     let o = val (tree c.in-Some.e.now) s in
     let e : o ≡ case_value (arms (map arm_tree c.args.list.now)) s o = sym (c.loop-arm.invariant o ∙ arms_done c.args.list.now c.loop-arm.arm-index s o c.loop-arm-test.false) in
     rw c.in-Some.is (subst (λ x. IfOk c.held-in-Some.result (λ v. option_map held_data v ≡ x)) e c.held-in-Some.ensures)
-
-pub control::let_value-value_with-requires : goal.control::let_value-value_with-requires
-control::let_value-value_with-requires t c =
-    let w : weight (tree c.d-item.result.1) < named_weight (named (map named_tree c.args.list.now)) = named_weight_in c.args.list.now c.loop-d.d-index c.d-item.result c.loop-d-test.true c.d-item.is in
-    (omega arith, tt)
 
 pub control::let_value-loop-d-preserved : goal.control::let_value-loop-d-preserved
 control::let_value-loop-d-preserved t c =
@@ -69,11 +52,6 @@ evaluate::evaluated-returns-in_ok-held-in-Prefix t c =
     let v : option_map held_data c.in_ok-held-in-Prefix.field-0 ≡ m.value = c.in_ok-held-in-Prefix.ensures ∙ ap (λ e. val e s) c.get.ensures in
     let e : unary_sem op (plain (option_map held_data c.in_ok-held-in-Prefix.field-0)) ≡ unary_sem op m = ap (λ o. unary_sem op (plain o)) v ∙ unary_values op m in
     rw c.in-Prefix.is (subst (λ x. IfOk c.prefixed.result (λ o. sem_of o ≡ x)) e c.prefixed.ensures)
-
-pub evaluate::fields-held-requires : goal.evaluate::fields-held-requires
-evaluate::fields-held-requires t c =
-    let w : weight (tree c.f-item.result.1) < named_weight (named (map named_tree c.args.list.now)) = named_weight_in c.args.list.now c.loop-f.f-index c.f-item.result c.loop-f-test.true c.f-item.is in
-    (omega arith, tt)
 
 pub evaluate::index_of-returns : goal.evaluate::index_of-returns
 evaluate::index_of-returns t c =
@@ -98,11 +76,6 @@ evaluate::infix-returns t c =
     let e : binary_sem op (plain (option_map held_data c.in_ok-a.a)) (plain (option_map held_data c.in_ok-b.b)) ≡ binary_sem op m n =
     (λ i. binary_sem op (plain (c.in_ok-a.ensures i)) (plain (c.in_ok-b.ensures i))) ∙ binary_values op m n is in
     subst (λ x. IfOk c.infixed.result (λ o. sem_of o ≡ x)) e c.infixed.ensures
-
-pub evaluate::values-held-requires : goal.evaluate::values-held-requires
-evaluate::values-held-requires t c =
-    let w : weight (tree c.e-item.result) < trees_weight (trees (map tree c.args.list.now)) = weight_in c.args.list.now c.loop-e.e-index c.e-item.result c.loop-e-test.true c.e-item.is in
-    (omega arith, tt)
 
 pub names::asserted-returns-then-list-ne2 : goal.names::asserted-returns-then-list-ne2
 names::asserted-returns-then-list-ne2 t c = sym (assert_other c.args.list.now (scope_view c.args.s.now) c.if-list-ne2.true)
@@ -328,21 +301,6 @@ updates::updated_at-returns-in-None-2 t c =
     let part = option_map (λ r. data_of r.now) c.in-Some.part in
     let w : None ≡ new part = ap (option_map data_of) (sym c.in-None-2.is) ∙ c.in_ok-v.ensures ∙ c.in_ok-held.ensures in
     ap (option_and_then (λ v. put_on path v f)) w ∙ put_somewhere path new f part c.in-Some.ensures
-
-pub binders::bound_names-held-requires : goal.binders::bound_names-held-requires
-binders::bound_names-held-requires t c =
-    let w : weight (tree c.b-item.result.1) < bound_weight (bound (map bound_tree c.args.binders.now)) = bound_weight_in c.args.binders.now c.loop-b.b-index c.b-item.result c.loop-b-test.true c.b-item.is in
-    (omega arith, tt)
-
-pub updates::except_value-updated-requires : goal.updates::except_value-updated-requires
-updates::except_value-updated-requires t c =
-    let w : trees_weight (trees c.u-item.result.path) + weight (tree c.u-item.result.value) < paths_weight (paths (map path_tree c.args.list.now)) = path_weight_in c.args.list.now c.loop-u.u-index c.u-item.result c.loop-u-test.true c.u-item.is in
-    (omega arith, tt)
-
-pub updates::updated-values-requires : goal.updates::updated-values-requires
-updates::updated-values-requires t c =
-    let w : trees_weight (trees (map tree c.as_slice.result.now)) ≡ trees_weight (trees c.args.u.now.path) = ap (λ ts. trees_weight (trees ts)) c.as_slice.ensures in
-    (omega arith, tt)
 
 pub evaluate::evaluated-returns-in-If : goal.evaluate::evaluated-returns-in-If
 evaluate::evaluated-returns-in-If t c = rw c.in-If.is (c.plainly-in-If.ensures _ (rw c.get-in-If.ensures at rw c.get-in-If-2.ensures at rw c.get-in-If-3.ensures at c.conditional.ensures))

@@ -1,4 +1,4 @@
-use Rattle.std.proofs.Common.{◌≡◌, ◌+◌, ◌++◌, map, drop, length}
+use Rattle.std.proofs.Common.{◌≡◌, ◌+◌, ◌*◌, ◌++◌, map, drop, length}
 use Rattle.std.specs.Prelude.{Option, Some, option_map, true}
 use Rattle.pgo_base.specs.BindingsView.{onto, named_view}
 use Rattle.pgo_base.specs.Data.{Data}
@@ -7,8 +7,6 @@ use Rattle.pgo_base.specs.Tree.{trees, named, arms, bound, paths}
 use Rattle.pgo_base.specs.View.{data_of, pair_of}
 use Rattle.pgo_model.specs.Val.{val, values_of, fields, case_value, let_scope, with_names, ranges, with_name, updated}
 use Rattle.pgo_eval.specs.ScopeView.{scope_view}
-use Rattle.pgo_eval.specs.Weight.{weight, trees_weight, named_weight, arms_weight, bound_weight, paths_weight}
-use Rattle.pgo_eval.proofs.Measures.{defs_weight, other_weight}
 use Rattle.pgo_eval.specs.Choices.{over_bound, AreAt, over_choices, join, still_left}
 use Rattle.pgo_model.specs.Operators.{truth_of, each, first3, filter3}
 use Rattle.pgo_eval.proofs.Quantify.{asks}
@@ -17,61 +15,61 @@ use Rattle.pgo_eval.specs.HeldView.{held_data}
 use Rattle.pgo_eval.proofs.+evaluate.Given as goal
 
 abbrev pub decreases-evaluate::held : goal.decreases-evaluate::held
-decreases-evaluate::held l = defs_weight l.s.now.defs.now + weight (tree l.e.now) + 1
+decreases-evaluate::held l = 10 * l.s.now.left + 1
 
 abbrev pub decreases-evaluate::evaluated : goal.decreases-evaluate::evaluated
-decreases-evaluate::evaluated l = defs_weight l.s.now.defs.now + weight (tree l.e.now)
+decreases-evaluate::evaluated l = 10 * l.s.now.left + 9
 
 abbrev pub decreases-evaluate::infix : goal.decreases-evaluate::infix
-decreases-evaluate::infix l = defs_weight l.s.now.defs.now + weight (tree l.a.now) + weight (tree l.b.now) + 3
+decreases-evaluate::infix l = 10 * l.s.now.left + 3
 
 abbrev pub decreases-evaluate::membership : goal.decreases-evaluate::membership
-decreases-evaluate::membership l = defs_weight l.s.now.defs.now + weight (tree l.e.now) + 1
+decreases-evaluate::membership l = 10 * l.s.now.left + 1
 
 abbrev pub decreases-evaluate::values : goal.decreases-evaluate::values
-decreases-evaluate::values l = defs_weight l.s.now.defs.now + trees_weight (trees (map tree l.list.now)) + 1
+decreases-evaluate::values l = 10 * l.s.now.left + 2
 
 abbrev pub decreases-evaluate::fields : goal.decreases-evaluate::fields
-decreases-evaluate::fields l = defs_weight l.s.now.defs.now + named_weight (named (map named_tree l.list.now)) + 1
+decreases-evaluate::fields l = 10 * l.s.now.left + 2
 
 abbrev pub decreases-evaluate::index_value : goal.decreases-evaluate::index_value
-decreases-evaluate::index_value l = defs_weight l.s.now.defs.now + weight (tree l.f.now) + trees_weight (trees (map tree l.list.now)) + 3
+decreases-evaluate::index_value l = 10 * l.s.now.left + 4
 
 abbrev pub decreases-evaluate::index_of : goal.decreases-evaluate::index_of
-decreases-evaluate::index_of l = defs_weight l.s.now.defs.now + trees_weight (trees (map tree l.list.now)) + 2
+decreases-evaluate::index_of l = 10 * l.s.now.left + 3
 
 abbrev pub decreases-evaluate::field_value : goal.decreases-evaluate::field_value
-decreases-evaluate::field_value l = defs_weight l.s.now.defs.now + weight (tree l.r.now) + 2
+decreases-evaluate::field_value l = 10 * l.s.now.left + 2
 
 abbrev pub decreases-control::conditional : goal.decreases-control::conditional
-decreases-control::conditional l = defs_weight l.s.now.defs.now + weight (tree l.p.now) + weight (tree l.a.now) + weight (tree l.b.now) + 2
+decreases-control::conditional l = 10 * l.s.now.left + 2
 
 abbrev pub decreases-control::case_value : goal.decreases-control::case_value
-decreases-control::case_value l = defs_weight l.s.now.defs.now + arms_weight (arms (map arm_tree l.list.now)) + other_weight l.other + 2
+decreases-control::case_value l = 10 * l.s.now.left + 2
 
 abbrev pub decreases-control::let_value : goal.decreases-control::let_value
-decreases-control::let_value l = defs_weight l.s.now.defs.now + named_weight (named (map named_tree l.list.now)) + weight (tree l.e.now) + 3
+decreases-control::let_value l = 10 * l.s.now.left + 3
 
 abbrev pub decreases-control::value_with : goal.decreases-control::value_with
-decreases-control::value_with l = defs_weight l.s.now.defs.now + weight (tree l.e.now) + 2
+decreases-control::value_with l = 10 * l.s.now.left + 2
 
 abbrev pub decreases-names::named_value : goal.decreases-names::named_value
-decreases-names::named_value l = defs_weight l.s.now.defs.now + 2
+decreases-names::named_value l = 10 * l.s.now.left + 8
 
 abbrev pub decreases-names::call_value : goal.decreases-names::call_value
-decreases-names::call_value l = defs_weight l.s.now.defs.now + trees_weight (trees (map tree l.list.now)) + 3
+decreases-names::call_value l = 10 * l.s.now.left + 8
 
 abbrev pub decreases-names::asserted : goal.decreases-names::asserted
-decreases-names::asserted l = defs_weight l.s.now.defs.now + trees_weight (trees (map tree l.list.now)) + 2
+decreases-names::asserted l = 10 * l.s.now.left + 2
 
 abbrev pub decreases-names::called_value : goal.decreases-names::called_value
-decreases-names::called_value l = defs_weight l.s.now.defs.now + 2
+decreases-names::called_value l = 10 * l.s.now.left + 7
 
 abbrev pub decreases-names::applied : goal.decreases-names::applied
-decreases-names::applied l = defs_weight l.s.now.defs.now + 1
+decreases-names::applied l = 10 * l.s.now.left + 6
 
 abbrev pub decreases-names::body_value : goal.decreases-names::body_value
-decreases-names::body_value l = defs_weight l.before.now + weight (tree l.body.now) + 3
+decreases-names::body_value l = 10 * l.s.now.left + 5
 
 abbrev pub invariant-evaluate::values-loop-e : goal.invariant-evaluate::values-loop-e
 invariant-evaluate::values-loop-e l =
@@ -137,34 +135,34 @@ invariant-updates::except_value-loop-u l =
     updated (paths (map path_tree l.list)) (scope_view l.s) (option_map held_data l.initial.now) ≡ updated (paths (map path_tree (drop l.u-index l.list))) (scope_view l.s) (option_map held_data l.now)
 
 abbrev pub decreases-binders::bound_names : goal.decreases-binders::bound_names
-decreases-binders::bound_names l = defs_weight l.s.now.defs.now + bound_weight (bound (map bound_tree l.binders.now)) + 1
+decreases-binders::bound_names l = 10 * l.s.now.left + 2
 
 abbrev pub decreases-binders::value_bound : goal.decreases-binders::value_bound
-decreases-binders::value_bound l = defs_weight l.s.now.defs.now + weight (tree l.e.now) + 2
+decreases-binders::value_bound l = 10 * l.s.now.left + 2
 
 abbrev pub decreases-binders::quantified : goal.decreases-binders::quantified
-decreases-binders::quantified l = defs_weight l.s.now.defs.now + bound_weight (bound (map bound_tree l.binders.now)) + weight (tree l.p.now) + 3
+decreases-binders::quantified l = 10 * l.s.now.left + 3
 
 abbrev pub decreases-binders::function_value : goal.decreases-binders::function_value
-decreases-binders::function_value l = defs_weight l.s.now.defs.now + bound_weight (bound (map bound_tree l.binders.now)) + weight (tree l.e.now) + 3
+decreases-binders::function_value l = 10 * l.s.now.left + 3
 
 abbrev pub decreases-one_name::value_named : goal.decreases-one_name::value_named
-decreases-one_name::value_named l = defs_weight l.s.now.defs.now + weight (tree l.e.now) + 2
+decreases-one_name::value_named l = 10 * l.s.now.left + 2
 
 abbrev pub decreases-one_name::chosen : goal.decreases-one_name::chosen
-decreases-one_name::chosen l = defs_weight l.s.now.defs.now + weight (tree l.r.now) + weight (tree l.p.now) + 3
+decreases-one_name::chosen l = 10 * l.s.now.left + 3
 
 abbrev pub decreases-one_name::filtered : goal.decreases-one_name::filtered
-decreases-one_name::filtered l = defs_weight l.s.now.defs.now + weight (tree l.r.now) + weight (tree l.p.now) + 3
+decreases-one_name::filtered l = 10 * l.s.now.left + 3
 
 abbrev pub decreases-one_name::image : goal.decreases-one_name::image
-decreases-one_name::image l = defs_weight l.s.now.defs.now + weight (tree l.e.now) + weight (tree l.r.now) + 3
+decreases-one_name::image l = 10 * l.s.now.left + 3
 
 abbrev pub decreases-updates::except_value : goal.decreases-updates::except_value
-decreases-updates::except_value l = defs_weight l.s.now.defs.now + weight (tree l.f.now) + paths_weight (paths (map path_tree l.list.now)) + 3
+decreases-updates::except_value l = 10 * l.s.now.left + 5
 
 abbrev pub decreases-updates::updated : goal.decreases-updates::updated
-decreases-updates::updated l = defs_weight l.s.now.defs.now + trees_weight (trees l.u.now.path) + weight (tree l.u.now.value) + 3
+decreases-updates::updated l = 10 * l.s.now.left + 4
 
 abbrev pub decreases-updates::updated_at : goal.decreases-updates::updated_at
-decreases-updates::updated_at l = defs_weight l.s.now.defs.now + weight (tree l.e.now) + 2
+decreases-updates::updated_at l = 10 * l.s.now.left + 3
