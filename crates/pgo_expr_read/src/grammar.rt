@@ -60,6 +60,7 @@ impl<F: Fn(Global, &mut Cursor<'_>, u32, u8) -> Result<Read<Sub>, TextStop>> Gra
     ) -> Result<Read<Sub>, TextStop>
         ensures { Reads (spec.give_at (spec.raised self.now.limit form ending height (tree expr)) cursor.now) result cursor.now }
     {
+        let tree = Sub::new(self.alloc, expr)?;
         if height >= self.limit {
             return Err(cursor.refuse());
         }
@@ -67,7 +68,7 @@ impl<F: Fn(Global, &mut Cursor<'_>, u32, u8) -> Result<Read<Sub>, TextStop>> Gra
             form,
             ending,
             height: height + 1,
-            tree: Sub::new(self.alloc, expr)?,
+            tree,
         })
     }
 
