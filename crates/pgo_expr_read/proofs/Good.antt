@@ -16,7 +16,7 @@ use Rattle.pgo_expr_read.specs.Kinds as kind
 use Rattle.pgo_expr_read.specs.Table.{form_low}
 use Rattle.pgo_expr_read.specs.Spells.{Spelled, Range, Item, Behind, Items, prefix_token, operator_token, more_names, applied, extended, product_of_two, infix_of, joined, opened}
 use Rattle.pgo_expr_read.specs.Spells as s
-use Rattle.pgo_expr_read.specs.Reading.{◌>>=◌, ◌>>◌, Parser, Outcome, and_then, pure, give_at, expect, name, raised, pushed, one_of, folded, goes, pass, one_more, listed, one_more_name, names}
+use Rattle.pgo_expr_read.specs.Reading.{◌>>=◌, ◌>>◌, Parser, Outcome, and_then, pure, give_at, expect, name, raised, pushed, one_of, folded, goes, pass, more_at, one_more, listed_at, listed, one_more_name, names}
 use Rattle.pgo_expr_read.proofs.Measures.{thing_height, things_height}
 use Rattle.pgo_expr_read.proofs.Parts.{bind_then, give_some, some_pair, raised_some, expect_some, name_some}
 
@@ -159,7 +159,7 @@ module _ (k : Kind) (it : Parser (Read (Thing k))) (sound_it : (i : List Token) 
   one_more_by false acc i next rest may got = cc
 
   sound_one_more : (acc : Read (List (Thing k))) (i : List Token) (next : Read (List (Thing k))) (rest : List Token) → one_more k it acc i ≡ Some (next, rest) → NextItem i acc next rest
-  unfolding one_more
+  unfolding more_at
   sound_one_more acc i next rest got = one_more_by (may_follow k acc.ending) acc i next rest refl got
 
   behind_end : (acc res : Read (List (Thing k))) (i rest : List Token) → ◌≡◌ {A = Outcome (Read (List (Thing k)))} (Some (acc, i)) (Some (res, rest)) → GoodBehind k i acc res rest
@@ -195,7 +195,7 @@ module _ (k : Kind) (it : Parser (Read (Thing k))) (sound_it : (i : List Token) 
   listed_height h m a others all x y z = y ∙ (let P : ℕ → Type 0 = λ n. max (max 0 n) (things_height k others) ≡ max (thing_height k a) (things_height k others) in subst P (sym x) (omega arith)) ∙ ap (λ n. things_height k n) (sym z)
 
   pub sound_listed : (i : List Token) (res : Read (List (Thing k))) (rest : List Token) → listed k it i ≡ Some (res, rest) → GoodItems k i res rest
-  unfolding listed
+  unfolding listed_at
   sound_listed i res rest got =
       bind_then (it i) _ _ _ got (λ r i1 hr got.
       let g = sound_it i r i1 hr in

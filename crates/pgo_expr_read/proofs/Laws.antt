@@ -1,72 +1,53 @@
 -- What the table of operators says of operands and of what follows them.
-use Rattle.std.proofs.Common.{◌≡◌, ℕ, ◌+◌, ◌<◌, ◌≤◌, Bool, true, false, ◌&&◌, ◌||◌, ◌⊎◌, inl, inr, refl, ap, sym, ◌∙◌, subst, arith, nat_lt, nat_eq, cond}
-use Rattle.std.proofs.lemmas.Bool.{eqb-true, ltb-true, lt-ltb}
+use Rattle.std.proofs.Common.{◌≡◌, ℕ, ◌+◌, ◌<◌, ◌≤◌, Bool, true, false, ◌&&◌, ◌||◌, ◌⊎◌, inl, inr, refl, ap, sym, subst, arith, nat_lt}
+use denote.Enum.Bare.{same_true}
+use Rattle.std.proofs.lemmas.Bool.{ltb-true, lt-ltb}
 use Rattle.pgo_expr_read.specs.declared.table.Operator.{Operator}
 use Rattle.pgo_expr_read.specs.declared.table.Operator.TheVariants as operator
+use Rattle.pgo_base.specs.contracts.expr.Infix.{the_type}
 use Rattle.pgo_base.specs.declared.expr.Infix.TheVariants as op
 use Rattle.pgo_base.specs.declared.expr.Prefix.{Prefix}
 use Rattle.pgo_base.specs.declared.expr.Prefix.TheVariants as pre
 use Rattle.pgo_expr_read.specs.declared.table.Form.{Form}
 use Rattle.pgo_expr_read.specs.declared.table.Form.TheVariants as form
-use Rattle.pgo_expr_read.specs.Table.{code, low, high, is_left, is_of, takes_left, form_low, prefix_least, right_least}
+use Rattle.pgo_expr_read.specs.contracts.table.OperatorPartialEq.TheImpl as same_operator
+use Rattle.pgo_expr_read.specs.Table.{low, high, is_left, is_of, takes_left, form_low, prefix_least, right_least}
+
+-- the range of an operator's levels
+ranged : (o : Operator) → (low o ≤ high o) × (high o < 31)
+unfolding low high
+ranged (operator.Infix op.Implies) = (omega arith, omega arith)
+ranged (operator.Infix op.Iff) = (omega arith, omega arith)
+ranged (operator.Infix op.And) = (omega arith, omega arith)
+ranged (operator.Infix op.Or) = (omega arith, omega arith)
+ranged (operator.Infix op.Equal) = (omega arith, omega arith)
+ranged (operator.Infix op.Differs) = (omega arith, omega arith)
+ranged (operator.Infix op.Less) = (omega arith, omega arith)
+ranged (operator.Infix op.Greater) = (omega arith, omega arith)
+ranged (operator.Infix op.AtMost) = (omega arith, omega arith)
+ranged (operator.Infix op.AtLeast) = (omega arith, omega arith)
+ranged (operator.Infix op.In) = (omega arith, omega arith)
+ranged (operator.Infix op.NotIn) = (omega arith, omega arith)
+ranged (operator.Infix op.SubsetEq) = (omega arith, omega arith)
+ranged (operator.Infix op.Merge) = (omega arith, omega arith)
+ranged (operator.Infix op.Single) = (omega arith, omega arith)
+ranged (operator.Infix op.Union) = (omega arith, omega arith)
+ranged (operator.Infix op.Intersect) = (omega arith, omega arith)
+ranged (operator.Infix op.Without) = (omega arith, omega arith)
+ranged (operator.Infix op.Range) = (omega arith, omega arith)
+ranged (operator.Infix op.Add) = (omega arith, omega arith)
+ranged (operator.Infix op.Subtract) = (omega arith, omega arith)
+ranged (operator.Infix op.Modulo) = (omega arith, omega arith)
+ranged (operator.Infix op.Multiply) = (omega arith, omega arith)
+ranged (operator.Infix op.Concat) = (omega arith, omega arith)
+ranged (operator.Infix op.Divide) = (omega arith, omega arith)
+ranged operator.Product = (omega arith, omega arith)
 
 pub low-high : (o : Operator) → low o ≤ high o
-unfolding low high
-low-high (operator.Infix op.Implies) = omega arith
-low-high (operator.Infix op.Iff) = omega arith
-low-high (operator.Infix op.And) = omega arith
-low-high (operator.Infix op.Or) = omega arith
-low-high (operator.Infix op.Equal) = omega arith
-low-high (operator.Infix op.Differs) = omega arith
-low-high (operator.Infix op.Less) = omega arith
-low-high (operator.Infix op.Greater) = omega arith
-low-high (operator.Infix op.AtMost) = omega arith
-low-high (operator.Infix op.AtLeast) = omega arith
-low-high (operator.Infix op.In) = omega arith
-low-high (operator.Infix op.NotIn) = omega arith
-low-high (operator.Infix op.SubsetEq) = omega arith
-low-high (operator.Infix op.Merge) = omega arith
-low-high (operator.Infix op.Single) = omega arith
-low-high (operator.Infix op.Union) = omega arith
-low-high (operator.Infix op.Intersect) = omega arith
-low-high (operator.Infix op.Without) = omega arith
-low-high (operator.Infix op.Range) = omega arith
-low-high (operator.Infix op.Add) = omega arith
-low-high (operator.Infix op.Subtract) = omega arith
-low-high (operator.Infix op.Modulo) = omega arith
-low-high (operator.Infix op.Multiply) = omega arith
-low-high (operator.Infix op.Concat) = omega arith
-low-high (operator.Infix op.Divide) = omega arith
-low-high operator.Product = omega arith
+low-high o = (ranged o).0
 
 pub high-small : (o : Operator) → high o < 31
-unfolding high
-high-small (operator.Infix op.Implies) = omega arith
-high-small (operator.Infix op.Iff) = omega arith
-high-small (operator.Infix op.And) = omega arith
-high-small (operator.Infix op.Or) = omega arith
-high-small (operator.Infix op.Equal) = omega arith
-high-small (operator.Infix op.Differs) = omega arith
-high-small (operator.Infix op.Less) = omega arith
-high-small (operator.Infix op.Greater) = omega arith
-high-small (operator.Infix op.AtMost) = omega arith
-high-small (operator.Infix op.AtLeast) = omega arith
-high-small (operator.Infix op.In) = omega arith
-high-small (operator.Infix op.NotIn) = omega arith
-high-small (operator.Infix op.SubsetEq) = omega arith
-high-small (operator.Infix op.Merge) = omega arith
-high-small (operator.Infix op.Single) = omega arith
-high-small (operator.Infix op.Union) = omega arith
-high-small (operator.Infix op.Intersect) = omega arith
-high-small (operator.Infix op.Without) = omega arith
-high-small (operator.Infix op.Range) = omega arith
-high-small (operator.Infix op.Add) = omega arith
-high-small (operator.Infix op.Subtract) = omega arith
-high-small (operator.Infix op.Modulo) = omega arith
-high-small (operator.Infix op.Multiply) = omega arith
-high-small (operator.Infix op.Concat) = omega arith
-high-small (operator.Infix op.Divide) = omega arith
-high-small operator.Product = omega arith
+high-small o = (ranged o).1
 
 pub prefix-small : (p : Prefix) → prefix_least p < 32
 unfolding prefix_least
@@ -76,36 +57,11 @@ prefix-small pre.Powerset = omega arith
 prefix-small pre.Flatten = omega arith
 prefix-small pre.Domain = omega arith
 
-abbrev operator_by : ℕ → Operator
-operator_by n = cond (nat_eq n 0) (operator.Infix op.Implies) (cond (nat_eq n 1) (operator.Infix op.Iff) (cond (nat_eq n 2) (operator.Infix op.And) (cond (nat_eq n 3) (operator.Infix op.Or) (cond (nat_eq n 4) (operator.Infix op.Equal) (cond (nat_eq n 5) (operator.Infix op.Differs) (cond (nat_eq n 6) (operator.Infix op.Less) (cond (nat_eq n 7) (operator.Infix op.Greater) (cond (nat_eq n 8) (operator.Infix op.AtMost) (cond (nat_eq n 9) (operator.Infix op.AtLeast) (cond (nat_eq n 10) (operator.Infix op.In) (cond (nat_eq n 11) (operator.Infix op.NotIn) (cond (nat_eq n 12) (operator.Infix op.SubsetEq) (cond (nat_eq n 13) (operator.Infix op.Merge) (cond (nat_eq n 14) (operator.Infix op.Single) (cond (nat_eq n 15) (operator.Infix op.Union) (cond (nat_eq n 16) (operator.Infix op.Intersect) (cond (nat_eq n 17) (operator.Infix op.Without) (cond (nat_eq n 18) (operator.Infix op.Range) (cond (nat_eq n 19) (operator.Infix op.Add) (cond (nat_eq n 20) (operator.Infix op.Subtract) (cond (nat_eq n 21) (operator.Infix op.Modulo) (cond (nat_eq n 22) (operator.Infix op.Multiply) (cond (nat_eq n 23) (operator.Infix op.Concat) (cond (nat_eq n 24) (operator.Infix op.Divide) (operator.Product)))))))))))))))))))))))))
-
-operator_of_code : (o : Operator) → operator_by (code o) ≡ o
-operator_of_code (operator.Infix op.Implies) = refl
-operator_of_code (operator.Infix op.Iff) = refl
-operator_of_code (operator.Infix op.And) = refl
-operator_of_code (operator.Infix op.Or) = refl
-operator_of_code (operator.Infix op.Equal) = refl
-operator_of_code (operator.Infix op.Differs) = refl
-operator_of_code (operator.Infix op.Less) = refl
-operator_of_code (operator.Infix op.Greater) = refl
-operator_of_code (operator.Infix op.AtMost) = refl
-operator_of_code (operator.Infix op.AtLeast) = refl
-operator_of_code (operator.Infix op.In) = refl
-operator_of_code (operator.Infix op.NotIn) = refl
-operator_of_code (operator.Infix op.SubsetEq) = refl
-operator_of_code (operator.Infix op.Merge) = refl
-operator_of_code (operator.Infix op.Single) = refl
-operator_of_code (operator.Infix op.Union) = refl
-operator_of_code (operator.Infix op.Intersect) = refl
-operator_of_code (operator.Infix op.Without) = refl
-operator_of_code (operator.Infix op.Range) = refl
-operator_of_code (operator.Infix op.Add) = refl
-operator_of_code (operator.Infix op.Subtract) = refl
-operator_of_code (operator.Infix op.Modulo) = refl
-operator_of_code (operator.Infix op.Multiply) = refl
-operator_of_code (operator.Infix op.Concat) = refl
-operator_of_code (operator.Infix op.Divide) = refl
-operator_of_code operator.Product = refl
+same : (o p : Operator) → same_operator.ghosts.eq o p ≡ true → o ≡ p
+same (operator.Infix a) (operator.Infix b) e = ap operator.Infix (same_true the_type tt a b e)
+same operator.Product operator.Product e = refl
+same (operator.Infix a) operator.Product e = cc
+same operator.Product (operator.Infix b) e = cc
 
 either : (a b : Bool) → (a || b) ≡ true → (a ≡ true) ⊎ (b ≡ true)
 either true b e = inl refl
@@ -120,7 +76,7 @@ both_of true b e = e
 both_of false b e = cc
 
 of_same : (o : Operator) (f : Form) → is_of o f ≡ true → f ≡ form.Operation o
-of_same o (form.Operation p) e = ap form.Operation (sym (operator_of_code p) ∙ sym (ap operator_by (eqb-true (code o) (code p) e)) ∙ operator_of_code o)
+of_same o (form.Operation p) e = ap form.Operation (sym (same o p e))
 of_same o (form.Prefix p) e = cc
 of_same o form.Closed e = cc
 

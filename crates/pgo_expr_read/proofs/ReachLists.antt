@@ -26,7 +26,7 @@ use Rattle.pgo_expr_read.specs.Kinds as kind
 use Rattle.pgo_expr_read.specs.Table.{low}
 use Rattle.pgo_expr_read.specs.Spells.{Spelled, Range, Item, Behind, Items, prefix_token, operator_token, more_names, applied, extended, product_of_two, infix_of, joined, opened}
 use Rattle.pgo_expr_read.specs.Spells as s
-use Rattle.pgo_expr_read.specs.Reading.{◌>>=◌, ◌>>◌, Parser, Outcome, pure, past, made, part, pushed, joins, folded, goes, pass, one_more, listed, leaf, field_step, index_step, range_by, range, binder, field, arm, step, update, item, items, one_more_joined, close_by, level, expr}
+use Rattle.pgo_expr_read.specs.Reading.{◌>>=◌, ◌>>◌, Parser, Outcome, pure, past, made, part, pushed, joins, folded, goes, pass, more_at, one_more, listed_at, leaf, field_step, index_step, range_by, range, binder, field, arm, step, update, item, items, one_more_joined, close_by, level, expr}
 use Rattle.pgo_expr_read.specs.Fronts.{Ended}
 use Rattle.pgo_expr_read.proofs.Measures.{thing_height, things_height, of_steps}
 use Rattle.pgo_expr_read.proofs.Reach.{read, Quiet, Stops, Reaches, next_step, expect_gives, node_gives, stops, inside, unroll, fold_ends, fold_goes, names_give, pass_gives}
@@ -192,7 +192,7 @@ follows_behind {k} {o} rest (s.one_more {xs = xs} {ys = ys} m d b) h =
 
 one_more_gives : (k : Kind) (it : Parser (Read (Thing k))) (o u : Ending) (f : Form) (h m : ℕ) (xs : List (Thing k)) (a : Thing k) (i rest : List Token) → may_follow k o ≡ true → it i ≡ Some (made f u m a, rest)
     → one_more k it (part o h xs) (between k ++ i) ≡ Some (part u (max h m) (xs ++ a ∷ []), rest)
-unfolding one_more
+unfolding more_at
 one_more_gives k it o u f h m xs a i rest may got =
     ap (λ b. (cond {A = Parser (Read (List (Thing k)))} b (pass k >> (it >>= (λ r. pure (pushed (part o h xs) r)))) (λ i. None)) (between k ++ i)) may
     ∙ next_step _ _ _ _ _ (pass_gives k i) (next_step _ _ _ _ _ got refl)
@@ -220,7 +220,7 @@ reach_one_more {k} o {u} {v} {xs} {ys} {a} {as'} may d b r m l (suc n) h done re
     ∙ ap (λ z. Some (part v (max h (max (thing_height k a) (things_height k as'))) z, rest)) (append_assoc done (a ∷ []) as')
 
 pub reach_items : {k : Kind} {o u : Ending} {xs ys : List Token} {a : Thing k} {as' : List (Thing k)} → Item k o xs a → Behind k o u ys as' → ReachesItem k o xs a → ReachesBehind k o u ys as' → ReachesItems k u (xs ++ ys) (a ∷ as')
-unfolding listed
+unfolding listed_at
 reach_items {k} {o} {u} {xs} {ys} {a} {as'} d b r m l rest hs g ends =
     let ha : thing_height k a ≤ l = omega (arith, hs) in
     let hb : things_height k as' ≤ l = omega (arith, hs) in

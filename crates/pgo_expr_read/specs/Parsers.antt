@@ -1,5 +1,5 @@
 -- Readers as functions on lists of tokens: what they give, single tokens, what was read, and lists.
-use Rattle.std.specs.Prelude.{◌≡◌, ℕ, zero, suc, ◌+◌, ◌-◌, max, Bool, true, false, ◌&&◌, ◌||◌, if◌then◌else◌, nat_lt, nat_le, nat_eq, List, [], ◌∷◌, ◌++◌, length, Option, Some, None, Result, Ok, Err}
+use Rattle.std.specs.Prelude.{◌≡◌, ℕ, zero, suc, ◌+◌, ◌-◌, max, Bool, true, false, not, ◌&&◌, ◌||◌, if◌then◌else◌, nat_lt, nat_le, nat_eq, List, [], ◌∷◌, ◌++◌, length, Option, Some, None, Result, Ok, Err}
 use Rattle.pgo_base.specs.Tree.{Tree}
 use Rattle.pgo_base.specs.Tree as e
 use Rattle.pgo_lexer.specs.declared.symbol.Junction.{Junction}
@@ -13,11 +13,13 @@ use Rattle.pgo_expr_read.specs.declared.table.Operator.{Operator}
 use Rattle.pgo_expr_read.specs.declared.table.Operator.TheVariants as operator
 use Rattle.pgo_expr_read.specs.declared.table.Form.{Form}
 use Rattle.pgo_expr_read.specs.declared.table.Form.TheVariants as form
+use Rattle.pgo_expr_read.specs.declared.lists.Between.{Between}
+use Rattle.pgo_expr_read.specs.declared.lists.Between.TheVariants as between
 use Rattle.pgo_expr_read.specs.declared.read.Ending.{Ending}
 use Rattle.pgo_expr_read.specs.declared.read.Ending.TheVariants as ending
 use Rattle.pgo_expr_read.specs.declared.read.Read.{Read}
 use Rattle.pgo_expr_read.specs.Lookahead.{sees, sees_name, sees_arm}
-use Rattle.pgo_expr_read.specs.Kinds.{Kind, Thing, Name, may_follow}
+use Rattle.pgo_expr_read.specs.Kinds.{Kind, Thing, Name, may_follow, is_case}
 use Rattle.pgo_expr_read.specs.Kinds as kind
 use Rattle.pgo_expr_read.specs.Spells.{infix_of}
 use Rattle.pgo_expr_read.specs.Table.{low, takes_left, form_low}
@@ -123,16 +125,15 @@ ends_closed r = is_closed r.ending && nat_lt 31 (form_low r.form)
 unfoldable pub goes_on : (least : ℕ) → Read Tree → Operator → Bool
 goes_on least r op = is_closed r.ending && (nat_le least (low op) && takes_left op r.form)
 
--- a list without items
-abbrev pub nothing : {A : Type 0} → Read (List A)
-nothing = part ending.Closed 0 []
+-- one item behind the others of a list, where `join` puts it
+abbrev pub added : {L A : Type 0} → (L → A → L) → Read L → Read A → Read L
+added join all r = part r.ending (max all.height r.height) (join all.tree r.tree)
 
--- one more item of a list
 abbrev pub pushed : {A : Type 0} → Read (List A) → Read A → Read (List A)
-pushed all r = part r.ending (max all.height r.height) (all.tree ++ r.tree ∷ [])
+pushed all r = added (λ xs x. xs ++ x ∷ []) all r
 
 abbrev pub one_of : {A : Type 0} → Read A → Read (List A)
-one_of r = pushed nothing r
+one_of r = pushed (part ending.Closed 0 []) r
 
 -- one more item of a junction list
 unfoldable pub joins : (limit : ℕ) → Junction → Read Tree → Read Tree → Option (Read Tree)
@@ -161,14 +162,26 @@ abbrev pub sees_step : List Token → Bool
 sees_step i = sees sign.SquareOpen i || sees sign.Dot i
 
 -- whether a list goes on
+abbrev pub goes_at : Between → List Token → Bool
+goes_at between.Comma = sees sign.Comma
+goes_at between.Arm = sees_arm
+goes_at between.Name = sees_name
+goes_at between.Step = sees_step
+
 abbrev pub goes : Kind → List Token → Bool
-goes kind.item i = sees sign.ListNext i
-goes kind.arm i = sees_arm i
-goes kind.definition i = sees_name i
-goes kind.step i = sees_step i
-goes _ i = sees sign.Comma i
+goes kind.item = sees sign.ListNext
+goes kind.arm = sees_arm
+goes kind.definition = sees_name
+goes kind.step = sees_step
+goes _ = sees sign.Comma
 
 -- what stands between two items
+abbrev pub pass_at : Between → Parser (Unit {0})
+pass_at between.Comma = expect sign.Comma
+pass_at between.Arm = expect sign.Arm
+pass_at between.Name = pure tt
+pass_at between.Step = pure tt
+
 abbrev pub pass : Kind → Parser (Unit {0})
 pass kind.item = expect sign.ListNext
 pass kind.arm = expect sign.Arm
@@ -176,20 +189,33 @@ pass kind.definition = pure tt
 pass kind.step = pure tt
 pass _ = expect sign.Comma
 
-unfoldable pub one_more : (k : Kind) → Parser (Read (Thing k)) → Read (List (Thing k)) → Parser (Read (List (Thing k)))
-one_more k item all =
-    if may_follow k all.ending then (do
-      pass k
+-- another item may stand behind one that ends so
+abbrev pub follows : Between → Ending → Bool
+follows between.Arm o = not (is_case o)
+follows _ o = true
+
+-- one more item of a list
+unfoldable pub more_at : {L A : Type 0} → (L → A → L) → (Ending → Bool) → Parser (Unit {0}) → Parser (Read A) → Read L → Parser (Read L)
+more_at join may pass item all =
+    if may all.ending then (do
+      pass
       r ← item
-      pure (pushed all r)) else (λ i. None)
+      pure (added join all r)) else (λ i. None)
+
+abbrev pub one_more : (k : Kind) → Parser (Read (Thing k)) → Read (List (Thing k)) → Parser (Read (List (Thing k)))
+one_more k item = more_at (λ xs x. xs ++ x ∷ []) (λ o. may_follow k o) (pass k) item
 
 abbrev pub behind : (k : Kind) → Parser (Read (Thing k)) → Read (List (Thing k)) → Parser (Read (List (Thing k)))
 behind k item all = all_folded (goes k) (one_more k item) all
 
-unfoldable pub listed : (k : Kind) → Parser (Read (Thing k)) → Parser (Read (List (Thing k)))
-listed k item = do
+-- a list of one item or more
+unfoldable pub listed_at : {L A : Type 0} → (L → A → L) → L → (List Token → Bool) → (Ending → Bool) → Parser (Unit {0}) → Parser (Read A) → Parser (Read L)
+listed_at join none goes may pass item = do
   first ← item
-  behind k item (one_of first)
+  all_folded goes (more_at join may pass item) (added join (part ending.Closed 0 none) first)
+
+abbrev pub listed : (k : Kind) → Parser (Read (Thing k)) → Parser (Read (List (Thing k)))
+listed k item = listed_at (λ xs x. xs ++ x ∷ []) [] (goes k) (λ o. may_follow k o) (pass k) item
 
 unfoldable pub one_more_name : List Name → Parser (List Name)
 one_more_name all = do

@@ -35,7 +35,7 @@ use Rattle.pgo_expr_read.specs.Kinds.{Kind, Thing, Name, variable_name, value_na
 use Rattle.pgo_expr_read.specs.Kinds as kind
 use Rattle.pgo_expr_read.specs.Spells.{applied, infix_of, opened}
 use Rattle.pgo_expr_read.specs.Table.{low, takes_left, form_low, right_least, prefix_least}
-unfoldable pub use Rattle.pgo_expr_read.specs.Parsers.{Outcome, Parser, and_then, ◌>>=◌, ◌>>◌, pure, give_at, IsSyntax, Reads, Makes, MakesAs, skip, advance, past, eat, expect, name, text, made, part, raised, closed, is_closed, ends_closed, goes_on, nothing, pushed, one_of, joins, left_height, index_height, folded, all_folded, sees_step, goes, pass, one_more, behind, listed, one_more_name, names}
+unfoldable pub use Rattle.pgo_expr_read.specs.Parsers.{Outcome, Parser, and_then, ◌>>=◌, ◌>>◌, pure, give_at, IsSyntax, Reads, Makes, MakesAs, skip, advance, past, eat, expect, name, text, made, part, raised, closed, is_closed, ends_closed, goes_on, added, pushed, one_of, joins, left_height, index_height, folded, all_folded, sees_step, goes_at, goes, pass_at, pass, follows, more_at, one_more, behind, listed_at, listed, one_more_name, names}
 
 -- ---- what opens without a node
 

@@ -5,11 +5,14 @@ ghost use Rattle.pgo_expr_read.specs.Lookahead.{tokens_of};
 ghost use Rattle.pgo_expr_read.specs.Reading as spec;
 ghost use Rattle.pgo_expr_read.specs.Reading.{Reads};
 
-use crate::lookahead::{self, Lead, Next, Opener, Square};
+use crate::lookahead::{
+    Lead, Next, Opener, Square, form_of_second, is_name, lead_of_symbol, next_of_symbol, sees,
+};
 use crate::sign::Sign;
 use pgo_base::expr::Word;
 use pgo_base::text::Text;
 use pgo_lexer::errors::TextStop;
+use pgo_lexer::symbol::{Bracket, Symbol};
 use pgo_lexer::token::{Lexeme, Token};
 use std::alloc::Global;
 use std::marker::Model;
@@ -67,58 +70,115 @@ impl<'a> Cursor<'a> {
         }
     }
 
+    /// How the tokens go on behind an operand.
     pub fn after(&self) -> Next
         ensures { result ≡ look.after self.now }
     {
-        lookahead::after(self.rest)
+        match self.rest {
+            [] => Next::End,
+            [lexeme, ..] => match &lexeme.token {
+                Token::Symbol(symbol) => next_of_symbol(*symbol),
+                _ => Next::End,
+            },
+        }
     }
 
+    /// How the tokens begin an expression.
     pub fn begin(&self) -> Lead
         ensures { result ≡ look.begin self.now }
     {
-        lookahead::begin(self.rest)
+        match self.rest {
+            [] => Lead::None,
+            [lexeme, ..] => match &lexeme.token {
+                Token::Name(_) => Lead::Name,
+                Token::Number(number) => Lead::Number(*number),
+                Token::Text(_) => Lead::Text,
+                Token::Symbol(symbol) => lead_of_symbol(*symbol),
+                _ => Lead::None,
+            },
+        }
     }
 
+    /// Whether a parenthesis or a junction list begins.
     pub fn opens(&self) -> Option<Opener>
         ensures { result ≡ look.opens self.now }
     {
-        lookahead::opens(self.rest)
+        match self.rest {
+            [] => None,
+            [lexeme, ..] => match &lexeme.token {
+                Token::Symbol(Symbol::Open(Bracket::Round)) => Some(Opener::Round),
+                Token::ListOpen(op) => Some(Opener::List(*op)),
+                _ => None,
+            },
+        }
     }
 
+    /// What stands in a `[`.
     pub fn form_of_square(&self) -> Square
         ensures { result ≡ look.form_of_square self.now }
     {
-        lookahead::form_of_square(self.rest)
+        match self.rest {
+            [] => Square::Other,
+            [first, behind @ ..] => {
+                if is_name(&first.token) {
+                    form_of_second(behind)
+                } else {
+                    Square::Other
+                }
+            }
+        }
     }
 
+    /// Whether the first two tokens are a name and `\in`.
     pub fn begins_binder(&self) -> bool
         ensures { result ≡ look.begins_binder self.now }
     {
-        lookahead::begins_binder(self.rest)
+        match self.rest {
+            [] => false,
+            [first, behind @ ..] => is_name(&first.token) && sees(behind, Sign::In),
+        }
     }
 
+    /// `Nat`, `Int` or `STRING`, where one of them is next.
     pub fn endless(&self) -> Option<Word>
         ensures { result ≡ look.endless self.now }
     {
-        lookahead::endless(self.rest)
+        match self.rest {
+            [] => None,
+            [lexeme, ..] => match &lexeme.token {
+                Token::Symbol(Symbol::Word(Word::Nat)) => Some(Word::Nat),
+                Token::Symbol(Symbol::Word(Word::Int)) => Some(Word::Int),
+                Token::Symbol(Symbol::Word(Word::StringSet)) => Some(Word::StringSet),
+                _ => None,
+            },
+        }
     }
 
+    /// Whether this sign is next.
     pub fn sees(&self, sign: Sign) -> bool
         ensures { result ≡ look.sees sign self.now }
     {
-        lookahead::sees(self.rest, sign)
+        sees(self.rest, sign)
     }
 
+    /// Whether a name is next.
     pub fn sees_name(&self) -> bool
         ensures { result ≡ look.sees_name self.now }
     {
-        lookahead::sees_name(self.rest)
+        match self.rest {
+            [] => false,
+            [lexeme, ..] => is_name(&lexeme.token),
+        }
     }
 
+    /// Whether a guarded arm of a CASE is next.
     pub fn sees_arm(&self) -> bool
         ensures { result ≡ look.sees_arm self.now }
     {
-        lookahead::sees_arm(self.rest)
+        match self.rest {
+            [] => false,
+            [_, behind @ ..] => self.sees(Sign::Arm) && !sees(behind, Sign::Other),
+        }
     }
 
     /// Goes past the next token.

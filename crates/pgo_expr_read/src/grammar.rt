@@ -1,21 +1,19 @@
 // The forms of expressions.
-ghost use Rattle.std.specs.Prelude.{◌≡◌, ◌+◌, [], ◌∷◌, length, IfOk};
+ghost use Rattle.std.specs.Prelude.{◌≡◌};
 ghost use Rattle.pgo_base.specs.Tree as e;
 ghost use Rattle.pgo_base.specs.ExprView.{tree};
-ghost use Rattle.pgo_expr_read.specs.Kinds as kind;
-ghost use Rattle.pgo_expr_read.specs.Spells.{opened, infix_of};
+ghost use Rattle.pgo_expr_read.specs.Spells.{opened};
 ghost use Rattle.pgo_expr_read.specs.Nests.{Nests};
 ghost use Rattle.pgo_expr_read.specs.Reading as spec;
-ghost use Rattle.pgo_expr_read.specs.Reading.{Reads, Makes};
+ghost use Rattle.pgo_expr_read.specs.Reading.{Reads};
 
-use crate::ast;
 use crate::cursor::Cursor;
-use crate::lists::{is_case, names};
+use crate::lists::{Between, OneExpr, OneField, is_case, names, pushed};
 use crate::lookahead::{Lead, Square};
-use crate::read::{Ending, Read, nothing, push_tree, raised};
+use crate::read::{Ending, Read, part};
 use crate::sign::Sign;
 use crate::table::{Form, prefix_least};
-use pgo_base::expr::{Arms, Expr, Exprs, Prefix, Quantifier, Sub, Word};
+use pgo_base::expr::{Arms, Expr, Exprs, Named, Prefix, Quantifier, Sub, Word};
 use pgo_base::text::Text;
 use pgo_lexer::errors::TextStop;
 use std::alloc::Global;
@@ -50,17 +48,41 @@ impl<F: Fn(Global, &mut Cursor<'_>, u32, u8) -> Result<Read<Sub>, TextStop>> Gra
         (self.expr)(self.alloc, cursor, self.below, least)
     }
 
-    /// An expression above others of at most this height.
+    /// An expression of this form above others of at most this height.
+    #[tactic(auto, unfolding(crate::specs::Reading::raised))]
+    pub fn raised(
+        &self,
+        cursor: &Cursor<'_>,
+        form: Form,
+        ending: Ending,
+        height: u32,
+        expr: Expr,
+    ) -> Result<Read<Sub>, TextStop>
+        ensures { Reads (spec.give_at (spec.raised self.now.limit form ending height (tree expr)) cursor.now) result cursor.now }
+    {
+        let tree = Sub::new(self.alloc, expr)?;
+        if height >= self.limit {
+            return Err(cursor.refuse());
+        }
+        Ok(Read {
+            form,
+            ending,
+            height: height + 1,
+            tree,
+        })
+    }
+
+    /// The same outside operators.
     pub fn node(
         &self,
         cursor: &Cursor<'_>,
         ending: Ending,
         height: u32,
-        tree: Sub,
+        expr: Expr,
     ) -> Result<Read<Sub>, TextStop>
-        ensures { Reads (spec.node self.now.limit (spec.expr self.now.below) ending height tree cursor.now) result cursor.now }
+        ensures { Reads (spec.node self.now.limit (spec.expr self.now.below) ending height (tree expr) cursor.now) result cursor.now }
     {
-        raised(cursor, self.limit, Form::Closed, ending, height, tree)
+        self.raised(cursor, Form::Closed, ending, height, expr)
     }
 
     /// An expression without subexpressions.
@@ -68,8 +90,7 @@ impl<F: Fn(Global, &mut Cursor<'_>, u32, u8) -> Result<Read<Sub>, TextStop>> Gra
     pub fn leaf(&self, cursor: &Cursor<'_>, expr: Expr) -> Result<Read<Sub>, TextStop>
         ensures { Reads (spec.leaf self.now.limit (spec.expr self.now.below) (tree expr) cursor.now) result cursor.now }
     {
-        let tree = Sub::new(self.alloc, expr)?;
-        self.node(cursor, Ending::Closed, 0, tree)
+        self.node(cursor, Ending::Closed, 0, expr)
     }
 
     /// A set at the right of `\in`.
@@ -95,14 +116,12 @@ impl<F: Fn(Global, &mut Cursor<'_>, u32, u8) -> Result<Read<Sub>, TextStop>> Gra
     {
         cursor.skip();
         let r = self.expr(cursor, prefix_least(op))?;
-        let tree = ast::unary(self.alloc, op, r.tree)?;
-        raised(
+        self.raised(
             cursor,
-            self.limit,
             Form::Prefix(op),
             r.ending,
             r.height,
-            tree,
+            Expr::Prefix(op, r.tree),
         )
     }
 
@@ -114,8 +133,12 @@ impl<F: Fn(Global, &mut Cursor<'_>, u32, u8) -> Result<Read<Sub>, TextStop>> Gra
     {
         let all = self.trees(cursor)?;
         cursor.expect(Sign::RoundClose)?;
-        let tree = Sub::new(self.alloc, Expr::Call(name, all.tree))?;
-        self.node(cursor, Ending::Closed, all.height, tree)
+        self.node(
+            cursor,
+            Ending::Closed,
+            all.height,
+            Expr::Call(name, all.tree),
+        )
     }
 
     /// A name, alone, primed or with arguments.
@@ -146,8 +169,7 @@ impl<F: Fn(Global, &mut Cursor<'_>, u32, u8) -> Result<Read<Sub>, TextStop>> Gra
         }
         let all = self.trees(cursor)?;
         cursor.expect(Sign::AngleClose)?;
-        let tree = Sub::new(self.alloc, Expr::Tuple(all.tree))?;
-        self.node(cursor, Ending::Closed, all.height, tree)
+        self.node(cursor, Ending::Closed, all.height, Expr::Tuple(all.tree))
     }
 
     /// The members of a set with a property.
@@ -163,8 +185,12 @@ impl<F: Fn(Global, &mut Cursor<'_>, u32, u8) -> Result<Read<Sub>, TextStop>> Gra
         let p = self.expr(cursor, 0)?;
         cursor.expect(Sign::CurlyClose)?;
         let height = set.height.max(p.height);
-        let tree = ast::filter_of(self.alloc, name, set.tree, p.tree)?;
-        self.node(cursor, Ending::Closed, height, tree)
+        self.node(
+            cursor,
+            Ending::Closed,
+            height,
+            Expr::Filter(name, set.tree, p.tree),
+        )
     }
 
     /// The values of an expression over a set, behind the `:`.
@@ -178,8 +204,12 @@ impl<F: Fn(Global, &mut Cursor<'_>, u32, u8) -> Result<Read<Sub>, TextStop>> Gra
         let set = self.range(cursor, 0)?;
         cursor.expect(Sign::CurlyClose)?;
         let height = b.height.max(set.height);
-        let tree = ast::image(self.alloc, b.tree, name, set.tree)?;
-        self.node(cursor, Ending::Closed, height, tree)
+        self.node(
+            cursor,
+            Ending::Closed,
+            height,
+            Expr::Image(b.tree, name, set.tree),
+        )
     }
 
     /// The members of a set, behind the first.
@@ -188,11 +218,11 @@ impl<F: Fn(Global, &mut Cursor<'_>, u32, u8) -> Result<Read<Sub>, TextStop>> Gra
         requires { Nests self.now.below (F.pre self.now.expr) (F.post self.now.expr) }
         ensures { Reads (spec.members self.now.limit (spec.expr self.now.below) first cursor.old) result cursor.new }
     {
-        let one = push_tree(nothing(Exprs::new(self.alloc)), first)?;
-        let all = self.trees_behind(cursor, one)?;
+        let none = part(Ending::Closed, 0, Exprs::new(self.alloc));
+        let one = pushed::<OneExpr>(none, first)?;
+        let all = self.behind(cursor, &OneExpr, Between::Comma, one)?;
         cursor.expect(Sign::CurlyClose)?;
-        let tree = Sub::new(self.alloc, Expr::SetOf(all.tree))?;
-        self.node(cursor, Ending::Closed, all.height, tree)
+        self.node(cursor, Ending::Closed, all.height, Expr::SetOf(all.tree))
     }
 
     /// What stands in `{ }` and doesn't begin with a name and `\in`.
@@ -237,8 +267,12 @@ impl<F: Fn(Global, &mut Cursor<'_>, u32, u8) -> Result<Read<Sub>, TextStop>> Gra
         let a = self.expr(cursor, 0)?;
         cursor.expect(Sign::SquareClose)?;
         let height = binders.height.max(a.height);
-        let tree = ast::fun_of(self.alloc, binders.tree, a.tree)?;
-        self.node(cursor, Ending::Closed, height, tree)
+        self.node(
+            cursor,
+            Ending::Closed,
+            height,
+            Expr::FunOf(binders.tree, a.tree),
+        )
     }
 
     /// A record.
@@ -247,10 +281,14 @@ impl<F: Fn(Global, &mut Cursor<'_>, u32, u8) -> Result<Read<Sub>, TextStop>> Gra
         requires { Nests self.now.below (F.pre self.now.expr) (F.post self.now.expr) }
         ensures { Reads (spec.record_of self.now.limit (spec.expr self.now.below) cursor.old) result cursor.new }
     {
-        let all = self.fields(cursor, Sign::MapsTo)?;
+        let all = self.items(
+            cursor,
+            &OneField(Sign::MapsTo),
+            Between::Comma,
+            Named::new(self.alloc),
+        )?;
         cursor.expect(Sign::SquareClose)?;
-        let tree = Sub::new(self.alloc, Expr::Record(all.tree))?;
-        self.node(cursor, Ending::Closed, all.height, tree)
+        self.node(cursor, Ending::Closed, all.height, Expr::Record(all.tree))
     }
 
     /// A set of records.
@@ -259,10 +297,19 @@ impl<F: Fn(Global, &mut Cursor<'_>, u32, u8) -> Result<Read<Sub>, TextStop>> Gra
         requires { Nests self.now.below (F.pre self.now.expr) (F.post self.now.expr) }
         ensures { Reads (spec.record_set self.now.limit (spec.expr self.now.below) cursor.old) result cursor.new }
     {
-        let all = self.fields(cursor, Sign::Colon)?;
+        let all = self.items(
+            cursor,
+            &OneField(Sign::Colon),
+            Between::Comma,
+            Named::new(self.alloc),
+        )?;
         cursor.expect(Sign::SquareClose)?;
-        let tree = Sub::new(self.alloc, Expr::RecordSet(all.tree))?;
-        self.node(cursor, Ending::Closed, all.height, tree)
+        self.node(
+            cursor,
+            Ending::Closed,
+            all.height,
+            Expr::RecordSet(all.tree),
+        )
     }
 
     /// A set of functions, behind their domain.
@@ -275,8 +322,7 @@ impl<F: Fn(Global, &mut Cursor<'_>, u32, u8) -> Result<Read<Sub>, TextStop>> Gra
         let b = self.expr(cursor, 0)?;
         cursor.expect(Sign::SquareClose)?;
         let height = a.height.max(b.height);
-        let tree = ast::fun_set(self.alloc, a.tree, b.tree)?;
-        self.node(cursor, Ending::Closed, height, tree)
+        self.node(cursor, Ending::Closed, height, Expr::FunSet(a.tree, b.tree))
     }
 
     /// The updates of EXCEPT.
@@ -288,8 +334,12 @@ impl<F: Fn(Global, &mut Cursor<'_>, u32, u8) -> Result<Read<Sub>, TextStop>> Gra
         let updates = self.updates(cursor)?;
         cursor.expect(Sign::SquareClose)?;
         let height = a.height.max(updates.height);
-        let tree = ast::except(self.alloc, a.tree, updates.tree)?;
-        self.node(cursor, Ending::Closed, height, tree)
+        self.node(
+            cursor,
+            Ending::Closed,
+            height,
+            Expr::Except(a.tree, updates.tree),
+        )
     }
 
     /// A set of functions, or EXCEPT.
@@ -336,8 +386,12 @@ impl<F: Fn(Global, &mut Cursor<'_>, u32, u8) -> Result<Read<Sub>, TextStop>> Gra
         cursor.expect(Sign::Colon)?;
         let p = self.expr(cursor, 0)?;
         let height = binders.height.max(p.height);
-        let tree = ast::quantified(self.alloc, quantifier, binders.tree, p.tree)?;
-        self.node(cursor, opened(p.ending), height, tree)
+        self.node(
+            cursor,
+            opened(p.ending),
+            height,
+            Expr::Quantified(quantifier, binders.tree, p.tree),
+        )
     }
 
     /// The rest of a CHOOSE.
@@ -353,8 +407,12 @@ impl<F: Fn(Global, &mut Cursor<'_>, u32, u8) -> Result<Read<Sub>, TextStop>> Gra
         cursor.expect(Sign::Colon)?;
         let p = self.expr(cursor, 0)?;
         let height = set.height.max(p.height);
-        let tree = ast::choose(self.alloc, name, set.tree, p.tree)?;
-        self.node(cursor, opened(p.ending), height, tree)
+        self.node(
+            cursor,
+            opened(p.ending),
+            height,
+            Expr::Choose(name, set.tree, p.tree),
+        )
     }
 
     /// The rest of an IF.
@@ -370,8 +428,12 @@ impl<F: Fn(Global, &mut Cursor<'_>, u32, u8) -> Result<Read<Sub>, TextStop>> Gra
         cursor.expect(Sign::Else)?;
         let c = self.expr(cursor, 0)?;
         let height = a.height.max(b.height.max(c.height));
-        let tree = ast::cond_of(self.alloc, a.tree, b.tree, c.tree)?;
-        self.node(cursor, opened(c.ending), height, tree)
+        self.node(
+            cursor,
+            opened(c.ending),
+            height,
+            Expr::If(a.tree, b.tree, c.tree),
+        )
     }
 
     /// The last arm of a CASE, behind its `[]`.
@@ -384,8 +446,12 @@ impl<F: Fn(Global, &mut Cursor<'_>, u32, u8) -> Result<Read<Sub>, TextStop>> Gra
         cursor.expect(Sign::Arrow)?;
         let a = self.expr(cursor, 0)?;
         let height = arms.height.max(a.height);
-        let tree = ast::case_other(self.alloc, arms.tree, a.tree)?;
-        self.node(cursor, Ending::Case, height, tree)
+        self.node(
+            cursor,
+            Ending::Case,
+            height,
+            Expr::CaseOther(arms.tree, a.tree),
+        )
     }
 
     /// The arms of a CASE. Behind an arm that ends in a CASE no `[]` stands.
@@ -403,8 +469,7 @@ impl<F: Fn(Global, &mut Cursor<'_>, u32, u8) -> Result<Read<Sub>, TextStop>> Gra
             }
             return self.last_arm(cursor, arms);
         }
-        let tree = Sub::new(self.alloc, Expr::Case(arms.tree))?;
-        self.node(cursor, Ending::Case, arms.height, tree)
+        self.node(cursor, Ending::Case, arms.height, Expr::Case(arms.tree))
     }
 
     /// The definitions of a LET and what they are for.
@@ -418,8 +483,12 @@ impl<F: Fn(Global, &mut Cursor<'_>, u32, u8) -> Result<Read<Sub>, TextStop>> Gra
         cursor.expect(Sign::LetIn)?;
         let a = self.expr(cursor, 0)?;
         let height = definitions.height.max(a.height);
-        let tree = ast::let_in(self.alloc, definitions.tree, a.tree)?;
-        self.node(cursor, opened(a.ending), height, tree)
+        self.node(
+            cursor,
+            opened(a.ending),
+            height,
+            Expr::Let(definitions.tree, a.tree),
+        )
     }
 
     /// The names that stay unchanged.

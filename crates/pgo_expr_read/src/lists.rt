@@ -1,24 +1,21 @@
 // The lists of the grammar.
-ghost use Rattle.std.specs.Prelude.{◌≡◌, ◌+◌, [], ◌∷◌, length, IfOk};
-ghost use Rattle.pgo_base.specs.Tree as e;
-ghost use Rattle.pgo_base.specs.ExprView.{tree};
+ghost use Rattle.std.specs.Prelude.{◌≡◌, ℕ, [], ◌∷◌, ◌++◌, IfOk};
 ghost use Rattle.pgo_expr_read.specs.Kinds as kind;
 ghost use Rattle.pgo_expr_read.specs.Lookahead as look;
+ghost use Rattle.pgo_expr_read.specs.declared.read.Read.{Read};
 ghost use Rattle.pgo_expr_read.specs.declared.sign.Sign.TheVariants as sign;
 ghost use Rattle.pgo_expr_read.specs.Nests.{Nests};
 ghost use Rattle.pgo_expr_read.specs.Reading as spec;
-ghost use Rattle.pgo_expr_read.specs.Reading.{Reads, Makes};
+ghost use Rattle.pgo_expr_read.specs.Reading.{Reads, Parser};
 
 use crate::cursor::Cursor;
 use crate::grammar::Grammar;
-use crate::read::{
-    Ending, Read, nothing, part, push_arm, push_binder, push_field, push_tree, push_update,
-};
+use crate::read::{Ending, Read, part};
 use crate::sign::Sign;
 use pgo_base::expr::{Arms, Binders, Expr, Exprs, Named, Names, Sub, Updates};
 use pgo_base::text::Text;
 use pgo_lexer::errors::TextStop;
-use std::alloc::Global;
+use std::alloc::{AllocError, Global};
 
 /// One name more, behind a comma.
 #[tactic(auto, unfolding(crate::specs::Reading::one_more_name))]
@@ -57,13 +54,6 @@ pub fn names(alloc: Global, cursor: &mut Cursor<'_>) -> Result<Names, TextStop>
     names_behind(alloc, cursor, first)
 }
 
-/// Whether a step of a path is next.
-fn sees_step(cursor: &Cursor<'_>) -> bool
-    ensures { result ≡ spec.sees_step cursor.now }
-{
-    cursor.sees(Sign::SquareOpen) || cursor.sees(Sign::Dot)
-}
-
 /// Whether it ends in a CASE.
 pub fn is_case(ending: Ending) -> bool
     ensures { result ≡ kind.is_case ending }
@@ -74,390 +64,377 @@ pub fn is_case(ending: Ending) -> bool
     }
 }
 
-impl<F: Fn(Global, &mut Cursor<'_>, u32, u8) -> Result<Read<Sub>, TextStop>> Grammar<F> {
-    /// Names and the set that they are bound over.
+/// What stands between the items of a list, or else what a further item begins with.
+#[derive(Clone, Copy)]
+pub enum Between {
+    Comma,
+    /// `[]`, unless OTHER follows. None stands behind an item that ends in a CASE.
+    Arm,
+    /// A name.
+    Name,
+    /// `[` or `.`.
+    Step,
+}
+
+/// Whether another item follows.
+fn goes(cursor: &Cursor<'_>, between: Between) -> bool
+    ensures { result ≡ spec.goes_at between cursor.now }
+{
+    match between {
+        Between::Comma => cursor.sees(Sign::Comma),
+        Between::Arm => cursor.sees_arm(),
+        Between::Name => cursor.sees_name(),
+        Between::Step => cursor.sees(Sign::SquareOpen) || cursor.sees(Sign::Dot),
+    }
+}
+
+/// Whether another item may stand behind one that ends so.
+fn follows(between: Between, ending: Ending) -> bool
+    ensures { result ≡ spec.follows between ending }
+{
+    match between {
+        Between::Arm => !is_case(ending),
+        _ => true,
+    }
+}
+
+/// Goes past what stands between two items.
+fn pass(cursor: &mut Cursor<'_>, between: Between) -> Result<(), TextStop>
+    ensures { Reads (spec.pass_at between cursor.old) result cursor.new }
+{
+    match between {
+        Between::Comma => cursor.expect(Sign::Comma),
+        Between::Arm => cursor.expect(Sign::Arm),
+        Between::Name | Between::Step => Ok(()),
+    }
+}
+
+/// The items of a list.
+pub trait Item {
+    /// What one is.
+    type One: Drop;
+
+    type List: Drop;
+
+    ghost reading: { Self → ℕ → ℕ → Parser (Read Self.One) };
+
+    ghost join: { Self.List → Self.One → Self.List };
+
+    /// Reads one.
+    fn read<F: Fn(Global, &mut Cursor<'_>, u32, u8) -> Result<Read<Sub>, TextStop>>(
+        &self,
+        grammar: &Grammar<F>,
+        cursor: &mut Cursor<'_>,
+    ) -> Result<Read<Self::One>, TextStop>
+        requires { Nests grammar.now.below (F.pre grammar.now.expr) (F.post grammar.now.expr) }
+        ensures { Reads (reading self.now grammar.now.limit grammar.now.below cursor.old) result cursor.new };
+
+    /// Puts one behind the others.
+    fn push(list: &mut Self::List, one: Self::One) -> Result<(), AllocError>
+        ensures { IfOk result (λ _. list.new ≡ join list.old one) };
+}
+
+/// An expression.
+pub struct OneExpr;
+
+impl Item for OneExpr {
+    type One = Sub;
+
+    type List = Exprs;
+
+    ghost reading = { λ v limit below. spec.expr below 0 };
+
+    ghost join = { λ xs x. xs ++ x ∷ [] };
+
+    fn read<F: Fn(Global, &mut Cursor<'_>, u32, u8) -> Result<Read<Sub>, TextStop>>(
+        &self,
+        grammar: &Grammar<F>,
+        cursor: &mut Cursor<'_>,
+    ) -> Result<Read<Sub>, TextStop> {
+        grammar.expr(cursor, 0)
+    }
+
+    fn push(list: &mut Exprs, one: Sub) -> Result<(), AllocError> {
+        list.push(one)
+    }
+}
+
+/// Names and the set that they are bound over.
+pub struct OneBinder;
+
+impl Item for OneBinder {
+    type One = (Names, Sub);
+
+    type List = Binders;
+
+    ghost reading = { λ v limit below. spec.binder limit (spec.expr below) };
+
+    ghost join = { λ xs x. xs ++ x ∷ [] };
+
     #[tactic(auto, unfolding(crate::specs::Reading::binder))]
-    pub fn binder(&self, cursor: &mut Cursor<'_>) -> Result<Read<(Names, Sub)>, TextStop>
-        requires { Nests self.now.below (F.pre self.now.expr) (F.post self.now.expr) }
-        ensures { Reads (spec.binder self.now.limit (spec.expr self.now.below) cursor.old) result cursor.new }
-    {
-        let names = names(self.alloc, cursor)?;
+    fn read<F: Fn(Global, &mut Cursor<'_>, u32, u8) -> Result<Read<Sub>, TextStop>>(
+        &self,
+        grammar: &Grammar<F>,
+        cursor: &mut Cursor<'_>,
+    ) -> Result<Read<(Names, Sub)>, TextStop> {
+        let names = names(grammar.alloc, cursor)?;
         cursor.expect(Sign::In)?;
-        let set = self.range(cursor, 0)?;
+        let set = grammar.range(cursor, 0)?;
         Ok(part(Ending::Closed, set.height, (names, set.tree)))
     }
 
-    /// A name with an expression behind this sign.
+    fn push(list: &mut Binders, one: (Names, Sub)) -> Result<(), AllocError> {
+        let (names, set) = one;
+        list.push(names, set)
+    }
+}
+
+/// A name with an expression behind this sign.
+pub struct OneField(pub Sign);
+
+impl Item for OneField {
+    type One = (Text, Sub);
+
+    type List = Named;
+
+    ghost reading = { λ v limit below. spec.field limit (spec.expr below) v.0 };
+
+    ghost join = { λ xs x. xs ++ x ∷ [] };
+
     #[tactic(auto, unfolding(crate::specs::Reading::field))]
-    pub fn field(&self, cursor: &mut Cursor<'_>, sign: Sign) -> Result<Read<(Text, Sub)>, TextStop>
-        requires { Nests self.now.below (F.pre self.now.expr) (F.post self.now.expr) }
-        ensures { Reads (spec.field self.now.limit (spec.expr self.now.below) sign cursor.old) result cursor.new }
-    {
-        let name = cursor.name(self.alloc)?;
-        cursor.expect(sign)?;
-        let a = self.expr(cursor, 0)?;
+    fn read<F: Fn(Global, &mut Cursor<'_>, u32, u8) -> Result<Read<Sub>, TextStop>>(
+        &self,
+        grammar: &Grammar<F>,
+        cursor: &mut Cursor<'_>,
+    ) -> Result<Read<(Text, Sub)>, TextStop> {
+        let name = cursor.name(grammar.alloc)?;
+        cursor.expect(self.0)?;
+        let a = grammar.expr(cursor, 0)?;
         Ok(part(a.ending, a.height, (name, a.tree)))
     }
 
-    /// An arm of a CASE.
+    fn push(list: &mut Named, one: (Text, Sub)) -> Result<(), AllocError> {
+        let (name, a) = one;
+        list.push(name, a)
+    }
+}
+
+/// An arm of a CASE.
+pub struct OneArm;
+
+impl Item for OneArm {
+    type One = (Sub, Sub);
+
+    type List = Arms;
+
+    ghost reading = { λ v limit below. spec.arm limit (spec.expr below) };
+
+    ghost join = { λ xs x. xs ++ x ∷ [] };
+
     #[tactic(auto, unfolding(crate::specs::Reading::arm))]
-    pub fn arm(&self, cursor: &mut Cursor<'_>) -> Result<Read<(Sub, Sub)>, TextStop>
-        requires { Nests self.now.below (F.pre self.now.expr) (F.post self.now.expr) }
-        ensures { Reads (spec.arm self.now.limit (spec.expr self.now.below) cursor.old) result cursor.new }
-    {
-        let guard = self.expr(cursor, 0)?;
+    fn read<F: Fn(Global, &mut Cursor<'_>, u32, u8) -> Result<Read<Sub>, TextStop>>(
+        &self,
+        grammar: &Grammar<F>,
+        cursor: &mut Cursor<'_>,
+    ) -> Result<Read<(Sub, Sub)>, TextStop> {
+        let guard = grammar.expr(cursor, 0)?;
         cursor.expect(Sign::Arrow)?;
-        let a = self.expr(cursor, 0)?;
+        let a = grammar.expr(cursor, 0)?;
         let height = guard.height.max(a.height);
         Ok(part(a.ending, height, (guard.tree, a.tree)))
     }
 
-    /// A step of a path of EXCEPT: an index, or a field, which is the index that is a string of its name.
+    fn push(list: &mut Arms, one: (Sub, Sub)) -> Result<(), AllocError> {
+        let (guard, a) = one;
+        list.push(guard, a)
+    }
+}
+
+/// A step of a path of EXCEPT: an index, or a field, which is the index that is a string of its name.
+pub struct OneStep;
+
+impl Item for OneStep {
+    type One = Sub;
+
+    type List = Exprs;
+
+    ghost reading = { λ v limit below. spec.step limit (spec.expr below) };
+
+    ghost join = { λ xs x. xs ++ x ∷ [] };
+
     #[tactic(auto, unfolding(crate::specs::Reading::step, crate::specs::Reading::field_step, crate::specs::Reading::index_step))]
-    pub fn step(&self, cursor: &mut Cursor<'_>) -> Result<Read<Sub>, TextStop>
-        requires { Nests self.now.below (F.pre self.now.expr) (F.post self.now.expr) }
-        ensures { Reads (spec.step self.now.limit (spec.expr self.now.below) cursor.old) result cursor.new }
-    {
+    fn read<F: Fn(Global, &mut Cursor<'_>, u32, u8) -> Result<Read<Sub>, TextStop>>(
+        &self,
+        grammar: &Grammar<F>,
+        cursor: &mut Cursor<'_>,
+    ) -> Result<Read<Sub>, TextStop> {
         if cursor.eat(Sign::Dot) {
-            let name = cursor.name(self.alloc)?;
-            let tree = Sub::new(self.alloc, Expr::Text(name))?;
+            let name = cursor.name(grammar.alloc)?;
+            let tree = Sub::new(grammar.alloc, Expr::Text(name))?;
             return Ok(part(Ending::Closed, 1, tree));
         }
         cursor.expect(Sign::SquareOpen)?;
-        let a = self.expr(cursor, 0)?;
+        let a = grammar.expr(cursor, 0)?;
         cursor.expect(Sign::SquareClose)?;
         Ok(part(Ending::Closed, a.height, a.tree))
     }
 
-    /// An update of EXCEPT.
+    fn push(list: &mut Exprs, one: Sub) -> Result<(), AllocError> {
+        list.push(one)
+    }
+}
+
+/// An update of EXCEPT.
+pub struct OneUpdate;
+
+impl Item for OneUpdate {
+    type One = (Exprs, Sub);
+
+    type List = Updates;
+
+    ghost reading = { λ v limit below. spec.update limit (spec.expr below) };
+
+    ghost join = { λ xs x. xs ++ x ∷ [] };
+
     #[tactic(auto, unfolding(crate::specs::Reading::update))]
-    pub fn update(&self, cursor: &mut Cursor<'_>) -> Result<Read<(Exprs, Sub)>, TextStop>
-        requires { Nests self.now.below (F.pre self.now.expr) (F.post self.now.expr) }
-        ensures { Reads (spec.update self.now.limit (spec.expr self.now.below) cursor.old) result cursor.new }
-    {
+    fn read<F: Fn(Global, &mut Cursor<'_>, u32, u8) -> Result<Read<Sub>, TextStop>>(
+        &self,
+        grammar: &Grammar<F>,
+        cursor: &mut Cursor<'_>,
+    ) -> Result<Read<(Exprs, Sub)>, TextStop> {
         cursor.expect(Sign::Bang)?;
-        let path = self.path(cursor)?;
+        let path = grammar.path(cursor)?;
         cursor.expect(Sign::Equal)?;
-        let a = self.expr(cursor, 0)?;
+        let a = grammar.expr(cursor, 0)?;
         let height = path.height.max(a.height);
         Ok(part(a.ending, height, (path.tree, a.tree)))
     }
 
-    /// One more of them.
-    #[tactic(auto, unfolding(crate::specs::Reading::one_more))]
-    pub fn more_trees(
+    fn push(list: &mut Updates, one: (Exprs, Sub)) -> Result<(), AllocError> {
+        let (path, a) = one;
+        list.push(path, a)
+    }
+}
+
+/// One item behind the others of a list.
+pub fn pushed<I: Item>(all: Read<I::List>, one: Read<I::One>) -> Result<Read<I::List>, AllocError>
+    ensures { IfOk result (λ new. new ≡ spec.added I.join all one) }
+{
+    let height = all.height.max(one.height);
+    let mut list = all.tree;
+    I::push(&mut list, one.tree)?;
+    Ok(part(one.ending, height, list))
+}
+
+impl<F: Fn(Global, &mut Cursor<'_>, u32, u8) -> Result<Read<Sub>, TextStop>> Grammar<F> {
+    /// One more item of a list.
+    #[tactic(auto, unfolding(crate::specs::Reading::more_at))]
+    fn one_more<I: Item>(
         &self,
         cursor: &mut Cursor<'_>,
-        all: Read<Exprs>,
-    ) -> Result<Read<Exprs>, TextStop>
+        item: &I,
+        between: Between,
+        all: Read<I::List>,
+    ) -> Result<Read<I::List>, TextStop>
         requires { Nests self.now.below (F.pre self.now.expr) (F.post self.now.expr) }
-        ensures { Reads (spec.one_more kind.tree (spec.item self.now.limit (spec.expr self.now.below) kind.tree) all cursor.old) result cursor.new }
+        ensures { Reads (spec.more_at I.join (λ o. spec.follows between o) (spec.pass_at between) (I.reading item.now self.now.limit self.now.below) all cursor.old) result cursor.new }
     {
-        cursor.expect(Sign::Comma)?;
-        let a = self.expr(cursor, 0)?;
-        Ok(push_tree(all, a)?)
+        if !follows(between, all.ending) {
+            return Err(cursor.refuse());
+        }
+        pass(cursor, between)?;
+        let one = item.read(self, cursor)?;
+        Ok(pushed::<I>(all, one)?)
     }
 
-    /// Further ones, as far as they go.
-    pub fn trees_behind(
+    /// Further items of a list, as far as they go.
+    pub fn behind<I: Item>(
         &self,
         cursor: &mut Cursor<'_>,
-        first: Read<Exprs>,
-    ) -> Result<Read<Exprs>, TextStop>
+        item: &I,
+        between: Between,
+        first: Read<I::List>,
+    ) -> Result<Read<I::List>, TextStop>
         requires { Nests self.now.below (F.pre self.now.expr) (F.post self.now.expr) }
-        ensures { Reads (spec.behind kind.tree (spec.item self.now.limit (spec.expr self.now.below) kind.tree) first cursor.old) result cursor.new }
+        ensures { Reads (spec.all_folded (spec.goes_at between) (spec.more_at I.join (λ o. spec.follows between o) (spec.pass_at between) (I.reading item.now self.now.limit self.now.below)) first cursor.old) result cursor.new }
     {
         let mut all = first;
         for _turn in 0..cursor.left() {
-            if !cursor.sees(Sign::Comma) {
+            if !goes(cursor, between) {
                 return Ok(all);
             }
-            all = self.more_trees(cursor, all)?;
+            all = self.one_more(cursor, item, between, all)?;
         }
         Ok(all)
     }
 
+    /// A list of one item or more.
+    #[tactic(auto, unfolding(crate::specs::Reading::listed_at))]
+    pub fn items<I: Item>(
+        &self,
+        cursor: &mut Cursor<'_>,
+        item: &I,
+        between: Between,
+        none: I::List,
+    ) -> Result<Read<I::List>, TextStop>
+        requires { Nests self.now.below (F.pre self.now.expr) (F.post self.now.expr) }
+        ensures { Reads (spec.listed_at I.join none (spec.goes_at between) (λ o. spec.follows between o) (spec.pass_at between) (I.reading item.now self.now.limit self.now.below) cursor.old) result cursor.new }
+    {
+        let first = item.read(self, cursor)?;
+        let all = pushed::<I>(part(Ending::Closed, 0, none), first)?;
+        self.behind(cursor, item, between, all)
+    }
+
     /// Expressions with commas between them.
-    #[tactic(auto, unfolding(crate::specs::Reading::listed))]
     pub fn trees(&self, cursor: &mut Cursor<'_>) -> Result<Read<Exprs>, TextStop>
         requires { Nests self.now.below (F.pre self.now.expr) (F.post self.now.expr) }
         ensures { Reads (spec.items self.now.limit (spec.expr self.now.below) kind.tree cursor.old) result cursor.new }
     {
-        let first = self.expr(cursor, 0)?;
-        let all = push_tree(nothing(Exprs::new(self.alloc)), first)?;
-        self.trees_behind(cursor, all)
-    }
-
-    /// One more of them.
-    #[tactic(auto, unfolding(crate::specs::Reading::one_more))]
-    pub fn more_binders(
-        &self,
-        cursor: &mut Cursor<'_>,
-        all: Read<Binders>,
-    ) -> Result<Read<Binders>, TextStop>
-        requires { Nests self.now.below (F.pre self.now.expr) (F.post self.now.expr) }
-        ensures { Reads (spec.one_more kind.binder (spec.item self.now.limit (spec.expr self.now.below) kind.binder) all cursor.old) result cursor.new }
-    {
-        cursor.expect(Sign::Comma)?;
-        let a = self.binder(cursor)?;
-        Ok(push_binder(all, a)?)
-    }
-
-    /// Further ones, as far as they go.
-    pub fn binders_behind(
-        &self,
-        cursor: &mut Cursor<'_>,
-        first: Read<Binders>,
-    ) -> Result<Read<Binders>, TextStop>
-        requires { Nests self.now.below (F.pre self.now.expr) (F.post self.now.expr) }
-        ensures { Reads (spec.behind kind.binder (spec.item self.now.limit (spec.expr self.now.below) kind.binder) first cursor.old) result cursor.new }
-    {
-        let mut all = first;
-        for _turn in 0..cursor.left() {
-            if !cursor.sees(Sign::Comma) {
-                return Ok(all);
-            }
-            all = self.more_binders(cursor, all)?;
-        }
-        Ok(all)
+        self.items(cursor, &OneExpr, Between::Comma, Exprs::new(self.alloc))
     }
 
     /// Binders with commas between them.
-    #[tactic(auto, unfolding(crate::specs::Reading::listed))]
     pub fn binders(&self, cursor: &mut Cursor<'_>) -> Result<Read<Binders>, TextStop>
         requires { Nests self.now.below (F.pre self.now.expr) (F.post self.now.expr) }
         ensures { Reads (spec.items self.now.limit (spec.expr self.now.below) kind.binder cursor.old) result cursor.new }
     {
-        let first = self.binder(cursor)?;
-        let all = push_binder(nothing(Binders::new(self.alloc)), first)?;
-        self.binders_behind(cursor, all)
-    }
-
-    /// One more of them.
-    #[tactic(auto, unfolding(crate::specs::Reading::one_more))]
-    pub fn more_fields(
-        &self,
-        cursor: &mut Cursor<'_>,
-        sign: Sign,
-        all: Read<Named>,
-    ) -> Result<Read<Named>, TextStop>
-        requires { Nests self.now.below (F.pre self.now.expr) (F.post self.now.expr) }
-        ensures { Reads (spec.one_more (kind.field sign) (spec.item self.now.limit (spec.expr self.now.below) (kind.field sign)) all cursor.old) result cursor.new }
-    {
-        cursor.expect(Sign::Comma)?;
-        let a = self.field(cursor, sign)?;
-        Ok(push_field(all, a)?)
-    }
-
-    /// Further ones, as far as they go.
-    pub fn fields_behind(
-        &self,
-        cursor: &mut Cursor<'_>,
-        sign: Sign,
-        first: Read<Named>,
-    ) -> Result<Read<Named>, TextStop>
-        requires { Nests self.now.below (F.pre self.now.expr) (F.post self.now.expr) }
-        ensures { Reads (spec.behind (kind.field sign) (spec.item self.now.limit (spec.expr self.now.below) (kind.field sign)) first cursor.old) result cursor.new }
-    {
-        let mut all = first;
-        for _turn in 0..cursor.left() {
-            if !cursor.sees(Sign::Comma) {
-                return Ok(all);
-            }
-            all = self.more_fields(cursor, sign, all)?;
-        }
-        Ok(all)
-    }
-
-    /// Fields with commas between them, each a name with an expression behind this sign.
-    #[tactic(auto, unfolding(crate::specs::Reading::listed))]
-    pub fn fields(&self, cursor: &mut Cursor<'_>, sign: Sign) -> Result<Read<Named>, TextStop>
-        requires { Nests self.now.below (F.pre self.now.expr) (F.post self.now.expr) }
-        ensures { Reads (spec.items self.now.limit (spec.expr self.now.below) (kind.field sign) cursor.old) result cursor.new }
-    {
-        let first = self.field(cursor, sign)?;
-        let all = push_field(nothing(Named::new(self.alloc)), first)?;
-        self.fields_behind(cursor, sign, all)
-    }
-
-    /// One more of them.
-    #[tactic(auto, unfolding(crate::specs::Reading::one_more))]
-    pub fn more_definitions(
-        &self,
-        cursor: &mut Cursor<'_>,
-        all: Read<Named>,
-    ) -> Result<Read<Named>, TextStop>
-        requires { Nests self.now.below (F.pre self.now.expr) (F.post self.now.expr) }
-        ensures { Reads (spec.one_more kind.definition (spec.item self.now.limit (spec.expr self.now.below) kind.definition) all cursor.old) result cursor.new }
-    {
-        let a = self.field(cursor, Sign::Defines)?;
-        Ok(push_field(all, a)?)
-    }
-
-    /// Further ones, as far as they go.
-    pub fn definitions_behind(
-        &self,
-        cursor: &mut Cursor<'_>,
-        first: Read<Named>,
-    ) -> Result<Read<Named>, TextStop>
-        requires { Nests self.now.below (F.pre self.now.expr) (F.post self.now.expr) }
-        ensures { Reads (spec.behind kind.definition (spec.item self.now.limit (spec.expr self.now.below) kind.definition) first cursor.old) result cursor.new }
-    {
-        let mut all = first;
-        for _turn in 0..cursor.left() {
-            if !cursor.sees_name() {
-                return Ok(all);
-            }
-            all = self.more_definitions(cursor, all)?;
-        }
-        Ok(all)
+        self.items(cursor, &OneBinder, Between::Comma, Binders::new(self.alloc))
     }
 
     /// The definitions of a LET.
-    #[tactic(auto, unfolding(crate::specs::Reading::listed))]
     pub fn definitions(&self, cursor: &mut Cursor<'_>) -> Result<Read<Named>, TextStop>
         requires { Nests self.now.below (F.pre self.now.expr) (F.post self.now.expr) }
         ensures { Reads (spec.items self.now.limit (spec.expr self.now.below) kind.definition cursor.old) result cursor.new }
     {
-        let first = self.field(cursor, Sign::Defines)?;
-        let all = push_field(nothing(Named::new(self.alloc)), first)?;
-        self.definitions_behind(cursor, all)
-    }
-
-    /// One more of them.
-    #[tactic(auto, unfolding(crate::specs::Reading::one_more))]
-    pub fn more_arms(
-        &self,
-        cursor: &mut Cursor<'_>,
-        all: Read<Arms>,
-    ) -> Result<Read<Arms>, TextStop>
-        requires { Nests self.now.below (F.pre self.now.expr) (F.post self.now.expr) }
-        ensures { Reads (spec.one_more kind.arm (spec.item self.now.limit (spec.expr self.now.below) kind.arm) all cursor.old) result cursor.new }
-    {
-        if is_case(all.ending) {
-            return Err(cursor.refuse());
-        }
-        cursor.expect(Sign::Arm)?;
-        let a = self.arm(cursor)?;
-        Ok(push_arm(all, a)?)
-    }
-
-    /// Further ones, as far as they go.
-    pub fn arms_behind(
-        &self,
-        cursor: &mut Cursor<'_>,
-        first: Read<Arms>,
-    ) -> Result<Read<Arms>, TextStop>
-        requires { Nests self.now.below (F.pre self.now.expr) (F.post self.now.expr) }
-        ensures { Reads (spec.behind kind.arm (spec.item self.now.limit (spec.expr self.now.below) kind.arm) first cursor.old) result cursor.new }
-    {
-        let mut all = first;
-        for _turn in 0..cursor.left() {
-            if !cursor.sees_arm() {
-                return Ok(all);
-            }
-            all = self.more_arms(cursor, all)?;
-        }
-        Ok(all)
+        self.items(
+            cursor,
+            &OneField(Sign::Defines),
+            Between::Name,
+            Named::new(self.alloc),
+        )
     }
 
     /// The guarded arms of a CASE; none stands behind one that ends in a CASE.
-    #[tactic(auto, unfolding(crate::specs::Reading::listed))]
     pub fn arms(&self, cursor: &mut Cursor<'_>) -> Result<Read<Arms>, TextStop>
         requires { Nests self.now.below (F.pre self.now.expr) (F.post self.now.expr) }
         ensures { Reads (spec.items self.now.limit (spec.expr self.now.below) kind.arm cursor.old) result cursor.new }
     {
-        let first = self.arm(cursor)?;
-        let all = push_arm(nothing(Arms::new(self.alloc)), first)?;
-        self.arms_behind(cursor, all)
-    }
-
-    /// One more of them.
-    #[tactic(auto, unfolding(crate::specs::Reading::one_more))]
-    pub fn more_path(
-        &self,
-        cursor: &mut Cursor<'_>,
-        all: Read<Exprs>,
-    ) -> Result<Read<Exprs>, TextStop>
-        requires { Nests self.now.below (F.pre self.now.expr) (F.post self.now.expr) }
-        ensures { Reads (spec.one_more kind.step (spec.item self.now.limit (spec.expr self.now.below) kind.step) all cursor.old) result cursor.new }
-    {
-        let a = self.step(cursor)?;
-        Ok(push_tree(all, a)?)
-    }
-
-    /// Further ones, as far as they go.
-    pub fn path_behind(
-        &self,
-        cursor: &mut Cursor<'_>,
-        first: Read<Exprs>,
-    ) -> Result<Read<Exprs>, TextStop>
-        requires { Nests self.now.below (F.pre self.now.expr) (F.post self.now.expr) }
-        ensures { Reads (spec.behind kind.step (spec.item self.now.limit (spec.expr self.now.below) kind.step) first cursor.old) result cursor.new }
-    {
-        let mut all = first;
-        for _turn in 0..cursor.left() {
-            if !sees_step(cursor) {
-                return Ok(all);
-            }
-            all = self.more_path(cursor, all)?;
-        }
-        Ok(all)
+        self.items(cursor, &OneArm, Between::Arm, Arms::new(self.alloc))
     }
 
     /// The path of an update.
-    #[tactic(auto, unfolding(crate::specs::Reading::listed))]
     pub fn path(&self, cursor: &mut Cursor<'_>) -> Result<Read<Exprs>, TextStop>
         requires { Nests self.now.below (F.pre self.now.expr) (F.post self.now.expr) }
         ensures { Reads (spec.items self.now.limit (spec.expr self.now.below) kind.step cursor.old) result cursor.new }
     {
-        let first = self.step(cursor)?;
-        let all = push_tree(nothing(Exprs::new(self.alloc)), first)?;
-        self.path_behind(cursor, all)
-    }
-
-    /// One more of them.
-    #[tactic(auto, unfolding(crate::specs::Reading::one_more))]
-    pub fn more_updates(
-        &self,
-        cursor: &mut Cursor<'_>,
-        all: Read<Updates>,
-    ) -> Result<Read<Updates>, TextStop>
-        requires { Nests self.now.below (F.pre self.now.expr) (F.post self.now.expr) }
-        ensures { Reads (spec.one_more kind.update (spec.item self.now.limit (spec.expr self.now.below) kind.update) all cursor.old) result cursor.new }
-    {
-        cursor.expect(Sign::Comma)?;
-        let a = self.update(cursor)?;
-        Ok(push_update(all, a)?)
-    }
-
-    /// Further ones, as far as they go.
-    pub fn updates_behind(
-        &self,
-        cursor: &mut Cursor<'_>,
-        first: Read<Updates>,
-    ) -> Result<Read<Updates>, TextStop>
-        requires { Nests self.now.below (F.pre self.now.expr) (F.post self.now.expr) }
-        ensures { Reads (spec.behind kind.update (spec.item self.now.limit (spec.expr self.now.below) kind.update) first cursor.old) result cursor.new }
-    {
-        let mut all = first;
-        for _turn in 0..cursor.left() {
-            if !cursor.sees(Sign::Comma) {
-                return Ok(all);
-            }
-            all = self.more_updates(cursor, all)?;
-        }
-        Ok(all)
+        self.items(cursor, &OneStep, Between::Step, Exprs::new(self.alloc))
     }
 
     /// Updates with commas between them.
-    #[tactic(auto, unfolding(crate::specs::Reading::listed))]
     pub fn updates(&self, cursor: &mut Cursor<'_>) -> Result<Read<Updates>, TextStop>
         requires { Nests self.now.below (F.pre self.now.expr) (F.post self.now.expr) }
         ensures { Reads (spec.items self.now.limit (spec.expr self.now.below) kind.update cursor.old) result cursor.new }
     {
-        let first = self.update(cursor)?;
-        let all = push_update(nothing(Updates::new(self.alloc)), first)?;
-        self.updates_behind(cursor, all)
+        self.items(cursor, &OneUpdate, Between::Comma, Updates::new(self.alloc))
     }
 }

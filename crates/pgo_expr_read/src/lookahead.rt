@@ -63,7 +63,8 @@ pub enum Square {
     Other,
 }
 
-fn next_of_symbol(symbol: Symbol) -> Next
+/// How an expression goes on at this symbol, behind an operand.
+pub fn next_of_symbol(symbol: Symbol) -> Next
     ensures { result ≡ spec.next_of_symbol symbol }
 {
     match symbol {
@@ -78,26 +79,8 @@ fn next_of_symbol(symbol: Symbol) -> Next
     }
 }
 
-fn next_of(token: &Token) -> Next
-    ensures { result ≡ spec.next_of token.now }
-{
-    match token {
-        Token::Symbol(symbol) => next_of_symbol(*symbol),
-        _ => Next::End,
-    }
-}
-
-/// How the tokens go on behind an operand.
-pub fn after(rest: &[Lexeme]) -> Next
-    ensures { result ≡ spec.after (spec.tokens_of rest.now) }
-{
-    match rest {
-        [] => Next::End,
-        [lexeme, ..] => next_of(&lexeme.token),
-    }
-}
-
-fn lead_of_symbol(symbol: Symbol) -> Lead
+/// How this symbol begins an expression.
+pub fn lead_of_symbol(symbol: Symbol) -> Lead
     ensures { result ≡ spec.lead_of_symbol symbol }
 {
     match symbol {
@@ -123,61 +106,8 @@ fn lead_of_symbol(symbol: Symbol) -> Lead
     }
 }
 
-fn lead_of(token: &Token) -> Lead
-    ensures { result ≡ spec.lead_of token.now }
-{
-    match token {
-        Token::Name(_) => Lead::Name,
-        Token::Number(number) => Lead::Number(*number),
-        Token::Text(_) => Lead::Text,
-        Token::Symbol(symbol) => lead_of_symbol(*symbol),
-        _ => Lead::None,
-    }
-}
-
-/// How the tokens begin an expression.
-pub fn begin(rest: &[Lexeme]) -> Lead
-    ensures { result ≡ spec.begin (spec.tokens_of rest.now) }
-{
-    match rest {
-        [] => Lead::None,
-        [lexeme, ..] => lead_of(&lexeme.token),
-    }
-}
-
-fn opener_of(token: &Token) -> Option<Opener>
-    ensures { result ≡ spec.opener_of token.now }
-{
-    match token {
-        Token::Symbol(Symbol::Open(Bracket::Round)) => Some(Opener::Round),
-        Token::ListOpen(op) => Some(Opener::List(*op)),
-        _ => None,
-    }
-}
-
-/// Whether a parenthesis or a junction list begins.
-pub fn opens(rest: &[Lexeme]) -> Option<Opener>
-    ensures { result ≡ spec.opens (spec.tokens_of rest.now) }
-{
-    match rest {
-        [] => None,
-        [lexeme, ..] => opener_of(&lexeme.token),
-    }
-}
-
-fn square_of(token: &Token) -> Square
-    ensures { result ≡ spec.square_of token.now }
-{
-    match token {
-        Token::Symbol(Symbol::MapsTo) => Square::Record,
-        Token::Symbol(Symbol::Colon) => Square::RecordSet,
-        Token::Symbol(Symbol::Comma) => Square::Function,
-        Token::Symbol(Symbol::Infix(Infix::In)) => Square::Function,
-        _ => Square::Other,
-    }
-}
-
-fn is_name(token: &Token) -> bool
+/// Whether it is a name.
+pub fn is_name(token: &Token) -> bool
     ensures { result ≡ spec.is_name token.now }
 {
     match token {
@@ -186,38 +116,19 @@ fn is_name(token: &Token) -> bool
     }
 }
 
-/// Whether a name is next.
-pub fn sees_name(rest: &[Lexeme]) -> bool
-    ensures { result ≡ spec.sees_name (spec.tokens_of rest.now) }
-{
-    match rest {
-        [] => false,
-        [lexeme, ..] => is_name(&lexeme.token),
-    }
-}
-
-fn form_of_second(rest: &[Lexeme]) -> Square
+/// What the token behind a first name says of the form.
+pub fn form_of_second(rest: &[Lexeme]) -> Square
     ensures { result ≡ spec.form_of_second (spec.tokens_of rest.now) }
 {
     match rest {
         [] => Square::Other,
-        [second, ..] => square_of(&second.token),
-    }
-}
-
-/// What stands in a `[`.
-pub fn form_of_square(rest: &[Lexeme]) -> Square
-    ensures { result ≡ spec.form_of_square (spec.tokens_of rest.now) }
-{
-    match rest {
-        [] => Square::Other,
-        [first, behind @ ..] => {
-            if is_name(&first.token) {
-                form_of_second(behind)
-            } else {
-                Square::Other
-            }
-        }
+        [second, ..] => match &second.token {
+            Token::Symbol(Symbol::MapsTo) => Square::Record,
+            Token::Symbol(Symbol::Colon) => Square::RecordSet,
+            Token::Symbol(Symbol::Comma) => Square::Function,
+            Token::Symbol(Symbol::Infix(Infix::In)) => Square::Function,
+            _ => Square::Other,
+        },
     }
 }
 
@@ -238,48 +149,5 @@ pub fn is_mapped(token: &Token) -> bool
     match token {
         Token::Symbol(Symbol::Variable) | Token::Symbol(Symbol::Value) => true,
         _ => false,
-    }
-}
-
-/// Whether the first two tokens are a name and `\in`.
-pub fn begins_binder(rest: &[Lexeme]) -> bool
-    ensures { result ≡ spec.begins_binder (spec.tokens_of rest.now) }
-{
-    match rest {
-        [] => false,
-        [first, behind @ ..] => is_name(&first.token) && sees(behind, Sign::In),
-    }
-}
-
-/// Whether a guarded arm of a CASE is next.
-pub fn sees_arm(rest: &[Lexeme]) -> bool
-    ensures { result ≡ spec.sees_arm (spec.tokens_of rest.now) }
-{
-    match rest {
-        [] => false,
-        [first, behind @ ..] => {
-            code_of(&first.token) == code(Sign::Arm) && !sees(behind, Sign::Other)
-        }
-    }
-}
-
-fn endless_of(token: &Token) -> Option<Word>
-    ensures { result ≡ spec.endless_of token.now }
-{
-    match token {
-        Token::Symbol(Symbol::Word(Word::Nat)) => Some(Word::Nat),
-        Token::Symbol(Symbol::Word(Word::Int)) => Some(Word::Int),
-        Token::Symbol(Symbol::Word(Word::StringSet)) => Some(Word::StringSet),
-        _ => None,
-    }
-}
-
-/// `Nat`, `Int` or `STRING`, where one of them is next.
-pub fn endless(rest: &[Lexeme]) -> Option<Word>
-    ensures { result ≡ spec.endless (spec.tokens_of rest.now) }
-{
-    match rest {
-        [] => None,
-        [lexeme, ..] => endless_of(&lexeme.token),
     }
 }

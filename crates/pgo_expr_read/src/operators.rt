@@ -1,23 +1,20 @@
 // Operators, and what opens without a node.
-ghost use Rattle.std.specs.Prelude.{◌≡◌, ◌+◌, [], ◌∷◌, length, IfOk};
-ghost use Rattle.pgo_base.specs.Tree as e;
-ghost use Rattle.pgo_base.specs.ExprView.{tree};
-ghost use Rattle.pgo_expr_read.specs.Kinds as kind;
+ghost use Rattle.std.specs.Prelude.{◌≡◌, [], length};
 ghost use Rattle.pgo_expr_read.specs.Lookahead as look;
 ghost use Rattle.pgo_expr_read.specs.declared.sign.Sign.TheVariants as sign;
 ghost use Rattle.pgo_expr_read.specs.Nests.{Nests};
 ghost use Rattle.pgo_expr_read.specs.Reading as spec;
 ghost use Rattle.pgo_expr_read.specs.Reading.{Reads, Makes};
 
-use crate::ast;
+use crate::ast::{applied, infix_of};
 use crate::cursor::Cursor;
 use crate::grammar::Grammar;
 use crate::lookahead::{Lead, Next, Opener};
-use crate::read::{Ending, Read, closed, left_height, raised};
+use crate::read::{Ending, Read, closed, left_height};
 use crate::sign::Sign;
 use crate::stack::Openers;
-use crate::table::{Form, Operator, form_low, low, prefix_least, right_least, takes_left};
-use pgo_base::expr::{Exprs, Infix, Sub};
+use crate::table::{Form, Operator, form_low, prefix_least, right_least, row, takes_left};
+use pgo_base::expr::{Expr, Exprs, Infix, Sub};
 use pgo_lexer::errors::TextStop;
 use pgo_lexer::symbol::Junction;
 use std::alloc::Global;
@@ -32,11 +29,11 @@ fn is_closed(ending: Ending) -> bool
 }
 
 /// Whether what was read is the left operand of this operator, which is of the level or above.
-#[tactic(auto, unfolding(crate::specs::Reading::goes_on))]
+#[tactic(auto, unfolding(crate::specs::Reading::goes_on, crate::specs::Table::low))]
 fn goes_on(least: u8, left: &Read<Sub>, op: Operator) -> bool
     ensures { result ≡ spec.goes_on least left.now op }
 {
-    is_closed(left.ending) && least <= low(op) && takes_left(op, left.form)
+    is_closed(left.ending) && least <= row(op).least && takes_left(op, left.form)
 }
 
 /// Whether an index or a field may stand behind it.
@@ -105,15 +102,8 @@ impl<F: Fn(Global, &mut Cursor<'_>, u32, u8) -> Result<Read<Sub>, TextStop>> Gra
         cursor.skip();
         let r = self.right(cursor, op)?;
         let height = left_height(op, left.form, left.height).max(r.height);
-        let tree = ast::applied(self.alloc, op, left.form, left.tree, r.tree)?;
-        raised(
-            cursor,
-            self.limit,
-            Form::Operation(op),
-            r.ending,
-            height,
-            tree,
-        )
+        let made = applied(self.alloc, op, left.form, left.tree, r.tree)?;
+        self.raised(cursor, Form::Operation(op), r.ending, height, made)
     }
 
     /// An index.
@@ -127,8 +117,12 @@ impl<F: Fn(Global, &mut Cursor<'_>, u32, u8) -> Result<Read<Sub>, TextStop>> Gra
         cursor.expect(Sign::SquareClose)?;
         let below = index_height(cursor, self.limit, &all)?;
         let height = left.height.max(below);
-        let tree = ast::index(self.alloc, left.tree, all.tree)?;
-        self.node(cursor, Ending::Closed, height, tree)
+        self.node(
+            cursor,
+            Ending::Closed,
+            height,
+            Expr::Index(left.tree, all.tree),
+        )
     }
 
     /// A field.
@@ -139,8 +133,12 @@ impl<F: Fn(Global, &mut Cursor<'_>, u32, u8) -> Result<Read<Sub>, TextStop>> Gra
     {
         cursor.skip();
         let name = cursor.name(self.alloc)?;
-        let tree = ast::field(self.alloc, left.tree, name)?;
-        self.node(cursor, Ending::Closed, left.height, tree)
+        self.node(
+            cursor,
+            Ending::Closed,
+            left.height,
+            Expr::Field(left.tree, name),
+        )
     }
 
     /// What goes on behind the operand on the left, and whether anything does.
@@ -215,8 +213,12 @@ impl<F: Fn(Global, &mut Cursor<'_>, u32, u8) -> Result<Read<Sub>, TextStop>> Gra
         cursor.expect(Sign::ListNext)?;
         let r = self.expr(cursor, 0)?;
         let height = all.height.max(r.height);
-        let tree = ast::junction(self.alloc, op, all.tree, r.tree)?;
-        self.node(cursor, Ending::Closed, height, tree)
+        self.node(
+            cursor,
+            Ending::Closed,
+            height,
+            Expr::Infix(infix_of(op), all.tree, r.tree),
+        )
     }
 
     /// Further items of a junction list, joined from the left.

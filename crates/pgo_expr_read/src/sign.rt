@@ -7,7 +7,7 @@ use pgo_lexer::symbol::{Bracket, Symbol};
 use pgo_lexer::token::Token;
 
 /// A reserved word, a sign, or a mark of junction lists.
-#[derive(Clone, Copy, PartialEq, Eq)]
+#[derive(Clone, Copy)]
 pub enum Sign {
     /// `(`.
     RoundOpen,
