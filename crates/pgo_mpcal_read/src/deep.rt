@@ -14,13 +14,6 @@ pub struct Deep<T: Drop> {
     pub part: T,
 }
 
-/// A part whose deepest statement is so deep.
-pub fn at_depth<T: Drop>(depth: u32, part: T) -> Deep<T>
-    ensures { result ≡ spec.deep depth part }
-{
-    Deep { depth, part }
-}
-
 /// One branch of an `if` more.
 pub fn push_branch(
     all: Deep<Branches>,
@@ -32,7 +25,7 @@ pub fn push_branch(
     let mut list = all.part;
     let (place, (condition, nested)) = r.part;
     list.push(place, condition, nested)?;
-    Ok(at_depth(depth, list))
+    Ok(Deep { depth, part: list })
 }
 
 /// One statement of an `either` more.
@@ -45,7 +38,7 @@ pub fn push_statement(
     let depth = all.depth.max(r.depth);
     let mut list = all.part;
     list.push(r.part)?;
-    Ok(at_depth(depth, list))
+    Ok(Deep { depth, part: list })
 }
 
 /// One statement of a block more.
@@ -59,5 +52,5 @@ pub fn push_row(
     let mut list = all.part;
     let (label, nested) = r.part;
     list.push(label, nested)?;
-    Ok(at_depth(depth, list))
+    Ok(Deep { depth, part: list })
 }

@@ -1,21 +1,19 @@
 // The units of an algorithm.
-ghost use Rattle.std.specs.Prelude.{◌≡◌, [], ◌∷◌, ◌++◌, Some, None};
+ghost use Rattle.std.specs.Prelude.{◌≡◌, Some, None};
 ghost use Rattle.pgo_mpcal_read.specs.Reading as reading;
 ghost use Rattle.pgo_mpcal_read.specs.Reading.{Reads};
 ghost use Rattle.pgo_mpcal_read.specs.ReadingSpec as spec;
 ghost use Rattle.pgo_mpcal_read.specs.ReadingStatements.{goes_on};
 ghost use Rattle.pgo_mpcal_read.specs.ReadingUnits as units;
 ghost use Rattle.pgo_mpcal_read.specs.Units.{no_units};
-ghost use Rattle.pgo_mpcal_read.specs.declared.standing.Standing.TheVariants as standing;
 
 use crate::cursor::Cursor;
 use crate::declarations::variables;
-use crate::deep::Deep;
 use crate::depths::{MacroDepth, MacroDepths};
-use crate::sign::Sign;
-use crate::standing::{Standing, checked};
+use crate::standing::{Standing, checked_from};
 use crate::whole_parts::{archetype, define, macro_definition, mapping_macro, process};
 use pgo_lexer::errors::TextStop;
+use pgo_lexer::symbol::{Bracket, Keyword, Symbol};
 use pgo_syntax::archetype::{Archetype, Archetypes};
 use pgo_syntax::declaration::{Declarations, Definitions};
 use pgo_syntax::macros::{Macro, Macros, MappingMacros};
@@ -50,69 +48,6 @@ fn no_units(alloc: Global) -> Units
     }
 }
 
-/// The definitions of `define`, all of whose tokens may stand there.
-#[tactic(auto, using(crate::proofs::Checked::checked_reads))]
-fn checked_define(alloc: Global, cursor: &mut Cursor<'_>) -> Result<Definitions, TextStop>
-    ensures { Reads (spec.checked standing.Plain cursor.old (units.define cursor.old)) result cursor.new }
-{
-    let before = cursor.rest();
-    let read = define(alloc, cursor);
-    let front = cursor.read_of(before);
-    checked(Standing::Plain, before, front, cursor.refuse(), read)
-}
-
-/// A macro, all of whose tokens may stand there.
-#[tactic(auto, using(crate::proofs::Checked::checked_reads))]
-fn checked_macro_definition(
-    alloc: Global,
-    macros: &MacroDepths,
-    cursor: &mut Cursor<'_>,
-) -> Result<Deep<Macro>, TextStop>
-    ensures { Reads (spec.checked standing.Macro cursor.old (units.macro_definition macros.now cursor.old)) result cursor.new }
-{
-    let before = cursor.rest();
-    let read = macro_definition(alloc, macros, cursor);
-    let front = cursor.read_of(before);
-    checked(Standing::Macro, before, front, cursor.refuse(), read)
-}
-
-/// An archetype, all of whose tokens may stand there.
-#[tactic(auto, using(crate::proofs::Checked::checked_reads))]
-fn checked_archetype(
-    alloc: Global,
-    macros: &MacroDepths,
-    cursor: &mut Cursor<'_>,
-) -> Result<Archetype, TextStop>
-    ensures { Reads (spec.checked standing.Plain cursor.old (units.archetype macros.now cursor.old)) result cursor.new }
-{
-    let before = cursor.rest();
-    let read = archetype(alloc, macros, cursor);
-    let front = cursor.read_of(before);
-    checked(Standing::Plain, before, front, cursor.refuse(), read)
-}
-
-/// Variables, all of whose tokens may stand there.
-#[tactic(auto, using(crate::proofs::Checked::checked_reads))]
-fn checked_variables(alloc: Global, cursor: &mut Cursor<'_>) -> Result<Declarations, TextStop>
-    ensures { Reads (spec.checked standing.Plain cursor.old (units.variables cursor.old)) result cursor.new }
-{
-    let before = cursor.rest();
-    let read = variables(alloc, cursor);
-    let front = cursor.read_of(before);
-    checked(Standing::Plain, before, front, cursor.refuse(), read)
-}
-
-/// A process, all of whose tokens may stand there.
-#[tactic(auto, using(crate::proofs::Checked::checked_reads))]
-fn checked_process(alloc: Global, cursor: &mut Cursor<'_>) -> Result<Process, TextStop>
-    ensures { Reads (spec.checked standing.Plain cursor.old (units.process cursor.old)) result cursor.new }
-{
-    let before = cursor.rest();
-    let read = process(alloc, cursor);
-    let front = cursor.read_of(before);
-    checked(Standing::Plain, before, front, cursor.refuse(), read)
-}
-
 #[tactic(auto, unfolding(crate::specs::ReadingSpec::define_unit))]
 fn define_unit(alloc: Global, cursor: &mut Cursor<'_>, before: Units) -> Result<Units, TextStop>
     ensures { Reads (spec.define_unit before cursor.old) result cursor.new }
@@ -121,7 +56,9 @@ fn define_unit(alloc: Global, cursor: &mut Cursor<'_>, before: Units) -> Result<
         Some(_) => return Err(cursor.refuse()),
         None => {}
     }
-    let definitions = checked_define(alloc, cursor)?;
+    let start = cursor.rest();
+    let read = define(alloc, cursor);
+    let definitions = checked_from(Standing::Plain, start, cursor, read)?;
     let mut all = before;
     all.define = Some(definitions);
     Ok(all)
@@ -131,7 +68,9 @@ fn define_unit(alloc: Global, cursor: &mut Cursor<'_>, before: Units) -> Result<
 fn macro_unit(alloc: Global, cursor: &mut Cursor<'_>, before: Units) -> Result<Units, TextStop>
     ensures { Reads (spec.macro_unit before cursor.old) result cursor.new }
 {
-    let m = checked_macro_definition(alloc, &before.depths, cursor)?;
+    let start = cursor.rest();
+    let read = macro_definition(alloc, &before.depths, cursor);
+    let m = checked_from(Standing::Macro, start, cursor, read)?;
     let name = m.part.name.name.copy(alloc)?;
     let depth = m.depth;
     let mut all = before;
@@ -154,7 +93,9 @@ fn mapping_unit(alloc: Global, cursor: &mut Cursor<'_>, before: Units) -> Result
 fn archetype_unit(alloc: Global, cursor: &mut Cursor<'_>, before: Units) -> Result<Units, TextStop>
     ensures { Reads (spec.archetype_unit before cursor.old) result cursor.new }
 {
-    let a = checked_archetype(alloc, &before.depths, cursor)?;
+    let start = cursor.rest();
+    let read = archetype(alloc, &before.depths, cursor);
+    let a = checked_from(Standing::Plain, start, cursor, read)?;
     let mut all = before;
     all.archetypes.push(a)?;
     Ok(all)
@@ -168,7 +109,9 @@ fn globals_unit(alloc: Global, cursor: &mut Cursor<'_>, before: Units) -> Result
         Some(_) => return Err(cursor.refuse()),
         None => {}
     }
-    let declarations = checked_variables(alloc, cursor)?;
+    let start = cursor.rest();
+    let read = variables(alloc, cursor);
+    let declarations = checked_from(Standing::Plain, start, cursor, read)?;
     let mut all = before;
     all.globals = Some(declarations);
     Ok(all)
@@ -178,7 +121,9 @@ fn globals_unit(alloc: Global, cursor: &mut Cursor<'_>, before: Units) -> Result
 fn process_unit(alloc: Global, cursor: &mut Cursor<'_>, before: Units) -> Result<Units, TextStop>
     ensures { Reads (spec.process_unit before cursor.old) result cursor.new }
 {
-    let p = checked_process(alloc, cursor)?;
+    let start = cursor.rest();
+    let read = process(alloc, cursor);
+    let p = checked_from(Standing::Plain, start, cursor, read)?;
     let mut all = before;
     all.processes.push(p)?;
     Ok(all)
@@ -189,17 +134,19 @@ fn process_unit(alloc: Global, cursor: &mut Cursor<'_>, before: Units) -> Result
 fn unit(alloc: Global, cursor: &mut Cursor<'_>, before: Units) -> Result<Units, TextStop>
     ensures { Reads (spec.unit before cursor.old) result cursor.new }
 {
-    if cursor.sees(Sign::Define) {
+    if cursor.sees(Symbol::Keyword(Keyword::Define)) {
         define_unit(alloc, cursor, before)
-    } else if cursor.sees(Sign::Macro) {
+    } else if cursor.sees(Symbol::Keyword(Keyword::Macro)) {
         macro_unit(alloc, cursor, before)
-    } else if cursor.sees(Sign::Mapping) {
+    } else if cursor.sees(Symbol::Keyword(Keyword::Mapping)) {
         mapping_unit(alloc, cursor, before)
-    } else if cursor.sees(Sign::Archetype) {
+    } else if cursor.sees(Symbol::Keyword(Keyword::Archetype)) {
         archetype_unit(alloc, cursor, before)
-    } else if cursor.sees(Sign::Variables) {
+    } else if cursor.sees(Symbol::Keyword(Keyword::Variables)) {
         globals_unit(alloc, cursor, before)
-    } else if cursor.sees(Sign::Fair) || cursor.sees(Sign::Process) {
+    } else if cursor.sees(Symbol::Keyword(Keyword::Fair))
+        || cursor.sees(Symbol::Keyword(Keyword::Process))
+    {
         process_unit(alloc, cursor, before)
     } else {
         Err(cursor.refuse())
@@ -212,7 +159,7 @@ fn all_units(alloc: Global, cursor: &mut Cursor<'_>) -> Result<Units, TextStop>
 {
     let mut all = no_units(alloc);
     for _turn in 0..cursor.left() {
-        if cursor.sees(Sign::CurlyClose) {
+        if cursor.sees(Symbol::Close(Bracket::Curly)) {
             return Ok(all);
         }
         all = unit(alloc, cursor, all)?;
@@ -226,8 +173,8 @@ pub fn algorithm(alloc: Global, cursor: &mut Cursor<'_>) -> Result<(PlacedName, 
     ensures { Reads (spec.algorithm cursor.old) result cursor.new }
 {
     let name = cursor.name(alloc)?;
-    cursor.expect(Sign::CurlyOpen)?;
+    cursor.expect(Symbol::Open(Bracket::Curly))?;
     let units = all_units(alloc, cursor)?;
-    cursor.expect(Sign::CurlyClose)?;
+    cursor.expect(Symbol::Close(Bracket::Curly))?;
     Ok((name, units))
 }
