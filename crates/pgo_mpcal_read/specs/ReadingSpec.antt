@@ -1,5 +1,7 @@
 -- The reader of a specification as functions on lists of tokens, in the shape of the code.
-use Rattle.std.specs.Prelude.{ℕ, zero, suc, ◌+◌, Bool, true, false, ◌&&◌, ◌||◌, if◌then◌else◌, nat_le, nat_eq, List, [], ◌∷◌, ◌++◌, length, Option, Some, None, codes}
+use Rattle.std.specs.Prelude.{◌≡◌, ℕ, zero, suc, ◌+◌, Bool, true, false, ◌&&◌, ◌||◌, if◌then◌else◌, nat_le, nat_eq, List, [], ◌∷◌, ◌++◌, length, Option, Some, None, Result, Ok, Err, codes}
+use Rattle.pgo_lexer.specs.declared.errors.TextStop.{TextStop}
+use Rattle.pgo_lexer.specs.declared.errors.TextStop.TheVariants.{Syntax, NoMemory}
 use Rattle.pgo_lexer.specs.declared.token.Lexeme.{Lexeme}
 use Rattle.pgo_lexer.specs.declared.token.Token.{Token}
 use Rattle.pgo_lexer.specs.declared.token.Token.TheVariants as t
@@ -27,6 +29,12 @@ use Rattle.pgo_mpcal_read.specs.ReadingUnits.{definition, variables, define, mac
 use Rattle.pgo_mpcal_read.specs.Signs.{is_sign, sees}
 use Rattle.pgo_mpcal_read.specs.Spells.{declarations_of}
 use Rattle.pgo_mpcal_read.specs.Units.{is_plain, may_stand_in_macro, all_are, no_units}
+
+-- what a reader leaves in place of what was there is what the function gives, unless memory runs out
+abbrev pub Updates : {A : Type 0} → Outcome A → Result (Unit {0}) TextStop → A → List Lexeme → Type 0
+Updates outcome (Ok u) new rest = outcome ≡ Some (new, rest)
+Updates outcome (Err (Syntax n)) new rest = outcome ≡ None
+Updates outcome (Err NoMemory) new rest = Unit {0}
 
 -- ---- units
 

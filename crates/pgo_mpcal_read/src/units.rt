@@ -3,6 +3,7 @@ ghost use Rattle.std.specs.Prelude.{◌≡◌, Some, None};
 ghost use Rattle.pgo_mpcal_read.specs.Reading as reading;
 ghost use Rattle.pgo_mpcal_read.specs.Reading.{Reads};
 ghost use Rattle.pgo_mpcal_read.specs.ReadingSpec as spec;
+ghost use Rattle.pgo_mpcal_read.specs.ReadingSpec.{Updates};
 ghost use Rattle.pgo_mpcal_read.specs.ReadingStatements.{goes_on};
 ghost use Rattle.pgo_mpcal_read.specs.ReadingUnits as units;
 ghost use Rattle.pgo_mpcal_read.specs.Units.{no_units};
@@ -49,105 +50,99 @@ fn no_units(alloc: Global) -> Units
 }
 
 #[tactic(auto, unfolding(crate::specs::ReadingSpec::define_unit))]
-fn define_unit(alloc: Global, cursor: &mut Cursor<'_>, before: Units) -> Result<Units, TextStop>
-    ensures { Reads (spec.define_unit before cursor.old) result cursor.new }
+fn define_unit(alloc: Global, cursor: &mut Cursor<'_>, all: &mut Units) -> Result<(), TextStop>
+    ensures { Updates (spec.define_unit all.old cursor.old) result all.new cursor.new }
 {
-    match &before.define {
+    match &all.define {
         Some(_) => return Err(cursor.refuse()),
         None => {}
     }
     let start = cursor.rest();
     let read = define(alloc, cursor);
     let definitions = checked_from(Standing::Plain, start, cursor, read)?;
-    let mut all = before;
     all.define = Some(definitions);
-    Ok(all)
+    Ok(())
 }
 
 #[tactic(auto, unfolding(crate::specs::ReadingSpec::macro_unit))]
-fn macro_unit(alloc: Global, cursor: &mut Cursor<'_>, before: Units) -> Result<Units, TextStop>
-    ensures { Reads (spec.macro_unit before cursor.old) result cursor.new }
+fn macro_unit(alloc: Global, cursor: &mut Cursor<'_>, all: &mut Units) -> Result<(), TextStop>
+    ensures { Updates (spec.macro_unit all.old cursor.old) result all.new cursor.new }
 {
     let start = cursor.rest();
-    let read = macro_definition(alloc, &before.depths, cursor);
+    let read = macro_definition(alloc, &all.depths, cursor);
     let m = checked_from(Standing::Macro, start, cursor, read)?;
     let name = m.part.name.name.copy(alloc)?;
     let depth = m.depth;
-    let mut all = before;
     all.macros.push(m.part)?;
     all.depths.push(MacroDepth { name, depth })?;
-    Ok(all)
+    Ok(())
 }
 
 #[tactic(auto, unfolding(crate::specs::ReadingSpec::mapping_unit))]
-fn mapping_unit(alloc: Global, cursor: &mut Cursor<'_>, before: Units) -> Result<Units, TextStop>
-    ensures { Reads (spec.mapping_unit before cursor.old) result cursor.new }
+fn mapping_unit(alloc: Global, cursor: &mut Cursor<'_>, all: &mut Units) -> Result<(), TextStop>
+    ensures { Updates (spec.mapping_unit all.old cursor.old) result all.new cursor.new }
 {
-    let m = mapping_macro(alloc, &before.depths, cursor)?;
-    let mut all = before;
+    let m = mapping_macro(alloc, &all.depths, cursor)?;
     all.mappings.push(m)?;
-    Ok(all)
+    Ok(())
 }
 
 #[tactic(auto, unfolding(crate::specs::ReadingSpec::archetype_unit))]
-fn archetype_unit(alloc: Global, cursor: &mut Cursor<'_>, before: Units) -> Result<Units, TextStop>
-    ensures { Reads (spec.archetype_unit before cursor.old) result cursor.new }
+fn archetype_unit(alloc: Global, cursor: &mut Cursor<'_>, all: &mut Units) -> Result<(), TextStop>
+    ensures { Updates (spec.archetype_unit all.old cursor.old) result all.new cursor.new }
 {
     let start = cursor.rest();
-    let read = archetype(alloc, &before.depths, cursor);
+    let read = archetype(alloc, &all.depths, cursor);
     let a = checked_from(Standing::Plain, start, cursor, read)?;
-    let mut all = before;
     all.archetypes.push(a)?;
-    Ok(all)
+    Ok(())
 }
 
 #[tactic(auto, unfolding(crate::specs::ReadingSpec::globals_unit))]
-fn globals_unit(alloc: Global, cursor: &mut Cursor<'_>, before: Units) -> Result<Units, TextStop>
-    ensures { Reads (spec.globals_unit before cursor.old) result cursor.new }
+fn globals_unit(alloc: Global, cursor: &mut Cursor<'_>, all: &mut Units) -> Result<(), TextStop>
+    ensures { Updates (spec.globals_unit all.old cursor.old) result all.new cursor.new }
 {
-    match &before.globals {
+    match &all.globals {
         Some(_) => return Err(cursor.refuse()),
         None => {}
     }
     let start = cursor.rest();
     let read = variables(alloc, cursor);
     let declarations = checked_from(Standing::Plain, start, cursor, read)?;
-    let mut all = before;
     all.globals = Some(declarations);
-    Ok(all)
+    Ok(())
 }
 
 #[tactic(auto, unfolding(crate::specs::ReadingSpec::process_unit))]
-fn process_unit(alloc: Global, cursor: &mut Cursor<'_>, before: Units) -> Result<Units, TextStop>
-    ensures { Reads (spec.process_unit before cursor.old) result cursor.new }
+fn process_unit(alloc: Global, cursor: &mut Cursor<'_>, all: &mut Units) -> Result<(), TextStop>
+    ensures { Updates (spec.process_unit all.old cursor.old) result all.new cursor.new }
 {
     let start = cursor.rest();
     let read = process(alloc, cursor);
     let p = checked_from(Standing::Plain, start, cursor, read)?;
-    let mut all = before;
     all.processes.push(p)?;
-    Ok(all)
+    Ok(())
 }
 
 /// One unit more.
 #[tactic(auto, unfolding(crate::specs::ReadingSpec::unit))]
-fn unit(alloc: Global, cursor: &mut Cursor<'_>, before: Units) -> Result<Units, TextStop>
-    ensures { Reads (spec.unit before cursor.old) result cursor.new }
+fn unit(alloc: Global, cursor: &mut Cursor<'_>, all: &mut Units) -> Result<(), TextStop>
+    ensures { Updates (spec.unit all.old cursor.old) result all.new cursor.new }
 {
     if cursor.sees(Symbol::Keyword(Keyword::Define)) {
-        define_unit(alloc, cursor, before)
+        define_unit(alloc, cursor, all)
     } else if cursor.sees(Symbol::Keyword(Keyword::Macro)) {
-        macro_unit(alloc, cursor, before)
+        macro_unit(alloc, cursor, all)
     } else if cursor.sees(Symbol::Keyword(Keyword::Mapping)) {
-        mapping_unit(alloc, cursor, before)
+        mapping_unit(alloc, cursor, all)
     } else if cursor.sees(Symbol::Keyword(Keyword::Archetype)) {
-        archetype_unit(alloc, cursor, before)
+        archetype_unit(alloc, cursor, all)
     } else if cursor.sees(Symbol::Keyword(Keyword::Variables)) {
-        globals_unit(alloc, cursor, before)
+        globals_unit(alloc, cursor, all)
     } else if cursor.sees(Symbol::Keyword(Keyword::Fair))
         || cursor.sees(Symbol::Keyword(Keyword::Process))
     {
-        process_unit(alloc, cursor, before)
+        process_unit(alloc, cursor, all)
     } else {
         Err(cursor.refuse())
     }
@@ -162,7 +157,7 @@ fn all_units(alloc: Global, cursor: &mut Cursor<'_>) -> Result<Units, TextStop>
         if cursor.sees(Symbol::Close(Bracket::Curly)) {
             return Ok(all);
         }
-        all = unit(alloc, cursor, all)?;
+        unit(alloc, cursor, &mut all)?;
     }
     Ok(all)
 }
