@@ -1,6 +1,7 @@
 // Definitions and declarations.
 ghost use Rattle.pgo_mpcal_read.specs.Reading as reading;
 ghost use Rattle.pgo_mpcal_read.specs.Reading.{Reads, Passes};
+ghost use Rattle.pgo_mpcal_read.specs.ReadingSpec.{Updates};
 ghost use Rattle.pgo_mpcal_read.specs.ReadingUnits as spec;
 
 use crate::assignments::origin;
@@ -90,16 +91,15 @@ fn end_declaration(cursor: &mut Cursor<'_>, before: &[Lexeme]) -> Result<(), Tex
 fn more_declarations(
     alloc: Global,
     cursor: &mut Cursor<'_>,
-    all: Declarations,
-) -> Result<Declarations, TextStop>
-    ensures { Reads (spec.one_more_declaration all cursor.old) result cursor.new }
+    all: &mut Declarations,
+) -> Result<(), TextStop>
+    ensures { Updates (spec.one_more_declaration all.old cursor.old) result all.new cursor.new }
 {
     let before = cursor.rest();
     let d = declaration(alloc, cursor)?;
     end_declaration(cursor, before)?;
-    let mut list = all;
-    list.push(d)?;
-    Ok(list)
+    all.push(d)?;
+    Ok(())
 }
 
 /// Further declarations, as far as they go.
@@ -115,7 +115,7 @@ fn declarations_behind(
         if !cursor.sees_name() {
             return Ok(all);
         }
-        all = more_declarations(alloc, cursor, all)?;
+        more_declarations(alloc, cursor, &mut all)?;
     }
     Ok(all)
 }
@@ -126,8 +126,8 @@ pub fn variables(alloc: Global, cursor: &mut Cursor<'_>) -> Result<Declarations,
     ensures { Reads (spec.variables cursor.old) result cursor.new }
 {
     cursor.expect(Symbol::Keyword(Keyword::Variables))?;
-    let none = Declarations::new(alloc);
-    let first = more_declarations(alloc, cursor, none)?;
+    let mut first = Declarations::new(alloc);
+    more_declarations(alloc, cursor, &mut first)?;
     declarations_behind(alloc, cursor, first)
 }
 

@@ -16,41 +16,32 @@ pub struct Deep<T: Drop> {
 
 /// One branch of an `if` more.
 pub fn push_branch(
-    all: Deep<Branches>,
+    all: &mut Deep<Branches>,
     r: Deep<(u32, (Sub, Nested))>,
-) -> Result<Deep<Branches>, AllocError>
-    ensures { IfOk result (λ new. new ≡ spec.added all r) }
+) -> Result<(), AllocError>
+    ensures { IfOk result (λ _. all.new ≡ spec.added all.old r) }
 {
-    let depth = all.depth.max(r.depth);
-    let mut list = all.part;
+    all.depth = all.depth.max(r.depth);
     let (place, (condition, nested)) = r.part;
-    list.push(place, condition, nested)?;
-    Ok(Deep { depth, part: list })
+    all.part.push(place, condition, nested)
 }
 
 /// One statement of an `either` more.
-pub fn push_statement(
-    all: Deep<Alternatives>,
-    r: Deep<Nested>,
-) -> Result<Deep<Alternatives>, AllocError>
-    ensures { IfOk result (λ new. new ≡ spec.added all r) }
+pub fn push_statement(all: &mut Deep<Alternatives>, r: Deep<Nested>) -> Result<(), AllocError>
+    ensures { IfOk result (λ _. all.new ≡ spec.added all.old r) }
 {
-    let depth = all.depth.max(r.depth);
-    let mut list = all.part;
-    list.push(r.part)?;
-    Ok(Deep { depth, part: list })
+    all.depth = all.depth.max(r.depth);
+    all.part.push(r.part)
 }
 
 /// One statement of a block more.
 pub fn push_row(
-    all: Deep<Block>,
+    all: &mut Deep<Block>,
     r: Deep<(Option<PlacedName>, Nested)>,
-) -> Result<Deep<Block>, AllocError>
-    ensures { IfOk result (λ new. new ≡ spec.added all r) }
+) -> Result<(), AllocError>
+    ensures { IfOk result (λ _. all.new ≡ spec.added all.old r) }
 {
-    let depth = all.depth.max(r.depth);
-    let mut list = all.part;
+    all.depth = all.depth.max(r.depth);
     let (label, nested) = r.part;
-    list.push(label, nested)?;
-    Ok(Deep { depth, part: list })
+    all.part.push(label, nested)
 }

@@ -3,6 +3,7 @@ ghost use Rattle.std.specs.Prelude.{◌≡◌, Bool, List};
 ghost use Rattle.pgo_lexer.specs.declared.token.Lexeme.{Lexeme};
 ghost use Rattle.pgo_mpcal_read.specs.Reading as reading;
 ghost use Rattle.pgo_mpcal_read.specs.Reading.{Parser, Reads};
+ghost use Rattle.pgo_mpcal_read.specs.ReadingSpec.{Updates};
 
 use crate::cursor::Cursor;
 use pgo_lexer::errors::TextStop;
@@ -34,15 +35,14 @@ fn one_behind<T: Item>(
     alloc: Global,
     cursor: &mut Cursor<'_>,
     sign: Symbol,
-    all: Items<T>,
-) -> Result<Items<T>, TextStop>
-    ensures { Reads (reading.one_behind sign T.parser all cursor.old) result cursor.new }
+    all: &mut Items<T>,
+) -> Result<(), TextStop>
+    ensures { Updates (reading.one_behind sign T.parser all.old cursor.old) result all.new cursor.new }
 {
     cursor.expect(sign)?;
     let item = T::read(alloc, cursor)?;
-    let mut list = all;
-    list.push(item)?;
-    Ok(list)
+    all.push(item)?;
+    Ok(())
 }
 
 /// Items behind this sign, as far as they go.
@@ -59,7 +59,7 @@ pub fn behind<T: Item>(
         if !cursor.sees(sign) {
             return Ok(all);
         }
-        all = one_behind(alloc, cursor, sign, all)?;
+        one_behind(alloc, cursor, sign, &mut all)?;
     }
     Ok(all)
 }
@@ -98,14 +98,13 @@ pub fn in_brackets<T: Item>(alloc: Global, cursor: &mut Cursor<'_>) -> Result<It
 fn one_more<T: Item>(
     alloc: Global,
     cursor: &mut Cursor<'_>,
-    all: Items<T>,
-) -> Result<Items<T>, TextStop>
-    ensures { Reads (reading.one_more T.parser all cursor.old) result cursor.new }
+    all: &mut Items<T>,
+) -> Result<(), TextStop>
+    ensures { Updates (reading.one_more T.parser all.old cursor.old) result all.new cursor.new }
 {
     let item = T::read(alloc, cursor)?;
-    let mut list = all;
-    list.push(item)?;
-    Ok(list)
+    all.push(item)?;
+    Ok(())
 }
 
 /// Items, as far as they go.
@@ -117,7 +116,7 @@ pub fn row<T: RowItem>(alloc: Global, cursor: &mut Cursor<'_>) -> Result<Items<T
         if !T::is_next(cursor) {
             return Ok(all);
         }
-        all = one_more(alloc, cursor, all)?;
+        one_more(alloc, cursor, &mut all)?;
     }
     Ok(all)
 }

@@ -1,6 +1,7 @@
 // Lists of names and of expressions.
 ghost use Rattle.pgo_mpcal_read.specs.Reading as reading;
 ghost use Rattle.pgo_mpcal_read.specs.Reading.{Reads};
+ghost use Rattle.pgo_mpcal_read.specs.ReadingSpec.{Updates};
 
 use crate::cursor::Cursor;
 use crate::item::Item;
@@ -20,14 +21,13 @@ impl Item for PlacedName {
 
 /// One expression more, behind a comma.
 #[tactic(auto, unfolding(crate::specs::Reading::one_behind))]
-fn more_expressions(alloc: Global, cursor: &mut Cursor<'_>, all: Exprs) -> Result<Exprs, TextStop>
-    ensures { Reads (reading.one_behind Symbol.Comma reading.expression all cursor.old) result cursor.new }
+fn more_expressions(alloc: Global, cursor: &mut Cursor<'_>, all: &mut Exprs) -> Result<(), TextStop>
+    ensures { Updates (reading.one_behind Symbol.Comma reading.expression all.old cursor.old) result all.new cursor.new }
 {
     cursor.expect(Symbol::Comma)?;
     let a = cursor.expression(alloc)?;
-    let mut list = all;
-    list.push(a)?;
-    Ok(list)
+    all.push(a)?;
+    Ok(())
 }
 
 /// Expressions behind commas, as far as they go.
@@ -43,7 +43,7 @@ fn expressions_behind(
         if !cursor.sees(Symbol::Comma) {
             return Ok(all);
         }
-        all = more_expressions(alloc, cursor, all)?;
+        more_expressions(alloc, cursor, &mut all)?;
     }
     Ok(all)
 }

@@ -3,6 +3,7 @@ ghost use Rattle.std.specs.Prelude.{◌≡◌, [], ◌∷◌, Some};
 ghost use Rattle.pgo_mpcal_read.specs.Nests.{Nests};
 ghost use Rattle.pgo_mpcal_read.specs.Reading as reading;
 ghost use Rattle.pgo_mpcal_read.specs.Reading.{Reads, Passes};
+ghost use Rattle.pgo_mpcal_read.specs.ReadingSpec.{Updates};
 ghost use Rattle.pgo_mpcal_read.specs.ReadingStatements as spec;
 ghost use Rattle.pgo_mpcal_read.specs.Signs.{sees};
 
@@ -86,14 +87,15 @@ impl<
     fn more_branches(
         &self,
         cursor: &mut Cursor<'_>,
-        all: Deep<Branches>,
-    ) -> Result<Deep<Branches>, TextStop>
+        all: &mut Deep<Branches>,
+    ) -> Result<(), TextStop>
         requires { Nests self.now.below (F.pre self.now.statement) (F.post self.now.statement) }
-        ensures { Reads (spec.one_more_branch self.now.macros.now self.now.limit (spec.statement self.now.macros.now self.now.below) all cursor.old) result cursor.new }
+        ensures { Updates (spec.one_more_branch self.now.macros.now self.now.limit (spec.statement self.now.macros.now self.now.below) all.old cursor.old) result all.new cursor.new }
     {
         cursor.expect(Symbol::Keyword(Keyword::Else))?;
         let b = self.branch(cursor)?;
-        Ok(push_branch(all, b)?)
+        push_branch(all, b)?;
+        Ok(())
     }
 
     /// Further branches, as far as they go.
@@ -110,7 +112,7 @@ impl<
             if !sees_else_if(cursor) {
                 return Ok(all);
             }
-            all = self.more_branches(cursor, all)?;
+            self.more_branches(cursor, &mut all)?;
         }
         Ok(all)
     }
@@ -152,14 +154,15 @@ impl<
     fn more_alternatives(
         &self,
         cursor: &mut Cursor<'_>,
-        all: Deep<Alternatives>,
-    ) -> Result<Deep<Alternatives>, TextStop>
+        all: &mut Deep<Alternatives>,
+    ) -> Result<(), TextStop>
         requires { Nests self.now.below (F.pre self.now.statement) (F.post self.now.statement) }
-        ensures { Reads (spec.one_more_or self.now.macros.now self.now.limit (spec.statement self.now.macros.now self.now.below) all cursor.old) result cursor.new }
+        ensures { Updates (spec.one_more_or self.now.macros.now self.now.limit (spec.statement self.now.macros.now self.now.below) all.old cursor.old) result all.new cursor.new }
     {
         cursor.expect(Symbol::Keyword(Keyword::Or))?;
         let s = self.inner(cursor)?;
-        Ok(push_statement(all, s)?)
+        push_statement(all, s)?;
+        Ok(())
     }
 
     /// Further ones, as far as they go.
@@ -176,7 +179,7 @@ impl<
             if !cursor.sees(Symbol::Keyword(Keyword::Or)) {
                 return Ok(all);
             }
-            all = self.more_alternatives(cursor, all)?;
+            self.more_alternatives(cursor, &mut all)?;
         }
         Ok(all)
     }
@@ -189,8 +192,8 @@ impl<
     {
         let place = cursor.mark(Symbol::Keyword(Keyword::Either))?;
         let first = self.inner(cursor)?;
-        let one = one_statement(self.alloc, first)?;
-        let two = self.more_alternatives(cursor, one)?;
+        let mut two = one_statement(self.alloc, first)?;
+        self.more_alternatives(cursor, &mut two)?;
         let all = self.alternatives_behind(cursor, two)?;
         self.node(cursor, all.depth, Stmt::Either(place, all.part))
     }
@@ -213,14 +216,15 @@ impl<
 
     /// One statement of a block more.
     #[tactic(auto, unfolding(crate::specs::ReadingStatements::one_more_row))]
-    fn more_rows(&self, cursor: &mut Cursor<'_>, all: Deep<Block>) -> Result<Deep<Block>, TextStop>
+    fn more_rows(&self, cursor: &mut Cursor<'_>, all: &mut Deep<Block>) -> Result<(), TextStop>
         requires { Nests self.now.below (F.pre self.now.statement) (F.post self.now.statement) }
-        ensures { Reads (spec.one_more_row self.now.macros.now self.now.limit (spec.statement self.now.macros.now self.now.below) all cursor.old) result cursor.new }
+        ensures { Updates (spec.one_more_row self.now.macros.now self.now.limit (spec.statement self.now.macros.now self.now.below) all.old cursor.old) result all.new cursor.new }
     {
         let before = cursor.rest();
         let r = self.labeled_statement(cursor)?;
         end_row(cursor, before)?;
-        Ok(push_row(all, r)?)
+        push_row(all, r)?;
+        Ok(())
     }
 
     /// The statements of a block up to its `}`.
@@ -234,7 +238,7 @@ impl<
             if cursor.sees(Symbol::Close(Bracket::Curly)) {
                 return Ok(all);
             }
-            all = self.more_rows(cursor, all)?;
+            self.more_rows(cursor, &mut all)?;
         }
         Ok(all)
     }

@@ -11,9 +11,9 @@ returns-then-not-sees g c =
     let e = turn_more (λ n. folded (sees c.args.sign) (one_behind c.args.sign g.T.Item.parser) n c.loop-turn.all c.loop-turn.cursor) _ c.loop-turn._turn c.loop-turn-test.true c.loop-turn.invariant in
     first_of (search rules, grind (arith, common_steps))
 
-pub returns-in_err-all : goal.returns-in_err-all
+pub returns-in_err-one_behind : goal.returns-in_err-one_behind
 unfolding folded
-returns-in_err-all g c =
+returns-in_err-one_behind g c =
     let e = turn_more (λ n. folded (sees c.args.sign) (one_behind c.args.sign g.T.Item.parser) n c.loop-turn.all c.loop-turn.cursor) _ c.loop-turn._turn c.loop-turn-test.true c.loop-turn.invariant in
     first_of (search rules, grind (arith, common_steps))
 

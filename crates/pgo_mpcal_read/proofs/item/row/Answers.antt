@@ -10,9 +10,9 @@ returns-then-not-is_next g c =
     let e = turn_more (λ n. folded g.T.RowItem.begins (one_more g.T.Item.parser) n c.loop-turn.all c.loop-turn.cursor) _ c.loop-turn._turn c.loop-turn-test.true c.loop-turn.invariant in
     first_of (search rules, grind (arith, common_steps))
 
-pub returns-in_err-all : goal.returns-in_err-all
+pub returns-in_err-one_more : goal.returns-in_err-one_more
 unfolding folded
-returns-in_err-all g c =
+returns-in_err-one_more g c =
     let e = turn_more (λ n. folded g.T.RowItem.begins (one_more g.T.Item.parser) n c.loop-turn.all c.loop-turn.cursor) _ c.loop-turn._turn c.loop-turn-test.true c.loop-turn.invariant in
     first_of (search rules, grind (arith, common_steps))
 

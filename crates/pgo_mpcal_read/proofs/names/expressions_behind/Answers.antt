@@ -14,9 +14,9 @@ returns-then-not-sees c =
     let e = turn_more (λ n. folded (sees symbol.Comma) (one_behind symbol.Comma expression) n c.loop-turn.all c.loop-turn.cursor) _ c.loop-turn._turn c.loop-turn-test.true c.loop-turn.invariant in
     first_of (search rules, grind (arith, common_steps))
 
-pub returns-in_err-all : goal.returns-in_err-all
+pub returns-in_err-more_expressions : goal.returns-in_err-more_expressions
 unfolding folded
-returns-in_err-all c =
+returns-in_err-more_expressions c =
     let e = turn_more (λ n. folded (sees symbol.Comma) (one_behind symbol.Comma expression) n c.loop-turn.all c.loop-turn.cursor) _ c.loop-turn._turn c.loop-turn-test.true c.loop-turn.invariant in
     first_of (search rules, grind (arith, common_steps))
 
