@@ -6,7 +6,9 @@ use Rattle.pgo_expr_read.specs.Kinds.{Name}
 use Rattle.pgo_syntax.specs.declared.name.PlacedName.{PlacedName}
 use Rattle.pgo_syntax.specs.declared.process.Process.{Process}
 use Rattle.pgo_syntax.specs.Statement.{labeled}
-use Rattle.pgo_mpcal_read.specs.declared.sign.Sign.TheVariants as sign
+use Rattle.pgo_lexer.specs.declared.symbol.Bracket.TheVariants as bracket
+use Rattle.pgo_lexer.specs.declared.symbol.Keyword.TheVariants as keyword
+use Rattle.pgo_lexer.specs.declared.symbol.Symbol.TheVariants as symbol
 use Rattle.pgo_mpcal_read.specs.declared.standing.Standing.{Standing}
 use Rattle.pgo_mpcal_read.specs.declared.standing.Standing.TheVariants as standing
 use Rattle.pgo_mpcal_read.specs.declared.units.Units.{Units}
@@ -129,7 +131,7 @@ unit_by false false false false false false b i a rest got = cc
 
 sound_unit : SoundUnit unit
 unfolding unit
-sound_unit b i a rest got = unit_by (sees sign.Define i) (sees sign.Macro i) (sees sign.Mapping i) (sees sign.Archetype i) (sees sign.Variables i) (sees sign.Fair i || sees sign.Process i) b i a rest got
+sound_unit b i a rest got = unit_by (sees (symbol.Keyword keyword.Define) i) (sees (symbol.Keyword keyword.Macro) i) (sees (symbol.Keyword keyword.Mapping) i) (sees (symbol.Keyword keyword.Archetype) i) (sees (symbol.Keyword keyword.Variables) i) (sees (symbol.Keyword keyword.Fair) i || sees (symbol.Keyword keyword.Process) i) b i a rest got
 
 units_end : (acc res : Units) (all before i rest : List Lexeme) → all ≡ before ++ i → AreUnits before acc → ◌≡◌ {A = Outcome Units} (Some (acc, i)) (Some (res, rest)) → Front AreUnits all res rest
 units_end acc res all before i rest split d got =
@@ -154,21 +156,21 @@ sound_units (suc n) acc res all before i rest split d got =
 
 -- `name { units }`
 pub data IsAlgorithm : List Lexeme → PlacedName × Units → Type 0 where
-  algorithm_of : {n o : Spot} (c : Spot) {x : Name} {xs : List Lexeme} {us : Units} → AreUnits xs us → IsAlgorithm (word n x ∷ (at o sign.CurlyOpen ∷ (xs ++ (at c sign.CurlyClose ∷ [])))) (placed n x, us)
+  algorithm_of : {n o : Spot} (c : Spot) {x : Name} {xs : List Lexeme} {us : Units} → AreUnits xs us → IsAlgorithm (word n x ∷ (at o (symbol.Open bracket.Curly) ∷ (xs ++ (at c (symbol.Close bracket.Curly) ∷ [])))) (placed n x, us)
 
 pub sound_algorithm : Sound IsAlgorithm algorithm
 unfolding algorithm
 sound_algorithm i a rest got =
     name_then i _ _ _ got (λ n x i1 e1 got.
-    expect_then sign.CurlyOpen i1 _ _ _ got (λ o i2 e2 got.
+    expect_then (symbol.Open bracket.Curly) i1 _ _ _ got (λ o i2 e2 got.
     bind_then (folded goes_on unit (length i2) no_units i2) _ _ _ got (λ us i3 h got.
     let g = sound_units (length i2) no_units us i2 [] i2 i3 refl u.no_unit h in
-    expect_then sign.CurlyClose i3 _ _ _ got (λ c i4 e4 got.
+    expect_then (symbol.Close bracket.Curly) i3 _ _ _ got (λ c i4 e4 got.
     let q = some_pair _ _ _ _ got in
-    let P : PlacedName × Units → Type 0 = λ z. IsAlgorithm (word n x ∷ (at o sign.CurlyOpen ∷ (g.front ++ (at c sign.CurlyClose ∷ [])))) z in
+    let P : PlacedName × Units → Type 0 = λ z. IsAlgorithm (word n x ∷ (at o (symbol.Open bracket.Curly) ∷ (g.front ++ (at c (symbol.Close bracket.Curly) ∷ [])))) z in
     record {
-      front = word n x ∷ (at o sign.CurlyOpen ∷ (g.front ++ (at c sign.CurlyClose ∷ [])));
-      split = e1 ∙ ap (λ z. word n x ∷ z) (e2 ∙ ap (λ z. at o sign.CurlyOpen ∷ z) (g.split ∙ ap (λ z. g.front ++ z) (e4 ∙ ap (λ z. at c sign.CurlyClose ∷ z) q.1) ∙ sym (append_assoc g.front (at c sign.CurlyClose ∷ []) rest)));
+      front = word n x ∷ (at o (symbol.Open bracket.Curly) ∷ (g.front ++ (at c (symbol.Close bracket.Curly) ∷ [])));
+      split = e1 ∙ ap (λ z. word n x ∷ z) (e2 ∙ ap (λ z. at o (symbol.Open bracket.Curly) ∷ z) (g.split ∙ ap (λ z. g.front ++ z) (e4 ∙ ap (λ z. at c (symbol.Close bracket.Curly) ∷ z) q.1) ∙ sym (append_assoc g.front (at c (symbol.Close bracket.Curly) ∷ []) rest)));
       holds = subst P q.0 (algorithm_of c g.holds);
     }))))
 
@@ -248,10 +250,10 @@ comes_to (u.unit {xs = xs} {ys = ys} {a = a} {b = b} d e) rest f =
       comes = ap (λ i. folded goes_on unit (length i) no_units i) (append_assoc xs ys rest) ∙ k.comes ∙ t.same;
     }
 
-brace_follows : (c : Spot) (j : List Lexeme) → Follows (at c sign.CurlyClose ∷ j)
+brace_follows : (c : Spot) (j : List Lexeme) → Follows (at c (symbol.Close bracket.Curly) ∷ j)
 brace_follows c j = record { behind = record { quiet = refl; no_name = refl; no_comma = refl; no_semicolon = refl }; no_clause = refl }
 
-stops_at : (n : ℕ) (us : Units) (c : Spot) (rest : List Lexeme) → folded goes_on unit n us (at c sign.CurlyClose ∷ rest) ≡ Some (us, at c sign.CurlyClose ∷ rest)
+stops_at : (n : ℕ) (us : Units) (c : Spot) (rest : List Lexeme) → folded goes_on unit n us (at c (symbol.Close bracket.Curly) ∷ rest) ≡ Some (us, at c (symbol.Close bracket.Curly) ∷ rest)
 unfolding folded
 stops_at zero us c rest = refl
 stops_at (suc n) us c rest = refl
@@ -259,8 +261,8 @@ stops_at (suc n) us c rest = refl
 pub reach_algorithm : Reach IsAlgorithm algorithm (λ rest. Unit {0})
 unfolding algorithm
 reach_algorithm front a (algorithm_of {n = n} {o = o} c {x = x} {xs = xs} {us = us} d) rest q =
-    let k = comes_to d (at c sign.CurlyClose ∷ rest) (brace_follows c rest) in
-    ap (λ i. algorithm (word n x ∷ (at o sign.CurlyOpen ∷ i))) (append_assoc xs (at c sign.CurlyClose ∷ []) rest)
-    ∙ next_step _ _ _ _ _ (expect_gives sign.CurlyOpen o (xs ++ (at c sign.CurlyClose ∷ rest)))
+    let k = comes_to d (at c (symbol.Close bracket.Curly) ∷ rest) (brace_follows c rest) in
+    ap (λ i. algorithm (word n x ∷ (at o (symbol.Open bracket.Curly) ∷ i))) (append_assoc xs (at c (symbol.Close bracket.Curly) ∷ []) rest)
+    ∙ next_step _ _ _ _ _ (expect_gives (symbol.Open bracket.Curly) o (xs ++ (at c (symbol.Close bracket.Curly) ∷ rest)))
     (next_step _ _ _ _ _ (k.comes ∙ stops_at k.turns us c rest)
-    (next_step _ _ _ _ _ (expect_gives sign.CurlyClose c rest) refl))
+    (next_step _ _ _ _ _ (expect_gives (symbol.Close bracket.Curly) c rest) refl))

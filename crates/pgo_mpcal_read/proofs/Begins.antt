@@ -3,7 +3,10 @@ use Rattle.std.proofs.Common.{◌≡◌, ◌≤◌, Bool, false, List, ◌++◌,
 use Rattle.pgo_lexer.specs.declared.token.Lexeme.{Lexeme}
 use Rattle.pgo_syntax.specs.declared.name.PlacedName.{PlacedName}
 use Rattle.pgo_syntax.specs.Statement.{Statement}
-use Rattle.pgo_mpcal_read.specs.declared.sign.Sign.TheVariants as sign
+use Rattle.pgo_base.specs.declared.expr.Infix.TheVariants as operator
+use Rattle.pgo_lexer.specs.declared.symbol.Bracket.TheVariants as bracket
+use Rattle.pgo_lexer.specs.declared.symbol.Keyword.TheVariants as keyword
+use Rattle.pgo_lexer.specs.declared.symbol.Symbol.TheVariants as symbol
 use Rattle.pgo_mpcal_read.specs.Signs.{sees}
 use Rattle.pgo_mpcal_read.specs.Leaves as leaf
 use Rattle.pgo_mpcal_read.specs.Statements.{Spelled, IsLabeled}
@@ -15,13 +18,13 @@ use Rattle.pgo_mpcal_read.proofs.Parts.{Quiet}
 pub record Begins (xs : List Lexeme) : Type 0 where
   pub full : 1 ≤ length xs
   pub quiet : (j : List Lexeme) → Quiet (xs ++ j)
-  pub no_else : (j : List Lexeme) → sees sign.Else (xs ++ j) ≡ false
-  pub no_or : (j : List Lexeme) → sees sign.Or (xs ++ j) ≡ false
-  pub no_plus : (j : List Lexeme) → sees sign.Plus (xs ++ j) ≡ false
-  pub no_minus : (j : List Lexeme) → sees sign.Minus (xs ++ j) ≡ false
-  pub no_bars : (j : List Lexeme) → sees sign.Bars (xs ++ j) ≡ false
-  pub no_semicolon : (j : List Lexeme) → sees sign.Semicolon (xs ++ j) ≡ false
-  pub no_brace : (j : List Lexeme) → sees sign.CurlyClose (xs ++ j) ≡ false
+  pub no_else : (j : List Lexeme) → sees (symbol.Keyword keyword.Else) (xs ++ j) ≡ false
+  pub no_or : (j : List Lexeme) → sees (symbol.Keyword keyword.Or) (xs ++ j) ≡ false
+  pub no_plus : (j : List Lexeme) → sees (symbol.Infix operator.Add) (xs ++ j) ≡ false
+  pub no_minus : (j : List Lexeme) → sees (symbol.Infix operator.Subtract) (xs ++ j) ≡ false
+  pub no_bars : (j : List Lexeme) → sees symbol.Bars (xs ++ j) ≡ false
+  pub no_semicolon : (j : List Lexeme) → sees symbol.Semicolon (xs ++ j) ≡ false
+  pub no_brace : (j : List Lexeme) → sees (symbol.Close bracket.Curly) (xs ++ j) ≡ false
 
 pub begins : {u v : Bool} {xs : List Lexeme} {a : Statement} → Spelled u v xs a → Begins xs
 begins s.skip = record { full = omega arith; quiet = λ j. refl; no_else = λ j. refl; no_or = λ j. refl; no_plus = λ j. refl; no_minus = λ j. refl; no_bars = λ j. refl; no_semicolon = λ j. refl; no_brace = λ j. refl }

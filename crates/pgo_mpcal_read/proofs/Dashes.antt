@@ -3,7 +3,8 @@ use Rattle.std.proofs.Common.{◌≡◌, ℕ, zero, suc, ◌+◌, ◌≤◌, Boo
 use Rattle.std.proofs.lemmas.Bool.{eqb-true, eq-eqb, leb-true, le-leb}
 use Rattle.std.proofs.lemmas.List.{length-append}
 use Rattle.pgo_lexer.specs.declared.token.Lexeme.{Lexeme}
-use Rattle.pgo_mpcal_read.specs.declared.sign.Sign.TheVariants as sign
+use Rattle.pgo_base.specs.declared.expr.Infix.TheVariants as operator
+use Rattle.pgo_lexer.specs.declared.symbol.Symbol.TheVariants as symbol
 use Rattle.pgo_mpcal_read.specs.Signs.{is_sign, sees}
 use Rattle.pgo_mpcal_read.specs.Leaves.{Spot, at, word, placed, IsName, Items}
 use Rattle.pgo_mpcal_read.specs.Leaves as leaf
@@ -11,7 +12,7 @@ use Rattle.pgo_mpcal_read.specs.Spells.{IsRow, IsDashes, IsExtends, IsConstantsW
 use Rattle.pgo_mpcal_read.specs.Spells as h
 use Rattle.pgo_mpcal_read.specs.Reading.{Outcome, and_then, skip}
 use Rattle.pgo_mpcal_read.specs.ReadingSpec.{sees_minus, stop_of, more_dashes, dashes}
-use Rattle.pgo_mpcal_read.proofs.Signs.{token_of_code}
+use Rattle.pgo_mpcal_read.proofs.Signs.{token_of_sign}
 use Rattle.pgo_mpcal_read.proofs.Parts.{Front, Sound, Reach, spot, some_pair, bind_then, next_step}
 
 pub and_both : (a b : Bool) → (a && b) ≡ true → (a ≡ true) × (b ≡ true)
@@ -32,17 +33,17 @@ record GoodDashes (count stop : ℕ) (i : List Lexeme) (c : ℕ) (rest : List Le
   front : List Lexeme
   split : i ≡ front ++ rest
   long : c ≡ count + length front
-  row : (p : Spot) → p.stop ≡ stop → IsRow (at p sign.Minus ∷ front)
+  row : (p : Spot) → p.stop ≡ stop → IsRow (at p (symbol.Infix operator.Subtract) ∷ front)
 
-dashes_by : (b : Bool) (n count stop : ℕ) (l : Lexeme) (i : List Lexeme) (c : ℕ) (rest : List Lexeme) → (is_sign sign.Minus l.token && nat_eq l.start stop) ≡ b → (more_dashes n (count + 1) l.stop i ≡ Some (c, rest) → GoodDashes (count + 1) l.stop i c rest)
+dashes_by : (b : Bool) (n count stop : ℕ) (l : Lexeme) (i : List Lexeme) (c : ℕ) (rest : List Lexeme) → (is_sign (symbol.Infix operator.Subtract) l.token && nat_eq l.start stop) ≡ b → (more_dashes n (count + 1) l.stop i ≡ Some (c, rest) → GoodDashes (count + 1) l.stop i c rest)
     → cond b (more_dashes n (count + 1) l.stop i) (Some (count, l ∷ i)) ≡ Some (c, rest) → GoodDashes count stop (l ∷ i) c rest
 dashes_by true n count stop l i c rest is go got =
     let k = and_both _ _ is in
     let g = go got in
     let long = g.long in
     let starts = eqb-true l.start stop k.1 in
-    let token : l ∷ i ≡ at (spot l) sign.Minus ∷ i = ap (λ z. leaf.lexeme (spot l) z ∷ i) (token_of_code sign.Minus l.token k.0) in
-    record { front = at (spot l) sign.Minus ∷ g.front; split = token ∙ ap (λ z. at (spot l) sign.Minus ∷ z) g.split; long = omega (arith, long); row = λ p e. h.dashes (starts ∙ sym e) (g.row (spot l) refl) }
+    let token : l ∷ i ≡ at (spot l) (symbol.Infix operator.Subtract) ∷ i = ap (λ z. leaf.lexeme (spot l) z ∷ i) (token_of_sign (symbol.Infix operator.Subtract) l.token k.0) in
+    record { front = at (spot l) (symbol.Infix operator.Subtract) ∷ g.front; split = token ∙ ap (λ z. at (spot l) (symbol.Infix operator.Subtract) ∷ z) g.split; long = omega (arith, long); row = λ p e. h.dashes (starts ∙ sym e) (g.row (spot l) refl) }
 dashes_by false n count stop l i c rest is go got =
     let q = some_pair _ _ _ _ got in
     let same = q.0 in
@@ -52,12 +53,12 @@ sound_more_dashes : (n count stop : ℕ) (i : List Lexeme) (c : ℕ) (rest : Lis
 unfolding more_dashes
 sound_more_dashes zero count stop i c rest got = let q = some_pair _ _ _ _ got in let same = q.0 in record { front = []; split = q.1; long = omega (arith, same); row = λ p e. h.dash }
 sound_more_dashes (suc n) count stop [] c rest got = let q = some_pair _ _ _ _ got in let same = q.0 in record { front = []; split = q.1; long = omega (arith, same); row = λ p e. h.dash }
-sound_more_dashes (suc n) count stop (l ∷ i) c rest got = dashes_by (is_sign sign.Minus l.token && nat_eq l.start stop) n count stop l i c rest refl (λ got. sound_more_dashes n (count + 1) l.stop i c rest got) got
+sound_more_dashes (suc n) count stop (l ∷ i) c rest got = dashes_by (is_sign (symbol.Infix operator.Subtract) l.token && nat_eq l.start stop) n count stop l i c rest refl (λ got. sound_more_dashes n (count + 1) l.stop i c rest got) got
 
 abbrev pub IsDashesUnit : List Lexeme → Unit {0} → Type 0
 IsDashesUnit ts v = IsDashes ts
 
-all_dashes : (b d : Bool) (l : Lexeme) (i : List Lexeme) (a : Unit {0}) (rest : List Lexeme) → is_sign sign.Minus l.token ≡ b
+all_dashes : (b d : Bool) (l : Lexeme) (i : List Lexeme) (a : Unit {0}) (rest : List Lexeme) → is_sign (symbol.Infix operator.Subtract) l.token ≡ b
     → cond b (and_then (more_dashes (length i) 0 l.stop i) (λ count rest. cond (nat_le 3 count) (Some (tt, rest)) None)) None ≡ Some (a, rest) → Front IsDashesUnit (l ∷ i) a rest
 all_dashes true d l i a rest is got =
     bind_then (more_dashes (length i) 0 l.stop i) _ _ _ got (λ c j h got.
@@ -65,38 +66,38 @@ all_dashes true d l i a rest is got =
     let k = enough_by (nat_le 3 c) j rest a got in
     let four = leb-true 3 c k.0 in
     let long = g.long in
-    let token : l ∷ i ≡ at (spot l) sign.Minus ∷ i = ap (λ z. leaf.lexeme (spot l) z ∷ i) (token_of_code sign.Minus l.token is) in
-    record { front = at (spot l) sign.Minus ∷ g.front; split = token ∙ ap (λ z. at (spot l) sign.Minus ∷ z) (g.split ∙ ap (λ z. g.front ++ z) k.1); holds = record { row = g.row (spot l) refl; long = omega (arith, four, long) } })
+    let token : l ∷ i ≡ at (spot l) (symbol.Infix operator.Subtract) ∷ i = ap (λ z. leaf.lexeme (spot l) z ∷ i) (token_of_sign (symbol.Infix operator.Subtract) l.token is) in
+    record { front = at (spot l) (symbol.Infix operator.Subtract) ∷ g.front; split = token ∙ ap (λ z. at (spot l) (symbol.Infix operator.Subtract) ∷ z) (g.split ∙ ap (λ z. g.front ++ z) k.1); holds = record { row = g.row (spot l) refl; long = omega (arith, four, long) } })
 all_dashes false d l i a rest is got = cc
 
 pub sound_dashes : Sound IsDashesUnit dashes
 unfolding dashes
 sound_dashes [] a rest got = cc
-sound_dashes (l ∷ i) a rest got = all_dashes (is_sign sign.Minus l.token) true l i a rest refl got
+sound_dashes (l ∷ i) a rest got = all_dashes (is_sign (symbol.Infix operator.Subtract) l.token) true l i a rest refl got
 
-no_minus : (stop : ℕ) (rest : List Lexeme) → sees sign.Minus rest ≡ false → sees_minus stop rest ≡ false
+no_minus : (stop : ℕ) (rest : List Lexeme) → sees (symbol.Infix operator.Subtract) rest ≡ false → sees_minus stop rest ≡ false
 no_minus stop [] e = refl
 no_minus stop (l ∷ rest) e = ap (λ b. b && nat_eq l.start stop) e
 
-row_ends : (n count stop : ℕ) (rest : List Lexeme) → sees sign.Minus rest ≡ false → more_dashes n count stop rest ≡ Some (count + 0, rest)
+row_ends : (n count stop : ℕ) (rest : List Lexeme) → sees (symbol.Infix operator.Subtract) rest ≡ false → more_dashes n count stop rest ≡ Some (count + 0, rest)
 unfolding more_dashes
 row_ends zero count stop rest e = ap (λ z. Some (z, rest)) (omega arith)
 row_ends (suc n) count stop rest e = ap (λ b. cond b (more_dashes n (count + 1) (stop_of rest) (skip rest)) (Some (count, rest))) (no_minus stop rest e) ∙ ap (λ z. Some (z, rest)) (omega arith)
 
-row_gives : {ts : List Lexeme} → IsRow ts → (n count : ℕ) (rest : List Lexeme) → length (skip ts) ≤ n → sees sign.Minus rest ≡ false → more_dashes n count (stop_of ts) (skip ts ++ rest) ≡ Some (count + length (skip ts), rest)
+row_gives : {ts : List Lexeme} → IsRow ts → (n count : ℕ) (rest : List Lexeme) → length (skip ts) ≤ n → sees (symbol.Infix operator.Subtract) rest ≡ false → more_dashes n count (stop_of ts) (skip ts ++ rest) ≡ Some (count + length (skip ts), rest)
 unfolding more_dashes
 row_gives (h.dash {p = p}) n count rest short e = row_ends n count p.stop rest e
 row_gives (h.dashes {p = p} {q = q} {xs = xs} same r) zero count rest short e = absurd (omega (arith, short))
 row_gives (h.dashes {p = p} {q = q} {xs = xs} same r) (suc n) count rest short e =
-    ap (λ b. cond b (more_dashes n (count + 1) q.stop (xs ++ rest)) (Some (count, at q sign.Minus ∷ (xs ++ rest)))) (eq-eqb q.start p.stop same)
+    ap (λ b. cond b (more_dashes n (count + 1) q.stop (xs ++ rest)) (Some (count, at q (symbol.Infix operator.Subtract) ∷ (xs ++ rest)))) (eq-eqb q.start p.stop same)
     ∙ row_gives r n (count + 1) rest (omega (arith, short)) e
     ∙ ap (λ z. Some (z, rest)) (omega arith)
 
-row_first : {ts : List Lexeme} → IsRow ts → (j : List Lexeme) → (sees sign.Minus (ts ++ j) ≡ true) × (ts ++ j ≡ ts ++ j) × (stop_of (ts ++ j) ≡ stop_of ts) × (skip (ts ++ j) ≡ skip ts ++ j) × (length ts ≡ suc (length (skip ts)))
+row_first : {ts : List Lexeme} → IsRow ts → (j : List Lexeme) → (sees (symbol.Infix operator.Subtract) (ts ++ j) ≡ true) × (ts ++ j ≡ ts ++ j) × (stop_of (ts ++ j) ≡ stop_of ts) × (skip (ts ++ j) ≡ skip ts ++ j) × (length ts ≡ suc (length (skip ts)))
 row_first h.dash j = (refl, refl, refl, refl, omega arith)
 row_first (h.dashes same r) j = (refl, refl, refl, refl, omega arith)
 
-pub reach_dashes : Reach IsDashesUnit dashes (λ rest. sees sign.Minus rest ≡ false)
+pub reach_dashes : Reach IsDashesUnit dashes (λ rest. sees (symbol.Infix operator.Subtract) rest ≡ false)
 unfolding dashes
 reach_dashes ts a d rest e =
     let f = row_first d.row rest in

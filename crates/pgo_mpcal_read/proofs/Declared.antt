@@ -6,7 +6,9 @@ use Rattle.pgo_expr_read.specs.Kinds.{Name}
 use Rattle.pgo_syntax.specs.declared.binding.Origin.{Origin}
 use Rattle.pgo_syntax.specs.declared.declaration.Declaration.{Declaration}
 use Rattle.pgo_syntax.specs.declared.declaration.Definition.{Definition}
-use Rattle.pgo_mpcal_read.specs.declared.sign.Sign.TheVariants as sign
+use Rattle.pgo_lexer.specs.declared.symbol.Bracket.TheVariants as bracket
+use Rattle.pgo_lexer.specs.declared.symbol.Keyword.TheVariants as keyword
+use Rattle.pgo_lexer.specs.declared.symbol.Symbol.TheVariants as symbol
 use Rattle.pgo_mpcal_read.specs.Signs.{is_sign, sees}
 use Rattle.pgo_mpcal_read.specs.Leaves.{Spot, at, word, numeral, placed, closes, Ended, IsName, IsExpression, most_depth, Items, InBrackets, Row}
 use Rattle.pgo_mpcal_read.specs.Leaves as leaf
@@ -30,31 +32,31 @@ pub sound_definition : Sound IsDefinition definition
 unfolding definition without_params with_params
 sound_definition i a rest got =
     name_then i _ _ _ got (λ n x i1 e1 got.
-    eaten_then sign.RoundOpen _ _ i1 _ _ got
+    eaten_then (symbol.Open bracket.Round) _ _ i1 _ _ got
     (λ o i2 e2 got.
-    front_then (Items IsName sign.Comma) (items sign.Comma name) (sound_items IsName sign.Comma name sound_name) i2 _ _ _ got (λ xs ps i3 e3 d got.
-    expect_then sign.RoundClose i3 _ _ _ got (λ c i4 e4 got.
-    expect_then sign.Defines i4 _ _ _ got (λ k i5 e5 got.
+    front_then (Items IsName symbol.Comma) (items symbol.Comma name) (sound_items IsName symbol.Comma name sound_name) i2 _ _ _ got (λ xs ps i3 e3 d got.
+    expect_then (symbol.Close bracket.Round) i3 _ _ _ got (λ c i4 e4 got.
+    expect_then symbol.Defines i4 _ _ _ got (λ k i5 e5 got.
     front_then IsExpression expression sound_expression i5 _ _ _ got (λ ts e i6 e6 m got.
     let q = some_pair _ _ _ _ got in
-    let P : Definition → Type 0 = λ z. IsDefinition (word n x ∷ (at o sign.RoundOpen ∷ (xs ++ (at c sign.RoundClose ∷ (at k sign.Defines ∷ ts))))) z in
-    record { front = word n x ∷ (at o sign.RoundOpen ∷ (xs ++ (at c sign.RoundClose ∷ (at k sign.Defines ∷ ts)))); split = e1 ∙ ap (λ z. word n x ∷ z) (e2 ∙ ap (λ z. at o sign.RoundOpen ∷ z) (e3 ∙ ap (λ z. xs ++ z) (e4 ∙ ap (λ z. at c sign.RoundClose ∷ z) (e5 ∙ ap (λ z. at k sign.Defines ∷ z) (e6 ∙ ap (λ z. ts ++ z) q.1))) ∙ sym (append_assoc xs (at c sign.RoundClose ∷ (at k sign.Defines ∷ ts)) rest))); holds = subst P q.0 (u.with_params c k d m) })))))
+    let P : Definition → Type 0 = λ z. IsDefinition (word n x ∷ (at o (symbol.Open bracket.Round) ∷ (xs ++ (at c (symbol.Close bracket.Round) ∷ (at k symbol.Defines ∷ ts))))) z in
+    record { front = word n x ∷ (at o (symbol.Open bracket.Round) ∷ (xs ++ (at c (symbol.Close bracket.Round) ∷ (at k symbol.Defines ∷ ts)))); split = e1 ∙ ap (λ z. word n x ∷ z) (e2 ∙ ap (λ z. at o (symbol.Open bracket.Round) ∷ z) (e3 ∙ ap (λ z. xs ++ z) (e4 ∙ ap (λ z. at c (symbol.Close bracket.Round) ∷ z) (e5 ∙ ap (λ z. at k symbol.Defines ∷ z) (e6 ∙ ap (λ z. ts ++ z) q.1))) ∙ sym (append_assoc xs (at c (symbol.Close bracket.Round) ∷ (at k symbol.Defines ∷ ts)) rest))); holds = subst P q.0 (u.with_params c k d m) })))))
     (λ none got.
-    expect_then sign.Defines i1 _ _ _ got (λ k i2 e2 got.
+    expect_then symbol.Defines i1 _ _ _ got (λ k i2 e2 got.
     front_then IsExpression expression sound_expression i2 _ _ _ got (λ ts e i3 e3 m got.
     let q = some_pair _ _ _ _ got in
-    let P : Definition → Type 0 = λ z. IsDefinition (word n x ∷ (at k sign.Defines ∷ ts)) z in
-    record { front = word n x ∷ (at k sign.Defines ∷ ts); split = e1 ∙ ap (λ z. word n x ∷ z) (e2 ∙ ap (λ z. at k sign.Defines ∷ z) (e3 ∙ ap (λ z. ts ++ z) q.1)); holds = subst P q.0 (u.without_params m) }))))
+    let P : Definition → Type 0 = λ z. IsDefinition (word n x ∷ (at k symbol.Defines ∷ ts)) z in
+    record { front = word n x ∷ (at k symbol.Defines ∷ ts); split = e1 ∙ ap (λ z. word n x ∷ z) (e2 ∙ ap (λ z. at k symbol.Defines ∷ z) (e3 ∙ ap (λ z. ts ++ z) q.1)); holds = subst P q.0 (u.without_params m) }))))
 
 pub reach_definition : Reach IsDefinition definition Quiet
 unfolding definition without_params with_params
 reach_definition front a (u.with_params {n = n} {o = o} c k {x = x} {xs = xs} {ts = ts} {ps = ps} {e = e} d m) rest q =
-    ap definition (ap (λ z. word n x ∷ z) (ap (λ z. at o sign.RoundOpen ∷ z) (append_assoc xs (at c sign.RoundClose ∷ (at k sign.Defines ∷ ts)) rest)))
-    ∙ eat_true sign.RoundOpen (with_params (placed n x)) (without_params (placed n x)) o (xs ++ (at c sign.RoundClose ∷ (at k sign.Defines ∷ (ts ++ rest))))
-    ∙ next_step _ _ _ _ _ (reach_items IsName sign.Comma name (λ rest. Unit {0}) reach_name (λ p j. tt) xs ps d (at c sign.RoundClose ∷ (at k sign.Defines ∷ (ts ++ rest))) (tt, refl)) (next_step _ _ _ _ _ (expect_gives sign.RoundClose c (at k sign.Defines ∷ (ts ++ rest))) (next_step _ _ _ _ _ (expect_gives sign.Defines k (ts ++ rest)) (next_step _ _ _ _ _ (reach_expression ts e m rest q) refl)))
+    ap definition (ap (λ z. word n x ∷ z) (ap (λ z. at o (symbol.Open bracket.Round) ∷ z) (append_assoc xs (at c (symbol.Close bracket.Round) ∷ (at k symbol.Defines ∷ ts)) rest)))
+    ∙ eat_true (symbol.Open bracket.Round) (with_params (placed n x)) (without_params (placed n x)) o (xs ++ (at c (symbol.Close bracket.Round) ∷ (at k symbol.Defines ∷ (ts ++ rest))))
+    ∙ next_step _ _ _ _ _ (reach_items IsName symbol.Comma name (λ rest. Unit {0}) reach_name (λ p j. tt) xs ps d (at c (symbol.Close bracket.Round) ∷ (at k symbol.Defines ∷ (ts ++ rest))) (tt, refl)) (next_step _ _ _ _ _ (expect_gives (symbol.Close bracket.Round) c (at k symbol.Defines ∷ (ts ++ rest))) (next_step _ _ _ _ _ (expect_gives symbol.Defines k (ts ++ rest)) (next_step _ _ _ _ _ (reach_expression ts e m rest q) refl)))
 reach_definition front a (u.without_params {n = n} {d = k} {x = x} {ts = ts} {e = e} m) rest q =
-    eat_false sign.RoundOpen (with_params (placed n x)) (without_params (placed n x)) (at k sign.Defines ∷ (ts ++ rest)) refl
-    ∙ next_step _ _ _ _ _ (expect_gives sign.Defines k (ts ++ rest)) (next_step _ _ _ _ _ (reach_expression ts e m rest q) refl)
+    eat_false (symbol.Open bracket.Round) (with_params (placed n x)) (without_params (placed n x)) (at k symbol.Defines ∷ (ts ++ rest)) refl
+    ∙ next_step _ _ _ _ _ (expect_gives symbol.Defines k (ts ++ rest)) (next_step _ _ _ _ _ (reach_expression ts e m rest q) refl)
 
 definition_goes : (xs : List Lexeme) (a : Definition) → IsDefinition xs a → (j : List Lexeme) → sees_name (xs ++ j) ≡ true
 definition_goes front a (u.without_params m) j = refl
@@ -99,7 +101,7 @@ origin_seen front o (s.member d) j = refl
 
 -- what stands behind a declaration, and what follows
 data Between (front : List Lexeme) : List Lexeme → List Lexeme → Type 0 where
-  by_comma : {p : Spot} {j : List Lexeme} → sees_name j ≡ true → Between front (at p sign.Comma ∷ []) j
+  by_comma : {p : Spot} {j : List Lexeme} → sees_name j ≡ true → Between front (at p symbol.Comma ∷ []) j
   by_end : {zs j : List Lexeme} → Ended front zs → Between front zs j
 
 -- a declaration with what stands behind it
@@ -112,11 +114,11 @@ record NextDeclaration (i : List Lexeme) (acc next : List Declaration) (j : List
   ends : Between front behind j
   is : next ≡ acc ++ part ∷ []
 
-between_by : (b c : Bool) (i rest j xs : List Lexeme) → i ≡ xs ++ rest → sees sign.Comma rest ≡ b → sees_name (skip rest) ≡ c → cond b (cond c (Some (skip rest)) None) (ended i rest) ≡ Some j → (zs : List Lexeme) × (rest ≡ zs ++ j) × Between xs zs j
+between_by : (b c : Bool) (i rest j xs : List Lexeme) → i ≡ xs ++ rest → sees symbol.Comma rest ≡ b → sees_name (skip rest) ≡ c → cond b (cond c (Some (skip rest)) None) (ended i rest) ≡ Some j → (zs : List Lexeme) × (rest ≡ zs ++ j) × Between xs zs j
 between_by true true i rest j xs split comma is got =
-    let k = seen sign.Comma rest comma in
+    let k = seen symbol.Comma rest comma in
     let q : skip rest ≡ j = cc in
-    (at k.0 sign.Comma ∷ [], k.1 ∙ ap (λ z. at k.0 sign.Comma ∷ z) q, by_comma (ap sees_name (sym q) ∙ is))
+    (at k.0 symbol.Comma ∷ [], k.1 ∙ ap (λ z. at k.0 symbol.Comma ∷ z) q, by_comma (ap sees_name (sym q) ∙ is))
 between_by true false i rest j xs split comma is got = cc
 between_by false c i rest j xs split comma is got = let g = sound_ended i xs rest j split got in (g.front, g.split, by_end g.holds)
 
@@ -124,7 +126,7 @@ next_by : (o : Option (List Lexeme)) (i rest j : List Lexeme) (acc next : List D
 unfolding declaration_ended
 next_by (Some k) i rest j acc next d g is got =
     let q = some_pair _ _ _ _ got in
-    let b = between_by (sees sign.Comma rest) (sees_name (skip rest)) i rest k g.front g.split refl refl is in
+    let b = between_by (sees symbol.Comma rest) (sees_name (skip rest)) i rest k g.front g.split refl refl is in
     let P : List Lexeme → Type 0 = λ z. Between g.front b.0 z in
     record { front = g.front; behind = b.0; part = d; split = g.split ∙ ap (λ z. g.front ++ z) (b.1 ∙ ap (λ z. b.0 ++ z) q.1); holds = g.holds; ends = subst P q.1 b.2; is = sym q.0 }
 next_by None i rest j acc next d g is got = cc
@@ -199,9 +201,9 @@ sound_declarations i a rest got =
 pub sound_variables : Sound IsVariables variables
 unfolding variables
 sound_variables i a rest got =
-    expect_then sign.Variables i _ _ _ got (λ p i1 e1 got.
+    expect_then (symbol.Keyword keyword.Variables) i _ _ _ got (λ p i1 e1 got.
     let g = sound_declarations i1 a rest got in
-    record { front = at p sign.Variables ∷ g.front; split = e1 ∙ ap (λ z. at p sign.Variables ∷ z) g.split; holds = u.variables g.holds })
+    record { front = at p (symbol.Keyword keyword.Variables) ∷ g.front; split = e1 ∙ ap (λ z. at p (symbol.Keyword keyword.Variables) ∷ z) g.split; holds = u.variables g.holds })
 
 locals_by : (b : Bool) (i : List Lexeme) (a : List Declaration) (rest : List Lexeme) → cond b (variables i) (Some ([], i)) ≡ Some (a, rest) → Front IsLocals i a rest
 locals_by true i a rest got = let g = sound_variables i a rest got in record { front = g.front; split = g.split; holds = u.locals g.holds }
@@ -212,7 +214,7 @@ locals_by false i a rest got =
 
 pub sound_locals : Sound IsLocals locals
 unfolding locals
-sound_locals i a rest got = locals_by (sees sign.Variables i) i a rest got
+sound_locals i a rest got = locals_by (sees (symbol.Keyword keyword.Variables) i) i a rest got
 
 -- ---- what is so is read
 
@@ -220,8 +222,8 @@ sound_locals i a rest got = locals_by (sees sign.Variables i) i a rest got
 pub record Behind (rest : List Lexeme) : Type 0 where
   pub quiet : Quiet rest
   pub no_name : sees_name rest ≡ false
-  pub no_comma : sees sign.Comma rest ≡ false
-  pub no_semicolon : sees sign.Semicolon rest ≡ false
+  pub no_comma : sees symbol.Comma rest ≡ false
+  pub no_semicolon : sees symbol.Semicolon rest ≡ false
 
 reach_declared : {xs : List Lexeme} {d : Declaration} → IsDeclaration xs d → (rest : List Lexeme) → Quiet rest → (sees_origin rest ≡ false) ⊎ (closes xs ≡ true) → declaration (xs ++ rest) ≡ Some (d, rest)
 unfolding declaration with_value
@@ -231,13 +233,13 @@ reach_declared (u.with_value {n = n} {x = x} {ts = ts} {o = o} d) rest q h =
     ap (λ b. cond b (with_value (placed n x) (ts ++ rest)) (Some (record { name = placed n x; initial = None }, ts ++ rest))) (origin_seen ts o d rest) ∙ next_step _ _ _ _ _ (reach_origin ts o d rest q) refl
 
 -- what stands behind a declaration is passed
-behind_gives : {xs zs : List Lexeme} → Parted xs zs → (rest : List Lexeme) → (zs ≡ [] → (sees sign.Comma rest ≡ false) × (sees sign.Semicolon rest ≡ false)) → ((p : Spot) → zs ≡ at p sign.Comma ∷ [] → sees_name rest ≡ true) → declaration_ended (xs ++ (zs ++ rest)) (zs ++ rest) ≡ Some rest
+behind_gives : {xs zs : List Lexeme} → Parted xs zs → (rest : List Lexeme) → (zs ≡ [] → (sees symbol.Comma rest ≡ false) × (sees symbol.Semicolon rest ≡ false)) → ((p : Spot) → zs ≡ at p symbol.Comma ∷ [] → sees_name rest ≡ true) → declaration_ended (xs ++ (zs ++ rest)) (zs ++ rest) ≡ Some rest
 unfolding declaration_ended ended
 behind_gives (u.comma {p = p}) rest free named = ap (λ b. cond b (Some rest) None) (named p refl)
 behind_gives (u.ended leaf.semicolon) rest free named = refl
 behind_gives {xs = xs} (u.ended (leaf.brace e)) rest free named =
     let n = free refl in
-    ap (λ b. cond b (cond (sees_name (skip rest)) (Some (skip rest)) None) (cond (sees sign.Semicolon rest) (Some (skip rest)) (cond (closes (front_of (xs ++ rest) rest)) (Some rest) None))) n.0
+    ap (λ b. cond b (cond (sees_name (skip rest)) (Some (skip rest)) None) (cond (sees symbol.Semicolon rest) (Some (skip rest)) (cond (closes (front_of (xs ++ rest) rest)) (Some rest) None))) n.0
     ∙ ap (λ b. cond b (Some (skip rest)) (cond (closes (front_of (xs ++ rest) rest)) (Some rest) None)) n.1
     ∙ ap (λ z. cond (closes z) (Some rest) None) (front_is (xs ++ rest) xs rest refl)
     ∙ ap (λ b. cond b (Some rest) None) e
@@ -253,18 +255,18 @@ behind_plain u.comma rest = inl refl
 behind_plain (u.ended leaf.semicolon) rest = inl refl
 behind_plain (u.ended (leaf.brace e)) rest = inr e
 
-one_gives : {xs zs : List Lexeme} {d : Declaration} → IsDeclaration xs d → Parted xs zs → (acc : List Declaration) (rest : List Lexeme) → Quiet rest → (zs ≡ [] → (sees sign.Comma rest ≡ false) × (sees sign.Semicolon rest ≡ false)) → ((p : Spot) → zs ≡ at p sign.Comma ∷ [] → sees_name rest ≡ true)
+one_gives : {xs zs : List Lexeme} {d : Declaration} → IsDeclaration xs d → Parted xs zs → (acc : List Declaration) (rest : List Lexeme) → Quiet rest → (zs ≡ [] → (sees symbol.Comma rest ≡ false) × (sees symbol.Semicolon rest ≡ false)) → ((p : Spot) → zs ≡ at p symbol.Comma ∷ [] → sees_name rest ≡ true)
     → one_more_declaration acc (xs ++ (zs ++ rest)) ≡ Some (acc ++ d ∷ [], rest)
 unfolding one_more_declaration
 one_gives {xs = xs} {zs = zs} {d = d} m p acc rest q free named =
     next_step _ _ _ _ _ (reach_declared m (zs ++ rest) (behind_quiet p rest q) (behind_plain p rest)) (ap (declared_to acc d) (behind_gives p rest free named))
 
-not_comma : {xs zs : List Lexeme} → Ended xs zs → (p : Spot) → zs ≡ at p sign.Comma ∷ [] → ⊥
+not_comma : {xs zs : List Lexeme} → Ended xs zs → (p : Spot) → zs ≡ at p symbol.Comma ∷ [] → ⊥
 not_comma (leaf.semicolon {p = q}) p e =
-    let f : is_sign sign.Semicolon (at q sign.Semicolon).token ≡ is_sign sign.Semicolon (at p sign.Comma).token = ap (λ z. sees sign.Semicolon z) e in cc
-not_comma (leaf.brace c) p e = let f : sees sign.Comma [] ≡ true = ap (sees sign.Comma) e in cc
+    let f : is_sign symbol.Semicolon (at q symbol.Semicolon).token ≡ is_sign symbol.Semicolon (at p symbol.Comma).token = ap (λ z. sees symbol.Semicolon z) e in cc
+not_comma (leaf.brace c) p e = let f : sees symbol.Comma [] ≡ true = ap (sees symbol.Comma) e in cc
 
-declared_begins : {ts : List Lexeme} {ds : List Declaration} → IsDeclarations ts ds → (j : List Lexeme) → (sees_name (ts ++ j) ≡ true) × (Quiet (ts ++ j)) × (sees sign.Comma (ts ++ j) ≡ false) × (sees sign.Semicolon (ts ++ j) ≡ false) × (1 ≤ length ts)
+declared_begins : {ts : List Lexeme} {ds : List Declaration} → IsDeclarations ts ds → (j : List Lexeme) → (sees_name (ts ++ j) ≡ true) × (Quiet (ts ++ j)) × (sees symbol.Comma (ts ++ j) ≡ false) × (sees symbol.Semicolon (ts ++ j) ≡ false) × (1 ≤ length ts)
 declared_begins (u.last_declaration u.without_value e) j = (refl, refl, refl, refl, omega arith)
 declared_begins (u.last_declaration (u.with_value d) e) j = (refl, refl, refl, refl, omega arith)
 declared_begins (u.declaration u.without_value e m) j = (refl, refl, refl, refl, omega arith)
@@ -306,9 +308,9 @@ reach_declarations front a (u.declaration {ys = ys} {d = d} m p k) rest f = next
 
 pub reach_variables : Reach IsVariables variables Behind
 unfolding variables
-reach_variables front a (u.variables {p = p} {xs = xs} d) rest f = next_step _ _ _ _ _ (expect_gives sign.Variables p (xs ++ rest)) (reach_declarations xs a d rest f)
+reach_variables front a (u.variables {p = p} {xs = xs} d) rest f = next_step _ _ _ _ _ (expect_gives (symbol.Keyword keyword.Variables) p (xs ++ rest)) (reach_declarations xs a d rest f)
 
-pub reach_locals : Reach IsLocals locals (λ rest. Behind rest × (sees sign.Variables rest ≡ false))
+pub reach_locals : Reach IsLocals locals (λ rest. Behind rest × (sees (symbol.Keyword keyword.Variables) rest ≡ false))
 unfolding locals
 reach_locals front a u.no_locals rest f = ap (λ b. cond b (variables rest) (Some ([], rest))) f.1
-reach_locals front a (u.locals {xs = xs} (u.variables {p = p} {xs = ys} d)) rest f = reach_variables (at p sign.Variables ∷ ys) a (u.variables d) rest f.0
+reach_locals front a (u.locals {xs = xs} (u.variables {p = p} {xs = ys} d)) rest f = reach_variables (at p (symbol.Keyword keyword.Variables) ∷ ys) a (u.variables d) rest f.0

@@ -15,7 +15,9 @@ use Rattle.pgo_mpcal_read.specs.declared.depths.MacroDepth.{MacroDepth}
 use Rattle.pgo_syntax.specs.declared.process.Process.{Process}
 use Rattle.pgo_syntax.specs.declared.spec.Spec.{Spec}
 use Rattle.pgo_mpcal_read.specs.declared.header.Header.{Header}
-use Rattle.pgo_mpcal_read.specs.declared.sign.Sign.TheVariants as sign
+use Rattle.pgo_base.specs.declared.expr.Infix.TheVariants as operator
+use Rattle.pgo_lexer.specs.declared.symbol.Bracket.TheVariants as bracket
+use Rattle.pgo_lexer.specs.declared.symbol.Symbol.TheVariants as symbol
 use Rattle.pgo_mpcal_read.specs.declared.units.Units.{Units}
 use Rattle.pgo_mpcal_read.specs.Signs.{sees}
 use Rattle.pgo_mpcal_read.specs.Leaves.{Spot, at, word, placed, IsName, Items}
@@ -64,10 +66,10 @@ word_gives w p i = ap (λ b. cond b (Some (tt, i)) None) (same_bytes-self w)
 
 -- ---- the title
 
-extends_by : (b : Bool) (i : List Lexeme) (a : List PlacedName) (rest : List Lexeme) → begins_list (codes "EXTENDS") i ≡ b → cond b (items sign.Comma name (skip i)) (Some ([], i)) ≡ Some (a, rest) → Front IsExtends i a rest
+extends_by : (b : Bool) (i : List Lexeme) (a : List PlacedName) (rest : List Lexeme) → begins_list (codes "EXTENDS") i ≡ b → cond b (items symbol.Comma name (skip i)) (Some ([], i)) ≡ Some (a, rest) → Front IsExtends i a rest
 extends_by true i a rest is got =
     let k = seen_word (codes "EXTENDS") i (and_both _ _ is).0 in
-    let g = sound_items IsName sign.Comma name sound_name (skip i) a rest got in
+    let g = sound_items IsName symbol.Comma name sound_name (skip i) a rest got in
     record { front = word k.0 (codes "EXTENDS") ∷ g.front; split = k.1 ∙ ap (λ z. word k.0 (codes "EXTENDS") ∷ z) g.split; holds = h.extends g.holds }
 extends_by false i a rest is got =
     let q = some_pair _ _ _ _ got in
@@ -81,23 +83,23 @@ sound_extends i a rest got = extends_by (begins_list (codes "EXTENDS") i) i a re
 -- what may follow the title and each part of a header
 record Follows (rest : List Lexeme) : Type 0 where
   quiet : Quiet rest
-  no_comma : sees sign.Comma rest ≡ false
-  no_minus : sees sign.Minus rest ≡ false
+  no_comma : sees symbol.Comma rest ≡ false
+  no_minus : sees (symbol.Infix operator.Subtract) rest ≡ false
   no_extends : begins_list (codes "EXTENDS") rest ≡ false
 
-names_begin : {xs : List Lexeme} {ns : List PlacedName} → Items IsName sign.Comma xs ns → (j : List Lexeme) → sees_name (xs ++ j) ≡ true
+names_begin : {xs : List Lexeme} {ns : List PlacedName} → Items IsName symbol.Comma xs ns → (j : List Lexeme) → sees_name (xs ++ j) ≡ true
 names_begin (leaf.items leaf.name m) j = refl
 
-reach_list : Reach (Items IsName sign.Comma) (items sign.Comma name) (λ rest. (Unit {0}) × (sees sign.Comma rest ≡ false))
-reach_list = reach_items IsName sign.Comma name (λ rest. Unit {0}) reach_name (λ p j. tt)
+reach_list : Reach (Items IsName symbol.Comma) (items symbol.Comma name) (λ rest. (Unit {0}) × (sees symbol.Comma rest ≡ false))
+reach_list = reach_items IsName symbol.Comma name (λ rest. Unit {0}) reach_name (λ p j. tt)
 
 reach_extends : Reach IsExtends extends Follows
 unfolding extends
-reach_extends front a h.no_extends rest f = ap (λ b. cond b (items sign.Comma name (skip rest)) (Some ([], rest))) f.no_extends
+reach_extends front a h.no_extends rest f = ap (λ b. cond b (items symbol.Comma name (skip rest)) (Some ([], rest))) f.no_extends
 reach_extends front a (h.extends {p = p} {xs = xs} d) rest f =
-    ap (λ b. cond b (items sign.Comma name (xs ++ rest)) (Some ([], word p (codes "EXTENDS") ∷ (xs ++ rest)))) (names_begin d rest) ∙ reach_list xs a d rest (tt, f.no_comma)
+    ap (λ b. cond b (items symbol.Comma name (xs ++ rest)) (Some ([], word p (codes "EXTENDS") ∷ (xs ++ rest)))) (names_begin d rest) ∙ reach_list xs a d rest (tt, f.no_comma)
 
-extends_no_minus : {zs : List Lexeme} {es : List PlacedName} → IsExtends zs es → (rest : List Lexeme) → sees sign.Minus rest ≡ false → sees sign.Minus (zs ++ rest) ≡ false
+extends_no_minus : {zs : List Lexeme} {es : List PlacedName} → IsExtends zs es → (rest : List Lexeme) → sees (symbol.Infix operator.Subtract) rest ≡ false → sees (symbol.Infix operator.Subtract) (zs ++ rest) ≡ false
 extends_no_minus h.no_extends rest e = e
 extends_no_minus (h.extends d) rest e = refl
 
@@ -144,8 +146,8 @@ unfolding constants_part
 sound_constants g w is i a rest begins got =
     let k = seen_word w i (and_both _ _ begins).0 in
     name_then (skip i) _ _ _ got (λ n x i1 e1 got.
-    bind_then (behind sign.Comma name (g.constants ++ placed n x ∷ []) i1) _ _ _ got (λ all i2 hb got.
-    let m = sound_behind IsName sign.Comma name sound_name (length i1) (g.constants ++ placed n x ∷ []) i1 all i2 hb in
+    bind_then (behind symbol.Comma name (g.constants ++ placed n x ∷ []) i1) _ _ _ got (λ all i2 hb got.
+    let m = sound_behind IsName symbol.Comma name sound_name (length i1) (g.constants ++ placed n x ∷ []) i1 all i2 hb in
     let q = some_pair _ _ _ _ got in
     let same : all ≡ g.constants ++ placed n x ∷ m.others = m.is ∙ append_assoc g.constants (placed n x ∷ []) m.others in
     let P : List PlacedName → Type 0 = λ z. IsPart g (word k.0 w ∷ ((word n x ∷ []) ++ m.front)) (record g { constants = z }) in
@@ -218,10 +220,10 @@ part_begins (h.constants h.several (leaf.items leaf.name m)) = record { full = o
 part_begins (h.definition (u.without_params {x = x} m)) = record { full = omega arith; follows = λ j. record { quiet = refl; no_comma = refl; no_minus = refl; no_extends = and_false (same_bytes x (codes "EXTENDS")) }; some = λ j. refl }
 part_begins (h.definition (u.with_params c k {x = x} d m)) = record { full = omega arith; follows = λ j. record { quiet = refl; no_comma = refl; no_minus = refl; no_extends = and_false (same_bytes x (codes "EXTENDS")) }; some = λ j. refl }
 
-constants_give : (g : Header) (p : Spot) (w : Name) {xs : List Lexeme} {ns : List PlacedName} → Items IsName sign.Comma xs ns → (rest : List Lexeme) → sees sign.Comma rest ≡ false → constants_part g (xs ++ rest) ≡ Some (record g { constants = g.constants ++ ns }, rest)
+constants_give : (g : Header) (p : Spot) (w : Name) {xs : List Lexeme} {ns : List PlacedName} → Items IsName symbol.Comma xs ns → (rest : List Lexeme) → sees symbol.Comma rest ≡ false → constants_part g (xs ++ rest) ≡ Some (record g { constants = g.constants ++ ns }, rest)
 unfolding constants_part
 constants_give g p w (leaf.items {ys = ys} {as' = as'} (leaf.name {p = n} {x = x}) m) rest e =
-    next_step _ _ _ _ _ (reach_behind IsName sign.Comma name (λ rest. Unit {0}) reach_name (λ p j. tt) m (length (ys ++ rest)) (g.constants ++ placed n x ∷ []) rest (let l = length-append ys rest in omega (arith, l)) (tt, e))
+    next_step _ _ _ _ _ (reach_behind IsName symbol.Comma name (λ rest. Unit {0}) reach_name (λ p j. tt) m (length (ys ++ rest)) (g.constants ++ placed n x ∷ []) rest (let l = length-append ys rest in omega (arith, l)) (tt, e))
     (ap (λ z. Some (record g { constants = z }, rest)) (append_assoc g.constants (placed n x ∷ []) as'))
 
 reach_part : {g a : Header} {ts : List Lexeme} → IsPart g ts a → (rest : List Lexeme) → Follows rest → part g (ts ++ rest) ≡ Some (a, rest)
@@ -354,7 +356,7 @@ pub only_tokens : (hs xs : List Lexeme) (r : Spec) → SpellsTokens hs xs r → 
 unfolding spec all_header all_algorithm spec_of
 only_tokens hs ts r (h.spec {n = n} {o = o} c {x = x} {hs = hs'} {xs = xs} {h = g} {us = us} {q = q} {qs = qs} d plain k low some) =
     let a = algorithm_of {n = n} {o = o} c {x = x} k in
-    let front = word n x ∷ (at o sign.CurlyOpen ∷ (xs ++ (at c sign.CurlyClose ∷ []))) in
+    let front = word n x ∷ (at o (symbol.Open bracket.Curly) ∷ (xs ++ (at c (symbol.Close bracket.Curly) ∷ []))) in
     let got : algorithm front ≡ Some ((placed n x, us), []) = ap algorithm (sym (append-nil front)) ∙ reach_algorithm front (placed n x, us) a [] tt in
     ap (λ z. if_some (if_some (whole z) (λ g. cond (all_are is_plain hs) (Some g) None)) (λ g. if_some (if_some (whole (algorithm front)) (λ a. cond (has_process a.1.processes && are_shallow a.1.depths a.1.archetypes) (Some a) None)) (λ a. Some (spec_of g a)))) (whole_header d)
     ∙ ap (λ b. if_some (cond b (Some g) None) (λ g. if_some (if_some (whole (algorithm front)) (λ a. cond (has_process a.1.processes && are_shallow a.1.depths a.1.archetypes) (Some a) None)) (λ a. Some (spec_of g a)))) plain

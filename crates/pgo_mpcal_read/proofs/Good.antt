@@ -6,8 +6,9 @@ use Rattle.pgo_lexer.specs.declared.token.Lexeme.{Lexeme}
 use Rattle.pgo_syntax.specs.Statement.{Statement}
 use Rattle.pgo_mpcal_read.specs.declared.deep.Deep.{Deep}
 use Rattle.pgo_mpcal_read.specs.declared.depths.MacroDepth.{MacroDepth}
-use Rattle.pgo_mpcal_read.specs.declared.sign.Sign.{Sign}
-use Rattle.pgo_mpcal_read.specs.declared.sign.Sign.TheVariants as sign
+use Rattle.pgo_lexer.specs.declared.symbol.Symbol.{Symbol}
+use Rattle.pgo_lexer.specs.declared.symbol.Keyword.TheVariants as keyword
+use Rattle.pgo_lexer.specs.declared.symbol.Symbol.TheVariants as symbol
 use Rattle.pgo_mpcal_read.specs.Depths.{depth}
 use Rattle.pgo_mpcal_read.specs.Signs.{sees}
 use Rattle.pgo_mpcal_read.specs.Leaves.{Spot, at, Ended, closes}
@@ -19,8 +20,8 @@ use Rattle.pgo_mpcal_read.proofs.Parts.{some_pair, seen, bind_then}
 
 -- what follows no statement that ends so
 pub record Stays (u v : Bool) (rest : List Lexeme) : Type 0 where
-  pub no_else : u ≡ true → sees sign.Else rest ≡ false
-  pub no_or : v ≡ true → sees sign.Or rest ≡ false
+  pub no_else : u ≡ true → sees (symbol.Keyword keyword.Else) rest ≡ false
+  pub no_or : v ≡ true → sees (symbol.Keyword keyword.Or) rest ≡ false
 
 pub stays_closed : (rest : List Lexeme) → Stays false false rest
 stays_closed rest = record { no_else = λ h. cc; no_or = λ h. cc }
@@ -77,7 +78,7 @@ folded_over goes more none falls (suc n) acc res i rest h got =
 pub shorter : (i xs j : List Lexeme) (p : Lexeme) → i ≡ p ∷ (xs ++ j) → length j < length i
 shorter i xs j p e = let a : length i ≡ length (p ∷ (xs ++ j)) = ap length e in let b = length-append xs j in omega (arith, a, b)
 
-pub sees_front : (v : Sign) (xs j : List Lexeme) → sees v (xs ++ j) ≡ false → sees v xs ≡ false
+pub sees_front : (v : Symbol) (xs j : List Lexeme) → sees v (xs ++ j) ≡ false → sees v xs ≡ false
 sees_front v [] j h = refl
 sees_front v (x ∷ xs) j h = h
 
@@ -99,16 +100,16 @@ pub record GoodEnd (xs rest j : List Lexeme) : Type 0 where
   pub split : rest ≡ front ++ j
   pub holds : Ended xs front
 
-end_by : (b c : Bool) (xs rest j : List Lexeme) → sees sign.Semicolon rest ≡ b → closes xs ≡ c → cond b (Some (skip rest)) (cond c (Some rest) None) ≡ Some j → GoodEnd xs rest j
+end_by : (b c : Bool) (xs rest j : List Lexeme) → sees symbol.Semicolon rest ≡ b → closes xs ≡ c → cond b (Some (skip rest)) (cond c (Some rest) None) ≡ Some j → GoodEnd xs rest j
 end_by true c xs rest j is close got =
-    let s = seen sign.Semicolon rest is in
+    let s = seen symbol.Semicolon rest is in
     let q : skip rest ≡ j = cc in
-    record { front = at s.0 sign.Semicolon ∷ []; split = s.1 ∙ ap (λ z. at s.0 sign.Semicolon ∷ z) q; holds = leaf.semicolon }
+    record { front = at s.0 symbol.Semicolon ∷ []; split = s.1 ∙ ap (λ z. at s.0 symbol.Semicolon ∷ z) q; holds = leaf.semicolon }
 end_by false true xs rest j is close got = let q : rest ≡ j = cc in record { front = []; split = q; holds = leaf.brace close }
 end_by false false xs rest j is close got = cc
 
 pub sound_ended : (i xs rest j : List Lexeme) → i ≡ xs ++ rest → ended i rest ≡ Some j → GoodEnd xs rest j
 unfolding ended
 sound_ended i xs rest j split got =
-    let P : List Lexeme → Type 0 = λ z. cond (sees sign.Semicolon rest) (Some (skip rest)) (cond (closes z) (Some rest) None) ≡ Some j in
-    end_by (sees sign.Semicolon rest) (closes xs) xs rest j refl refl (subst P (front_is i xs rest split) got)
+    let P : List Lexeme → Type 0 = λ z. cond (sees symbol.Semicolon rest) (Some (skip rest)) (cond (closes z) (Some rest) None) ≡ Some j in
+    end_by (sees symbol.Semicolon rest) (closes xs) xs rest j refl refl (subst P (front_is i xs rest split) got)

@@ -2,8 +2,9 @@
 use Rattle.std.proofs.Common.{◌≡◌, ℕ, zero, suc, ◌≤◌, Bool, true, false, List, [], ◌∷◌, ◌++◌, length, Some, refl, ap, sym, ◌∙◌, subst, arith, cond}
 use Rattle.std.proofs.lemmas.List.{append_assoc, append-nil, length-append}
 use Rattle.pgo_lexer.specs.declared.token.Lexeme.{Lexeme}
-use Rattle.pgo_mpcal_read.specs.declared.sign.Sign.{Sign}
-use Rattle.pgo_mpcal_read.specs.declared.sign.Sign.TheVariants as sign
+use Rattle.pgo_lexer.specs.declared.symbol.Symbol.{Symbol}
+use Rattle.pgo_lexer.specs.declared.symbol.Bracket.TheVariants as bracket
+use Rattle.pgo_lexer.specs.declared.symbol.Symbol.TheVariants as symbol
 use Rattle.pgo_mpcal_read.specs.Signs.{sees}
 use Rattle.pgo_mpcal_read.specs.Leaves.{Spot, at, Behind, Items, InBrackets, Row}
 use Rattle.pgo_mpcal_read.specs.Leaves as leaf
@@ -22,7 +23,7 @@ pub record Further {A : Type 0} (R : List Lexeme → List A → Type 0) (i : Lis
 further_end : {A : Type 0} (R : List Lexeme → List A → Type 0) → R [] [] → (acc res : List A) (i rest : List Lexeme) → ◌≡◌ {A = Outcome (List A)} (Some (acc, i)) (Some (res, rest)) → Further R i acc res rest
 further_end R none acc res i rest got = let q = some_pair _ _ _ _ got in record { front = []; others = []; split = q.1; holds = none; is = sym q.0 ∙ sym (append-nil acc) }
 
-module _ {A : Type 0} (Item : List Lexeme → A → Type 0) (v : Sign) (item : Parser A) (S : Sound Item item) where
+module _ {A : Type 0} (Item : List Lexeme → A → Type 0) (v : Symbol) (item : Parser A) (S : Sound Item item) where
   behind_by : (b : Bool) (n : ℕ) (acc : List A) (i : List Lexeme) (res : List A) (rest : List Lexeme)
       → ((next : List A) (j : List Lexeme) → folded (sees v) (one_behind v item) n next j ≡ Some (res, rest) → Further (Behind Item v) j next res rest)
       → cond b (and_then (one_behind v item acc i) (folded (sees v) (one_behind v item) n)) (Some (acc, i)) ≡ Some (res, rest) → Further (Behind Item v) i acc res rest
@@ -89,30 +90,30 @@ module _ {A : Type 0} (Item : List Lexeme → A → Type 0) (item : Parser A) (S
   pub sound_in_brackets : Sound (InBrackets Item) (in_brackets item)
   unfolding in_brackets some_in_brackets
   sound_in_brackets i a rest got =
-      expect_then sign.RoundOpen i _ _ _ got (λ o i1 e1 got.
-      eaten_then sign.RoundClose _ _ i1 _ _ got
+      expect_then (symbol.Open bracket.Round) i _ _ _ got (λ o i1 e1 got.
+      eaten_then (symbol.Close bracket.Round) _ _ i1 _ _ got
       (λ c i2 e2 got.
       let q = some_pair _ _ _ _ got in
-      let P : List A → Type 0 = λ z. InBrackets Item (at o sign.RoundOpen ∷ (at c sign.RoundClose ∷ [])) z in
-      record { front = at o sign.RoundOpen ∷ (at c sign.RoundClose ∷ []); split = e1 ∙ ap (λ z. at o sign.RoundOpen ∷ z) (e2 ∙ ap (λ z. at c sign.RoundClose ∷ z) q.1); holds = subst P q.0 leaf.empty })
+      let P : List A → Type 0 = λ z. InBrackets Item (at o (symbol.Open bracket.Round) ∷ (at c (symbol.Close bracket.Round) ∷ [])) z in
+      record { front = at o (symbol.Open bracket.Round) ∷ (at c (symbol.Close bracket.Round) ∷ []); split = e1 ∙ ap (λ z. at o (symbol.Open bracket.Round) ∷ z) (e2 ∙ ap (λ z. at c (symbol.Close bracket.Round) ∷ z) q.1); holds = subst P q.0 leaf.empty })
       (λ none got.
-      front_then (Items Item sign.Comma) (items sign.Comma item) (sound_items Item sign.Comma item S) i1 _ _ _ got (λ xs as' i2 e2 d got.
-      expect_then sign.RoundClose i2 _ _ _ got (λ c i3 e3 got.
+      front_then (Items Item symbol.Comma) (items symbol.Comma item) (sound_items Item symbol.Comma item S) i1 _ _ _ got (λ xs as' i2 e2 d got.
+      expect_then (symbol.Close bracket.Round) i2 _ _ _ got (λ c i3 e3 got.
       let q = some_pair _ _ _ _ got in
-      let P : List A → Type 0 = λ z. InBrackets Item (at o sign.RoundOpen ∷ (xs ++ (at c sign.RoundClose ∷ []))) z in
+      let P : List A → Type 0 = λ z. InBrackets Item (at o (symbol.Open bracket.Round) ∷ (xs ++ (at c (symbol.Close bracket.Round) ∷ []))) z in
       record {
-        front = at o sign.RoundOpen ∷ (xs ++ (at c sign.RoundClose ∷ []));
-        split = e1 ∙ ap (λ z. at o sign.RoundOpen ∷ z) (e2 ∙ ap (λ z. xs ++ z) (e3 ∙ ap (λ z. at c sign.RoundClose ∷ z) q.1) ∙ sym (append_assoc xs (at c sign.RoundClose ∷ []) rest));
+        front = at o (symbol.Open bracket.Round) ∷ (xs ++ (at c (symbol.Close bracket.Round) ∷ []));
+        split = e1 ∙ ap (λ z. at o (symbol.Open bracket.Round) ∷ z) (e2 ∙ ap (λ z. xs ++ z) (e3 ∙ ap (λ z. at c (symbol.Close bracket.Round) ∷ z) q.1) ∙ sym (append_assoc xs (at c (symbol.Close bracket.Round) ∷ []) rest));
         holds = subst P q.0 (leaf.some c d);
       }))))
 
 -- ---- what is so is read
 
 -- such tokens may follow an item, and the list is over
-abbrev pub Over : (F : List Lexeme → Type 0) (v : Sign) → List Lexeme → Type 0
+abbrev pub Over : (F : List Lexeme → Type 0) (v : Symbol) → List Lexeme → Type 0
 Over F v rest = F rest × (sees v rest ≡ false)
 
-module _ {A : Type 0} (Item : List Lexeme → A → Type 0) (v : Sign) (item : Parser A) (F : List Lexeme → Type 0) (R : Reach Item item F) (between : (p : Spot) (j : List Lexeme) → F (at p v ∷ j)) where
+module _ {A : Type 0} (Item : List Lexeme → A → Type 0) (v : Symbol) (item : Parser A) (F : List Lexeme → Type 0) (R : Reach Item item F) (between : (p : Spot) (j : List Lexeme) → F (at p v ∷ j)) where
   behind_follows : {ys : List Lexeme} {as' : List A} → Behind Item v ys as' → (rest : List Lexeme) → F rest → F (ys ++ rest)
   behind_follows leaf.no_more rest f = f
   behind_follows (leaf.one_more {p = p} {xs = xs} {ys = ys} d m) rest f = between p ((xs ++ ys) ++ rest)
@@ -140,21 +141,21 @@ module _ {A : Type 0} (Item : List Lexeme → A → Type 0) (v : Sign) (item : P
       ∙ next_step _ _ _ _ _ (R xs a d (ys ++ rest) (behind_follows m rest o.0)) (reach_behind m (length (ys ++ rest)) (a ∷ []) rest (let l = length-append ys rest in omega (arith, l)) o)
 
 module _ {A : Type 0} (Item : List Lexeme → A → Type 0) (item : Parser A) (F : List Lexeme → Type 0) (R : Reach Item item F)
-    (comma : (p : Spot) (j : List Lexeme) → F (at p sign.Comma ∷ j)) (close : (p : Spot) (j : List Lexeme) → F (at p sign.RoundClose ∷ j))
-    (begins : (xs : List Lexeme) (a : A) → Item xs a → (j : List Lexeme) → sees sign.RoundClose (xs ++ j) ≡ false) where
-  items_begin : (xs : List Lexeme) (as' : List A) → Items Item sign.Comma xs as' → (j : List Lexeme) → sees sign.RoundClose (xs ++ j) ≡ false
-  items_begin front all (leaf.items {xs = xs} {ys = ys} {a = a} d m) j = ap (sees sign.RoundClose) (append_assoc xs ys j) ∙ begins xs a d (ys ++ j)
+    (comma : (p : Spot) (j : List Lexeme) → F (at p symbol.Comma ∷ j)) (close : (p : Spot) (j : List Lexeme) → F (at p (symbol.Close bracket.Round) ∷ j))
+    (begins : (xs : List Lexeme) (a : A) → Item xs a → (j : List Lexeme) → sees (symbol.Close bracket.Round) (xs ++ j) ≡ false) where
+  items_begin : (xs : List Lexeme) (as' : List A) → Items Item symbol.Comma xs as' → (j : List Lexeme) → sees (symbol.Close bracket.Round) (xs ++ j) ≡ false
+  items_begin front all (leaf.items {xs = xs} {ys = ys} {a = a} d m) j = ap (sees (symbol.Close bracket.Round)) (append_assoc xs ys j) ∙ begins xs a d (ys ++ j)
 
   pub reach_in_brackets : Reach (InBrackets Item) (in_brackets item) (λ rest. Unit {0})
   unfolding in_brackets some_in_brackets
   reach_in_brackets front all (leaf.empty {o = o} {c = c}) rest u =
-      next_step _ _ _ _ _ (expect_gives sign.RoundOpen o (at c sign.RoundClose ∷ rest)) (eat_true sign.RoundClose (pure []) (some_in_brackets item) c rest)
+      next_step _ _ _ _ _ (expect_gives (symbol.Open bracket.Round) o (at c (symbol.Close bracket.Round) ∷ rest)) (eat_true (symbol.Close bracket.Round) (pure []) (some_in_brackets item) c rest)
   reach_in_brackets front all (leaf.some {o = o} c {xs = xs} d) rest u =
-      ap (λ i. in_brackets item (at o sign.RoundOpen ∷ i)) (append_assoc xs (at c sign.RoundClose ∷ []) rest)
-      ∙ next_step _ _ _ _ _ (expect_gives sign.RoundOpen o (xs ++ (at c sign.RoundClose ∷ rest)))
-      (eat_false sign.RoundClose (pure []) (some_in_brackets item) (xs ++ (at c sign.RoundClose ∷ rest)) (items_begin xs all d (at c sign.RoundClose ∷ rest))
-      ∙ next_step _ _ _ _ _ (reach_items Item sign.Comma item F R comma xs all d (at c sign.RoundClose ∷ rest) (close c rest, refl))
-      (next_step _ _ _ _ _ (expect_gives sign.RoundClose c rest) refl))
+      ap (λ i. in_brackets item (at o (symbol.Open bracket.Round) ∷ i)) (append_assoc xs (at c (symbol.Close bracket.Round) ∷ []) rest)
+      ∙ next_step _ _ _ _ _ (expect_gives (symbol.Open bracket.Round) o (xs ++ (at c (symbol.Close bracket.Round) ∷ rest)))
+      (eat_false (symbol.Close bracket.Round) (pure []) (some_in_brackets item) (xs ++ (at c (symbol.Close bracket.Round) ∷ rest)) (items_begin xs all d (at c (symbol.Close bracket.Round) ∷ rest))
+      ∙ next_step _ _ _ _ _ (reach_items Item symbol.Comma item F R comma xs all d (at c (symbol.Close bracket.Round) ∷ rest) (close c rest, refl))
+      (next_step _ _ _ _ _ (expect_gives (symbol.Close bracket.Round) c rest) refl))
 
 module _ {A : Type 0} (Item : List Lexeme → A → Type 0) (goes : List Lexeme → Bool) (item : Parser A) (F : List Lexeme → Type 0) (R : Reach Item item F)
     (more : (xs : List Lexeme) (a : A) → Item xs a → (j : List Lexeme) → goes (xs ++ j) ≡ true) (follows : (xs : List Lexeme) (a : A) → Item xs a → (j : List Lexeme) → F (xs ++ j))

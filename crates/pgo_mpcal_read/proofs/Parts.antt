@@ -8,12 +8,12 @@ use Rattle.pgo_expr_read.specs.Kinds.{Name}
 use Rattle.pgo_expr_read.specs.Lookahead as look
 use Rattle.pgo_expr_read.specs.Lookahead.{tokens_of}
 use Rattle.pgo_syntax.specs.declared.name.PlacedName.{PlacedName}
-use Rattle.pgo_mpcal_read.specs.declared.sign.Sign.{Sign}
+use Rattle.pgo_lexer.specs.declared.symbol.Symbol.{Symbol}
 use Rattle.pgo_mpcal_read.specs.Signs.{is_sign, sees}
 use Rattle.pgo_mpcal_read.specs.Leaves.{Spot, at, word, numeral, placed, IsName}
 use Rattle.pgo_mpcal_read.specs.Leaves as leaf
 use Rattle.pgo_mpcal_read.specs.Reading.{Outcome, Parser, and_then, pure, skip, past, expect, mark, name, name_of, number, number_of}
-use Rattle.pgo_mpcal_read.proofs.Signs.{token_of_code, own_sign}
+use Rattle.pgo_mpcal_read.proofs.Signs.{token_of_sign, own_sign}
 
 -- a front of the tokens is so, and the rest follows
 pub record Front {A : Type 0} (R : List Lexeme → A → Type 0) (i : List Lexeme) (a : A) (rest : List Lexeme) : Type 0 where
@@ -53,26 +53,26 @@ pub front_then : {A B : Type 0} (R : List Lexeme → A → Type 0) (p : Parser A
     → ((xs : List Lexeme) (a : A) (j : List Lexeme) → i ≡ xs ++ j → R xs a → f a j ≡ Some y → C) → C
 front_then R p s i f y C e k = bind_then (p i) f y C e (λ a j got e. let g = s i a j got in k g.front a j g.split g.holds e)
 
-sign_at : (v : Sign) (l : Lexeme) (rest : List Lexeme) → is_sign v l.token ≡ true → l ∷ rest ≡ at (spot l) v ∷ rest
-sign_at v l rest h = ap (λ k. leaf.lexeme (spot l) k ∷ rest) (token_of_code v l.token h)
+sign_at : (v : Symbol) (l : Lexeme) (rest : List Lexeme) → is_sign v l.token ≡ true → l ∷ rest ≡ at (spot l) v ∷ rest
+sign_at v l rest h = ap (λ k. leaf.lexeme (spot l) k ∷ rest) (token_of_sign v l.token h)
 
-expect_by : {B : Type 0} (b : Bool) (v : Sign) (l : Lexeme) (rest : List Lexeme) (f : Unit {0} → Parser B) (y : B × List Lexeme) (C : Type 0) → is_sign v l.token ≡ b → and_then (cond b (Some (tt, rest)) None) f ≡ Some y
+expect_by : {B : Type 0} (b : Bool) (v : Symbol) (l : Lexeme) (rest : List Lexeme) (f : Unit {0} → Parser B) (y : B × List Lexeme) (C : Type 0) → is_sign v l.token ≡ b → and_then (cond b (Some (tt, rest)) None) f ≡ Some y
     → ((p : Spot) (j : List Lexeme) → l ∷ rest ≡ at p v ∷ j → f tt j ≡ Some y → C) → C
 expect_by true v l rest f y C is e k = k (spot l) rest (sign_at v l rest is) e
 expect_by false v l rest f y C is e k = cc
 
-pub expect_then : {B : Type 0} (v : Sign) (i : List Lexeme) (f : Unit {0} → Parser B) (y : B × List Lexeme) (C : Type 0) → and_then (expect v i) f ≡ Some y
+pub expect_then : {B : Type 0} (v : Symbol) (i : List Lexeme) (f : Unit {0} → Parser B) (y : B × List Lexeme) (C : Type 0) → and_then (expect v i) f ≡ Some y
     → ((p : Spot) (j : List Lexeme) → i ≡ at p v ∷ j → f tt j ≡ Some y → C) → C
 unfolding expect
 expect_then v [] f y C e k = cc
 expect_then v (l ∷ rest) f y C e k = expect_by (is_sign v l.token) v l rest f y C refl e k
 
-mark_by : {B : Type 0} (b : Bool) (v : Sign) (l : Lexeme) (rest : List Lexeme) (f : ℕ → Parser B) (y : B × List Lexeme) (C : Type 0) → is_sign v l.token ≡ b → and_then (cond b (Some (l.start, rest)) None) f ≡ Some y
+mark_by : {B : Type 0} (b : Bool) (v : Symbol) (l : Lexeme) (rest : List Lexeme) (f : ℕ → Parser B) (y : B × List Lexeme) (C : Type 0) → is_sign v l.token ≡ b → and_then (cond b (Some (l.start, rest)) None) f ≡ Some y
     → ((p : Spot) (j : List Lexeme) → l ∷ rest ≡ at p v ∷ j → f p.start j ≡ Some y → C) → C
 mark_by true v l rest f y C is e k = k (spot l) rest (sign_at v l rest is) e
 mark_by false v l rest f y C is e k = cc
 
-pub mark_then : {B : Type 0} (v : Sign) (i : List Lexeme) (f : ℕ → Parser B) (y : B × List Lexeme) (C : Type 0) → and_then (mark v i) f ≡ Some y
+pub mark_then : {B : Type 0} (v : Symbol) (i : List Lexeme) (f : ℕ → Parser B) (y : B × List Lexeme) (C : Type 0) → and_then (mark v i) f ≡ Some y
     → ((p : Spot) (j : List Lexeme) → i ≡ at p v ∷ j → f p.start j ≡ Some y → C) → C
 unfolding mark
 mark_then v [] f y C e k = cc
@@ -98,20 +98,20 @@ pub number_then : {B : Type 0} (i : List Lexeme) (f : ℕ → Parser B) (y : B �
 number_then [] f y C e k = cc
 number_then (l ∷ rest) f y C e k = number_by l.token l rest f y C refl e k
 
-eaten_by : {B : Type 0} (b : Bool) (v : Sign) (p q : Parser B) (l : Lexeme) (rest : List Lexeme) (y : B × List Lexeme) (C : Type 0) → is_sign v l.token ≡ b → (cond {A = Parser B} b p q) (cond b rest (l ∷ rest)) ≡ Some y
+eaten_by : {B : Type 0} (b : Bool) (v : Symbol) (p q : Parser B) (l : Lexeme) (rest : List Lexeme) (y : B × List Lexeme) (C : Type 0) → is_sign v l.token ≡ b → (cond {A = Parser B} b p q) (cond b rest (l ∷ rest)) ≡ Some y
     → ((s : Spot) (j : List Lexeme) → l ∷ rest ≡ at s v ∷ j → p j ≡ Some y → C) → (is_sign v l.token ≡ false → q (l ∷ rest) ≡ Some y → C) → C
 eaten_by true v p q l rest y C is e k m = k (spot l) rest (sign_at v l rest is) e
 eaten_by false v p q l rest y C is e k m = m is e
 
 -- a sign that may be next
-pub eaten_then : {B : Type 0} (v : Sign) (p q : Parser B) (i : List Lexeme) (y : B × List Lexeme) (C : Type 0) → (cond {A = Parser B} (sees v i) p q) (past v i) ≡ Some y
+pub eaten_then : {B : Type 0} (v : Symbol) (p q : Parser B) (i : List Lexeme) (y : B × List Lexeme) (C : Type 0) → (cond {A = Parser B} (sees v i) p q) (past v i) ≡ Some y
     → ((s : Spot) (j : List Lexeme) → i ≡ at s v ∷ j → p j ≡ Some y → C) → (sees v i ≡ false → q i ≡ Some y → C) → C
 unfolding past
 eaten_then v p q [] y C e k m = m refl e
 eaten_then v p q (l ∷ rest) y C e k m = eaten_by (is_sign v l.token) v p q l rest y C refl e k m
 
 -- what comes after a sign that is seen
-pub seen : (v : Sign) (i : List Lexeme) → sees v i ≡ true → (p : Spot) × (i ≡ at p v ∷ skip i)
+pub seen : (v : Symbol) (i : List Lexeme) → sees v i ≡ true → (p : Spot) × (i ≡ at p v ∷ skip i)
 seen v [] h = cc
 seen v (l ∷ rest) h = (spot l, sign_at v l rest h)
 
@@ -128,18 +128,18 @@ sound_name i a rest got =
 pub next_step : {A B : Type 0} (o : Outcome A) (f : A → Parser B) (a : A) (i : List Lexeme) (y : Outcome B) → o ≡ Some (a, i) → f a i ≡ y → and_then o f ≡ y
 next_step o f a i y e g = ap (λ z. and_then z f) e ∙ g
 
-pub expect_gives : (v : Sign) (p : Spot) (i : List Lexeme) → expect v (at p v ∷ i) ≡ Some (tt, i)
+pub expect_gives : (v : Symbol) (p : Spot) (i : List Lexeme) → expect v (at p v ∷ i) ≡ Some (tt, i)
 unfolding expect
 expect_gives v p i = ap (λ b. cond b (Some (tt, i)) None) (own_sign v)
 
-pub mark_gives : (v : Sign) (p : Spot) (i : List Lexeme) → mark v (at p v ∷ i) ≡ Some (p.start, i)
+pub mark_gives : (v : Symbol) (p : Spot) (i : List Lexeme) → mark v (at p v ∷ i) ≡ Some (p.start, i)
 unfolding mark
 mark_gives v p i = ap (λ b. cond b (Some (p.start, i)) None) (own_sign v)
 
-pub eat_true : {B : Type 0} (v : Sign) (p q : Parser B) (s : Spot) (i : List Lexeme) → (cond {A = Parser B} (sees v (at s v ∷ i)) p q) (past v (at s v ∷ i)) ≡ p i
+pub eat_true : {B : Type 0} (v : Symbol) (p q : Parser B) (s : Spot) (i : List Lexeme) → (cond {A = Parser B} (sees v (at s v ∷ i)) p q) (past v (at s v ∷ i)) ≡ p i
 unfolding past
 eat_true {B} v p q s i = ap (λ b. (cond {A = Parser B} b p q) (cond b i (at s v ∷ i))) (own_sign v)
 
-pub eat_false : {B : Type 0} (v : Sign) (p q : Parser B) (i : List Lexeme) → sees v i ≡ false → (cond {A = Parser B} (sees v i) p q) (past v i) ≡ q i
+pub eat_false : {B : Type 0} (v : Symbol) (p q : Parser B) (i : List Lexeme) → sees v i ≡ false → (cond {A = Parser B} (sees v i) p q) (past v i) ≡ q i
 unfolding past
 eat_false {B} v p q i h = ap (λ b. (cond {A = Parser B} b p q) (cond b (skip i) i)) h

@@ -13,8 +13,12 @@ use Rattle.pgo_syntax.specs.Statement as st
 use Rattle.pgo_mpcal_read.specs.declared.deep.Deep.{Deep}
 use Rattle.pgo_mpcal_read.specs.declared.depths.MacroDepth.{MacroDepth}
 use Rattle.pgo_mpcal_read.specs.declared.lead.Lead.TheVariants as lead
-use Rattle.pgo_mpcal_read.specs.declared.sign.Sign.{Sign}
-use Rattle.pgo_mpcal_read.specs.declared.sign.Sign.TheVariants as sign
+use Rattle.pgo_lexer.specs.declared.symbol.Symbol.{Symbol}
+use Rattle.pgo_base.specs.declared.expr.Infix.TheVariants as operator
+use Rattle.pgo_lexer.specs.declared.symbol.Bracket.TheVariants as bracket
+use Rattle.pgo_lexer.specs.declared.symbol.Keyword.{Keyword}
+use Rattle.pgo_lexer.specs.declared.symbol.Keyword.TheVariants as keyword
+use Rattle.pgo_lexer.specs.declared.symbol.Symbol.TheVariants as symbol
 use Rattle.pgo_mpcal_read.specs.Depths.{depth, depth_of, statements_depth, labeled_depth, guarded_depth}
 use Rattle.pgo_mpcal_read.specs.Leads.{lead_of}
 use Rattle.pgo_mpcal_read.specs.Signs.{sees}
@@ -23,7 +27,7 @@ use Rattle.pgo_mpcal_read.specs.Leaves as leaf
 use Rattle.pgo_mpcal_read.specs.Statements.{Spelled, IsBranch, ElseIfs, Ors, IsLabeled, Rows, IsBody, IsFairness, IsAwait, IsAssignment, IsWithName}
 use Rattle.pgo_mpcal_read.specs.Statements as s
 use Rattle.pgo_mpcal_read.specs.Reading.{Outcome, and_then, skip, sees_second, expression, folded, front_of, ended}
-use Rattle.pgo_mpcal_read.specs.ReadingStatements.{deep, assignment, with_name, fairness, label, optional_label, node, skip_form, one_expression, goto_form, assign_form, call_form, while_form, with_form, branch, sees_else_if, one_more_branch, last_else, if_form, one_more_or, either_form, labeled_statement, row_ended, row_to, one_more_row, goes_on, rows, block_form, body, form, any_form, statement}
+use Rattle.pgo_mpcal_read.specs.ReadingStatements.{deep, assignment, with_name, fairness, label, optional_label, node, skip_form, said, one_expression, goto_form, assign_form, call_form, while_form, with_form, branch, sees_else_if, one_more_branch, last_else, if_form, one_more_or, either_form, labeled_statement, row_ended, row_to, one_more_row, goes_on, rows, block_form, body, form, any_form, statement}
 use Rattle.pgo_mpcal_read.proofs.Parts.{Quiet, next_step, expect_gives, mark_gives, eat_true, eat_false}
 use Rattle.pgo_mpcal_read.proofs.Expressions.{reach_expression}
 use Rattle.pgo_mpcal_read.proofs.Heads as heads
@@ -35,7 +39,7 @@ use Rattle.pgo_mpcal_read.proofs.Begins.{Begins, begins, labeled_begins, no_labe
 -- what may follow a statement that ends so
 pub record Follows (u v : Bool) (rest : List Lexeme) : Type 0 where
   pub quiet : Quiet rest
-  pub no_bars : sees sign.Bars rest ≡ false
+  pub no_bars : sees symbol.Bars rest ≡ false
   pub stays : Stays u v rest
 
 pub record Reaches (u v : Bool) (ts : List Lexeme) (a : Statement) : Type 0 where
@@ -69,56 +73,56 @@ node_gives ms n h a i same low =
     let b : h < suc n = omega (arith, same, low) in
     ap (λ b. cond b (Some (deep (h + 1) a, i)) None) (lt-ltb h (suc n) b) ∙ ap (λ x. Some (deep x a, i)) same
 
-pub reach_skip : {p : Spot} → Reaches false false (at p sign.Skip ∷ []) (st.skip p.start)
+pub reach_skip : {p : Spot} → Reaches false false (at p (symbol.Keyword keyword.Skip) ∷ []) (st.skip p.start)
 unfolding any_form skip_form
 reach_skip {p} = record {
-  reads = λ ms n rest h f. some_depth ms (st.skip p.start) n (at p sign.Skip ∷ rest) rest h (λ m h.
-      next_step _ _ _ _ _ (mark_gives sign.Skip p rest) (node_gives ms m 0 (st.skip p.start) rest (omega arith) h));
+  reads = λ ms n rest h f. some_depth ms (st.skip p.start) n (at p (symbol.Keyword keyword.Skip) ∷ rest) rest h (λ m h.
+      next_step _ _ _ _ _ (mark_gives (symbol.Keyword keyword.Skip) p rest) (node_gives ms m 0 (st.skip p.start) rest (omega arith) h));
 }
 
-pub reach_go_to : {p n : Spot} {x : Name} → Reaches false false (at p sign.Goto ∷ (word n x ∷ [])) (st.go_to p.start (placed n x))
+pub reach_go_to : {p n : Spot} {x : Name} → Reaches false false (at p (symbol.Keyword keyword.Goto) ∷ (word n x ∷ [])) (st.go_to p.start (placed n x))
 unfolding any_form goto_form
 reach_go_to {p} {n} {x} = record {
-  reads = λ ms k rest h f. some_depth ms (st.go_to p.start (placed n x)) k (at p sign.Goto ∷ (word n x ∷ rest)) rest h (λ m h.
-      next_step _ _ _ _ _ (mark_gives sign.Goto p (word n x ∷ rest)) (node_gives ms m 0 (st.go_to p.start (placed n x)) rest (omega arith) h));
+  reads = λ ms k rest h f. some_depth ms (st.go_to p.start (placed n x)) k (at p (symbol.Keyword keyword.Goto) ∷ (word n x ∷ rest)) rest h (λ m h.
+      next_step _ _ _ _ _ (mark_gives (symbol.Keyword keyword.Goto) p (word n x ∷ rest)) (node_gives ms m 0 (st.go_to p.start (placed n x)) rest (omega arith) h));
 }
 
 -- a statement of one word and an expression
-one_gives : (ms : List MacroDepth) (m : ℕ) (v : Sign) (made : ℕ → Tree → Statement) (p : Spot) (xs : List Lexeme) (e : Tree) (rest : List Lexeme) → IsExpression xs e → 0 + 1 ≡ depth ms (made p.start e) → Quiet rest
-    → one_expression ms (suc m) (statement ms m) v made (at p v ∷ (xs ++ rest)) ≡ Some (deep (depth ms (made p.start e)) (made p.start e), rest)
+one_gives : (ms : List MacroDepth) (m : ℕ) (k : Keyword) (p : Spot) (xs : List Lexeme) (e : Tree) (rest : List Lexeme) → IsExpression xs e → 0 + 1 ≡ depth ms (said k p.start e) → Quiet rest
+    → one_expression ms (suc m) (statement ms m) k (at p (symbol.Keyword k) ∷ (xs ++ rest)) ≡ Some (deep (depth ms (said k p.start e)) (said k p.start e), rest)
 unfolding one_expression
-one_gives ms m v made p xs e rest d one q =
-    next_step _ _ _ _ _ (mark_gives v p (xs ++ rest)) (next_step _ _ _ _ _ (reach_expression xs e d rest q) (node_gives ms m 0 (made p.start e) rest one (omega (arith, one))))
+one_gives ms m k p xs e rest d one q =
+    next_step _ _ _ _ _ (mark_gives (symbol.Keyword k) p (xs ++ rest)) (next_step _ _ _ _ _ (reach_expression xs e d rest q) (node_gives ms m 0 (said k p.start e) rest one (omega (arith, one))))
 
-pub reach_await : {k : Sign} {p : Spot} {xs : List Lexeme} {e : Tree} → IsAwait k → IsExpression xs e → Reaches false false (at p k ∷ xs) (st.await_that p.start e)
+pub reach_await : {k : Symbol} {p : Spot} {xs : List Lexeme} {e : Tree} → IsAwait k → IsExpression xs e → Reaches false false (at p k ∷ xs) (st.await_that p.start e)
 unfolding any_form
-reach_await {p = p} {xs = xs} {e = e} s.await d = record { reads = λ ms n rest h f. some_depth ms (st.await_that p.start e) n (at p sign.Await ∷ (xs ++ rest)) rest h (λ m h. one_gives ms m sign.Await st.await_that p xs e rest d (omega arith) f.quiet) }
-reach_await {p = p} {xs = xs} {e = e} s.when d = record { reads = λ ms n rest h f. some_depth ms (st.await_that p.start e) n (at p sign.When ∷ (xs ++ rest)) rest h (λ m h. one_gives ms m sign.When st.await_that p xs e rest d (omega arith) f.quiet) }
+reach_await {p = p} {xs = xs} {e = e} s.await d = record { reads = λ ms n rest h f. some_depth ms (st.await_that p.start e) n (at p (symbol.Keyword keyword.Await) ∷ (xs ++ rest)) rest h (λ m h. one_gives ms m keyword.Await p xs e rest d (omega arith) f.quiet) }
+reach_await {p = p} {xs = xs} {e = e} s.when d = record { reads = λ ms n rest h f. some_depth ms (st.await_that p.start e) n (at p (symbol.Keyword keyword.When) ∷ (xs ++ rest)) rest h (λ m h. one_gives ms m keyword.When p xs e rest d (omega arith) f.quiet) }
 
-pub reach_print : {p : Spot} {xs : List Lexeme} {e : Tree} → IsExpression xs e → Reaches false false (at p sign.Print ∷ xs) (st.print_out p.start e)
+pub reach_print : {p : Spot} {xs : List Lexeme} {e : Tree} → IsExpression xs e → Reaches false false (at p (symbol.Keyword keyword.Print) ∷ xs) (st.print_out p.start e)
 unfolding any_form
-reach_print {p} {xs} {e} d = record { reads = λ ms n rest h f. some_depth ms (st.print_out p.start e) n (at p sign.Print ∷ (xs ++ rest)) rest h (λ m h. one_gives ms m sign.Print st.print_out p xs e rest d (omega arith) f.quiet) }
+reach_print {p} {xs} {e} d = record { reads = λ ms n rest h f. some_depth ms (st.print_out p.start e) n (at p (symbol.Keyword keyword.Print) ∷ (xs ++ rest)) rest h (λ m h. one_gives ms m keyword.Print p xs e rest d (omega arith) f.quiet) }
 
-pub reach_assert : {p : Spot} {xs : List Lexeme} {e : Tree} → IsExpression xs e → Reaches false false (at p sign.Assert ∷ xs) (st.assert_that p.start e)
+pub reach_assert : {p : Spot} {xs : List Lexeme} {e : Tree} → IsExpression xs e → Reaches false false (at p (symbol.Keyword keyword.Assert) ∷ xs) (st.assert_that p.start e)
 unfolding any_form
-reach_assert {p} {xs} {e} d = record { reads = λ ms n rest h f. some_depth ms (st.assert_that p.start e) n (at p sign.Assert ∷ (xs ++ rest)) rest h (λ m h. one_gives ms m sign.Assert st.assert_that p xs e rest d (omega arith) f.quiet) }
+reach_assert {p} {xs} {e} d = record { reads = λ ms n rest h f. some_depth ms (st.assert_that p.start e) n (at p (symbol.Keyword keyword.Assert) ∷ (xs ++ rest)) rest h (λ m h. one_gives ms m keyword.Assert p xs e rest d (omega arith) f.quiet) }
 
-pub reach_yield : {p : Spot} {xs : List Lexeme} {e : Tree} → IsExpression xs e → Reaches false false (at p sign.Yield ∷ xs) (st.yield_as p.start e)
+pub reach_yield : {p : Spot} {xs : List Lexeme} {e : Tree} → IsExpression xs e → Reaches false false (at p (symbol.Keyword keyword.Yield) ∷ xs) (st.yield_as p.start e)
 unfolding any_form
-reach_yield {p} {xs} {e} d = record { reads = λ ms n rest h f. some_depth ms (st.yield_as p.start e) n (at p sign.Yield ∷ (xs ++ rest)) rest h (λ m h. one_gives ms m sign.Yield st.yield_as p xs e rest d (omega arith) f.quiet) }
+reach_yield {p} {xs} {e} d = record { reads = λ ms n rest h f. some_depth ms (st.yield_as p.start e) n (at p (symbol.Keyword keyword.Yield) ∷ (xs ++ rest)) rest h (λ m h. one_gives ms m keyword.Yield p xs e rest d (omega arith) f.quiet) }
 
-assign_lead : {xs : List Lexeme} {a : Assignment} {as' : List Assignment} → Items IsAssignment sign.Bars xs (a ∷ as') → (j : List Lexeme) → lead_of (xs ++ j) ≡ lead.Assign
+assign_lead : {xs : List Lexeme} {a : Assignment} {as' : List Assignment} → Items IsAssignment symbol.Bars xs (a ∷ as') → (j : List Lexeme) → lead_of (xs ++ j) ≡ lead.Assign
 assign_lead (leaf.items (s.assignment k (s.named leaf.nothing) e) m) j = refl
 assign_lead (leaf.items (s.assignment k (s.named (leaf.another (s.index o i) p)) e) m) j = refl
 assign_lead (leaf.items (s.assignment k (s.named (leaf.another s.field p)) e) m) j = refl
 assign_lead (leaf.items (s.assignment k (s.variable p) e) m) j = refl
 
-pub reach_assign : {xs : List Lexeme} {a : Assignment} {as' : List Assignment} → Items IsAssignment sign.Bars xs (a ∷ as') → Reaches false false xs (st.assign a.left.name.place (a ∷ as'))
+pub reach_assign : {xs : List Lexeme} {a : Assignment} {as' : List Assignment} → Items IsAssignment symbol.Bars xs (a ∷ as') → Reaches false false xs (st.assign a.left.name.place (a ∷ as'))
 unfolding any_form assign_form
 reach_assign {xs} {a} {as'} d = record {
   reads = λ ms n rest h f. some_depth ms (st.assign a.left.name.place (a ∷ as')) n (xs ++ rest) rest h (λ m h.
       ap (λ l. form ms (suc m) (statement ms m) l (xs ++ rest)) (assign_lead d rest)
-      ∙ next_step _ _ _ _ _ (reach_items IsAssignment sign.Bars assignment Quiet reach_assignment (λ p j. refl) xs (a ∷ as') d rest (f.quiet, f.no_bars)) (node_gives ms m 0 (st.assign a.left.name.place (a ∷ as')) rest (omega arith) h));
+      ∙ next_step _ _ _ _ _ (reach_items IsAssignment symbol.Bars assignment Quiet reach_assignment (λ p j. refl) xs (a ∷ as') d rest (f.quiet, f.no_bars)) (node_gives ms m 0 (st.assign a.left.name.place (a ∷ as')) rest (omega arith) h));
 }
 
 call_lead : (n : Spot) (x : Name) {xs : List Lexeme} {es : List Tree} → InBrackets IsExpression xs es → (j : List Lexeme) → lead_of (word n x ∷ (xs ++ j)) ≡ lead.Call
@@ -135,29 +139,29 @@ reach_call {n} {x} {xs} {es} d = record {
 }
 
 pub reach_while : {u v : Bool} {p o : Spot} (c : Spot) {xs ys : List Lexeme} {e : Tree} {a : Statement} → IsExpression xs e → Reaches u v ys a
-    → Reaches u v (at p sign.While ∷ (at o sign.RoundOpen ∷ (xs ++ (at c sign.RoundClose ∷ ys)))) (st.while_do p.start e a)
+    → Reaches u v (at p (symbol.Keyword keyword.While) ∷ (at o (symbol.Open bracket.Round) ∷ (xs ++ (at c (symbol.Close bracket.Round) ∷ ys)))) (st.while_do p.start e a)
 unfolding any_form while_form
 reach_while {u} {v} {p} {o} c {xs} {ys} {e} {a} d r = record {
   reads = λ ms n rest h f. some_depth ms (st.while_do p.start e a) n _ rest h (λ m h.
-      ap (λ i. while_form ms (suc m) (statement ms m) (at p sign.While ∷ (at o sign.RoundOpen ∷ i))) (append_assoc xs (at c sign.RoundClose ∷ ys) rest)
-      ∙ next_step _ _ _ _ _ (mark_gives sign.While p (at o sign.RoundOpen ∷ (xs ++ (at c sign.RoundClose ∷ (ys ++ rest)))))
-      (next_step _ _ _ _ _ (expect_gives sign.RoundOpen o (xs ++ (at c sign.RoundClose ∷ (ys ++ rest))))
-      (next_step _ _ _ _ _ (reach_expression xs e d (at c sign.RoundClose ∷ (ys ++ rest)) refl)
-      (next_step _ _ _ _ _ (expect_gives sign.RoundClose c (ys ++ rest))
+      ap (λ i. while_form ms (suc m) (statement ms m) (at p (symbol.Keyword keyword.While) ∷ (at o (symbol.Open bracket.Round) ∷ i))) (append_assoc xs (at c (symbol.Close bracket.Round) ∷ ys) rest)
+      ∙ next_step _ _ _ _ _ (mark_gives (symbol.Keyword keyword.While) p (at o (symbol.Open bracket.Round) ∷ (xs ++ (at c (symbol.Close bracket.Round) ∷ (ys ++ rest)))))
+      (next_step _ _ _ _ _ (expect_gives (symbol.Open bracket.Round) o (xs ++ (at c (symbol.Close bracket.Round) ∷ (ys ++ rest))))
+      (next_step _ _ _ _ _ (reach_expression xs e d (at c (symbol.Close bracket.Round) ∷ (ys ++ rest)) refl)
+      (next_step _ _ _ _ _ (expect_gives (symbol.Close bracket.Round) c (ys ++ rest))
       (next_step _ _ _ _ _ (r.reads ms m rest (omega (arith, h)) f)
       (node_gives ms m (depth ms a) (st.while_do p.start e a) rest (omega arith) h))))));
 }
 
-pub reach_with : {u v : Bool} {p o : Spot} (c : Spot) {xs ys : List Lexeme} {ns : List WithName} {a : Statement} → Items IsWithName sign.Comma xs ns → Reaches u v ys a
-    → Reaches u v (at p sign.With ∷ (at o sign.RoundOpen ∷ (xs ++ (at c sign.RoundClose ∷ ys)))) (st.with_in p.start ns a)
+pub reach_with : {u v : Bool} {p o : Spot} (c : Spot) {xs ys : List Lexeme} {ns : List WithName} {a : Statement} → Items IsWithName symbol.Comma xs ns → Reaches u v ys a
+    → Reaches u v (at p (symbol.Keyword keyword.With) ∷ (at o (symbol.Open bracket.Round) ∷ (xs ++ (at c (symbol.Close bracket.Round) ∷ ys)))) (st.with_in p.start ns a)
 unfolding any_form with_form
 reach_with {u} {v} {p} {o} c {xs} {ys} {ns} {a} d r = record {
   reads = λ ms n rest h f. some_depth ms (st.with_in p.start ns a) n _ rest h (λ m h.
-      ap (λ i. with_form ms (suc m) (statement ms m) (at p sign.With ∷ (at o sign.RoundOpen ∷ i))) (append_assoc xs (at c sign.RoundClose ∷ ys) rest)
-      ∙ next_step _ _ _ _ _ (mark_gives sign.With p (at o sign.RoundOpen ∷ (xs ++ (at c sign.RoundClose ∷ (ys ++ rest)))))
-      (next_step _ _ _ _ _ (expect_gives sign.RoundOpen o (xs ++ (at c sign.RoundClose ∷ (ys ++ rest))))
-      (next_step _ _ _ _ _ (reach_items IsWithName sign.Comma with_name Quiet reach_with_name (λ p j. refl) xs ns d (at c sign.RoundClose ∷ (ys ++ rest)) (refl, refl))
-      (next_step _ _ _ _ _ (expect_gives sign.RoundClose c (ys ++ rest))
+      ap (λ i. with_form ms (suc m) (statement ms m) (at p (symbol.Keyword keyword.With) ∷ (at o (symbol.Open bracket.Round) ∷ i))) (append_assoc xs (at c (symbol.Close bracket.Round) ∷ ys) rest)
+      ∙ next_step _ _ _ _ _ (mark_gives (symbol.Keyword keyword.With) p (at o (symbol.Open bracket.Round) ∷ (xs ++ (at c (symbol.Close bracket.Round) ∷ (ys ++ rest)))))
+      (next_step _ _ _ _ _ (expect_gives (symbol.Open bracket.Round) o (xs ++ (at c (symbol.Close bracket.Round) ∷ (ys ++ rest))))
+      (next_step _ _ _ _ _ (reach_items IsWithName symbol.Comma with_name Quiet reach_with_name (λ p j. refl) xs ns d (at c (symbol.Close bracket.Round) ∷ (ys ++ rest)) (refl, refl))
+      (next_step _ _ _ _ _ (expect_gives (symbol.Close bracket.Round) c (ys ++ rest))
       (next_step _ _ _ _ _ (r.reads ms m rest (omega (arith, h)) f)
       (node_gives ms m (depth ms a) (st.with_in p.start ns a) rest (omega arith) h))))));
 }
@@ -175,15 +179,15 @@ pub record ReachesElseIfs (u v w z : Bool) (ts : List Lexeme) (bs : List (ℕ ×
   pub reads : ReadsElseIfs u v w z ts bs
 
 pub reach_branch : {u v : Bool} {p o : Spot} (c : Spot) {xs ys : List Lexeme} {e : Tree} {a : Statement} → IsExpression xs e → Reaches u v ys a
-    → ReachesBranch u v (at p sign.If ∷ (at o sign.RoundOpen ∷ (xs ++ (at c sign.RoundClose ∷ ys)))) (p.start, (e, a))
+    → ReachesBranch u v (at p (symbol.Keyword keyword.If) ∷ (at o (symbol.Open bracket.Round) ∷ (xs ++ (at c (symbol.Close bracket.Round) ∷ ys)))) (p.start, (e, a))
 unfolding branch
 reach_branch {u} {v} {p} {o} c {xs} {ys} {e} {a} d r = record {
   reads = λ ms limit m rest h f.
-      ap (λ i. branch ms limit (statement ms m) (at p sign.If ∷ (at o sign.RoundOpen ∷ i))) (append_assoc xs (at c sign.RoundClose ∷ ys) rest)
-      ∙ next_step _ _ _ _ _ (mark_gives sign.If p (at o sign.RoundOpen ∷ (xs ++ (at c sign.RoundClose ∷ (ys ++ rest)))))
-      (next_step _ _ _ _ _ (expect_gives sign.RoundOpen o (xs ++ (at c sign.RoundClose ∷ (ys ++ rest))))
-      (next_step _ _ _ _ _ (reach_expression xs e d (at c sign.RoundClose ∷ (ys ++ rest)) refl)
-      (next_step _ _ _ _ _ (expect_gives sign.RoundClose c (ys ++ rest))
+      ap (λ i. branch ms limit (statement ms m) (at p (symbol.Keyword keyword.If) ∷ (at o (symbol.Open bracket.Round) ∷ i))) (append_assoc xs (at c (symbol.Close bracket.Round) ∷ ys) rest)
+      ∙ next_step _ _ _ _ _ (mark_gives (symbol.Keyword keyword.If) p (at o (symbol.Open bracket.Round) ∷ (xs ++ (at c (symbol.Close bracket.Round) ∷ (ys ++ rest)))))
+      (next_step _ _ _ _ _ (expect_gives (symbol.Open bracket.Round) o (xs ++ (at c (symbol.Close bracket.Round) ∷ (ys ++ rest))))
+      (next_step _ _ _ _ _ (reach_expression xs e d (at c (symbol.Close bracket.Round) ∷ (ys ++ rest)) refl)
+      (next_step _ _ _ _ _ (expect_gives (symbol.Close bracket.Round) c (ys ++ rest))
       (next_step _ _ _ _ _ (r.reads ms m rest h f) refl))));
 }
 
@@ -202,38 +206,38 @@ no_else_if_reads u v ms limit m (suc n) h acc rest low short f over = (
 pub reach_no_else_if : {u v : Bool} → ReachesElseIfs u v u v [] []
 reach_no_else_if {u} {v} = record { reads = no_else_if_reads u v }
 
-branch_lead : {u v : Bool} {xs : List Lexeme} {b : ℕ × (Tree × Statement)} → IsBranch u v xs b → (j : List Lexeme) → lead_of (xs ++ j) ≡ lead.If
+branch_lead : {u v : Bool} {xs : List Lexeme} {b : ℕ × (Tree × Statement)} → IsBranch u v xs b → (j : List Lexeme) → lead_of (xs ++ j) ≡ lead.Keyword keyword.If
 branch_lead (s.branch c d r) j = refl
 
-branch_if : {u v : Bool} {xs : List Lexeme} {b : ℕ × (Tree × Statement)} → IsBranch u v xs b → (j : List Lexeme) → sees sign.If (xs ++ j) ≡ true
+branch_if : {u v : Bool} {xs : List Lexeme} {b : ℕ × (Tree × Statement)} → IsBranch u v xs b → (j : List Lexeme) → sees (symbol.Keyword keyword.If) (xs ++ j) ≡ true
 branch_if (s.branch c d r) j = refl
 
-else_follows : {v : Bool} (p : Spot) (j : List Lexeme) → Follows false v (at p sign.Else ∷ j)
+else_follows : {v : Bool} (p : Spot) (j : List Lexeme) → Follows false v (at p (symbol.Keyword keyword.Else) ∷ j)
 else_follows p j = record { quiet = refl; no_bars = refl; stays = record { no_else = λ h. cc; no_or = λ h. refl } }
 
-else_if_reads : {u v w z : Bool} (v' : Bool) (p : Spot) {xs ys : List Lexeme} {b : ℕ × (Tree × Statement)} {bs : List (ℕ × (Tree × Statement))} → IsBranch u v xs b → ReachesBranch u v xs b → ReachesElseIfs u v w z ys bs → ReadsElseIfs false v' w z (at p sign.Else ∷ (xs ++ ys)) (b ∷ bs)
+else_if_reads : {u v w z : Bool} (v' : Bool) (p : Spot) {xs ys : List Lexeme} {b : ℕ × (Tree × Statement)} {bs : List (ℕ × (Tree × Statement))} → IsBranch u v xs b → ReachesBranch u v xs b → ReachesElseIfs u v w z ys bs → ReadsElseIfs false v' w z (at p (symbol.Keyword keyword.Else) ∷ (xs ++ ys)) (b ∷ bs)
 unfolding folded one_more_branch
 else_if_reads v' p {xs = xs} {ys = ys} d r m ms limit k zero h acc rest low short f over = absurd (omega (arith, short))
 else_if_reads v' p {xs = xs} {ys = ys} {b = b} {bs = bs} d r m ms limit k (suc n) h acc rest low short f over =
     let l = length-append xs ys in
     let fits : length ys ≤ n = omega (arith, l, short) in
     let more = m.reads ms limit k n (max h (depth ms b.1.1)) (acc ++ b ∷ []) rest (omega (arith, low)) fits f over in
-    let flat : at p sign.Else ∷ ((xs ++ ys) ++ rest) ≡ at p sign.Else ∷ (xs ++ (ys ++ rest)) = ap (λ z. at p sign.Else ∷ z) (append_assoc xs ys rest) in
-    let goes : sees_else_if (at p sign.Else ∷ (xs ++ (ys ++ rest))) ≡ true = branch_if d (ys ++ rest) in
-    let one : one_more_branch ms limit (statement ms k) (deep h acc) (at p sign.Else ∷ (xs ++ (ys ++ rest))) ≡ Some (deep (max h (depth ms b.1.1)) (acc ++ b ∷ []), ys ++ rest) =
-    next_step _ _ _ _ _ (expect_gives sign.Else p (xs ++ (ys ++ rest))) (next_step _ _ _ _ _ (r.reads ms limit k (ys ++ rest) (omega (arith, low)) more.1) refl) in (
+    let flat : at p (symbol.Keyword keyword.Else) ∷ ((xs ++ ys) ++ rest) ≡ at p (symbol.Keyword keyword.Else) ∷ (xs ++ (ys ++ rest)) = ap (λ z. at p (symbol.Keyword keyword.Else) ∷ z) (append_assoc xs ys rest) in
+    let goes : sees_else_if (at p (symbol.Keyword keyword.Else) ∷ (xs ++ (ys ++ rest))) ≡ true = branch_if d (ys ++ rest) in
+    let one : one_more_branch ms limit (statement ms k) (deep h acc) (at p (symbol.Keyword keyword.Else) ∷ (xs ++ (ys ++ rest))) ≡ Some (deep (max h (depth ms b.1.1)) (acc ++ b ∷ []), ys ++ rest) =
+    next_step _ _ _ _ _ (expect_gives (symbol.Keyword keyword.Else) p (xs ++ (ys ++ rest))) (next_step _ _ _ _ _ (r.reads ms limit k (ys ++ rest) (omega (arith, low)) more.1) refl) in (
       ap (λ i. cond (sees_else_if i) (and_then (one_more_branch ms limit (statement ms k) (deep h acc) i) (folded sees_else_if (one_more_branch ms limit (statement ms k)) n)) (Some (deep h acc, i))) flat
-          ∙ ap (λ c. cond c (and_then (one_more_branch ms limit (statement ms k) (deep h acc) (at p sign.Else ∷ (xs ++ (ys ++ rest)))) (folded sees_else_if (one_more_branch ms limit (statement ms k)) n)) (Some (deep h acc, at p sign.Else ∷ (xs ++ (ys ++ rest))))) goes
+          ∙ ap (λ c. cond c (and_then (one_more_branch ms limit (statement ms k) (deep h acc) (at p (symbol.Keyword keyword.Else) ∷ (xs ++ (ys ++ rest)))) (folded sees_else_if (one_more_branch ms limit (statement ms k)) n)) (Some (deep h acc, at p (symbol.Keyword keyword.Else) ∷ (xs ++ (ys ++ rest))))) goes
           ∙ next_step _ _ _ _ _ one more.0
           ∙ same_deep _ _ _ _ rest (omega arith) (append_assoc acc (b ∷ []) bs),
       else_follows p ((xs ++ ys) ++ rest),
     )
 
-pub reach_else_if : {u v w z v' : Bool} {p : Spot} {xs ys : List Lexeme} {b : ℕ × (Tree × Statement)} {bs : List (ℕ × (Tree × Statement))} → IsBranch u v xs b → ReachesBranch u v xs b → ReachesElseIfs u v w z ys bs → ReachesElseIfs false v' w z (at p sign.Else ∷ (xs ++ ys)) (b ∷ bs)
+pub reach_else_if : {u v w z v' : Bool} {p : Spot} {xs ys : List Lexeme} {b : ℕ × (Tree × Statement)} {bs : List (ℕ × (Tree × Statement))} → IsBranch u v xs b → ReachesBranch u v xs b → ReachesElseIfs u v w z ys bs → ReachesElseIfs false v' w z (at p (symbol.Keyword keyword.Else) ∷ (xs ++ ys)) (b ∷ bs)
 reach_else_if {v' = v'} {p = p} d r m = record { reads = else_if_reads v' p d r m }
 
-no_else_if : (rest : List Lexeme) → sees sign.Else rest ≡ false → sees_else_if rest ≡ false
-no_else_if rest h = ap (λ b. b && sees_second sign.If rest) h
+no_else_if : (rest : List Lexeme) → sees (symbol.Keyword keyword.Else) rest ≡ false → sees_else_if rest ≡ false
+no_else_if rest h = ap (λ b. b && sees_second (symbol.Keyword keyword.If) rest) h
 
 pub reach_if_then : {u v w z : Bool} {xs ys : List Lexeme} {b : ℕ × (Tree × Statement)} {bs : List (ℕ × (Tree × Statement))} → IsBranch u v xs b → ReachesBranch u v xs b → ReachesElseIfs u v w z ys bs
     → Reaches true z (xs ++ ys) (st.if_then b.0 (guarded (b ∷ bs)))
@@ -247,26 +251,26 @@ reach_if_then {u} {v} {w} {z} {xs} {ys} {b} {bs} d r m = record {
       ∙ ap (λ l. form ms (suc k) (statement ms k) l (xs ++ (ys ++ rest))) (branch_lead d (ys ++ rest))
       ∙ next_step _ _ _ _ _ (r.reads ms (suc k) k (ys ++ rest) (omega (arith, h)) more.1)
       (next_step _ _ _ _ _ more.0
-      (eat_false sign.Else _ _ rest (f.stays.no_else refl)
+      (eat_false (symbol.Keyword keyword.Else) _ _ rest (f.stays.no_else refl)
       ∙ node_gives ms k (max (depth ms b.1.1) (guarded_depth ms (guarded bs))) (st.if_then b.0 (guarded (b ∷ bs))) rest (omega arith) h)));
 }
 
-sees_behind : (v : Sign) (xs j : List Lexeme) → 1 ≤ length xs → sees v xs ≡ false → sees v (xs ++ j) ≡ false
+sees_behind : (v : Symbol) (xs j : List Lexeme) → 1 ≤ length xs → sees v xs ≡ false → sees v (xs ++ j) ≡ false
 sees_behind v [] j long h = absurd (omega (arith, long))
 sees_behind v (x ∷ xs) j long h = h
 
-pub reach_if_else : {u v w' z z' : Bool} (p : Spot) {xs ys zs : List Lexeme} {b : ℕ × (Tree × Statement)} {bs : List (ℕ × (Tree × Statement))} {a : Statement} → IsBranch u v xs b → ReachesBranch u v xs b → ReachesElseIfs u v false z ys bs → sees sign.If zs ≡ false → 1 ≤ length zs → Reaches w' z' zs a
-    → Reaches w' z' (xs ++ (ys ++ (at p sign.Else ∷ zs))) (st.if_else b.0 (guarded (b ∷ bs)) a)
+pub reach_if_else : {u v w' z z' : Bool} (p : Spot) {xs ys zs : List Lexeme} {b : ℕ × (Tree × Statement)} {bs : List (ℕ × (Tree × Statement))} {a : Statement} → IsBranch u v xs b → ReachesBranch u v xs b → ReachesElseIfs u v false z ys bs → sees (symbol.Keyword keyword.If) zs ≡ false → 1 ≤ length zs → Reaches w' z' zs a
+    → Reaches w' z' (xs ++ (ys ++ (at p (symbol.Keyword keyword.Else) ∷ zs))) (st.if_else b.0 (guarded (b ∷ bs)) a)
 unfolding any_form if_form last_else
 reach_if_else {u} {v} {w'} {z} {z'} p {xs} {ys} {zs} {b} {bs} {a} d r m no_if full r' = record {
-  reads = λ ms n rest h f. some_depth ms (st.if_else b.0 (guarded (b ∷ bs)) a) n ((xs ++ (ys ++ (at p sign.Else ∷ zs))) ++ rest) rest h (λ k h.
-      let over : sees_else_if (at p sign.Else ∷ (zs ++ rest)) ≡ false = sees_behind sign.If zs rest full no_if in
-      let more = m.reads ms (suc k) k (length (ys ++ (at p sign.Else ∷ (zs ++ rest)))) (depth ms b.1.1) (b ∷ []) (at p sign.Else ∷ (zs ++ rest)) (omega (arith, h)) (let l = length-append ys (at p sign.Else ∷ (zs ++ rest)) in omega (arith, l)) (else_follows p (zs ++ rest)) over in
-      ap (any_form ms (suc k) (statement ms k)) (append_assoc xs (ys ++ (at p sign.Else ∷ zs)) rest ∙ ap (λ i. xs ++ i) (append_assoc ys (at p sign.Else ∷ zs) rest))
-      ∙ ap (λ l. form ms (suc k) (statement ms k) l (xs ++ (ys ++ (at p sign.Else ∷ (zs ++ rest))))) (branch_lead d (ys ++ (at p sign.Else ∷ (zs ++ rest))))
-      ∙ next_step _ _ _ _ _ (r.reads ms (suc k) k (ys ++ (at p sign.Else ∷ (zs ++ rest))) (omega (arith, h)) more.1)
+  reads = λ ms n rest h f. some_depth ms (st.if_else b.0 (guarded (b ∷ bs)) a) n ((xs ++ (ys ++ (at p (symbol.Keyword keyword.Else) ∷ zs))) ++ rest) rest h (λ k h.
+      let over : sees_else_if (at p (symbol.Keyword keyword.Else) ∷ (zs ++ rest)) ≡ false = sees_behind (symbol.Keyword keyword.If) zs rest full no_if in
+      let more = m.reads ms (suc k) k (length (ys ++ (at p (symbol.Keyword keyword.Else) ∷ (zs ++ rest)))) (depth ms b.1.1) (b ∷ []) (at p (symbol.Keyword keyword.Else) ∷ (zs ++ rest)) (omega (arith, h)) (let l = length-append ys (at p (symbol.Keyword keyword.Else) ∷ (zs ++ rest)) in omega (arith, l)) (else_follows p (zs ++ rest)) over in
+      ap (any_form ms (suc k) (statement ms k)) (append_assoc xs (ys ++ (at p (symbol.Keyword keyword.Else) ∷ zs)) rest ∙ ap (λ i. xs ++ i) (append_assoc ys (at p (symbol.Keyword keyword.Else) ∷ zs) rest))
+      ∙ ap (λ l. form ms (suc k) (statement ms k) l (xs ++ (ys ++ (at p (symbol.Keyword keyword.Else) ∷ (zs ++ rest))))) (branch_lead d (ys ++ (at p (symbol.Keyword keyword.Else) ∷ (zs ++ rest))))
+      ∙ next_step _ _ _ _ _ (r.reads ms (suc k) k (ys ++ (at p (symbol.Keyword keyword.Else) ∷ (zs ++ rest))) (omega (arith, h)) more.1)
       (next_step _ _ _ _ _ more.0
-      (eat_true sign.Else (last_else ms (suc k) (statement ms k) b.0 (deep (max (depth ms b.1.1) (guarded_depth ms (guarded bs))) (b ∷ bs))) (node ms (suc k) (statement ms k) (max (depth ms b.1.1) (guarded_depth ms (guarded bs))) (st.if_then b.0 (guarded (b ∷ bs)))) p (zs ++ rest)
+      (eat_true (symbol.Keyword keyword.Else) (last_else ms (suc k) (statement ms k) b.0 (deep (max (depth ms b.1.1) (guarded_depth ms (guarded bs))) (b ∷ bs))) (node ms (suc k) (statement ms k) (max (depth ms b.1.1) (guarded_depth ms (guarded bs))) (st.if_then b.0 (guarded (b ∷ bs)))) p (zs ++ rest)
       ∙ next_step _ _ _ _ _ (r'.reads ms k rest (omega (arith, h)) f)
       (node_gives ms k (max (max (depth ms b.1.1) (guarded_depth ms (guarded bs))) (depth ms a)) (st.if_else b.0 (guarded (b ∷ bs)) a) rest (omega arith) h))));
 }
@@ -274,8 +278,8 @@ reach_if_else {u} {v} {w'} {z} {z'} p {xs} {ys} {zs} {b} {bs} {a} d r m no_if fu
 -- ---- `either`
 
 abbrev pub ReadsOrs : Bool → Bool → Bool → Bool → List Lexeme → List Statement → Type 0
-ReadsOrs u v w z ts ss = (ms : List MacroDepth) (limit m n h : ℕ) (acc : List Statement) (rest : List Lexeme) → statements_depth ms (statements ss) ≤ m → length ts ≤ n → Follows w z rest → sees sign.Or rest ≡ false
-    → (folded (sees sign.Or) (one_more_or ms limit (statement ms m)) n (deep h acc) (ts ++ rest) ≡ Some (deep (max h (statements_depth ms (statements ss))) (acc ++ ss), rest)) × Follows u v (ts ++ rest)
+ReadsOrs u v w z ts ss = (ms : List MacroDepth) (limit m n h : ℕ) (acc : List Statement) (rest : List Lexeme) → statements_depth ms (statements ss) ≤ m → length ts ≤ n → Follows w z rest → sees (symbol.Keyword keyword.Or) rest ≡ false
+    → (folded (sees (symbol.Keyword keyword.Or)) (one_more_or ms limit (statement ms m)) n (deep h acc) (ts ++ rest) ≡ Some (deep (max h (statements_depth ms (statements ss))) (acc ++ ss), rest)) × Follows u v (ts ++ rest)
 
 pub record ReachesOrs (u v w z : Bool) (ts : List Lexeme) (ss : List Statement) : Type 0 where
   pub reads : ReadsOrs u v w z ts ss
@@ -284,7 +288,7 @@ no_or_reads : (u v : Bool) → ReadsOrs u v u v [] []
 unfolding folded
 no_or_reads u v ms limit m zero h acc rest low short f over = (same_deep _ _ _ _ rest (omega arith) (sym (append-nil acc)), f)
 no_or_reads u v ms limit m (suc n) h acc rest low short f over = (
-  ap (λ b. cond b (and_then (one_more_or ms limit (statement ms m) (deep h acc) rest) (folded (sees sign.Or) (one_more_or ms limit (statement ms m)) n)) (Some (deep h acc, rest))) over
+  ap (λ b. cond b (and_then (one_more_or ms limit (statement ms m) (deep h acc) rest) (folded (sees (symbol.Keyword keyword.Or)) (one_more_or ms limit (statement ms m)) n)) (Some (deep h acc, rest))) over
       ∙ same_deep _ _ _ _ rest (omega arith) (sym (append-nil acc)),
   f,
 )
@@ -292,41 +296,41 @@ no_or_reads u v ms limit m (suc n) h acc rest low short f over = (
 pub reach_no_or : {u v : Bool} → ReachesOrs u v u v [] []
 reach_no_or {u} {v} = record { reads = no_or_reads u v }
 
-or_follows : {u : Bool} (p : Spot) (j : List Lexeme) → Follows u false (at p sign.Or ∷ j)
+or_follows : {u : Bool} (p : Spot) (j : List Lexeme) → Follows u false (at p (symbol.Keyword keyword.Or) ∷ j)
 or_follows p j = record { quiet = refl; no_bars = refl; stays = record { no_else = λ h. refl; no_or = λ h. cc } }
 
 one_or_gives : {u v : Bool} (p : Spot) (xs : List Lexeme) (a : Statement) → Reaches u v xs a → (ms : List MacroDepth) (limit k h : ℕ) (acc : List Statement) (rest : List Lexeme) → depth ms a ≤ k → Follows u v rest
-    → one_more_or ms limit (statement ms k) (deep h acc) (at p sign.Or ∷ (xs ++ rest)) ≡ Some (deep (max h (depth ms a)) (acc ++ a ∷ []), rest)
+    → one_more_or ms limit (statement ms k) (deep h acc) (at p (symbol.Keyword keyword.Or) ∷ (xs ++ rest)) ≡ Some (deep (max h (depth ms a)) (acc ++ a ∷ []), rest)
 unfolding one_more_or
-one_or_gives p xs a r ms limit k h acc rest low f = next_step _ _ _ _ _ (expect_gives sign.Or p (xs ++ rest)) (next_step _ _ _ _ _ (r.reads ms k rest low f) refl)
+one_or_gives p xs a r ms limit k h acc rest low f = next_step _ _ _ _ _ (expect_gives (symbol.Keyword keyword.Or) p (xs ++ rest)) (next_step _ _ _ _ _ (r.reads ms k rest low f) refl)
 
-or_this_reads : {u v w z : Bool} (u' : Bool) (p : Spot) {xs ys : List Lexeme} {a : Statement} {ss : List Statement} → Reaches u v xs a → ReachesOrs u v w z ys ss → ReadsOrs u' false w z (at p sign.Or ∷ (xs ++ ys)) (a ∷ ss)
+or_this_reads : {u v w z : Bool} (u' : Bool) (p : Spot) {xs ys : List Lexeme} {a : Statement} {ss : List Statement} → Reaches u v xs a → ReachesOrs u v w z ys ss → ReadsOrs u' false w z (at p (symbol.Keyword keyword.Or) ∷ (xs ++ ys)) (a ∷ ss)
 unfolding folded
 or_this_reads u' p {xs = xs} {ys = ys} r m ms limit k zero h acc rest low short f over = absurd (omega (arith, short))
 or_this_reads u' p {xs = xs} {ys = ys} {a = a} {ss = ss} r m ms limit k (suc n) h acc rest low short f over =
     let l = length-append xs ys in
     let fits : length ys ≤ n = omega (arith, l, short) in
     let more = m.reads ms limit k n (max h (depth ms a)) (acc ++ a ∷ []) rest (omega (arith, low)) fits f over in (
-      ap (λ i. folded (sees sign.Or) (one_more_or ms limit (statement ms k)) (suc n) (deep h acc) (at p sign.Or ∷ i)) (append_assoc xs ys rest)
+      ap (λ i. folded (sees (symbol.Keyword keyword.Or)) (one_more_or ms limit (statement ms k)) (suc n) (deep h acc) (at p (symbol.Keyword keyword.Or) ∷ i)) (append_assoc xs ys rest)
           ∙ next_step _ _ _ _ _ (one_or_gives p xs a r ms limit k h acc (ys ++ rest) (omega (arith, low)) more.1) more.0
           ∙ same_deep _ _ _ _ rest (omega arith) (append_assoc acc (a ∷ []) ss),
       or_follows p ((xs ++ ys) ++ rest),
     )
 
-pub reach_or_this : {u v w z u' : Bool} {p : Spot} {xs ys : List Lexeme} {a : Statement} {ss : List Statement} → Reaches u v xs a → ReachesOrs u v w z ys ss → ReachesOrs u' false w z (at p sign.Or ∷ (xs ++ ys)) (a ∷ ss)
+pub reach_or_this : {u v w z u' : Bool} {p : Spot} {xs ys : List Lexeme} {a : Statement} {ss : List Statement} → Reaches u v xs a → ReachesOrs u v w z ys ss → ReachesOrs u' false w z (at p (symbol.Keyword keyword.Or) ∷ (xs ++ ys)) (a ∷ ss)
 reach_or_this {u' = u'} {p = p} r m = record { reads = or_this_reads u' p r m }
 
 pub reach_either : {u u' v' w z : Bool} {p : Spot} (q : Spot) {xs ys zs : List Lexeme} {a b : Statement} {ss : List Statement} → Reaches u false xs a → Reaches u' v' ys b → ReachesOrs u' v' w z zs ss
-    → Reaches w true (at p sign.Either ∷ (xs ++ (at q sign.Or ∷ (ys ++ zs)))) (st.either_of p.start (statements (a ∷ (b ∷ ss))))
+    → Reaches w true (at p (symbol.Keyword keyword.Either) ∷ (xs ++ (at q (symbol.Keyword keyword.Or) ∷ (ys ++ zs)))) (st.either_of p.start (statements (a ∷ (b ∷ ss))))
 unfolding any_form either_form
 reach_either {u} {u'} {v'} {w} {z} {p} q {xs} {ys} {zs} {a} {b} {ss} r r' m = record {
   reads = λ ms n rest h f. some_depth ms (st.either_of p.start (statements (a ∷ (b ∷ ss)))) n _ rest h (λ k h.
       let over = f.stays.no_or refl in
       let after : Follows w z rest = record { quiet = f.quiet; no_bars = f.no_bars; stays = record { no_else = f.stays.no_else; no_or = λ e. over } } in
       let more = m.reads ms (suc k) k (length (zs ++ rest)) (max (depth ms a) (depth ms b)) (a ∷ (b ∷ [])) rest (omega (arith, h)) (let l = length-append zs rest in omega (arith, l)) after over in
-      ap (λ i. either_form ms (suc k) (statement ms k) (at p sign.Either ∷ i)) (append_assoc xs (at q sign.Or ∷ (ys ++ zs)) rest ∙ ap (λ i. xs ++ (at q sign.Or ∷ i)) (append_assoc ys zs rest))
-      ∙ next_step _ _ _ _ _ (mark_gives sign.Either p (xs ++ (at q sign.Or ∷ (ys ++ (zs ++ rest)))))
-      (next_step _ _ _ _ _ (r.reads ms k (at q sign.Or ∷ (ys ++ (zs ++ rest))) (omega (arith, h)) (or_follows q (ys ++ (zs ++ rest))))
+      ap (λ i. either_form ms (suc k) (statement ms k) (at p (symbol.Keyword keyword.Either) ∷ i)) (append_assoc xs (at q (symbol.Keyword keyword.Or) ∷ (ys ++ zs)) rest ∙ ap (λ i. xs ++ (at q (symbol.Keyword keyword.Or) ∷ i)) (append_assoc ys zs rest))
+      ∙ next_step _ _ _ _ _ (mark_gives (symbol.Keyword keyword.Either) p (xs ++ (at q (symbol.Keyword keyword.Or) ∷ (ys ++ (zs ++ rest)))))
+      (next_step _ _ _ _ _ (r.reads ms k (at q (symbol.Keyword keyword.Or) ∷ (ys ++ (zs ++ rest))) (omega (arith, h)) (or_follows q (ys ++ (zs ++ rest))))
       (next_step _ _ _ _ _ (one_or_gives q ys b r' ms (suc k) k (depth ms a) (a ∷ []) (zs ++ rest) (omega (arith, h)) more.1)
       (next_step _ _ _ _ _ more.0
       (node_gives ms k (max (max (depth ms a) (depth ms b)) (statements_depth ms (statements ss))) (st.either_of p.start (statements (a ∷ (b ∷ ss)))) rest (omega arith) h)))));
@@ -344,38 +348,38 @@ reach_bare {u} {v} {xs} {a} d r = record {
       next_step _ _ _ _ _ (ap (λ b. cond b (label (xs ++ rest)) (Some (None, xs ++ rest))) (no_label d rest)) (next_step _ _ _ _ _ (r.reads ms m rest h f) refl);
 }
 
-fairness_gives : {xs ys : List Lexeme} → IsFairness xs → Begins ys → (rest : List Lexeme) → sees sign.Plus (ys ++ rest) ≡ false → sees sign.Minus (ys ++ rest) ≡ false → fairness (xs ++ (ys ++ rest)) ≡ ys ++ rest
+fairness_gives : {xs ys : List Lexeme} → IsFairness xs → Begins ys → (rest : List Lexeme) → sees (symbol.Infix operator.Add) (ys ++ rest) ≡ false → sees (symbol.Infix operator.Subtract) (ys ++ rest) ≡ false → fairness (xs ++ (ys ++ rest)) ≡ ys ++ rest
 unfolding fairness
-fairness_gives {ys = ys} s.unmarked b rest plus minus = ap (λ z. cond (z || sees sign.Minus (ys ++ rest)) (skip (ys ++ rest)) (ys ++ rest)) plus ∙ ap (λ z. cond z (skip (ys ++ rest)) (ys ++ rest)) minus
+fairness_gives {ys = ys} s.unmarked b rest plus minus = ap (λ z. cond (z || sees (symbol.Infix operator.Subtract) (ys ++ rest)) (skip (ys ++ rest)) (ys ++ rest)) plus ∙ ap (λ z. cond z (skip (ys ++ rest)) (ys ++ rest)) minus
 fairness_gives s.plus b rest plus minus = refl
 fairness_gives s.minus b rest plus minus = refl
 
-pub reach_label : {u v : Bool} {n c : Spot} {x : Name} {xs ys : List Lexeme} {a : Statement} → IsFairness xs → Begins ys → Reaches u v ys a → ReachesLabeled u v (word n x ∷ (at c sign.Colon ∷ (xs ++ ys))) (Some (placed n x), a)
+pub reach_label : {u v : Bool} {n c : Spot} {x : Name} {xs ys : List Lexeme} {a : Statement} → IsFairness xs → Begins ys → Reaches u v ys a → ReachesLabeled u v (word n x ∷ (at c symbol.Colon ∷ (xs ++ ys))) (Some (placed n x), a)
 unfolding labeled_statement optional_label label
 reach_label {u} {v} {n} {c} {x} {xs} {ys} {a} fair b r = record {
   reads = λ ms limit m rest h f.
-      ap (λ i. labeled_statement ms limit (statement ms m) (word n x ∷ (at c sign.Colon ∷ i))) (append_assoc xs ys rest)
-      ∙ next_step _ _ _ _ _ (next_step _ _ _ _ _ (expect_gives sign.Colon c (xs ++ (ys ++ rest))) (ap (λ i. Some (Some (placed n x), i)) (fairness_gives fair b rest (b.no_plus rest) (b.no_minus rest))))
+      ap (λ i. labeled_statement ms limit (statement ms m) (word n x ∷ (at c symbol.Colon ∷ i))) (append_assoc xs ys rest)
+      ∙ next_step _ _ _ _ _ (next_step _ _ _ _ _ (expect_gives symbol.Colon c (xs ++ (ys ++ rest))) (ap (λ i. Some (Some (placed n x), i)) (fairness_gives fair b rest (b.no_plus rest) (b.no_minus rest))))
       (next_step _ _ _ _ _ (r.reads ms m rest h f) refl);
 }
 
 -- the rows of a block before its `}`
 abbrev pub ReadsRows : List Lexeme → List (Option PlacedName × Statement) → Type 0
 ReadsRows ts rs = (ms : List MacroDepth) (limit m n h : ℕ) (acc : List (Option PlacedName × Statement)) (c : Spot) (rest : List Lexeme) → labeled_depth ms (labeled rs) ≤ m → length ts ≤ n
-    → folded goes_on (one_more_row ms limit (statement ms m)) n (deep h acc) (ts ++ (at c sign.CurlyClose ∷ rest)) ≡ Some (deep (max h (labeled_depth ms (labeled rs))) (acc ++ rs), at c sign.CurlyClose ∷ rest)
+    → folded goes_on (one_more_row ms limit (statement ms m)) n (deep h acc) (ts ++ (at c (symbol.Close bracket.Curly) ∷ rest)) ≡ Some (deep (max h (labeled_depth ms (labeled rs))) (acc ++ rs), at c (symbol.Close bracket.Curly) ∷ rest)
 
 pub record ReachesRows (ts : List Lexeme) (rs : List (Option PlacedName × Statement)) : Type 0 where
   pub reads : ReadsRows ts rs
 
 no_row_reads : ReadsRows [] []
 unfolding folded
-no_row_reads ms limit m zero h acc c rest low short = same_deep _ _ _ _ (at c sign.CurlyClose ∷ rest) (omega arith) (sym (append-nil acc))
-no_row_reads ms limit m (suc n) h acc c rest low short = same_deep _ _ _ _ (at c sign.CurlyClose ∷ rest) (omega arith) (sym (append-nil acc))
+no_row_reads ms limit m zero h acc c rest low short = same_deep _ _ _ _ (at c (symbol.Close bracket.Curly) ∷ rest) (omega arith) (sym (append-nil acc))
+no_row_reads ms limit m (suc n) h acc c rest low short = same_deep _ _ _ _ (at c (symbol.Close bracket.Curly) ∷ rest) (omega arith) (sym (append-nil acc))
 
 pub reach_no_row : ReachesRows [] []
 reach_no_row = record { reads = no_row_reads }
 
-brace_follows : {u v : Bool} (c : Spot) (j : List Lexeme) → Follows u v (at c sign.CurlyClose ∷ j)
+brace_follows : {u v : Bool} (c : Spot) (j : List Lexeme) → Follows u v (at c (symbol.Close bracket.Curly) ∷ j)
 brace_follows c j = record { quiet = refl; no_bars = refl; stays = record { no_else = λ h. refl; no_or = λ h. refl } }
 
 begins_follows : {u v : Bool} {xs : List Lexeme} → Begins xs → (j : List Lexeme) → Follows u v (xs ++ j)
@@ -390,10 +394,10 @@ last_row_reads : {u v : Bool} {xs : List Lexeme} {r : Option PlacedName × State
 unfolding folded row_ended
 last_row_reads {xs = xs} b reaches ms limit m zero h acc c rest low short = absurd (let k = b.full in omega (arith, k, short))
 last_row_reads {xs = xs} {r = r} b reaches ms limit m (suc n) h acc c rest low short =
-    ap (λ z. cond (not z) (and_then (one_more_row ms limit (statement ms m) (deep h acc) (xs ++ (at c sign.CurlyClose ∷ rest))) (folded goes_on (one_more_row ms limit (statement ms m)) n)) (Some (deep h acc, xs ++ (at c sign.CurlyClose ∷ rest)))) (b.no_brace (at c sign.CurlyClose ∷ rest))
-    ∙ next_step _ _ _ _ _ (row_gives reaches ms limit m h acc (at c sign.CurlyClose ∷ rest) (at c sign.CurlyClose ∷ rest) (omega (arith, low)) (brace_follows c rest) refl)
+    ap (λ z. cond (not z) (and_then (one_more_row ms limit (statement ms m) (deep h acc) (xs ++ (at c (symbol.Close bracket.Curly) ∷ rest))) (folded goes_on (one_more_row ms limit (statement ms m)) n)) (Some (deep h acc, xs ++ (at c (symbol.Close bracket.Curly) ∷ rest)))) (b.no_brace (at c (symbol.Close bracket.Curly) ∷ rest))
+    ∙ next_step _ _ _ _ _ (row_gives reaches ms limit m h acc (at c (symbol.Close bracket.Curly) ∷ rest) (at c (symbol.Close bracket.Curly) ∷ rest) (omega (arith, low)) (brace_follows c rest) refl)
     (no_row_reads ms limit m n (max h (depth ms r.1)) (acc ++ r ∷ []) c rest (omega arith) (omega arith))
-    ∙ same_deep _ _ _ _ (at c sign.CurlyClose ∷ rest) (omega arith) (append-nil (acc ++ r ∷ []))
+    ∙ same_deep _ _ _ _ (at c (symbol.Close bracket.Curly) ∷ rest) (omega arith) (append-nil (acc ++ r ∷ []))
 
 pub reach_last_row : {u v : Bool} {xs : List Lexeme} {r : Option PlacedName × Statement} → Begins xs → ReachesLabeled u v xs r → ReachesRows xs (r ∷ [])
 reach_last_row b r = record { reads = last_row_reads b r }
@@ -402,36 +406,36 @@ reach_last_row b r = record { reads = last_row_reads b r }
 brace_goes : (xs ys more : List Lexeme) → closes xs ≡ true → Begins ys → row_ended (xs ++ (ys ++ more)) (ys ++ more) ≡ Some (ys ++ more)
 unfolding row_ended ended
 brace_goes xs ys more e b =
-    ap (λ z. cond z (Some (ys ++ more)) (cond (sees sign.Semicolon (ys ++ more)) (Some (skip (ys ++ more))) (cond (closes (front_of (xs ++ (ys ++ more)) (ys ++ more))) (Some (ys ++ more)) None))) (b.no_brace more)
+    ap (λ z. cond z (Some (ys ++ more)) (cond (sees symbol.Semicolon (ys ++ more)) (Some (skip (ys ++ more))) (cond (closes (front_of (xs ++ (ys ++ more)) (ys ++ more))) (Some (ys ++ more)) None))) (b.no_brace more)
     ∙ ap (λ z. cond z (Some (skip (ys ++ more))) (cond (closes (front_of (xs ++ (ys ++ more)) (ys ++ more))) (Some (ys ++ more)) None)) (b.no_semicolon more)
     ∙ ap (λ z. cond (closes z) (Some (ys ++ more)) None) (front_is (xs ++ (ys ++ more)) xs (ys ++ more) refl)
     ∙ ap (λ z. cond z (Some (ys ++ more)) None) e
 
 -- how what stands behind a row goes on
-row_goes : {xs zs ys : List Lexeme} {rs : List (Option PlacedName × Statement)} → Ended xs zs → Rows ys rs → (c : Spot) (rest : List Lexeme) → row_ended (xs ++ (zs ++ (ys ++ (at c sign.CurlyClose ∷ rest)))) (zs ++ (ys ++ (at c sign.CurlyClose ∷ rest))) ≡ Some (ys ++ (at c sign.CurlyClose ∷ rest))
+row_goes : {xs zs ys : List Lexeme} {rs : List (Option PlacedName × Statement)} → Ended xs zs → Rows ys rs → (c : Spot) (rest : List Lexeme) → row_ended (xs ++ (zs ++ (ys ++ (at c (symbol.Close bracket.Curly) ∷ rest)))) (zs ++ (ys ++ (at c (symbol.Close bracket.Curly) ∷ rest))) ≡ Some (ys ++ (at c (symbol.Close bracket.Curly) ∷ rest))
 unfolding row_ended ended
 row_goes leaf.semicolon d c rest = refl
 row_goes (leaf.brace e) s.no_row c rest = refl
-row_goes {xs = xs} (leaf.brace e) (s.last_row {xs = ys} d) c rest = brace_goes xs ys (at c sign.CurlyClose ∷ rest) e (labeled_begins d)
+row_goes {xs = xs} (leaf.brace e) (s.last_row {xs = ys} d) c rest = brace_goes xs ys (at c (symbol.Close bracket.Curly) ∷ rest) e (labeled_begins d)
 row_goes {xs = xs} (leaf.brace e) (s.row {xs = ys} {ys = more} {zs = ends} d k m) c rest =
-    ap (λ i. row_ended (xs ++ i) i) (append_assoc ys (ends ++ more) (at c sign.CurlyClose ∷ rest)) ∙ brace_goes xs ys ((ends ++ more) ++ (at c sign.CurlyClose ∷ rest)) e (labeled_begins d) ∙ ap (λ i. Some i) (sym (append_assoc ys (ends ++ more) (at c sign.CurlyClose ∷ rest)))
+    ap (λ i. row_ended (xs ++ i) i) (append_assoc ys (ends ++ more) (at c (symbol.Close bracket.Curly) ∷ rest)) ∙ brace_goes xs ys ((ends ++ more) ++ (at c (symbol.Close bracket.Curly) ∷ rest)) e (labeled_begins d) ∙ ap (λ i. Some i) (sym (append_assoc ys (ends ++ more) (at c (symbol.Close bracket.Curly) ∷ rest)))
 
-semicolon_follows : {u v : Bool} (p : Spot) (j : List Lexeme) → Follows u v (at p sign.Semicolon ∷ j)
+semicolon_follows : {u v : Bool} (p : Spot) (j : List Lexeme) → Follows u v (at p symbol.Semicolon ∷ j)
 semicolon_follows p j = record { quiet = refl; no_bars = refl; stays = record { no_else = λ h. refl; no_or = λ h. refl } }
 
-row_follows : {xs zs ys : List Lexeme} {rs : List (Option PlacedName × Statement)} {u v : Bool} → Ended xs zs → Rows ys rs → (c : Spot) (rest : List Lexeme) → Follows u v (zs ++ (ys ++ (at c sign.CurlyClose ∷ rest)))
+row_follows : {xs zs ys : List Lexeme} {rs : List (Option PlacedName × Statement)} {u v : Bool} → Ended xs zs → Rows ys rs → (c : Spot) (rest : List Lexeme) → Follows u v (zs ++ (ys ++ (at c (symbol.Close bracket.Curly) ∷ rest)))
 row_follows (leaf.semicolon {p = p}) d c rest = semicolon_follows p _
 row_follows (leaf.brace e) s.no_row c rest = brace_follows c rest
-row_follows (leaf.brace e) (s.last_row d) c rest = begins_follows (labeled_begins d) (at c sign.CurlyClose ∷ rest)
+row_follows (leaf.brace e) (s.last_row d) c rest = begins_follows (labeled_begins d) (at c (symbol.Close bracket.Curly) ∷ rest)
 row_follows {u = u} {v = v} (leaf.brace e) (s.row {xs = ys} {ys = more} {zs = ends} d k m) c rest =
     let P : List Lexeme → Type 0 = λ i. Follows u v i in
-    subst P (sym (append_assoc ys (ends ++ more) (at c sign.CurlyClose ∷ rest))) (begins_follows (labeled_begins d) ((ends ++ more) ++ (at c sign.CurlyClose ∷ rest)))
+    subst P (sym (append_assoc ys (ends ++ more) (at c (symbol.Close bracket.Curly) ∷ rest))) (begins_follows (labeled_begins d) ((ends ++ more) ++ (at c (symbol.Close bracket.Curly) ∷ rest)))
 
 row_reads : {u v : Bool} {xs ys zs : List Lexeme} {r : Option PlacedName × Statement} {rs : List (Option PlacedName × Statement)} → Begins xs → ReachesLabeled u v xs r → Ended xs zs → Rows ys rs → ReachesRows ys rs → ReadsRows (xs ++ (zs ++ ys)) (r ∷ rs)
 unfolding folded
 row_reads {xs = xs} {ys = ys} {zs = zs} b reaches ends d m ms limit k zero h acc c rest low short = absurd (let f = b.full in let l = length-append xs (zs ++ ys) in omega (arith, f, l, short))
 row_reads {u} {v} {xs = xs} {ys = ys} {zs = zs} {r = r} {rs = rs} b reaches ends d m ms limit k (suc n) h acc c rest low short =
-    let end : List Lexeme = at c sign.CurlyClose ∷ rest in
+    let end : List Lexeme = at c (symbol.Close bracket.Curly) ∷ rest in
     let l = length-append xs (zs ++ ys) in
     let l' = length-append zs ys in
     let f = b.full in
@@ -446,28 +450,28 @@ pub reach_row : {u v : Bool} {xs ys zs : List Lexeme} {r : Option PlacedName × 
 reach_row b r e d m = record { reads = row_reads b r e d m }
 
 rows_give : {xs : List Lexeme} {rs : List (Option PlacedName × Statement)} → ReachesRows xs rs → (ms : List MacroDepth) (limit m : ℕ) (c : Spot) (rest : List Lexeme) → labeled_depth ms (labeled rs) ≤ m
-    → rows ms limit (statement ms m) (xs ++ (at c sign.CurlyClose ∷ rest)) ≡ Some (deep (labeled_depth ms (labeled rs)) rs, rest)
+    → rows ms limit (statement ms m) (xs ++ (at c (symbol.Close bracket.Curly) ∷ rest)) ≡ Some (deep (labeled_depth ms (labeled rs)) rs, rest)
 unfolding rows
 rows_give {xs} {rs} m ms limit k c rest low =
-    next_step _ _ _ _ _ (m.reads ms limit k (length (xs ++ (at c sign.CurlyClose ∷ rest))) 0 [] c rest low (let l = length-append xs (at c sign.CurlyClose ∷ rest) in omega (arith, l)))
-    (next_step _ _ _ _ _ (expect_gives sign.CurlyClose c rest) (ap (λ z. Some (deep z rs, rest)) (omega arith)))
+    next_step _ _ _ _ _ (m.reads ms limit k (length (xs ++ (at c (symbol.Close bracket.Curly) ∷ rest))) 0 [] c rest low (let l = length-append xs (at c (symbol.Close bracket.Curly) ∷ rest) in omega (arith, l)))
+    (next_step _ _ _ _ _ (expect_gives (symbol.Close bracket.Curly) c rest) (ap (λ z. Some (deep z rs, rest)) (omega arith)))
 
-pub reach_block : {o : Spot} (c : Spot) {xs : List Lexeme} {rs : List (Option PlacedName × Statement)} → ReachesRows xs rs → Reaches false false (at o sign.CurlyOpen ∷ (xs ++ (at c sign.CurlyClose ∷ []))) (st.block o.start (labeled rs))
+pub reach_block : {o : Spot} (c : Spot) {xs : List Lexeme} {rs : List (Option PlacedName × Statement)} → ReachesRows xs rs → Reaches false false (at o (symbol.Open bracket.Curly) ∷ (xs ++ (at c (symbol.Close bracket.Curly) ∷ []))) (st.block o.start (labeled rs))
 unfolding any_form block_form
 reach_block {o} c {xs} {rs} m = record {
   reads = λ ms n rest h f. some_depth ms (st.block o.start (labeled rs)) n _ rest h (λ k h.
-      ap (λ i. block_form ms (suc k) (statement ms k) (at o sign.CurlyOpen ∷ i)) (append_assoc xs (at c sign.CurlyClose ∷ []) rest)
-      ∙ next_step _ _ _ _ _ (mark_gives sign.CurlyOpen o (xs ++ (at c sign.CurlyClose ∷ rest)))
+      ap (λ i. block_form ms (suc k) (statement ms k) (at o (symbol.Open bracket.Curly) ∷ i)) (append_assoc xs (at c (symbol.Close bracket.Curly) ∷ []) rest)
+      ∙ next_step _ _ _ _ _ (mark_gives (symbol.Open bracket.Curly) o (xs ++ (at c (symbol.Close bracket.Curly) ∷ rest)))
       (next_step _ _ _ _ _ (rows_give m ms (suc k) k c rest (omega (arith, h)))
       (node_gives ms k (labeled_depth ms (labeled rs)) (st.block o.start (labeled rs)) rest (omega arith) h)));
 }
 
 body_gives : (o c : Spot) {xs : List Lexeme} {rs : List (Option PlacedName × Statement)} → ReachesRows xs rs → (ms : List MacroDepth) (limit m : ℕ) (rest : List Lexeme) → labeled_depth ms (labeled rs) ≤ m
-    → body ms limit (statement ms m) ((at o sign.CurlyOpen ∷ (xs ++ (at c sign.CurlyClose ∷ []))) ++ rest) ≡ Some (deep (labeled_depth ms (labeled rs)) rs, rest)
+    → body ms limit (statement ms m) ((at o (symbol.Open bracket.Curly) ∷ (xs ++ (at c (symbol.Close bracket.Curly) ∷ []))) ++ rest) ≡ Some (deep (labeled_depth ms (labeled rs)) rs, rest)
 unfolding body
 body_gives o c {xs} {rs} m ms limit k rest low =
-    ap (λ i. body ms limit (statement ms k) (at o sign.CurlyOpen ∷ i)) (append_assoc xs (at c sign.CurlyClose ∷ []) rest)
-    ∙ next_step _ _ _ _ _ (expect_gives sign.CurlyOpen o (xs ++ (at c sign.CurlyClose ∷ rest))) (rows_give m ms limit k c rest low)
+    ap (λ i. body ms limit (statement ms k) (at o (symbol.Open bracket.Curly) ∷ i)) (append_assoc xs (at c (symbol.Close bracket.Curly) ∷ []) rest)
+    ∙ next_step _ _ _ _ _ (expect_gives (symbol.Open bracket.Curly) o (xs ++ (at c (symbol.Close bracket.Curly) ∷ rest))) (rows_give m ms limit k c rest low)
 
 -- ---- the whole
 

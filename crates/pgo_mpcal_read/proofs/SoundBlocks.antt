@@ -7,7 +7,8 @@ use Rattle.pgo_syntax.specs.Statement.{Statement, statements, labeled, guarded}
 use Rattle.pgo_syntax.specs.Statement as st
 use Rattle.pgo_mpcal_read.specs.declared.deep.Deep.{Deep}
 use Rattle.pgo_mpcal_read.specs.declared.depths.MacroDepth.{MacroDepth}
-use Rattle.pgo_mpcal_read.specs.declared.sign.Sign.TheVariants as sign
+use Rattle.pgo_lexer.specs.declared.symbol.Bracket.TheVariants as bracket
+use Rattle.pgo_lexer.specs.declared.symbol.Symbol.TheVariants as symbol
 use Rattle.pgo_mpcal_read.specs.Depths.{depth, labeled_depth}
 use Rattle.pgo_mpcal_read.specs.Signs.{sees}
 use Rattle.pgo_mpcal_read.specs.Leaves.{Spot, at, Ended}
@@ -21,7 +22,7 @@ use Rattle.pgo_mpcal_read.proofs.Good.{stays_closed, SoundInner, inner_then, goo
 
 -- what stands behind a row: the `}` of the block follows, or the row has its end
 data RowEnd (front j : List Lexeme) : List Lexeme → Type 0 where
-  closing : sees sign.CurlyClose j ≡ true → RowEnd front j []
+  closing : sees (symbol.Close bracket.Curly) j ≡ true → RowEnd front j []
   ending : {zs : List Lexeme} → Ended front zs → RowEnd front j zs
 
 module _ (ms : List MacroDepth) (limit below : ℕ) (inner : Parser (Deep Statement)) (S : SoundInner ms below inner) where
@@ -80,7 +81,7 @@ module _ (ms : List MacroDepth) (limit below : ℕ) (inner : Parser (Deep Statem
     within : depth ms part.1 ≤ below
     depth : next.depth ≡ max acc.depth (depth ms part.1)
 
-  row_by : (b : Bool) (i rest j : List Lexeme) (acc next : Deep (List (Option PlacedName × Statement))) (r : Deep (Option PlacedName × Statement)) → GoodLabeled i r rest → sees sign.CurlyClose rest ≡ b → (o : Option (List Lexeme)) → cond b (Some rest) (ended i rest) ≡ o
+  row_by : (b : Bool) (i rest j : List Lexeme) (acc next : Deep (List (Option PlacedName × Statement))) (r : Deep (Option PlacedName × Statement)) → GoodLabeled i r rest → sees (symbol.Close bracket.Curly) rest ≡ b → (o : Option (List Lexeme)) → cond b (Some rest) (ended i rest) ≡ o
       → row_to acc r o ≡ Some (next, j) → NextRow i acc next j
   row_by true i rest j acc next r g seen (Some k) is got =
       let q = some_pair _ _ _ _ got in
@@ -94,7 +95,7 @@ module _ (ms : List MacroDepth) (limit below : ℕ) (inner : Parser (Deep Statem
         part = r.part;
         split = g.split ∙ ap (λ z. g.front ++ z) same;
         holds = g.holds;
-        ends = closing (ap (sees sign.CurlyClose) (sym same) ∙ seen);
+        ends = closing (ap (sees (symbol.Close bracket.Curly)) (sym same) ∙ seen);
         is = ap (λ (z : Deep (List (Option PlacedName × Statement))). z.part) (sym q.0);
         depth = ap (λ (z : Deep (List (Option PlacedName × Statement))). z.depth) (sym q.0) ∙ ap (λ z. max acc.depth z) g.depth;
         within = let x = g.depth in let y = g.within in omega (arith, x, y);
@@ -121,9 +122,9 @@ module _ (ms : List MacroDepth) (limit below : ℕ) (inner : Parser (Deep Statem
   unfolding one_more_row row_ended
   sound_one_row acc next i j got =
       bind_then (labeled_statement ms limit inner i) _ _ _ got (λ r rest hr got.
-      row_by (sees sign.CurlyClose rest) i rest j acc next r (sound_labeled i r rest hr) refl (cond (sees sign.CurlyClose rest) (Some rest) (ended i rest)) refl got)
+      row_by (sees (symbol.Close bracket.Curly) rest) i rest j acc next r (sound_labeled i r rest hr) refl (cond (sees (symbol.Close bracket.Curly) rest) (Some rest) (ended i rest)) refl got)
 
-  stops_at : (n : ℕ) (acc res : Deep (List (Option PlacedName × Statement))) (i rest : List Lexeme) → sees sign.CurlyClose i ≡ true → folded goes_on (one_more_row ms limit inner) n acc i ≡ Some (res, rest) → (acc ≡ res) × (i ≡ rest)
+  stops_at : (n : ℕ) (acc res : Deep (List (Option PlacedName × Statement))) (i rest : List Lexeme) → sees (symbol.Close bracket.Curly) i ≡ true → folded goes_on (one_more_row ms limit inner) n acc i ≡ Some (res, rest) → (acc ≡ res) × (i ≡ rest)
   unfolding folded
   stops_at zero acc res i rest seen got = some_pair _ _ _ _ got
   stops_at (suc n) acc res i rest seen got = some_pair _ _ _ _ (ap (λ z. cond (not z) (and_then (one_more_row ms limit inner acc i) (folded goes_on (one_more_row ms limit inner) n)) (Some (acc, i))) (sym seen) ∙ got)
@@ -171,7 +172,7 @@ module _ (ms : List MacroDepth) (limit below : ℕ) (inner : Parser (Deep Statem
   record GoodBlock (i : List Lexeme) (r : Deep (List (Option PlacedName × Statement))) (rest : List Lexeme) : Type 0 where
     last : Spot
     front : List Lexeme
-    split : i ≡ front ++ (at last sign.CurlyClose ∷ rest)
+    split : i ≡ front ++ (at last (symbol.Close bracket.Curly) ∷ rest)
     holds : Rows front r.part
     depth : r.depth ≡ labeled_depth ms (labeled r.part)
     within : r.depth ≤ below
@@ -181,7 +182,7 @@ module _ (ms : List MacroDepth) (limit below : ℕ) (inner : Parser (Deep Statem
   sound_rows i r rest got =
       bind_then (folded goes_on (one_more_row ms limit inner) (length i) (deep 0 []) i) _ _ _ got (λ all i1 h1 got.
       let g = sound_more_rows (length i) (deep 0 []) all i i1 h1 in
-      expect_then sign.CurlyClose i1 _ _ _ got (λ c i2 e2 got.
+      expect_then (symbol.Close bracket.Curly) i1 _ _ _ got (λ c i2 e2 got.
       let q = some_pair _ _ _ _ got in
       let P : Deep (List (Option PlacedName × Statement)) → Type 0 = λ z. GoodBlock i z rest in
       let R : List (Option PlacedName × Statement) → Type 0 = λ z. Rows g.front z in
@@ -189,7 +190,7 @@ module _ (ms : List MacroDepth) (limit below : ℕ) (inner : Parser (Deep Statem
       subst P q.0 (record {
         last = c;
         front = g.front;
-        split = g.split ∙ ap (λ z. g.front ++ z) (e2 ∙ ap (λ z. at c sign.CurlyClose ∷ z) q.1);
+        split = g.split ∙ ap (λ z. g.front ++ z) (e2 ∙ ap (λ z. at c (symbol.Close bracket.Curly) ∷ z) q.1);
         holds = subst R (sym g.is) g.holds;
         depth = subst H (sym g.is) (let x = g.depth in omega (arith, x));
         within = let x = g.within in omega (arith, x);
@@ -201,11 +202,11 @@ module _ (ms : List MacroDepth) (limit below : ℕ) (inner : Parser (Deep Statem
   pub sound_block : SoundInner ms limit (block_form ms limit inner)
   unfolding block_form
   sound_block i r rest got =
-      mark_then sign.CurlyOpen i _ _ _ got (λ o i1 e1 got.
+      mark_then (symbol.Open bracket.Curly) i _ _ _ got (λ o i1 e1 got.
       bind_then (rows ms limit inner i1) _ _ _ got (λ all i2 h2 got.
       let g = sound_rows i1 all i2 h2 in
       good_node ms limit inner false false all.depth (st.block o.start (labeled all.part)) r _ i i2 rest got
-      (braces (at o sign.CurlyOpen) (at g.last sign.CurlyClose) g.front i i1 i2 e1 g.split) (s.block g.last g.holds) (let x = g.depth in omega (arith, x)) (stays_closed i2)))
+      (braces (at o (symbol.Open bracket.Curly)) (at g.last (symbol.Close bracket.Curly)) g.front i i1 i2 e1 g.split) (s.block g.last g.holds) (let x = g.depth in omega (arith, x)) (stays_closed i2)))
 
   pub record GoodBody (i : List Lexeme) (r : Deep (List (Option PlacedName × Statement))) (rest : List Lexeme) : Type 0 where
     pub front : List Lexeme
@@ -217,11 +218,11 @@ module _ (ms : List MacroDepth) (limit below : ℕ) (inner : Parser (Deep Statem
   pub sound_body : (i : List Lexeme) (r : Deep (List (Option PlacedName × Statement))) (rest : List Lexeme) → body ms limit inner i ≡ Some (r, rest) → GoodBody i r rest
   unfolding body
   sound_body i r rest got =
-      expect_then sign.CurlyOpen i _ _ _ got (λ o i1 e1 got.
+      expect_then (symbol.Open bracket.Curly) i _ _ _ got (λ o i1 e1 got.
       let g = sound_rows i1 r rest got in
       record {
-        front = at o sign.CurlyOpen ∷ (g.front ++ (at g.last sign.CurlyClose ∷ []));
-        split = braces (at o sign.CurlyOpen) (at g.last sign.CurlyClose) g.front i i1 rest e1 g.split;
+        front = at o (symbol.Open bracket.Curly) ∷ (g.front ++ (at g.last (symbol.Close bracket.Curly) ∷ []));
+        split = braces (at o (symbol.Open bracket.Curly)) (at g.last (symbol.Close bracket.Curly)) g.front i i1 rest e1 g.split;
         holds = s.body g.last g.holds;
         depth = g.depth;
         within = g.within;

@@ -10,8 +10,10 @@ use Rattle.pgo_mpcal_read.specs.declared.deep.Deep.{Deep}
 use Rattle.pgo_mpcal_read.specs.declared.depths.MacroDepth.{MacroDepth}
 use Rattle.pgo_mpcal_read.specs.declared.lead.Lead.{Lead}
 use Rattle.pgo_mpcal_read.specs.declared.lead.Lead.TheVariants as lead
-use Rattle.pgo_mpcal_read.specs.declared.sign.Sign.{Sign}
-use Rattle.pgo_mpcal_read.specs.declared.sign.Sign.TheVariants as sign
+use Rattle.pgo_lexer.specs.declared.symbol.Bracket.TheVariants as bracket
+use Rattle.pgo_lexer.specs.declared.symbol.Keyword.{Keyword}
+use Rattle.pgo_lexer.specs.declared.symbol.Keyword.TheVariants as keyword
+use Rattle.pgo_lexer.specs.declared.symbol.Symbol.TheVariants as symbol
 use Rattle.pgo_mpcal_read.specs.Depths.{depth, depth_of, statements_depth, guarded_depth}
 use Rattle.pgo_mpcal_read.specs.Leads.{lead_of}
 use Rattle.pgo_mpcal_read.specs.Signs.{sees}
@@ -19,7 +21,7 @@ use Rattle.pgo_mpcal_read.specs.Leaves.{Spot, at, word, placed, IsExpression, It
 use Rattle.pgo_mpcal_read.specs.Statements.{Spelled, IsBranch, ElseIfs, Ors, IsLabeled, Rows, IsBody, IsFairness, IsAwait, IsAssignment, IsWithName}
 use Rattle.pgo_mpcal_read.specs.Statements as s
 use Rattle.pgo_mpcal_read.specs.Reading.{Outcome, Parser, and_then, skip, expression, folded, items, in_brackets}
-use Rattle.pgo_mpcal_read.specs.ReadingStatements.{deep, assignment, with_name, skip_form, one_expression, goto_form, assign_all, assign_form, call_form, while_form, with_form, branch, sees_else_if, one_more_branch, last_else, if_form, one_more_or, either_form, form, any_form, statement}
+use Rattle.pgo_mpcal_read.specs.ReadingStatements.{deep, assignment, with_name, skip_form, said, one_expression, goto_form, assign_all, assign_form, call_form, while_form, with_form, branch, sees_else_if, one_more_branch, last_else, if_form, one_more_or, either_form, keyword_form, form, any_form, statement}
 use Rattle.pgo_mpcal_read.proofs.Parts.{some_pair, bind_then, front_then, expect_then, mark_then, name_then, eaten_then}
 use Rattle.pgo_mpcal_read.proofs.Expressions.{sound_expression}
 use Rattle.pgo_mpcal_read.proofs.Lists.{sound_items, sound_in_brackets}
@@ -43,32 +45,32 @@ module _ (ms : List MacroDepth) (limit below : ℕ) (inner : Parser (Deep Statem
   pub sound_skip : SoundInner ms limit (skip_form ms limit inner)
   unfolding skip_form
   sound_skip i r rest got =
-      mark_then sign.Skip i _ _ _ got (λ p i1 e1 got.
-      good_node ms limit inner false false 0 (st.skip p.start) r (at p sign.Skip ∷ []) i i1 rest got e1 s.skip (omega arith) (stays_closed i1))
+      mark_then (symbol.Keyword keyword.Skip) i _ _ _ got (λ p i1 e1 got.
+      good_node ms limit inner false false 0 (st.skip p.start) r (at p (symbol.Keyword keyword.Skip) ∷ []) i i1 rest got e1 s.skip (omega arith) (stays_closed i1))
 
-  pub sound_one : (v : Sign) (made : ℕ → Tree → Statement) → ((p : Spot) (xs : List Lexeme) (e : Tree) → IsExpression xs e → Spelled false false (at p v ∷ xs) (made p.start e)) → ((p : ℕ) (e : Tree) → 0 + 1 ≡ depth ms (made p e))
-      → SoundInner ms limit (one_expression ms limit inner v made)
+  pub sound_one : (k : Keyword) → ((p : Spot) (xs : List Lexeme) (e : Tree) → IsExpression xs e → Spelled false false (at p (symbol.Keyword k) ∷ xs) (said k p.start e)) → ((p : ℕ) (e : Tree) → 0 + 1 ≡ depth ms (said k p e))
+      → SoundInner ms limit (one_expression ms limit inner k)
   unfolding one_expression
-  sound_one v made spells one i r rest got =
-      mark_then v i _ _ _ got (λ p i1 e1 got.
+  sound_one k spells one i r rest got =
+      mark_then (symbol.Keyword k) i _ _ _ got (λ p i1 e1 got.
       front_then IsExpression expression sound_expression i1 _ _ _ got (λ xs e i2 e2 d got.
-      good_node ms limit inner false false 0 (made p.start e) r (at p v ∷ xs) i i2 rest got (e1 ∙ ap (λ z. at p v ∷ z) e2) (spells p xs e d) (one p.start e) (stays_closed i2)))
+      good_node ms limit inner false false 0 (said k p.start e) r (at p (symbol.Keyword k) ∷ xs) i i2 rest got (e1 ∙ ap (λ z. at p (symbol.Keyword k) ∷ z) e2) (spells p xs e d) (one p.start e) (stays_closed i2)))
 
   pub sound_goto : SoundInner ms limit (goto_form ms limit inner)
   unfolding goto_form
   sound_goto i r rest got =
-      mark_then sign.Goto i _ _ _ got (λ p i1 e1 got.
+      mark_then (symbol.Keyword keyword.Goto) i _ _ _ got (λ p i1 e1 got.
       name_then i1 _ _ _ got (λ n x i2 e2 got.
-      good_node ms limit inner false false 0 (st.go_to p.start (placed n x)) r (at p sign.Goto ∷ (word n x ∷ [])) i i2 rest got (e1 ∙ ap (λ z. at p sign.Goto ∷ z) e2) s.go_to (omega arith) (stays_closed i2)))
+      good_node ms limit inner false false 0 (st.go_to p.start (placed n x)) r (at p (symbol.Keyword keyword.Goto) ∷ (word n x ∷ [])) i i2 rest got (e1 ∙ ap (λ z. at p (symbol.Keyword keyword.Goto) ∷ z) e2) s.go_to (omega arith) (stays_closed i2)))
 
-  assigned_all : (all : List Assignment) (xs i j : List Lexeme) (r : Deep Statement) (rest : List Lexeme) → i ≡ xs ++ j → Items IsAssignment sign.Bars xs all → assign_all ms limit inner all j ≡ Some (r, rest) → Good ms limit i r rest
+  assigned_all : (all : List Assignment) (xs i j : List Lexeme) (r : Deep Statement) (rest : List Lexeme) → i ≡ xs ++ j → Items IsAssignment symbol.Bars xs all → assign_all ms limit inner all j ≡ Some (r, rest) → Good ms limit i r rest
   assigned_all [] xs i j r rest e d got = cc
   assigned_all (a ∷ as') xs i j r rest e d got = good_node ms limit inner false false 0 (st.assign a.left.name.place (a ∷ as')) r xs i j rest got e (s.assign d) (omega arith) (stays_closed j)
 
   pub sound_assign : SoundInner ms limit (assign_form ms limit inner)
   unfolding assign_form
   sound_assign i r rest got =
-      front_then (Items IsAssignment sign.Bars) (items sign.Bars assignment) (sound_items IsAssignment sign.Bars assignment sound_assignment) i _ _ _ got (λ xs all i1 e1 d got.
+      front_then (Items IsAssignment symbol.Bars) (items symbol.Bars assignment) (sound_items IsAssignment symbol.Bars assignment sound_assignment) i _ _ _ got (λ xs all i1 e1 d got.
       assigned_all all xs i i1 r rest e1 d got)
 
   pub sound_call : SoundInner ms limit (call_form ms limit inner)
@@ -86,24 +88,24 @@ module _ (ms : List MacroDepth) (limit below : ℕ) (inner : Parser (Deep Statem
   pub sound_while : SoundInner ms limit (while_form ms limit inner)
   unfolding while_form
   sound_while i r rest got =
-      mark_then sign.While i _ _ _ got (λ p i1 e1 got.
-      expect_then sign.RoundOpen i1 _ _ _ got (λ o i2 e2 got.
+      mark_then (symbol.Keyword keyword.While) i _ _ _ got (λ p i1 e1 got.
+      expect_then (symbol.Open bracket.Round) i1 _ _ _ got (λ o i2 e2 got.
       front_then IsExpression expression sound_expression i2 _ _ _ got (λ xs e i3 e3 d got.
-      expect_then sign.RoundClose i3 _ _ _ got (λ c i4 e4 got.
+      expect_then (symbol.Close bracket.Round) i3 _ _ _ got (λ c i4 e4 got.
       inner_then ms below inner S i4 _ _ _ got (λ b i5 g got.
       good_node ms limit inner g.opens_if g.opens_either b.depth (st.while_do p.start e b.part) r _ i i5 rest got
-      (bracketed (at p sign.While) (at o sign.RoundOpen) (at c sign.RoundClose) xs g.front i i1 i2 i3 i4 i5 e1 e2 e3 e4 g.split) (s.while_do c d g.spelled) (let x = g.depth in omega (arith, x)) g.stays)))))
+      (bracketed (at p (symbol.Keyword keyword.While)) (at o (symbol.Open bracket.Round)) (at c (symbol.Close bracket.Round)) xs g.front i i1 i2 i3 i4 i5 e1 e2 e3 e4 g.split) (s.while_do c d g.spelled) (let x = g.depth in omega (arith, x)) g.stays)))))
 
   pub sound_with : SoundInner ms limit (with_form ms limit inner)
   unfolding with_form
   sound_with i r rest got =
-      mark_then sign.With i _ _ _ got (λ p i1 e1 got.
-      expect_then sign.RoundOpen i1 _ _ _ got (λ o i2 e2 got.
-      front_then (Items IsWithName sign.Comma) (items sign.Comma with_name) (sound_items IsWithName sign.Comma with_name sound_with_name) i2 _ _ _ got (λ xs ns i3 e3 d got.
-      expect_then sign.RoundClose i3 _ _ _ got (λ c i4 e4 got.
+      mark_then (symbol.Keyword keyword.With) i _ _ _ got (λ p i1 e1 got.
+      expect_then (symbol.Open bracket.Round) i1 _ _ _ got (λ o i2 e2 got.
+      front_then (Items IsWithName symbol.Comma) (items symbol.Comma with_name) (sound_items IsWithName symbol.Comma with_name sound_with_name) i2 _ _ _ got (λ xs ns i3 e3 d got.
+      expect_then (symbol.Close bracket.Round) i3 _ _ _ got (λ c i4 e4 got.
       inner_then ms below inner S i4 _ _ _ got (λ b i5 g got.
       good_node ms limit inner g.opens_if g.opens_either b.depth (st.with_in p.start ns b.part) r _ i i5 rest got
-      (bracketed (at p sign.With) (at o sign.RoundOpen) (at c sign.RoundClose) xs g.front i i1 i2 i3 i4 i5 e1 e2 e3 e4 g.split) (s.with_in c d g.spelled) (let x = g.depth in omega (arith, x)) g.stays)))))
+      (bracketed (at p (symbol.Keyword keyword.With)) (at o (symbol.Open bracket.Round)) (at c (symbol.Close bracket.Round)) xs g.front i i1 i2 i3 i4 i5 e1 e2 e3 e4 g.split) (s.with_in c d g.spelled) (let x = g.depth in omega (arith, x)) g.stays)))))
 
   -- ---- `if`
 
@@ -119,10 +121,10 @@ module _ (ms : List MacroDepth) (limit below : ℕ) (inner : Parser (Deep Statem
   sound_branch : (i : List Lexeme) (r : Deep (ℕ × (Tree × Statement))) (rest : List Lexeme) → branch ms limit inner i ≡ Some (r, rest) → GoodBranch i r rest
   unfolding branch
   sound_branch i r rest got =
-      mark_then sign.If i _ _ _ got (λ p i1 e1 got.
-      expect_then sign.RoundOpen i1 _ _ _ got (λ o i2 e2 got.
+      mark_then (symbol.Keyword keyword.If) i _ _ _ got (λ p i1 e1 got.
+      expect_then (symbol.Open bracket.Round) i1 _ _ _ got (λ o i2 e2 got.
       front_then IsExpression expression sound_expression i2 _ _ _ got (λ xs e i3 e3 d got.
-      expect_then sign.RoundClose i3 _ _ _ got (λ c i4 e4 got.
+      expect_then (symbol.Close bracket.Round) i3 _ _ _ got (λ c i4 e4 got.
       inner_then ms below inner S i4 _ _ _ got (λ b i5 g got.
       let q = some_pair _ _ _ _ got in
       let P : Deep (ℕ × (Tree × Statement)) → Type 0 = λ z. GoodBranch i z rest in
@@ -130,8 +132,8 @@ module _ (ms : List MacroDepth) (limit below : ℕ) (inner : Parser (Deep Statem
       subst P q.0 (record {
         opens_if = g.opens_if;
         opens_either = g.opens_either;
-        front = at p sign.If ∷ (at o sign.RoundOpen ∷ (xs ++ (at c sign.RoundClose ∷ g.front)));
-        split = bracketed (at p sign.If) (at o sign.RoundOpen) (at c sign.RoundClose) xs g.front i i1 i2 i3 i4 rest e1 e2 e3 e4 (g.split ∙ ap (λ z. g.front ++ z) q.1);
+        front = at p (symbol.Keyword keyword.If) ∷ (at o (symbol.Open bracket.Round) ∷ (xs ++ (at c (symbol.Close bracket.Round) ∷ g.front)));
+        split = bracketed (at p (symbol.Keyword keyword.If)) (at o (symbol.Open bracket.Round)) (at c (symbol.Close bracket.Round)) xs g.front i i1 i2 i3 i4 rest e1 e2 e3 e4 (g.split ∙ ap (λ z. g.front ++ z) q.1);
         holds = s.branch c d g.spelled;
         depth = g.depth;
         stays = subst Q q.1 g.stays;
@@ -161,20 +163,20 @@ module _ (ms : List MacroDepth) (limit below : ℕ) (inner : Parser (Deep Statem
   unfolding one_more_branch
   else_ifs_by true n u v acc res i rest goes stays go got =
       bind_then (one_more_branch ms limit inner acc i) _ _ _ got (λ next j is got.
-      expect_then sign.Else i _ _ _ is (λ p i1 e1 is.
+      expect_then (symbol.Keyword keyword.Else) i _ _ _ is (λ p i1 e1 is.
       bind_then (branch ms limit inner i1) _ _ _ is (λ b i2 hb is.
       let g = sound_branch i1 b i2 hb in
       let q = some_pair _ _ _ _ is in
       let Q : List Lexeme → Type 0 = λ z. Stays g.opens_if g.opens_either z in
       let m = go g.opens_if g.opens_either next j (subst Q q.1 g.stays) got in
-      let closed = is_false u (sees sign.Else i) stays.no_else (and_both _ _ goes).0 in
-      let P : Bool → Type 0 = λ z. ElseIfs z v m.opens_if m.opens_either (at p sign.Else ∷ (g.front ++ m.front)) (b.part ∷ m.others) in
+      let closed = is_false u (sees (symbol.Keyword keyword.Else) i) stays.no_else (and_both _ _ goes).0 in
+      let P : Bool → Type 0 = λ z. ElseIfs z v m.opens_if m.opens_either (at p (symbol.Keyword keyword.Else) ∷ (g.front ++ m.front)) (b.part ∷ m.others) in
       record {
         opens_if = m.opens_if;
         opens_either = m.opens_either;
-        front = at p sign.Else ∷ (g.front ++ m.front);
+        front = at p (symbol.Keyword keyword.Else) ∷ (g.front ++ m.front);
         others = b.part ∷ m.others;
-        split = e1 ∙ ap (λ z. at p sign.Else ∷ z) (g.split ∙ ap (λ z. g.front ++ z) (q.1 ∙ m.split) ∙ sym (append_assoc g.front m.front rest));
+        split = e1 ∙ ap (λ z. at p (symbol.Keyword keyword.Else) ∷ z) (g.split ∙ ap (λ z. g.front ++ z) (q.1 ∙ m.split) ∙ sym (append_assoc g.front m.front rest));
         holds = subst P (sym closed) (s.else_if g.holds m.holds);
         is = m.is ∙ ap (λ (z : Deep (List (ℕ × (Tree × Statement)))). z.part ++ m.others) (sym q.0) ∙ append_assoc acc.part (b.part ∷ []) m.others;
         depth = let x = m.depth in let y = g.depth in let z : next.depth ≡ max acc.depth b.depth = ap (λ (z : Deep (List (ℕ × (Tree × Statement)))). z.depth) (sym q.0) in omega (arith, x, y, z);
@@ -190,11 +192,11 @@ module _ (ms : List MacroDepth) (limit below : ℕ) (inner : Parser (Deep Statem
   branch_falls : (acc next : Deep (List (ℕ × (Tree × Statement)))) (i j : List Lexeme) → sees_else_if i ≡ true → one_more_branch ms limit inner acc i ≡ Some (next, j) → length j < length i
   unfolding one_more_branch
   branch_falls acc next i j goes is =
-      expect_then sign.Else i _ _ _ is (λ p i1 e1 is.
+      expect_then (symbol.Keyword keyword.Else) i _ _ _ is (λ p i1 e1 is.
       bind_then (branch ms limit inner i1) _ _ _ is (λ b i2 hb is.
       let g = sound_branch i1 b i2 hb in
       let q = some_pair _ _ _ _ is in
-      shorter i g.front j (at p sign.Else) (e1 ∙ ap (λ z. at p sign.Else ∷ z) (g.split ∙ ap (λ z. g.front ++ z) q.1))))
+      shorter i g.front j (at p (symbol.Keyword keyword.Else)) (e1 ∙ ap (λ z. at p (symbol.Keyword keyword.Else) ∷ z) (g.split ∙ ap (λ z. g.front ++ z) q.1))))
 
   pub sound_if : SoundInner ms limit (if_form ms limit inner)
   unfolding if_form last_else
@@ -207,17 +209,17 @@ module _ (ms : List MacroDepth) (limit below : ℕ) (inner : Parser (Deep Statem
       let high : bs.depth ≡ guarded_depth ms (guarded (first.part ∷ m.others)) = let x = m.depth in let y = g.depth in omega (arith, x, y) in
       let B : List (ℕ × (Tree × Statement)) → Type 0 = λ z. bs.depth ≡ guarded_depth ms (guarded z) in
       let whole : bs.depth ≡ guarded_depth ms (guarded bs.part) = subst B (sym m.is) high in
-      eaten_then sign.Else _ _ i2 _ _ got
+      eaten_then (symbol.Keyword keyword.Else) _ _ i2 _ _ got
       (λ l i3 e3 got.
       inner_then ms below inner S i3 _ _ _ got (λ b i4 h got.
-      let next : sees sign.Else i2 ≡ true = ap (sees sign.Else) e3 in
-      let closed = is_false m.opens_if (sees sign.Else i2) m.stays.no_else next in
-      let no_if : sees sign.If i3 ≡ false = ap (λ z. sees sign.If (skip z)) (sym e3) ∙ and_first _ _ over next in
+      let next : sees (symbol.Keyword keyword.Else) i2 ≡ true = ap (sees (symbol.Keyword keyword.Else)) e3 in
+      let closed = is_false m.opens_if (sees (symbol.Keyword keyword.Else) i2) m.stays.no_else next in
+      let no_if : sees (symbol.Keyword keyword.If) i3 ≡ false = ap (λ z. sees (symbol.Keyword keyword.If) (skip z)) (sym e3) ∙ and_first _ _ over next in
       let P : Bool → Type 0 = λ z. ElseIfs g.opens_if g.opens_either z m.opens_either m.front m.others in
-      let Q : List (ℕ × (Tree × Statement)) → Type 0 = λ z. Spelled h.opens_if h.opens_either (g.front ++ (m.front ++ (at l sign.Else ∷ h.front))) (st.if_else first.part.0 (guarded z) b.part) in
-      let no_if_front : sees sign.If h.front ≡ false = sees_front sign.If h.front i4 (ap (sees sign.If) (sym h.split) ∙ no_if) in
-      good_node ms limit inner h.opens_if h.opens_either (max bs.depth b.depth) (st.if_else first.part.0 (guarded bs.part) b.part) r (g.front ++ (m.front ++ (at l sign.Else ∷ h.front))) i i4 rest got
-      (g.split ∙ ap (λ z. g.front ++ z) (m.split ∙ ap (λ z. m.front ++ z) (e3 ∙ ap (λ z. at l sign.Else ∷ z) h.split) ∙ sym (append_assoc m.front (at l sign.Else ∷ h.front) i4)) ∙ sym (append_assoc g.front (m.front ++ (at l sign.Else ∷ h.front)) i4))
+      let Q : List (ℕ × (Tree × Statement)) → Type 0 = λ z. Spelled h.opens_if h.opens_either (g.front ++ (m.front ++ (at l (symbol.Keyword keyword.Else) ∷ h.front))) (st.if_else first.part.0 (guarded z) b.part) in
+      let no_if_front : sees (symbol.Keyword keyword.If) h.front ≡ false = sees_front (symbol.Keyword keyword.If) h.front i4 (ap (sees (symbol.Keyword keyword.If)) (sym h.split) ∙ no_if) in
+      good_node ms limit inner h.opens_if h.opens_either (max bs.depth b.depth) (st.if_else first.part.0 (guarded bs.part) b.part) r (g.front ++ (m.front ++ (at l (symbol.Keyword keyword.Else) ∷ h.front))) i i4 rest got
+      (g.split ∙ ap (λ z. g.front ++ z) (m.split ∙ ap (λ z. m.front ++ z) (e3 ∙ ap (λ z. at l (symbol.Keyword keyword.Else) ∷ z) h.split) ∙ sym (append_assoc m.front (at l (symbol.Keyword keyword.Else) ∷ h.front) i4)) ∙ sym (append_assoc g.front (m.front ++ (at l (symbol.Keyword keyword.Else) ∷ h.front)) i4))
       (subst Q (sym m.is) (s.if_else l g.holds (subst P closed m.holds) no_if_front h.spelled))
       (let x = h.depth in omega (arith, whole, x)) h.stays))
       (λ none got.
@@ -253,7 +255,7 @@ module _ (ms : List MacroDepth) (limit below : ℕ) (inner : Parser (Deep Statem
     opens_either : Bool
     front : List Lexeme
     part : Statement
-    split : i ≡ at spot sign.Or ∷ (front ++ j)
+    split : i ≡ at spot (symbol.Keyword keyword.Or) ∷ (front ++ j)
     closed : v ≡ false
     spelled : Spelled opens_if opens_either front part
     is : next.part ≡ acc.part ++ part ∷ []
@@ -263,7 +265,7 @@ module _ (ms : List MacroDepth) (limit below : ℕ) (inner : Parser (Deep Statem
   sound_one_or : (u v : Bool) (acc next : Deep (List Statement)) (i j : List Lexeme) → Stays u v i → one_more_or ms limit inner acc i ≡ Some (next, j) → NextOr v i acc next j
   unfolding one_more_or
   sound_one_or u v acc next i j stays is =
-      expect_then sign.Or i _ _ _ is (λ p i1 e1 is.
+      expect_then (symbol.Keyword keyword.Or) i _ _ _ is (λ p i1 e1 is.
       inner_then ms below inner S i1 _ _ _ is (λ b i2 g is.
       let q = some_pair _ _ _ _ is in
       let Q : List Lexeme → Type 0 = λ z. Stays g.opens_if g.opens_either z in
@@ -273,8 +275,8 @@ module _ (ms : List MacroDepth) (limit below : ℕ) (inner : Parser (Deep Statem
         opens_either = g.opens_either;
         front = g.front;
         part = b.part;
-        split = e1 ∙ ap (λ z. at p sign.Or ∷ z) (g.split ∙ ap (λ z. g.front ++ z) q.1);
-        closed = is_false v (sees sign.Or i) stays.no_or (ap (sees sign.Or) e1);
+        split = e1 ∙ ap (λ z. at p (symbol.Keyword keyword.Or) ∷ z) (g.split ∙ ap (λ z. g.front ++ z) q.1);
+        closed = is_false v (sees (symbol.Keyword keyword.Or) i) stays.no_or (ap (sees (symbol.Keyword keyword.Or)) e1);
         spelled = g.spelled;
         is = ap (λ (z : Deep (List Statement)). z.part) (sym q.0);
         depth = ap (λ (z : Deep (List Statement)). z.depth) (sym q.0) ∙ ap (λ z. max acc.depth z) g.depth;
@@ -282,19 +284,19 @@ module _ (ms : List MacroDepth) (limit below : ℕ) (inner : Parser (Deep Statem
       }))
 
   ors_by : (b : Bool) (n : ℕ) (u v : Bool) (acc res : Deep (List Statement)) (i rest : List Lexeme) → Stays u v i
-      → ((w z : Bool) (next : Deep (List Statement)) (j : List Lexeme) → Stays w z j → folded (sees sign.Or) (one_more_or ms limit inner) n next j ≡ Some (res, rest) → GoodOrs w z j next res rest)
-      → cond b (and_then (one_more_or ms limit inner acc i) (folded (sees sign.Or) (one_more_or ms limit inner) n)) (Some (acc, i)) ≡ Some (res, rest) → GoodOrs u v i acc res rest
+      → ((w z : Bool) (next : Deep (List Statement)) (j : List Lexeme) → Stays w z j → folded (sees (symbol.Keyword keyword.Or)) (one_more_or ms limit inner) n next j ≡ Some (res, rest) → GoodOrs w z j next res rest)
+      → cond b (and_then (one_more_or ms limit inner acc i) (folded (sees (symbol.Keyword keyword.Or)) (one_more_or ms limit inner) n)) (Some (acc, i)) ≡ Some (res, rest) → GoodOrs u v i acc res rest
   ors_by true n u v acc res i rest stays go got =
       bind_then (one_more_or ms limit inner acc i) _ _ _ got (λ next j is got.
       let g = sound_one_or u v acc next i j stays is in
       let m = go g.opens_if g.opens_either next j g.stays got in
-      let P : Bool → Type 0 = λ z. Ors u z m.opens_if m.opens_either (at g.spot sign.Or ∷ (g.front ++ m.front)) (g.part ∷ m.others) in
+      let P : Bool → Type 0 = λ z. Ors u z m.opens_if m.opens_either (at g.spot (symbol.Keyword keyword.Or) ∷ (g.front ++ m.front)) (g.part ∷ m.others) in
       record {
         opens_if = m.opens_if;
         opens_either = m.opens_either;
-        front = at g.spot sign.Or ∷ (g.front ++ m.front);
+        front = at g.spot (symbol.Keyword keyword.Or) ∷ (g.front ++ m.front);
         others = g.part ∷ m.others;
-        split = g.split ∙ ap (λ z. at g.spot sign.Or ∷ z) (ap (λ z. g.front ++ z) m.split ∙ sym (append_assoc g.front m.front rest));
+        split = g.split ∙ ap (λ z. at g.spot (symbol.Keyword keyword.Or) ∷ z) (ap (λ z. g.front ++ z) m.split ∙ sym (append_assoc g.front m.front rest));
         holds = subst P (sym g.closed) (s.or_this g.spelled m.holds);
         is = m.is ∙ ap (λ z. z ++ m.others) g.is ∙ append_assoc acc.part (g.part ∷ []) m.others;
         depth = let x = m.depth in let y = g.depth in omega (arith, x, y);
@@ -302,53 +304,57 @@ module _ (ms : List MacroDepth) (limit below : ℕ) (inner : Parser (Deep Statem
       })
   ors_by false n u v acc res i rest stays go got = ors_end u v acc res i rest stays got
 
-  sound_ors : (n : ℕ) (u v : Bool) (acc res : Deep (List Statement)) (i rest : List Lexeme) → Stays u v i → folded (sees sign.Or) (one_more_or ms limit inner) n acc i ≡ Some (res, rest) → GoodOrs u v i acc res rest
+  sound_ors : (n : ℕ) (u v : Bool) (acc res : Deep (List Statement)) (i rest : List Lexeme) → Stays u v i → folded (sees (symbol.Keyword keyword.Or)) (one_more_or ms limit inner) n acc i ≡ Some (res, rest) → GoodOrs u v i acc res rest
   unfolding folded
   sound_ors zero u v acc res i rest stays got = ors_end u v acc res i rest stays got
-  sound_ors (suc n) u v acc res i rest stays got = ors_by (sees sign.Or i) n u v acc res i rest stays (λ w z next j stays got. sound_ors n w z next res j rest stays got) got
+  sound_ors (suc n) u v acc res i rest stays got = ors_by (sees (symbol.Keyword keyword.Or) i) n u v acc res i rest stays (λ w z next j stays got. sound_ors n w z next res j rest stays got) got
 
-  or_falls : (acc next : Deep (List Statement)) (i j : List Lexeme) → sees sign.Or i ≡ true → one_more_or ms limit inner acc i ≡ Some (next, j) → length j < length i
+  or_falls : (acc next : Deep (List Statement)) (i j : List Lexeme) → sees (symbol.Keyword keyword.Or) i ≡ true → one_more_or ms limit inner acc i ≡ Some (next, j) → length j < length i
   or_falls acc next i j goes is =
       let g = sound_one_or false false acc next i j (stays_closed i) is in
-      shorter i g.front j (at g.spot sign.Or) g.split
+      shorter i g.front j (at g.spot (symbol.Keyword keyword.Or)) g.split
 
   pub sound_either : SoundInner ms limit (either_form ms limit inner)
   unfolding either_form
   sound_either i r rest got =
-      mark_then sign.Either i _ _ _ got (λ p i1 e1 got.
+      mark_then (symbol.Keyword keyword.Either) i _ _ _ got (λ p i1 e1 got.
       inner_then ms below inner S i1 _ _ _ got (λ a i2 g got.
       bind_then (one_more_or ms limit inner (deep a.depth (a.part ∷ [])) i2) _ _ _ got (λ two i3 h2 got.
       let t = sound_one_or g.opens_if g.opens_either (deep a.depth (a.part ∷ [])) two i2 i3 g.stays h2 in
-      bind_then (folded (sees sign.Or) (one_more_or ms limit inner) (length i3) two i3) _ _ _ got (λ all i4 h3 got.
+      bind_then (folded (sees (symbol.Keyword keyword.Or)) (one_more_or ms limit inner) (length i3) two i3) _ _ _ got (λ all i4 h3 got.
       let m = sound_ors (length i3) t.opens_if t.opens_either two all i3 i4 t.stays h3 in
-      let over = folded_over (sees sign.Or) (one_more_or ms limit inner) refl or_falls (length i3) two all i3 i4 (omega arith) h3 in
+      let over = folded_over (sees (symbol.Keyword keyword.Or)) (one_more_or ms limit inner) refl or_falls (length i3) two all i3 i4 (omega arith) h3 in
       let is : all.part ≡ a.part ∷ (t.part ∷ m.others) = m.is ∙ ap (λ z. z ++ m.others) t.is in
       let P : Bool → Type 0 = λ z. Spelled g.opens_if z g.front a.part in
-      let Q : List Statement → Type 0 = λ z. Spelled m.opens_if true (at p sign.Either ∷ (g.front ++ (at t.spot sign.Or ∷ (t.front ++ m.front)))) (st.either_of p.start (statements z)) in
+      let Q : List Statement → Type 0 = λ z. Spelled m.opens_if true (at p (symbol.Keyword keyword.Either) ∷ (g.front ++ (at t.spot (symbol.Keyword keyword.Or) ∷ (t.front ++ m.front)))) (st.either_of p.start (statements z)) in
       let H : List Statement → Type 0 = λ z. all.depth + 1 ≡ suc (statements_depth ms (statements z)) in
-      good_node ms limit inner m.opens_if true all.depth (st.either_of p.start (statements all.part)) r (at p sign.Either ∷ (g.front ++ (at t.spot sign.Or ∷ (t.front ++ m.front)))) i i4 rest got
-      (e1 ∙ ap (λ z. at p sign.Either ∷ z) (g.split ∙ ap (λ z. g.front ++ z) (t.split ∙ ap (λ z. at t.spot sign.Or ∷ z) (ap (λ z. t.front ++ z) m.split ∙ sym (append_assoc t.front m.front i4))) ∙ sym (append_assoc g.front (at t.spot sign.Or ∷ (t.front ++ m.front)) i4)))
+      good_node ms limit inner m.opens_if true all.depth (st.either_of p.start (statements all.part)) r (at p (symbol.Keyword keyword.Either) ∷ (g.front ++ (at t.spot (symbol.Keyword keyword.Or) ∷ (t.front ++ m.front)))) i i4 rest got
+      (e1 ∙ ap (λ z. at p (symbol.Keyword keyword.Either) ∷ z) (g.split ∙ ap (λ z. g.front ++ z) (t.split ∙ ap (λ z. at t.spot (symbol.Keyword keyword.Or) ∷ z) (ap (λ z. t.front ++ z) m.split ∙ sym (append_assoc t.front m.front i4))) ∙ sym (append_assoc g.front (at t.spot (symbol.Keyword keyword.Or) ∷ (t.front ++ m.front)) i4)))
       (subst Q (sym is) (s.either_of t.spot (subst P t.closed g.spelled) t.spelled m.holds))
       (subst H (sym is) (let x = m.depth in let y = t.depth in let z = g.depth in omega (arith, x, y, z)))
       (record { no_else = m.stays.no_else; no_or = λ h. over })))))
 
   -- ---- the statement
 
+  sound_keyword : (k : Keyword) → SoundInner ms limit (keyword_form ms limit inner k)
+  sound_keyword keyword.Skip = sound_skip
+  sound_keyword keyword.If = sound_if
+  sound_keyword keyword.While = sound_while
+  sound_keyword keyword.Either = sound_either
+  sound_keyword keyword.With = sound_with
+  sound_keyword keyword.Goto = sound_goto
+  sound_keyword keyword.Await = sound_one keyword.Await (λ p xs e d. s.await_that s.await d) (λ p e. omega arith)
+  sound_keyword keyword.When = sound_one keyword.When (λ p xs e d. s.await_that s.when d) (λ p e. omega arith)
+  sound_keyword keyword.Print = sound_one keyword.Print (λ p xs e d. s.print_out d) (λ p e. omega arith)
+  sound_keyword keyword.Assert = sound_one keyword.Assert (λ p xs e d. s.assert_that d) (λ p e. omega arith)
+  sound_keyword keyword.Yield = sound_one keyword.Yield (λ p xs e d. s.yield_as d) (λ p e. omega arith)
+  sound_keyword _ = λ i r rest got. cc
+
   sound_lead : (l : Lead) → SoundInner ms limit (form ms limit inner l)
-  sound_lead lead.Skip = sound_skip
   sound_lead lead.Assign = sound_assign
   sound_lead lead.Call = sound_call
-  sound_lead lead.If = sound_if
-  sound_lead lead.While = sound_while
-  sound_lead lead.Either = sound_either
-  sound_lead lead.Await = sound_one sign.Await st.await_that (λ p xs e d. s.await_that s.await d) (λ p e. omega arith)
-  sound_lead lead.When = sound_one sign.When st.await_that (λ p xs e d. s.await_that s.when d) (λ p e. omega arith)
-  sound_lead lead.With = sound_with
-  sound_lead lead.Print = sound_one sign.Print st.print_out (λ p xs e d. s.print_out d) (λ p e. omega arith)
-  sound_lead lead.Assert = sound_one sign.Assert st.assert_that (λ p xs e d. s.assert_that d) (λ p e. omega arith)
-  sound_lead lead.Goto = sound_goto
-  sound_lead lead.Yield = sound_one sign.Yield st.yield_as (λ p xs e d. s.yield_as d) (λ p e. omega arith)
   sound_lead lead.Block = sound_block ms limit below inner S
+  sound_lead (lead.Keyword k) = sound_keyword k
   sound_lead lead.None = λ i r rest got. cc
 
   pub sound_form : SoundInner ms limit (any_form ms limit inner)

@@ -1,8 +1,8 @@
 -- What the rules of a specification are made of: tokens at their places, names, expressions and lists.
 use Rattle.std.specs.Prelude.{◌≡◌, ℕ, pos, ◌≤◌, Bool, true, false, List, [], ◌∷◌, ◌++◌}
 use Rattle.pgo_base.specs.Tree.{Tree}
-use Rattle.pgo_lexer.specs.declared.symbol.Bracket.TheVariants as b
-use Rattle.pgo_lexer.specs.declared.symbol.Symbol.TheVariants as s
+use Rattle.pgo_lexer.specs.declared.symbol.Bracket.TheVariants as bracket
+use Rattle.pgo_lexer.specs.declared.symbol.Symbol.TheVariants as symbol
 use Rattle.pgo_lexer.specs.declared.token.Lexeme.{Lexeme}
 use Rattle.pgo_lexer.specs.declared.token.Token.{Token}
 use Rattle.pgo_lexer.specs.declared.token.Token.TheVariants as t
@@ -11,9 +11,7 @@ use Rattle.pgo_expr_read.specs.Kinds.{Name}
 use Rattle.pgo_expr_read.specs.Lookahead.{tokens_of}
 use Rattle.pgo_expr_read.specs.Spells as expression
 use Rattle.pgo_syntax.specs.declared.name.PlacedName.{PlacedName}
-use Rattle.pgo_mpcal_read.specs.declared.sign.Sign.{Sign}
-use Rattle.pgo_mpcal_read.specs.declared.sign.Sign.TheVariants as sign
-use Rattle.pgo_mpcal_read.specs.Signs.{token}
+use Rattle.pgo_lexer.specs.declared.symbol.Symbol.{Symbol}
 
 -- ---- tokens
 
@@ -27,8 +25,8 @@ abbrev pub lexeme : Spot → Token → Lexeme
 lexeme p k = record { token = k; column = p.column; start = p.start; stop = p.stop }
 
 -- a sign, a name and a number at their places
-abbrev pub at : Spot → Sign → Lexeme
-at p v = lexeme p (token v)
+abbrev pub at : Spot → Symbol → Lexeme
+at p v = lexeme p (t.Symbol v)
 
 abbrev pub word : Spot → Name → Lexeme
 word p x = lexeme p (t.Name x)
@@ -42,7 +40,7 @@ placed p x = record { name = x; place = p.start }
 
 -- the last token is a `}`; marks behind it count for nothing. `before` says it of the tokens before these.
 abbrev pub closes_behind : (before : Bool) → Token → Bool
-closes_behind before (t.Symbol (s.Close b.Curly)) = true
+closes_behind before (t.Symbol (symbol.Close bracket.Curly)) = true
 closes_behind before t.ListClose = before
 closes_behind before _ = false
 
@@ -55,7 +53,7 @@ closes = closes_from false
 
 -- what ends a statement or a declaration: a `;`, which may be left out behind a `}`
 pub data Ended (ts : List Lexeme) : List Lexeme → Type 0 where
-  semicolon : {p : Spot} → Ended ts (at p sign.Semicolon ∷ [])
+  semicolon : {p : Spot} → Ended ts (at p symbol.Semicolon ∷ [])
   brace : closes ts ≡ true → Ended ts []
 
 -- ---- names and expressions
@@ -81,18 +79,18 @@ pub record IsRange (ts : List Lexeme) (a : Tree) : Type 0 where
 -- ---- lists
 
 -- items, each behind this sign
-pub data Behind {A : Type 0} (Item : List Lexeme → A → Type 0) (v : Sign) : List Lexeme → List A → Type 0 where
+pub data Behind {A : Type 0} (Item : List Lexeme → A → Type 0) (v : Symbol) : List Lexeme → List A → Type 0 where
   no_more : Behind Item v [] []
   one_more : {p : Spot} {xs ys : List Lexeme} {a : A} {as' : List A} → Item xs a → Behind Item v ys as' → Behind Item v (at p v ∷ (xs ++ ys)) (a ∷ as')
 
 -- one item or more, with this sign between two
-pub data Items {A : Type 0} (Item : List Lexeme → A → Type 0) (v : Sign) : List Lexeme → List A → Type 0 where
+pub data Items {A : Type 0} (Item : List Lexeme → A → Type 0) (v : Symbol) : List Lexeme → List A → Type 0 where
   items : {xs ys : List Lexeme} {a : A} {as' : List A} → Item xs a → Behind Item v ys as' → Items Item v (xs ++ ys) (a ∷ as')
 
 -- in `( )`: no item, or items with commas between them
 pub data InBrackets {A : Type 0} (Item : List Lexeme → A → Type 0) : List Lexeme → List A → Type 0 where
-  empty : {o c : Spot} → InBrackets Item (at o sign.RoundOpen ∷ (at c sign.RoundClose ∷ [])) []
-  some : {o : Spot} (c : Spot) {xs : List Lexeme} {as' : List A} → Items Item sign.Comma xs as' → InBrackets Item (at o sign.RoundOpen ∷ (xs ++ (at c sign.RoundClose ∷ []))) as'
+  empty : {o c : Spot} → InBrackets Item (at o (symbol.Open bracket.Round) ∷ (at c (symbol.Close bracket.Round) ∷ [])) []
+  some : {o : Spot} (c : Spot) {xs : List Lexeme} {as' : List A} → Items Item symbol.Comma xs as' → InBrackets Item (at o (symbol.Open bracket.Round) ∷ (xs ++ (at c (symbol.Close bracket.Round) ∷ []))) as'
 
 -- items one behind another
 pub data Row {A : Type 0} (Item : List Lexeme → A → Type 0) : List Lexeme → List A → Type 0 where

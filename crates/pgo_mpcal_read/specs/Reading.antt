@@ -11,8 +11,9 @@ use Rattle.pgo_expr_read.specs.Lookahead.{tokens_of}
 use Rattle.pgo_expr_read.specs.Parsers as expression_parsers
 use Rattle.pgo_expr_read.specs.Reading as expression_reading
 use Rattle.pgo_syntax.specs.declared.name.PlacedName.{PlacedName}
-use Rattle.pgo_mpcal_read.specs.declared.sign.Sign.{Sign}
-use Rattle.pgo_mpcal_read.specs.declared.sign.Sign.TheVariants as sign
+use Rattle.pgo_lexer.specs.declared.symbol.Symbol.{Symbol}
+use Rattle.pgo_lexer.specs.declared.symbol.Bracket.TheVariants as bracket
+use Rattle.pgo_lexer.specs.declared.symbol.Symbol.TheVariants as symbol
 use Rattle.pgo_mpcal_read.specs.Signs.{is_sign, sees}
 use Rattle.pgo_mpcal_read.specs.Leaves.{most_height, closes}
 
@@ -67,17 +68,17 @@ abbrev pub skip : List Lexeme → List Lexeme
 skip [] = []
 skip (l ∷ rest) = rest
 
-unfoldable pub past : Sign → List Lexeme → List Lexeme
+unfoldable pub past : Symbol → List Lexeme → List Lexeme
 past v i = if sees v i then skip i else i
 
-abbrev pub eat : Sign → Parser Bool
+abbrev pub eat : Symbol → Parser Bool
 eat v = λ i. Some (sees v i, past v i)
 
-unfoldable pub expect : Sign → Parser (Unit {0})
+unfoldable pub expect : Symbol → Parser (Unit {0})
 expect v = λ i. if sees v i then Some (tt, skip i) else None
 
 -- a sign, and its place
-unfoldable pub mark : Sign → Parser ℕ
+unfoldable pub mark : Symbol → Parser ℕ
 mark v [] = None
 mark v (l ∷ rest) = if is_sign v l.token then Some (l.start, rest) else None
 
@@ -107,7 +108,7 @@ sees_name [] = false
 sees_name (l ∷ rest) = is_name l.token
 
 -- the second token is this sign
-abbrev pub sees_second : Sign → List Lexeme → Bool
+abbrev pub sees_second : Symbol → List Lexeme → Bool
 sees_second v i = sees v (skip i)
 
 -- the place of the next token
@@ -150,30 +151,30 @@ abbrev pub all_folded : {A : Type 0} → (List Lexeme → Bool) → (A → Parse
 all_folded goes more acc = λ i. folded goes more (length i) acc i
 
 -- one more item, behind a sign
-unfoldable pub one_behind : {A : Type 0} → Sign → Parser A → List A → Parser (List A)
+unfoldable pub one_behind : {A : Type 0} → Symbol → Parser A → List A → Parser (List A)
 one_behind v item all = do
   expect v
   a ← item
   pure (all ++ a ∷ [])
 
-abbrev pub behind : {A : Type 0} → Sign → Parser A → List A → Parser (List A)
+abbrev pub behind : {A : Type 0} → Symbol → Parser A → List A → Parser (List A)
 behind v item first = all_folded (sees v) (one_behind v item) first
 
-unfoldable pub items : {A : Type 0} → Sign → Parser A → Parser (List A)
+unfoldable pub items : {A : Type 0} → Symbol → Parser A → Parser (List A)
 items v item = do
   first ← item
   behind v item (first ∷ [])
 
 unfoldable pub some_in_brackets : {A : Type 0} → Parser A → Parser (List A)
 some_in_brackets item = do
-  all ← items sign.Comma item
-  expect sign.RoundClose
+  all ← items symbol.Comma item
+  expect (symbol.Close bracket.Round)
   pure all
 
 unfoldable pub in_brackets : {A : Type 0} → Parser A → Parser (List A)
 in_brackets item = do
-  expect sign.RoundOpen
-  is_empty ← eat sign.RoundClose
+  expect (symbol.Open bracket.Round)
+  is_empty ← eat (symbol.Close bracket.Round)
   if is_empty then pure [] else some_in_brackets item
 
 -- one more item
@@ -189,4 +190,4 @@ row goes item = all_folded goes (one_more item) []
 
 -- a `;` behind these tokens, which may be left out where they end in a `}`
 unfoldable pub ended : List Lexeme → List Lexeme → Option (List Lexeme)
-ended i rest = if sees sign.Semicolon rest then Some (skip rest) else if closes (front_of i rest) then Some rest else None
+ended i rest = if sees symbol.Semicolon rest then Some (skip rest) else if closes (front_of i rest) then Some rest else None

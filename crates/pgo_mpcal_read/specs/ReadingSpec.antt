@@ -1,5 +1,7 @@
 -- The reader of a specification as functions on lists of tokens, in the shape of the code.
-use Rattle.std.specs.Prelude.{ℕ, zero, suc, ◌+◌, Bool, true, false, ◌&&◌, ◌||◌, if◌then◌else◌, nat_le, nat_eq, List, [], ◌∷◌, ◌++◌, length, Option, Some, None, codes}
+use Rattle.std.specs.Prelude.{◌≡◌, ℕ, zero, suc, ◌+◌, Bool, true, false, ◌&&◌, ◌||◌, if◌then◌else◌, nat_le, nat_eq, List, [], ◌∷◌, ◌++◌, length, Option, Some, None, Result, Ok, Err, codes}
+use Rattle.pgo_lexer.specs.declared.errors.TextStop.{TextStop}
+use Rattle.pgo_lexer.specs.declared.errors.TextStop.TheVariants.{Syntax, NoMemory}
 use Rattle.pgo_lexer.specs.declared.token.Lexeme.{Lexeme}
 use Rattle.pgo_lexer.specs.declared.token.Token.{Token}
 use Rattle.pgo_lexer.specs.declared.token.Token.TheVariants as t
@@ -12,7 +14,10 @@ use Rattle.pgo_syntax.specs.declared.spec.Spec.{Spec}
 use Rattle.pgo_syntax.specs.Statement.{labeled}
 use Rattle.pgo_mpcal_read.specs.declared.depths.MacroDepth.{MacroDepth}
 use Rattle.pgo_mpcal_read.specs.declared.header.Header.{Header}
-use Rattle.pgo_mpcal_read.specs.declared.sign.Sign.TheVariants as sign
+use Rattle.pgo_base.specs.declared.expr.Infix.TheVariants as operator
+use Rattle.pgo_lexer.specs.declared.symbol.Bracket.TheVariants as bracket
+use Rattle.pgo_lexer.specs.declared.symbol.Keyword.TheVariants as keyword
+use Rattle.pgo_lexer.specs.declared.symbol.Symbol.TheVariants as symbol
 use Rattle.pgo_mpcal_read.specs.declared.standing.Standing.{Standing}
 use Rattle.pgo_mpcal_read.specs.declared.standing.Standing.TheVariants as standing
 use Rattle.pgo_mpcal_read.specs.declared.units.Units.{Units}
@@ -24,6 +29,12 @@ use Rattle.pgo_mpcal_read.specs.ReadingUnits.{definition, variables, define, mac
 use Rattle.pgo_mpcal_read.specs.Signs.{is_sign, sees}
 use Rattle.pgo_mpcal_read.specs.Spells.{declarations_of}
 use Rattle.pgo_mpcal_read.specs.Units.{is_plain, may_stand_in_macro, all_are, no_units}
+
+-- what a reader leaves in place of what was there is what the function gives, unless memory runs out
+abbrev pub Updates : {A : Type 0} → Outcome A → Result (Unit {0}) TextStop → A → List Lexeme → Type 0
+Updates outcome (Ok u) new rest = outcome ≡ Some (new, rest)
+Updates outcome (Err (Syntax n)) new rest = outcome ≡ None
+Updates outcome (Err NoMemory) new rest = Unit {0}
 
 -- ---- units
 
@@ -62,16 +73,16 @@ process_unit b i = and_then (checked standing.Plain i (process i)) (λ q. pure (
 
 unfoldable pub unit : Units → Parser Units
 unit b i =
-    if sees sign.Define i then define_unit b i else if sees sign.Macro i then macro_unit b i else if sees sign.Mapping i then mapping_unit b i
-    else if sees sign.Archetype i then archetype_unit b i else if sees sign.Variables i then globals_unit b i
-    else if sees sign.Fair i || sees sign.Process i then process_unit b i else None
+    if sees (symbol.Keyword keyword.Define) i then define_unit b i else if sees (symbol.Keyword keyword.Macro) i then macro_unit b i else if sees (symbol.Keyword keyword.Mapping) i then mapping_unit b i
+    else if sees (symbol.Keyword keyword.Archetype) i then archetype_unit b i else if sees (symbol.Keyword keyword.Variables) i then globals_unit b i
+    else if sees (symbol.Keyword keyword.Fair) i || sees (symbol.Keyword keyword.Process) i then process_unit b i else None
 
 unfoldable pub algorithm : Parser (PlacedName × Units)
 algorithm = do
   x ← name
-  expect sign.CurlyOpen
+  expect (symbol.Open bracket.Curly)
   us ← all_folded goes_on unit no_units
-  expect sign.CurlyClose
+  expect (symbol.Close bracket.Curly)
   pure (x, us)
 
 -- ---- the header
@@ -90,7 +101,7 @@ expect_word w = λ i. if sees_word w i then Some (tt, skip i) else None
 -- a `-` that begins at this offset
 abbrev pub sees_minus : (offset : ℕ) → List Lexeme → Bool
 sees_minus offset [] = false
-sees_minus offset (l ∷ rest) = is_sign sign.Minus l.token && nat_eq l.start offset
+sees_minus offset (l ∷ rest) = is_sign (symbol.Infix operator.Subtract) l.token && nat_eq l.start offset
 
 -- where the next token ends
 abbrev pub stop_of : List Lexeme → ℕ
@@ -104,14 +115,14 @@ more_dashes (suc n) count stop = λ i. if sees_minus stop i then more_dashes n (
 
 unfoldable pub dashes : Parser (Unit {0})
 dashes i =
-    if sees sign.Minus i then and_then (more_dashes (length (skip i)) 0 (stop_of i) (skip i)) (λ count rest. if nat_le 3 count then Some (tt, rest) else None) else None
+    if sees (symbol.Infix operator.Subtract) i then and_then (more_dashes (length (skip i)) 0 (stop_of i) (skip i)) (λ count rest. if nat_le 3 count then Some (tt, rest) else None) else None
 
 -- this word and a name behind it
 abbrev pub begins_list : Name → List Lexeme → Bool
 begins_list w i = sees_word w i && sees_name (skip i)
 
 unfoldable pub extends : Parser (List PlacedName)
-extends = λ i. if begins_list (codes "EXTENDS") i then items sign.Comma name (skip i) else Some ([], i)
+extends = λ i. if begins_list (codes "EXTENDS") i then items symbol.Comma name (skip i) else Some ([], i)
 
 unfoldable pub title : Parser Header
 title = do
@@ -125,7 +136,7 @@ title = do
 unfoldable pub constants_part : Header → Parser Header
 constants_part h = do
   first ← name
-  all ← behind sign.Comma name (h.constants ++ first ∷ [])
+  all ← behind symbol.Comma name (h.constants ++ first ∷ [])
   pure (record h { constants = all })
 
 unfoldable pub definition_part : Header → Parser Header

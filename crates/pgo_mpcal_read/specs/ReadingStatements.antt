@@ -16,8 +16,11 @@ use Rattle.pgo_mpcal_read.specs.declared.deep.Deep.{Deep}
 use Rattle.pgo_mpcal_read.specs.declared.depths.MacroDepth.{MacroDepth}
 use Rattle.pgo_mpcal_read.specs.declared.lead.Lead.{Lead}
 use Rattle.pgo_mpcal_read.specs.declared.lead.Lead.TheVariants as lead
-use Rattle.pgo_mpcal_read.specs.declared.sign.Sign.{Sign}
-use Rattle.pgo_mpcal_read.specs.declared.sign.Sign.TheVariants as sign
+use Rattle.pgo_base.specs.declared.expr.Infix.TheVariants as operator
+use Rattle.pgo_lexer.specs.declared.symbol.Bracket.TheVariants as bracket
+use Rattle.pgo_lexer.specs.declared.symbol.Keyword.{Keyword}
+use Rattle.pgo_lexer.specs.declared.symbol.Keyword.TheVariants as keyword
+use Rattle.pgo_lexer.specs.declared.symbol.Symbol.TheVariants as symbol
 use Rattle.pgo_mpcal_read.specs.Depths.{depth_of}
 use Rattle.pgo_mpcal_read.specs.Leads.{lead_of}
 use Rattle.pgo_mpcal_read.specs.Signs.{sees}
@@ -27,9 +30,9 @@ use Rattle.pgo_mpcal_read.specs.Reading.{◌>>=◌, ◌>>◌, Parser, Outcome, a
 
 unfoldable pub index_step : Parser Step
 index_step = do
-  expect sign.SquareOpen
+  expect (symbol.Open bracket.Square)
   e ← expression
-  expect sign.SquareClose
+  expect (symbol.Close bracket.Square)
   pure (step.Index e)
 
 unfoldable pub field_step : Parser Step
@@ -39,20 +42,20 @@ field_step = do
 
 unfoldable pub path_step : Parser Step
 path_step = do
-  is_field ← eat sign.Dot
+  is_field ← eat symbol.Dot
   if is_field then field_step else index_step
 
 abbrev pub sees_step : List Lexeme → Bool
-sees_step i = sees sign.SquareOpen i || sees sign.Dot i
+sees_step i = sees (symbol.Open bracket.Square) i || sees symbol.Dot i
 
 -- `$variable` with its place
 unfoldable pub variable : Parser PlacedName
 variable = do
-  p ← mark sign.Variable
+  p ← mark symbol.Variable
   pure (record { name = codes "$variable"; place = p })
 
 unfoldable pub assigned : Parser PlacedName
-assigned = λ i. if sees sign.Variable i then variable i else name i
+assigned = λ i. if sees symbol.Variable i then variable i else name i
 
 unfoldable pub left : Parser Left
 left = do
@@ -63,7 +66,7 @@ left = do
 unfoldable pub assignment : Parser Assignment
 assignment = do
   l ← left
-  expect sign.Assign
+  expect symbol.Assign
   e ← expression
   pure (record { left = l; right = e })
 
@@ -76,13 +79,13 @@ equals = do
 
 unfoldable pub member : Parser Origin
 member = do
-  expect sign.In
+  expect (symbol.Infix operator.In)
   e ← range
   pure (origin.In e)
 
 unfoldable pub origin_of : Parser Origin
 origin_of = do
-  is_equal ← eat sign.Equal
+  is_equal ← eat (symbol.Infix operator.Equal)
   if is_equal then equals else member
 
 unfoldable pub with_name : Parser WithName
@@ -94,16 +97,16 @@ with_name = do
 -- ---- labels
 
 unfoldable pub fairness : List Lexeme → List Lexeme
-fairness i = if sees sign.Plus i || sees sign.Minus i then skip i else i
+fairness i = if sees (symbol.Infix operator.Add) i || sees (symbol.Infix operator.Subtract) i then skip i else i
 
 unfoldable pub label : Parser (Option PlacedName)
 label = do
   x ← name
-  expect sign.Colon
+  expect symbol.Colon
   λ i. Some (Some x, fairness i)
 
 abbrev pub begins_label : List Lexeme → Bool
-begins_label i = sees_name i && sees_second sign.Colon i
+begins_label i = sees_name i && sees_second symbol.Colon i
 
 -- a label, where one is next
 unfoldable pub optional_label : Parser (Option PlacedName)
@@ -119,19 +122,26 @@ abbrev pub added : {A : Type 0} → Deep (List A) → Deep A → Deep (List A)
 added all r = deep (max all.depth r.depth) (all.part ++ r.part ∷ [])
 
 abbrev pub sees_else_if : List Lexeme → Bool
-sees_else_if i = sees sign.Else i && sees_second sign.If i
+sees_else_if i = sees (symbol.Keyword keyword.Else) i && sees_second (symbol.Keyword keyword.If) i
 
 -- what stands between a statement, which these tokens begin with, and the next one
 unfoldable pub row_ended : List Lexeme → List Lexeme → Option (List Lexeme)
-row_ended i rest = if sees sign.CurlyClose rest then Some rest else ended i rest
+row_ended i rest = if sees (symbol.Close bracket.Curly) rest then Some rest else ended i rest
 
 abbrev pub goes_on : List Lexeme → Bool
-goes_on i = not (sees sign.CurlyClose i)
+goes_on i = not (sees (symbol.Close bracket.Curly) i)
 
 -- one more of a list, where these tokens follow
 abbrev pub row_to : {A : Type 0} → Deep (List A) → Deep A → Option (List Lexeme) → Outcome (Deep (List A))
 row_to all r (Some rest) = Some (added all r, rest)
 row_to all r None = None
+
+-- what this word and an expression make; `await` and `when` are one
+abbrev pub said : Keyword → ℕ → Tree → Statement
+said keyword.Print = st.print_out
+said keyword.Assert = st.assert_that
+said keyword.Yield = st.yield_as
+said _ = st.await_that
 
 module _ (ms : List MacroDepth) (limit : ℕ) (inner : Parser (Deep Statement)) where
   -- a statement above others of at most this depth
@@ -140,19 +150,19 @@ module _ (ms : List MacroDepth) (limit : ℕ) (inner : Parser (Deep Statement)) 
 
   unfoldable pub skip_form : Parser (Deep Statement)
   skip_form = do
-    p ← mark sign.Skip
+    p ← mark (symbol.Keyword keyword.Skip)
     node 0 (st.skip p)
 
   -- a statement of one word and an expression
-  unfoldable pub one_expression : Sign → (ℕ → Tree → Statement) → Parser (Deep Statement)
-  one_expression v made = do
-    p ← mark v
+  unfoldable pub one_expression : Keyword → Parser (Deep Statement)
+  one_expression k = do
+    p ← mark (symbol.Keyword k)
     e ← expression
-    node 0 (made p e)
+    node 0 (said k p e)
 
   unfoldable pub goto_form : Parser (Deep Statement)
   goto_form = do
-    p ← mark sign.Goto
+    p ← mark (symbol.Keyword keyword.Goto)
     x ← name
     node 0 (st.go_to p x)
 
@@ -162,7 +172,7 @@ module _ (ms : List MacroDepth) (limit : ℕ) (inner : Parser (Deep Statement)) 
 
   unfoldable pub assign_form : Parser (Deep Statement)
   assign_form = do
-    all ← items sign.Bars assignment
+    all ← items symbol.Bars assignment
     assign_all all
 
   unfoldable pub call_form : Parser (Deep Statement)
@@ -173,19 +183,19 @@ module _ (ms : List MacroDepth) (limit : ℕ) (inner : Parser (Deep Statement)) 
 
   unfoldable pub while_form : Parser (Deep Statement)
   while_form = do
-    p ← mark sign.While
-    expect sign.RoundOpen
+    p ← mark (symbol.Keyword keyword.While)
+    expect (symbol.Open bracket.Round)
     e ← expression
-    expect sign.RoundClose
+    expect (symbol.Close bracket.Round)
     s ← inner
     node s.depth (st.while_do p e s.part)
 
   unfoldable pub with_form : Parser (Deep Statement)
   with_form = do
-    p ← mark sign.With
-    expect sign.RoundOpen
-    ns ← items sign.Comma with_name
-    expect sign.RoundClose
+    p ← mark (symbol.Keyword keyword.With)
+    expect (symbol.Open bracket.Round)
+    ns ← items symbol.Comma with_name
+    expect (symbol.Close bracket.Round)
     s ← inner
     node s.depth (st.with_in p ns s.part)
 
@@ -193,16 +203,16 @@ module _ (ms : List MacroDepth) (limit : ℕ) (inner : Parser (Deep Statement)) 
 
   unfoldable pub branch : Parser (Deep (ℕ × (Tree × Statement)))
   branch = do
-    p ← mark sign.If
-    expect sign.RoundOpen
+    p ← mark (symbol.Keyword keyword.If)
+    expect (symbol.Open bracket.Round)
     e ← expression
-    expect sign.RoundClose
+    expect (symbol.Close bracket.Round)
     s ← inner
     pure (deep s.depth (p, (e, s.part)))
 
   unfoldable pub one_more_branch : Deep (List (ℕ × (Tree × Statement))) → Parser (Deep (List (ℕ × (Tree × Statement))))
   one_more_branch all = do
-    expect sign.Else
+    expect (symbol.Keyword keyword.Else)
     b ← branch
     pure (added all b)
 
@@ -215,23 +225,23 @@ module _ (ms : List MacroDepth) (limit : ℕ) (inner : Parser (Deep Statement)) 
   if_form = do
     first ← branch
     bs ← all_folded sees_else_if one_more_branch (deep first.depth (first.part ∷ []))
-    is_else ← eat sign.Else
+    is_else ← eat (symbol.Keyword keyword.Else)
     if is_else then last_else first.part.0 bs else node bs.depth (st.if_then first.part.0 (guarded bs.part))
 
   -- ---- `either`
 
   unfoldable pub one_more_or : Deep (List Statement) → Parser (Deep (List Statement))
   one_more_or all = do
-    expect sign.Or
+    expect (symbol.Keyword keyword.Or)
     s ← inner
     pure (added all s)
 
   unfoldable pub either_form : Parser (Deep Statement)
   either_form = do
-    p ← mark sign.Either
+    p ← mark (symbol.Keyword keyword.Either)
     first ← inner
     two ← one_more_or (deep first.depth (first.part ∷ []))
-    all ← all_folded (sees sign.Or) one_more_or two
+    all ← all_folded (sees (symbol.Keyword keyword.Or)) one_more_or two
     node all.depth (st.either_of p (statements all.part))
 
   -- ---- blocks
@@ -248,37 +258,41 @@ module _ (ms : List MacroDepth) (limit : ℕ) (inner : Parser (Deep Statement)) 
   unfoldable pub rows : Parser (Deep (List (Option PlacedName × Statement)))
   rows = do
     all ← all_folded goes_on one_more_row (deep 0 [])
-    expect sign.CurlyClose
+    expect (symbol.Close bracket.Curly)
     pure all
 
   unfoldable pub block_form : Parser (Deep Statement)
   block_form = do
-    p ← mark sign.CurlyOpen
+    p ← mark (symbol.Open bracket.Curly)
     all ← rows
     node all.depth (st.block p (labeled all.part))
 
   unfoldable pub body : Parser (Deep (List (Option PlacedName × Statement)))
   body = do
-    expect sign.CurlyOpen
+    expect (symbol.Open bracket.Curly)
     rows
 
   -- ---- the statement
 
+  abbrev pub keyword_form : Keyword → Parser (Deep Statement)
+  keyword_form keyword.Skip = skip_form
+  keyword_form keyword.If = if_form
+  keyword_form keyword.While = while_form
+  keyword_form keyword.Either = either_form
+  keyword_form keyword.With = with_form
+  keyword_form keyword.Goto = goto_form
+  keyword_form keyword.Await = one_expression keyword.Await
+  keyword_form keyword.When = one_expression keyword.When
+  keyword_form keyword.Print = one_expression keyword.Print
+  keyword_form keyword.Assert = one_expression keyword.Assert
+  keyword_form keyword.Yield = one_expression keyword.Yield
+  keyword_form _ = λ i. None
+
   abbrev pub form : Lead → Parser (Deep Statement)
-  form lead.Skip = skip_form
   form lead.Assign = assign_form
   form lead.Call = call_form
-  form lead.If = if_form
-  form lead.While = while_form
-  form lead.Either = either_form
-  form lead.Await = one_expression sign.Await st.await_that
-  form lead.When = one_expression sign.When st.await_that
-  form lead.With = with_form
-  form lead.Print = one_expression sign.Print st.print_out
-  form lead.Assert = one_expression sign.Assert st.assert_that
-  form lead.Goto = goto_form
-  form lead.Yield = one_expression sign.Yield st.yield_as
   form lead.Block = block_form
+  form (lead.Keyword k) = keyword_form k
   form lead.None = λ i. None
 
   unfoldable pub any_form : Parser (Deep Statement)

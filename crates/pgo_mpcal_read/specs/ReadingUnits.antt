@@ -21,7 +21,10 @@ use Rattle.pgo_syntax.specs.declared.process.Process.{Process}
 use Rattle.pgo_syntax.specs.Statement.{Statement}
 use Rattle.pgo_mpcal_read.specs.declared.deep.Deep.{Deep}
 use Rattle.pgo_mpcal_read.specs.declared.depths.MacroDepth.{MacroDepth}
-use Rattle.pgo_mpcal_read.specs.declared.sign.Sign.TheVariants as sign
+use Rattle.pgo_base.specs.declared.expr.Infix.TheVariants as operator
+use Rattle.pgo_lexer.specs.declared.symbol.Bracket.TheVariants as bracket
+use Rattle.pgo_lexer.specs.declared.symbol.Keyword.TheVariants as keyword
+use Rattle.pgo_lexer.specs.declared.symbol.Symbol.TheVariants as symbol
 use Rattle.pgo_mpcal_read.specs.Leaves.{most_depth}
 use Rattle.pgo_mpcal_read.specs.Reading.{◌>>=◌, ◌>>◌, Parser, Outcome, and_then, pure, skip, past, eat, expect, mark, name, number, sees_name, sees_second, place, expression, folded, items, in_brackets, row, ended}
 use Rattle.pgo_mpcal_read.specs.ReadingStatements.{origin_of, body, statement}
@@ -31,22 +34,22 @@ use Rattle.pgo_mpcal_read.specs.Signs.{sees}
 
 unfoldable pub without_params : PlacedName → Parser Definition
 without_params x = do
-  expect sign.Defines
+  expect symbol.Defines
   e ← expression
   pure (record { name = x; params = []; body = e })
 
 unfoldable pub with_params : PlacedName → Parser Definition
 with_params x = do
-  ps ← items sign.Comma name
-  expect sign.RoundClose
-  expect sign.Defines
+  ps ← items symbol.Comma name
+  expect (symbol.Close bracket.Round)
+  expect symbol.Defines
   e ← expression
   pure (record { name = x; params = ps; body = e })
 
 unfoldable pub definition : Parser Definition
 definition = do
   x ← name
-  is_open ← eat sign.RoundOpen
+  is_open ← eat (symbol.Open bracket.Round)
   if is_open then with_params x else without_params x
 
 unfoldable pub with_value : PlacedName → Parser Declaration
@@ -55,7 +58,7 @@ with_value x = do
   pure (record { name = x; initial = Some o })
 
 abbrev pub sees_origin : List Lexeme → Bool
-sees_origin i = sees sign.Equal i || sees sign.In i
+sees_origin i = sees (symbol.Infix operator.Equal) i || sees (symbol.Infix operator.In) i
 
 unfoldable pub declaration : Parser Declaration
 declaration = do
@@ -64,7 +67,7 @@ declaration = do
 
 -- what stands between a declaration, which these tokens begin with, and the next one
 unfoldable pub declaration_ended : List Lexeme → List Lexeme → Option (List Lexeme)
-declaration_ended i rest = if sees sign.Comma rest then (if sees_name (skip rest) then Some (skip rest) else None) else ended i rest
+declaration_ended i rest = if sees symbol.Comma rest then (if sees_name (skip rest) then Some (skip rest) else None) else ended i rest
 
 abbrev pub declared_to : List Declaration → Declaration → Option (List Lexeme) → Outcome (List Declaration)
 declared_to all d (Some rest) = Some (all ++ d ∷ [], rest)
@@ -80,23 +83,23 @@ declarations = do
 
 unfoldable pub variables : Parser (List Declaration)
 variables = do
-  expect sign.Variables
+  expect (symbol.Keyword keyword.Variables)
   declarations
 
 unfoldable pub locals : Parser (List Declaration)
-locals = λ i. if sees sign.Variables i then variables i else Some ([], i)
+locals = λ i. if sees (symbol.Keyword keyword.Variables) i then variables i else Some ([], i)
 
 -- ---- parameters, arguments and mapping clauses
 
 unfoldable pub element : Parser Extent
 element = do
-  expect sign.SquareOpen
-  expect sign.Underscore
-  expect sign.SquareClose
+  expect (symbol.Open bracket.Square)
+  expect symbol.Underscore
+  expect (symbol.Close bracket.Square)
   pure extents.Element
 
 unfoldable pub extent : Parser Extent
-extent = λ i. if sees sign.SquareOpen i then element i else Some (extents.Whole, i)
+extent = λ i. if sees (symbol.Open bracket.Square) i then element i else Some (extents.Whole, i)
 
 unfoldable pub ref_parameter : Parser Parameter
 ref_parameter = do
@@ -111,7 +114,7 @@ value_parameter = do
 
 unfoldable pub parameter : Parser Parameter
 parameter = do
-  is_ref ← eat sign.Ref
+  is_ref ← eat (symbol.Keyword keyword.Ref)
   if is_ref then ref_parameter else value_parameter
 
 unfoldable pub ref_argument : Parser Argument
@@ -125,12 +128,12 @@ value_argument i = and_then (expression i) (λ e. pure (arguments.Value (place i
 
 unfoldable pub argument : Parser Argument
 argument = do
-  is_ref ← eat sign.Ref
+  is_ref ← eat (symbol.Keyword keyword.Ref)
   if is_ref then ref_argument else value_argument
 
 unfoldable pub numbered_target : Parser MappingTarget
 numbered_target = do
-  p ← mark sign.At
+  p ← mark symbol.At
   k ← number
   m ← extent
   pure (targets.Argument p k m)
@@ -142,19 +145,19 @@ named_target = do
   pure (targets.Global x m)
 
 unfoldable pub target : Parser MappingTarget
-target = λ i. if sees sign.At i then numbered_target i else named_target i
+target = λ i. if sees symbol.At i then numbered_target i else named_target i
 
 unfoldable pub clause : Parser MappingClause
 clause = do
-  expect sign.Mapping
+  expect (symbol.Keyword keyword.Mapping)
   g ← target
-  expect sign.Via
+  expect (symbol.Keyword keyword.Via)
   x ← name
   pure (record { target = g; mapping = x })
 
 -- `mapping macro` begins a unit and no clause
 abbrev pub sees_clause : List Lexeme → Bool
-sees_clause i = sees sign.Mapping i && not (sees_second sign.Macro i)
+sees_clause i = sees (symbol.Keyword keyword.Mapping) i && not (sees_second (symbol.Keyword keyword.Macro) i)
 
 -- ---- units
 
@@ -164,16 +167,16 @@ block ms = body ms most_depth (statement ms most_depth)
 
 unfoldable pub define : Parser (List Definition)
 define = do
-  expect sign.Define
-  expect sign.CurlyOpen
+  expect (symbol.Keyword keyword.Define)
+  expect (symbol.Open bracket.Curly)
   ds ← row sees_name definition
-  expect sign.CurlyClose
+  expect (symbol.Close bracket.Curly)
   pure ds
 
 -- a macro, with the depth of its body
 unfoldable pub macro_definition : List MacroDepth → Parser (Deep Macro)
 macro_definition ms = do
-  expect sign.Macro
+  expect (symbol.Keyword keyword.Macro)
   x ← name
   ps ← in_brackets name
   b ← block ms
@@ -181,20 +184,20 @@ macro_definition ms = do
 
 unfoldable pub mapping_macro : List MacroDepth → Parser MappingMacro
 mapping_macro ms = do
-  expect sign.Mapping
-  expect sign.Macro
+  expect (symbol.Keyword keyword.Mapping)
+  expect (symbol.Keyword keyword.Macro)
   x ← name
-  expect sign.CurlyOpen
-  expect sign.Read
+  expect (symbol.Open bracket.Curly)
+  expect (symbol.Keyword keyword.Read)
   r ← block ms
-  expect sign.Write
+  expect (symbol.Keyword keyword.Write)
   w ← block ms
-  expect sign.CurlyClose
+  expect (symbol.Close bracket.Curly)
   pure (record { name = x; read = r.part; write = w.part })
 
 unfoldable pub archetype : List MacroDepth → Parser Archetype
 archetype ms = do
-  expect sign.Archetype
+  expect (symbol.Keyword keyword.Archetype)
   x ← name
   ps ← in_brackets parameter
   ds ← locals
@@ -203,25 +206,25 @@ archetype ms = do
 
 -- behind `fair` or `fair+`, which may stand here
 unfoldable pub fair : List Lexeme → List Lexeme
-fair i = if sees sign.Fair i then past sign.Plus (skip i) else i
+fair i = if sees (symbol.Keyword keyword.Fair) i then past (symbol.Infix operator.Add) (skip i) else i
 
 unfoldable pub process_head : Parser (PlacedName × Origin)
 process_head = do
-  expect sign.Process
-  expect sign.RoundOpen
+  expect (symbol.Keyword keyword.Process)
+  expect (symbol.Open bracket.Round)
   x ← name
   o ← origin_of
-  expect sign.RoundClose
+  expect (symbol.Close bracket.Round)
   pure (x, o)
 
 unfoldable pub process_tail : PlacedName × Origin → Parser Process
 process_tail head = do
-  expect sign.Defines
-  expect sign.Instance
+  expect symbol.Defines
+  expect (symbol.Keyword keyword.Instance)
   y ← name
   vs ← in_brackets argument
   ms ← row sees_clause clause
-  λ i. Some (record { name = head.0; ids = head.1; archetype = y; arguments = vs; clauses = ms }, past sign.Semicolon i)
+  λ i. Some (record { name = head.0; ids = head.1; archetype = y; arguments = vs; clauses = ms }, past symbol.Semicolon i)
 
 unfoldable pub process : Parser Process
 process = λ i. and_then (process_head (fair i)) process_tail

@@ -12,7 +12,9 @@ use Rattle.pgo_syntax.specs.declared.spec.Spec.{Spec}
 use Rattle.pgo_mpcal_read.specs.declared.depths.MacroDepth.{MacroDepth}
 use Rattle.pgo_mpcal_read.specs.Depths.{labeled_depth}
 use Rattle.pgo_mpcal_read.specs.declared.header.Header.{Header}
-use Rattle.pgo_mpcal_read.specs.declared.sign.Sign.TheVariants as sign
+use Rattle.pgo_base.specs.declared.expr.Infix.TheVariants as operator
+use Rattle.pgo_lexer.specs.declared.symbol.Bracket.TheVariants as bracket
+use Rattle.pgo_lexer.specs.declared.symbol.Symbol.TheVariants as symbol
 use Rattle.pgo_mpcal_read.specs.declared.units.Units.{Units}
 use Rattle.pgo_mpcal_read.specs.Leaves.{Spot, at, word, placed, IsName, most_depth, Items}
 use Rattle.pgo_mpcal_read.specs.Units.{IsDefinition, is_plain, all_are, AreUnits}
@@ -21,8 +23,8 @@ use Rattle.pgo_mpcal_read.specs.Units.{IsDefinition, is_plain, all_are, AreUnits
 
 -- a row of `-`, each behind the first where the one before it stops
 pub data IsRow : List Lexeme → Type 0 where
-  dash : {p : Spot} → IsRow (at p sign.Minus ∷ [])
-  dashes : {p q : Spot} {xs : List Lexeme} → q.start ≡ p.stop → IsRow (at q sign.Minus ∷ xs) → IsRow (at p sign.Minus ∷ (at q sign.Minus ∷ xs))
+  dash : {p : Spot} → IsRow (at p (symbol.Infix operator.Subtract) ∷ [])
+  dashes : {p q : Spot} {xs : List Lexeme} → q.start ≡ p.stop → IsRow (at q (symbol.Infix operator.Subtract) ∷ xs) → IsRow (at p (symbol.Infix operator.Subtract) ∷ (at q (symbol.Infix operator.Subtract) ∷ xs))
 
 -- four or more
 pub record IsDashes (ts : List Lexeme) : Type 0 where
@@ -32,7 +34,7 @@ pub record IsDashes (ts : List Lexeme) : Type 0 where
 -- nothing, or `EXTENDS names`
 pub data IsExtends : List Lexeme → List PlacedName → Type 0 where
   no_extends : IsExtends [] []
-  extends : {p : Spot} {xs : List Lexeme} {ns : List PlacedName} → Items IsName sign.Comma xs ns → IsExtends (word p (codes "EXTENDS") ∷ xs) ns
+  extends : {p : Spot} {xs : List Lexeme} {ns : List PlacedName} → Items IsName symbol.Comma xs ns → IsExtends (word p (codes "EXTENDS") ∷ xs) ns
 
 pub data IsConstantsWord : Name → Type 0 where
   one : IsConstantsWord (codes "CONSTANT")
@@ -40,7 +42,7 @@ pub data IsConstantsWord : Name → Type 0 where
 
 -- `CONSTANTS names`, or a definition, and the header before it and behind it
 pub data IsPart (h : Header) : List Lexeme → Header → Type 0 where
-  constants : {p : Spot} {x : Name} {xs : List Lexeme} {ns : List PlacedName} → IsConstantsWord x → Items IsName sign.Comma xs ns
+  constants : {p : Spot} {x : Name} {xs : List Lexeme} {ns : List PlacedName} → IsConstantsWord x → Items IsName symbol.Comma xs ns
       → IsPart h (word p x ∷ xs) (record h { constants = h.constants ++ ns })
   definition : {xs : List Lexeme} {d : Definition} → IsDefinition xs d → IsPart h xs (record h { definitions = h.definitions ++ d ∷ [] })
 
@@ -65,5 +67,5 @@ pub data AreShallow (ms : List MacroDepth) : List Archetype → Type 0 where
 pub data SpellsTokens : (header algorithm : List Lexeme) → Spec → Type 0 where
   spec : {n o : Spot} (c : Spot) {x : Name} {hs xs : List Lexeme} {h : Header} {us : Units} {q : Process} {qs : List Process} → IsHeader hs h → all_are is_plain hs ≡ true
       → AreUnits xs us → AreShallow us.depths us.archetypes → us.processes ≡ q ∷ qs
-      → SpellsTokens hs (word n x ∷ (at o sign.CurlyOpen ∷ (xs ++ (at c sign.CurlyClose ∷ []))))
+      → SpellsTokens hs (word n x ∷ (at o (symbol.Open bracket.Curly) ∷ (xs ++ (at c (symbol.Close bracket.Curly) ∷ []))))
       (record { name = h.name; extends = h.extends; constants = h.constants; definitions = h.definitions; algorithm = placed n x; define = us.define; macros = us.macros; mappings = us.mappings; archetypes = us.archetypes; globals = declarations_of us.globals; processes = us.processes })

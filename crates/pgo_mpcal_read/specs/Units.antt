@@ -22,7 +22,10 @@ use Rattle.pgo_syntax.specs.declared.process.MappingTarget.{MappingTarget}
 use Rattle.pgo_syntax.specs.declared.process.MappingTarget.TheVariants as target
 use Rattle.pgo_syntax.specs.declared.process.Process.{Process}
 use Rattle.pgo_syntax.specs.Statement.{Statement, labeled}
-use Rattle.pgo_mpcal_read.specs.declared.sign.Sign.TheVariants as sign
+use Rattle.pgo_base.specs.declared.expr.Infix.TheVariants as operator
+use Rattle.pgo_lexer.specs.declared.symbol.Bracket.TheVariants as bracket
+use Rattle.pgo_lexer.specs.declared.symbol.Keyword.TheVariants as keyword
+use Rattle.pgo_lexer.specs.declared.symbol.Symbol.TheVariants as symbol
 use Rattle.pgo_mpcal_read.specs.declared.units.Units.{Units}
 use Rattle.pgo_mpcal_read.specs.Signs.{is_sign}
 use Rattle.pgo_mpcal_read.specs.Leaves.{Spot, at, word, numeral, placed, Ended, IsName, IsExpression, most_depth, Items, InBrackets, Row}
@@ -34,9 +37,9 @@ use Rattle.pgo_mpcal_read.specs.Depths.{labeled_depth}
 -- `name == e` and `name(names) == e`
 pub data IsDefinition : List Lexeme → Definition → Type 0 where
   without_params : {n d : Spot} {x : Name} {ts : List Lexeme} {e : Tree} → IsExpression ts e
-      → IsDefinition (word n x ∷ (at d sign.Defines ∷ ts)) (record { name = placed n x; params = []; body = e })
-  with_params : {n o : Spot} (c d : Spot) {x : Name} {xs ts : List Lexeme} {ps : List PlacedName} {e : Tree} → Items IsName sign.Comma xs ps → IsExpression ts e
-      → IsDefinition (word n x ∷ (at o sign.RoundOpen ∷ (xs ++ (at c sign.RoundClose ∷ (at d sign.Defines ∷ ts))))) (record { name = placed n x; params = ps; body = e })
+      → IsDefinition (word n x ∷ (at d symbol.Defines ∷ ts)) (record { name = placed n x; params = []; body = e })
+  with_params : {n o : Spot} (c d : Spot) {x : Name} {xs ts : List Lexeme} {ps : List PlacedName} {e : Tree} → Items IsName symbol.Comma xs ps → IsExpression ts e
+      → IsDefinition (word n x ∷ (at o (symbol.Open bracket.Round) ∷ (xs ++ (at c (symbol.Close bracket.Round) ∷ (at d symbol.Defines ∷ ts))))) (record { name = placed n x; params = ps; body = e })
 
 -- `name`, `name = e` and `name \in e`
 pub data IsDeclaration : List Lexeme → Declaration → Type 0 where
@@ -45,7 +48,7 @@ pub data IsDeclaration : List Lexeme → Declaration → Type 0 where
 
 -- what stands between two declarations: a comma, or what ends one
 pub data Parted (ts : List Lexeme) : List Lexeme → Type 0 where
-  comma : {p : Spot} → Parted ts (at p sign.Comma ∷ [])
+  comma : {p : Spot} → Parted ts (at p symbol.Comma ∷ [])
   ended : {zs : List Lexeme} → Ended ts zs → Parted ts zs
 
 -- `decls ;`
@@ -55,44 +58,44 @@ pub data IsDeclarations : List Lexeme → List Declaration → Type 0 where
 
 -- `variables decls ;`
 pub data IsVariables : List Lexeme → List Declaration → Type 0 where
-  variables : {p : Spot} {xs : List Lexeme} {ds : List Declaration} → IsDeclarations xs ds → IsVariables (at p sign.Variables ∷ xs) ds
+  variables : {p : Spot} {xs : List Lexeme} {ds : List Declaration} → IsDeclarations xs ds → IsVariables (at p (symbol.Keyword keyword.Variables) ∷ xs) ds
 
 -- ---- parameters, arguments and mapping clauses
 
 -- nothing, or `[_]`
 pub data IsExtent : List Lexeme → Extent → Type 0 where
   whole : IsExtent [] extent.Whole
-  element : {o u c : Spot} → IsExtent (at o sign.SquareOpen ∷ (at u sign.Underscore ∷ (at c sign.SquareClose ∷ []))) extent.Element
+  element : {o u c : Spot} → IsExtent (at o (symbol.Open bracket.Square) ∷ (at u symbol.Underscore ∷ (at c (symbol.Close bracket.Square) ∷ []))) extent.Element
 
 pub data IsParameter : List Lexeme → Parameter → Type 0 where
   value_parameter : {n : Spot} {x : Name} → IsParameter (word n x ∷ []) (record { name = placed n x; kind = parameter.Value })
   ref_parameter : {p n : Spot} {x : Name} {ts : List Lexeme} {m : Extent} → IsExtent ts m
-      → IsParameter (at p sign.Ref ∷ (word n x ∷ ts)) (record { name = placed n x; kind = parameter.Ref m })
+      → IsParameter (at p (symbol.Keyword keyword.Ref) ∷ (word n x ∷ ts)) (record { name = placed n x; kind = parameter.Ref m })
 
 pub data IsArgument : List Lexeme → Argument → Type 0 where
   value_argument : {l : Lexeme} {ts : List Lexeme} {e : Tree} → IsExpression (l ∷ ts) e → IsArgument (l ∷ ts) (argument.Value l.start e)
   ref_argument : {p n : Spot} {x : Name} {ts : List Lexeme} {m : Extent} → IsExtent ts m
-      → IsArgument (at p sign.Ref ∷ (word n x ∷ ts)) (argument.Ref (placed n x) m)
+      → IsArgument (at p (symbol.Keyword keyword.Ref) ∷ (word n x ∷ ts)) (argument.Ref (placed n x) m)
 
 -- a global by its name, or an argument by its number
 pub data IsTarget : List Lexeme → MappingTarget → Type 0 where
   by_name : {n : Spot} {x : Name} {ts : List Lexeme} {m : Extent} → IsExtent ts m → IsTarget (word n x ∷ ts) (target.Global (placed n x) m)
-  by_number : {p q : Spot} {k : ℕ} {ts : List Lexeme} {m : Extent} → IsExtent ts m → IsTarget (at p sign.At ∷ (numeral q k ∷ ts)) (target.Argument p.start k m)
+  by_number : {p q : Spot} {k : ℕ} {ts : List Lexeme} {m : Extent} → IsExtent ts m → IsTarget (at p symbol.At ∷ (numeral q k ∷ ts)) (target.Argument p.start k m)
 
 -- `mapping target via name`
 pub data IsClause : List Lexeme → MappingClause → Type 0 where
   clause : {p : Spot} (v n : Spot) {x : Name} {xs : List Lexeme} {g : MappingTarget} → IsTarget xs g
-      → IsClause (at p sign.Mapping ∷ (xs ++ (at v sign.Via ∷ (word n x ∷ [])))) (record { target = g; mapping = placed n x })
+      → IsClause (at p (symbol.Keyword keyword.Mapping) ∷ (xs ++ (at v (symbol.Keyword keyword.Via) ∷ (word n x ∷ [])))) (record { target = g; mapping = placed n x })
 
 -- ---- units
 
 pub data IsMacro : List Lexeme → Macro → Type 0 where
   macro_of : {p n : Spot} {x : Name} {xs ys : List Lexeme} {ps : List PlacedName} {rs : List (Option PlacedName × Statement)} → InBrackets IsName xs ps → IsBody ys rs
-      → IsMacro (at p sign.Macro ∷ (word n x ∷ (xs ++ ys))) (record { name = placed n x; params = ps; body = rs })
+      → IsMacro (at p (symbol.Keyword keyword.Macro) ∷ (word n x ∷ (xs ++ ys))) (record { name = placed n x; params = ps; body = rs })
 
 pub data IsMappingMacro : List Lexeme → MappingMacro → Type 0 where
   mapping_macro_of : {p q n o r : Spot} (w c : Spot) {x : Name} {xs ys : List Lexeme} {rs ws : List (Option PlacedName × Statement)} → IsBody xs rs → IsBody ys ws
-      → IsMappingMacro (at p sign.Mapping ∷ (at q sign.Macro ∷ (word n x ∷ (at o sign.CurlyOpen ∷ (at r sign.Read ∷ (xs ++ (at w sign.Write ∷ (ys ++ (at c sign.CurlyClose ∷ []))))))))) (record { name = placed n x; read = rs; write = ws })
+      → IsMappingMacro (at p (symbol.Keyword keyword.Mapping) ∷ (at q (symbol.Keyword keyword.Macro) ∷ (word n x ∷ (at o (symbol.Open bracket.Curly) ∷ (at r (symbol.Keyword keyword.Read) ∷ (xs ++ (at w (symbol.Keyword keyword.Write) ∷ (ys ++ (at c (symbol.Close bracket.Curly) ∷ []))))))))) (record { name = placed n x; read = rs; write = ws })
 
 -- the variables of an archetype, if it has some
 pub data IsLocals : List Lexeme → List Declaration → Type 0 where
@@ -102,32 +105,32 @@ pub data IsLocals : List Lexeme → List Declaration → Type 0 where
 pub data IsArchetype : List Lexeme → Archetype → Type 0 where
   archetype_of : {p n : Spot} {x : Name} {xs ys zs : List Lexeme} {ps : List Parameter} {ds : List Declaration} {rs : List (Option PlacedName × Statement)}
       → InBrackets IsParameter xs ps → IsLocals ys ds → IsBody zs rs
-      → IsArchetype (at p sign.Archetype ∷ (word n x ∷ (xs ++ (ys ++ zs)))) (record { name = placed n x; params = ps; locals = ds; body = rs })
+      → IsArchetype (at p (symbol.Keyword keyword.Archetype) ∷ (word n x ∷ (xs ++ (ys ++ zs)))) (record { name = placed n x; params = ps; locals = ds; body = rs })
 
 -- `fair` and `fair+`, which are dropped
 pub data IsFair : List Lexeme → Type 0 where
   unfair : IsFair []
-  weakly : {p : Spot} → IsFair (at p sign.Fair ∷ [])
-  strongly : {p q : Spot} → IsFair (at p sign.Fair ∷ (at q sign.Plus ∷ []))
+  weakly : {p : Spot} → IsFair (at p (symbol.Keyword keyword.Fair) ∷ [])
+  strongly : {p q : Spot} → IsFair (at p (symbol.Keyword keyword.Fair) ∷ (at q (symbol.Infix operator.Add) ∷ []))
 
 -- the `;` behind a process, which may be left out
 pub data IsClosing : List Lexeme → Type 0 where
   left_out : IsClosing []
-  semicolon : {p : Spot} → IsClosing (at p sign.Semicolon ∷ [])
+  semicolon : {p : Spot} → IsClosing (at p symbol.Semicolon ∷ [])
 
 pub data IsProcess : List Lexeme → Process → Type 0 where
   instance_of : (p a n b d i m : Spot) {x y : Name} {fs os vs cs zs : List Lexeme} {o : Origin} {as' : List Argument} {ms : List MappingClause}
       → IsFair fs → IsOrigin os o → InBrackets IsArgument vs as' → Row IsClause cs ms → IsClosing zs
-      → IsProcess (fs ++ (at p sign.Process ∷ (at a sign.RoundOpen ∷ (word n x ∷ (os ++ (at b sign.RoundClose ∷ (at d sign.Defines ∷ (at i sign.Instance ∷ (word m y ∷ (vs ++ (cs ++ zs)))))))))))
+      → IsProcess (fs ++ (at p (symbol.Keyword keyword.Process) ∷ (at a (symbol.Open bracket.Round) ∷ (word n x ∷ (os ++ (at b (symbol.Close bracket.Round) ∷ (at d symbol.Defines ∷ (at i (symbol.Keyword keyword.Instance) ∷ (word m y ∷ (vs ++ (cs ++ zs)))))))))))
       (record { name = placed n x; ids = o; archetype = placed m y; arguments = as'; clauses = ms })
 
 -- `yield`, `$variable` and `$value` stand in mapping macros alone
 abbrev pub is_plain : Token → Bool
-is_plain k = not (is_sign sign.Yield k) && (not (is_sign sign.Variable k) && not (is_sign sign.Value k))
+is_plain k = not (is_sign (symbol.Keyword keyword.Yield) k) && (not (is_sign symbol.Variable k) && not (is_sign symbol.Value k))
 
 -- and a macro has no `while` and no `goto`
 abbrev pub may_stand_in_macro : Token → Bool
-may_stand_in_macro k = is_plain k && (not (is_sign sign.While k) && not (is_sign sign.Goto k))
+may_stand_in_macro k = is_plain k && (not (is_sign (symbol.Keyword keyword.While) k) && not (is_sign (symbol.Keyword keyword.Goto) k))
 
 abbrev pub all_are : (Token → Bool) → List Lexeme → Bool
 all_are f [] = true
@@ -136,7 +139,7 @@ all_are f (l ∷ ls) = f l.token && all_are f ls
 -- `define { definitions }`
 pub data IsDefine : List Lexeme → List Definition → Type 0 where
   definitions : {p o : Spot} (c : Spot) {xs : List Lexeme} {ds : List Definition} → Row IsDefinition xs ds
-      → IsDefine (at p sign.Define ∷ (at o sign.CurlyOpen ∷ (xs ++ (at c sign.CurlyClose ∷ [])))) ds
+      → IsDefine (at p (symbol.Keyword keyword.Define) ∷ (at o (symbol.Open bracket.Curly) ∷ (xs ++ (at c (symbol.Close bracket.Curly) ∷ [])))) ds
 
 -- one unit, and what there is of each kind before it and behind it. No statement is deeper than the limit.
 pub data IsUnit (b : Units) : List Lexeme → Units → Type 0 where

@@ -9,9 +9,9 @@ ghost use Rattle.pgo_mpcal_read.specs.Reading as spec;
 ghost use Rattle.pgo_mpcal_read.specs.ReadingSpec as specification;
 ghost use Rattle.pgo_mpcal_read.specs.Reading.{Reads, Makes, Passes};
 
-use crate::lead::{self, Lead};
-use crate::sign::{Sign, is_sign};
-use pgo_base::expr::Sub;
+use crate::lead::{Lead, lead_of_symbol};
+use crate::sign::is_sign;
+use pgo_base::expr::{Infix, Sub};
 use pgo_expr_read::cursor::Cursor as ExprCursor;
 use pgo_expr_read::reader;
 use pgo_lexer::errors::TextStop;
@@ -145,7 +145,7 @@ impl<'a> Cursor<'a> {
     }
 
     /// Whether this sign is next.
-    pub fn sees(&self, sign: Sign) -> bool
+    pub fn sees(&self, sign: Symbol) -> bool
         ensures { result ≡ signs.sees sign self.now }
     {
         match self.rest {
@@ -155,7 +155,7 @@ impl<'a> Cursor<'a> {
     }
 
     /// Whether this sign is the second of the tokens that are left.
-    pub fn sees_second(&self, sign: Sign) -> bool
+    pub fn sees_second(&self, sign: Symbol) -> bool
         ensures { result ≡ spec.sees_second sign self.now }
     {
         match self.rest {
@@ -216,7 +216,8 @@ impl<'a> Cursor<'a> {
     {
         match self.rest {
             [] => false,
-            [lexeme, ..] => is_sign(Sign::Minus, &lexeme.token) && lexeme.start == at,
+            [lexeme, ..] => is_sign(Symbol::Infix(Infix::Subtract), &lexeme.token)
+                && lexeme.start == at,
         }
     }
 
@@ -241,7 +242,20 @@ impl<'a> Cursor<'a> {
     pub fn lead(&self) -> Lead
         ensures { result ≡ leads.lead_of self.now }
     {
-        lead::lead_of(self.rest)
+        match self.rest {
+            [] => Lead::None,
+            [lexeme, ..] => match &lexeme.token {
+                Token::Name(_) => {
+                    if self.sees_second(Symbol::Open(Bracket::Round)) {
+                        Lead::Call
+                    } else {
+                        Lead::Assign
+                    }
+                }
+                Token::Symbol(symbol) => lead_of_symbol(*symbol),
+                _ => Lead::None,
+            },
+        }
     }
 
     /// Goes past the next token.
@@ -256,7 +270,7 @@ impl<'a> Cursor<'a> {
 
     /// Goes past this sign if it is next, and tells whether it was.
     #[tactic(auto, unfolding(crate::specs::Reading::past))]
-    pub fn eat(&mut self, sign: Sign) -> bool
+    pub fn eat(&mut self, sign: Symbol) -> bool
         ensures found { result ≡ signs.sees sign self.old }
         ensures after { self.new ≡ spec.past sign self.old }
     {
@@ -269,7 +283,7 @@ impl<'a> Cursor<'a> {
 
     /// Goes past this sign, which must be next.
     #[tactic(auto, unfolding(crate::specs::Reading::expect, crate::specs::Reading::past))]
-    pub fn expect(&mut self, sign: Sign) -> Result<(), TextStop>
+    pub fn expect(&mut self, sign: Symbol) -> Result<(), TextStop>
         ensures { Reads (spec.expect sign self.old) result self.new }
     {
         if self.eat(sign) {
@@ -281,7 +295,7 @@ impl<'a> Cursor<'a> {
 
     /// Goes past this sign, which must be next, and gives its place.
     #[tactic(auto, unfolding(crate::specs::Reading::mark))]
-    pub fn mark(&mut self, sign: Sign) -> Result<u32, TextStop>
+    pub fn mark(&mut self, sign: Symbol) -> Result<u32, TextStop>
         ensures { Reads (spec.mark sign self.old) result self.new }
     {
         match self.rest {
@@ -385,7 +399,7 @@ impl<'a> Cursor<'a> {
     pub fn end(&mut self, before: &[Lexeme]) -> Result<(), TextStop>
         ensures { Passes (spec.ended before.now self.old) result self.new }
     {
-        if self.sees(Sign::Semicolon) {
+        if self.sees(Symbol::Semicolon) {
             self.skip();
             return Ok(());
         }

@@ -1,34 +1,19 @@
 // Definitions and declarations.
-ghost use Rattle.std.specs.Prelude.{◌≡◌, [], ◌∷◌, ◌++◌};
 ghost use Rattle.pgo_mpcal_read.specs.Reading as reading;
 ghost use Rattle.pgo_mpcal_read.specs.Reading.{Reads, Passes};
+ghost use Rattle.pgo_mpcal_read.specs.ReadingSpec.{Updates};
 ghost use Rattle.pgo_mpcal_read.specs.ReadingUnits as spec;
-ghost use Rattle.pgo_mpcal_read.specs.declared.sign.Sign.TheVariants as sign;
 
 use crate::assignments::origin;
 use crate::cursor::Cursor;
-use crate::names::names;
-use crate::sign::Sign;
+use crate::item::{Item, RowItem, items};
+use pgo_base::expr::Infix;
 use pgo_lexer::errors::TextStop;
+use pgo_lexer::symbol::{Bracket, Keyword, Symbol};
 use pgo_lexer::token::Lexeme;
-use pgo_syntax::declaration::{Declaration, Declarations, Definition, Definitions};
+use pgo_syntax::declaration::{Declaration, Declarations, Definition};
 use pgo_syntax::name::{PlacedName, PlacedNames};
 use std::alloc::Global;
-
-/// A definition of this name without parameters, behind the name.
-#[tactic(auto, unfolding(crate::specs::ReadingUnits::without_params))]
-fn without_params(
-    alloc: Global,
-    cursor: &mut Cursor<'_>,
-    name: PlacedName,
-) -> Result<Definition, TextStop>
-    ensures { Reads (spec.without_params name cursor.old) result cursor.new }
-{
-    cursor.expect(Sign::Defines)?;
-    let body = cursor.expression(alloc)?;
-    let params = PlacedNames::new(alloc);
-    Ok(Definition { name, params, body })
-}
 
 /// A definition of this name with parameters, behind the `(`.
 #[tactic(auto, unfolding(crate::specs::ReadingUnits::with_params))]
@@ -39,53 +24,36 @@ fn with_params(
 ) -> Result<Definition, TextStop>
     ensures { Reads (spec.with_params name cursor.old) result cursor.new }
 {
-    let params = names(alloc, cursor)?;
-    cursor.expect(Sign::RoundClose)?;
-    cursor.expect(Sign::Defines)?;
+    let params = items(alloc, cursor, Symbol::Comma)?;
+    cursor.expect(Symbol::Close(Bracket::Round))?;
+    cursor.expect(Symbol::Defines)?;
     let body = cursor.expression(alloc)?;
     Ok(Definition { name, params, body })
 }
 
-/// A definition.
-#[tactic(auto, unfolding(crate::specs::ReadingUnits::definition))]
-pub fn definition(alloc: Global, cursor: &mut Cursor<'_>) -> Result<Definition, TextStop>
-    ensures { Reads (spec.definition cursor.old) result cursor.new }
-{
-    let name = cursor.name(alloc)?;
-    if cursor.eat(Sign::RoundOpen) {
-        with_params(alloc, cursor, name)
-    } else {
-        without_params(alloc, cursor, name)
-    }
-}
+impl Item for Definition {
+    ghost parser = { spec.definition };
 
-/// One more of them.
-#[tactic(auto, unfolding(crate::specs::Reading::one_more))]
-fn more_definitions(
-    alloc: Global,
-    cursor: &mut Cursor<'_>,
-    all: Definitions,
-) -> Result<Definitions, TextStop>
-    ensures { Reads (reading.one_more spec.definition all cursor.old) result cursor.new }
-{
-    let a = definition(alloc, cursor)?;
-    let mut list = all;
-    list.push(a)?;
-    Ok(list)
-}
-
-/// Definitions, as far as they go.
-pub fn definitions(alloc: Global, cursor: &mut Cursor<'_>) -> Result<Definitions, TextStop>
-    ensures { Reads (reading.row reading.sees_name spec.definition cursor.old) result cursor.new }
-{
-    let mut all = Definitions::new(alloc);
-    for _turn in 0..cursor.left() {
-        if !cursor.sees_name() {
-            return Ok(all);
+    /// A definition.
+    #[tactic(auto, unfolding(crate::specs::ReadingUnits::definition, crate::specs::ReadingUnits::without_params))]
+    fn read(alloc: Global, cursor: &mut Cursor<'_>) -> Result<Definition, TextStop> {
+        let name = cursor.name(alloc)?;
+        if cursor.eat(Symbol::Open(Bracket::Round)) {
+            return with_params(alloc, cursor, name);
         }
-        all = more_definitions(alloc, cursor, all)?;
+        cursor.expect(Symbol::Defines)?;
+        let body = cursor.expression(alloc)?;
+        let params = PlacedNames::new(alloc);
+        Ok(Definition { name, params, body })
     }
-    Ok(all)
+}
+
+impl RowItem for Definition {
+    ghost begins = { reading.sees_name };
+
+    fn is_next(cursor: &Cursor<'_>) -> bool {
+        cursor.sees_name()
+    }
 }
 
 /// A declaration.
@@ -94,7 +62,7 @@ fn declaration(alloc: Global, cursor: &mut Cursor<'_>) -> Result<Declaration, Te
     ensures { Reads (spec.declaration cursor.old) result cursor.new }
 {
     let name = cursor.name(alloc)?;
-    if cursor.sees(Sign::Equal) || cursor.sees(Sign::In) {
+    if cursor.sees(Symbol::Infix(Infix::Equal)) || cursor.sees(Symbol::Infix(Infix::In)) {
         let o = origin(alloc, cursor)?;
         let initial = Some(o);
         return Ok(Declaration { name, initial });
@@ -108,7 +76,7 @@ fn declaration(alloc: Global, cursor: &mut Cursor<'_>) -> Result<Declaration, Te
 fn end_declaration(cursor: &mut Cursor<'_>, before: &[Lexeme]) -> Result<(), TextStop>
     ensures { Passes (spec.declaration_ended before.now cursor.old) result cursor.new }
 {
-    if cursor.sees(Sign::Comma) {
+    if cursor.sees(Symbol::Comma) {
         cursor.skip();
         if cursor.sees_name() {
             return Ok(());
@@ -123,16 +91,15 @@ fn end_declaration(cursor: &mut Cursor<'_>, before: &[Lexeme]) -> Result<(), Tex
 fn more_declarations(
     alloc: Global,
     cursor: &mut Cursor<'_>,
-    all: Declarations,
-) -> Result<Declarations, TextStop>
-    ensures { Reads (spec.one_more_declaration all cursor.old) result cursor.new }
+    all: &mut Declarations,
+) -> Result<(), TextStop>
+    ensures { Updates (spec.one_more_declaration all.old cursor.old) result all.new cursor.new }
 {
     let before = cursor.rest();
     let d = declaration(alloc, cursor)?;
     end_declaration(cursor, before)?;
-    let mut list = all;
-    list.push(d)?;
-    Ok(list)
+    all.push(d)?;
+    Ok(())
 }
 
 /// Further declarations, as far as they go.
@@ -148,28 +115,20 @@ fn declarations_behind(
         if !cursor.sees_name() {
             return Ok(all);
         }
-        all = more_declarations(alloc, cursor, all)?;
+        more_declarations(alloc, cursor, &mut all)?;
     }
     Ok(all)
 }
 
-/// Declarations, one or more.
-#[tactic(auto, unfolding(crate::specs::ReadingUnits::declarations))]
-fn declarations(alloc: Global, cursor: &mut Cursor<'_>) -> Result<Declarations, TextStop>
-    ensures { Reads (spec.declarations cursor.old) result cursor.new }
-{
-    let none = Declarations::new(alloc);
-    let first = more_declarations(alloc, cursor, none)?;
-    declarations_behind(alloc, cursor, first)
-}
-
-/// `variables` and declarations.
-#[tactic(auto, unfolding(crate::specs::ReadingUnits::variables))]
+/// `variables` and declarations, one or more.
+#[tactic(auto, unfolding(crate::specs::ReadingUnits::variables, crate::specs::ReadingUnits::declarations))]
 pub fn variables(alloc: Global, cursor: &mut Cursor<'_>) -> Result<Declarations, TextStop>
     ensures { Reads (spec.variables cursor.old) result cursor.new }
 {
-    cursor.expect(Sign::Variables)?;
-    declarations(alloc, cursor)
+    cursor.expect(Symbol::Keyword(Keyword::Variables))?;
+    let mut first = Declarations::new(alloc);
+    more_declarations(alloc, cursor, &mut first)?;
+    declarations_behind(alloc, cursor, first)
 }
 
 /// The variables of an archetype, if it has some.
@@ -177,7 +136,7 @@ pub fn variables(alloc: Global, cursor: &mut Cursor<'_>) -> Result<Declarations,
 pub fn locals(alloc: Global, cursor: &mut Cursor<'_>) -> Result<Declarations, TextStop>
     ensures { Reads (spec.locals cursor.old) result cursor.new }
 {
-    if cursor.sees(Sign::Variables) {
+    if cursor.sees(Symbol::Keyword(Keyword::Variables)) {
         variables(alloc, cursor)
     } else {
         Ok(Declarations::new(alloc))

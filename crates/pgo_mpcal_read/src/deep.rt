@@ -14,50 +14,34 @@ pub struct Deep<T: Drop> {
     pub part: T,
 }
 
-/// A part whose deepest statement is so deep.
-pub fn at_depth<T: Drop>(depth: u32, part: T) -> Deep<T>
-    ensures { result ≡ spec.deep depth part }
-{
-    Deep { depth, part }
-}
-
 /// One branch of an `if` more.
 pub fn push_branch(
-    all: Deep<Branches>,
+    all: &mut Deep<Branches>,
     r: Deep<(u32, (Sub, Nested))>,
-) -> Result<Deep<Branches>, AllocError>
-    ensures { IfOk result (λ new. new ≡ spec.added all r) }
+) -> Result<(), AllocError>
+    ensures { IfOk result (λ _. all.new ≡ spec.added all.old r) }
 {
-    let depth = all.depth.max(r.depth);
-    let mut list = all.part;
+    all.depth = all.depth.max(r.depth);
     let (place, (condition, nested)) = r.part;
-    list.push(place, condition, nested)?;
-    Ok(at_depth(depth, list))
+    all.part.push(place, condition, nested)
 }
 
 /// One statement of an `either` more.
-pub fn push_statement(
-    all: Deep<Alternatives>,
-    r: Deep<Nested>,
-) -> Result<Deep<Alternatives>, AllocError>
-    ensures { IfOk result (λ new. new ≡ spec.added all r) }
+pub fn push_statement(all: &mut Deep<Alternatives>, r: Deep<Nested>) -> Result<(), AllocError>
+    ensures { IfOk result (λ _. all.new ≡ spec.added all.old r) }
 {
-    let depth = all.depth.max(r.depth);
-    let mut list = all.part;
-    list.push(r.part)?;
-    Ok(at_depth(depth, list))
+    all.depth = all.depth.max(r.depth);
+    all.part.push(r.part)
 }
 
 /// One statement of a block more.
 pub fn push_row(
-    all: Deep<Block>,
+    all: &mut Deep<Block>,
     r: Deep<(Option<PlacedName>, Nested)>,
-) -> Result<Deep<Block>, AllocError>
-    ensures { IfOk result (λ new. new ≡ spec.added all r) }
+) -> Result<(), AllocError>
+    ensures { IfOk result (λ _. all.new ≡ spec.added all.old r) }
 {
-    let depth = all.depth.max(r.depth);
-    let mut list = all.part;
+    all.depth = all.depth.max(r.depth);
     let (label, nested) = r.part;
-    list.push(label, nested)?;
-    Ok(at_depth(depth, list))
+    all.part.push(label, nested)
 }

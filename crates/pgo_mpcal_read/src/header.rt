@@ -1,15 +1,15 @@
 // The header of a specification.
-ghost use Rattle.std.specs.Prelude.{◌≡◌, [], ◌∷◌, ◌++◌, length, Some, codes};
+ghost use Rattle.std.specs.Prelude.{◌≡◌, length, Some};
 ghost use Rattle.pgo_mpcal_read.specs.Reading as reading;
 ghost use Rattle.pgo_mpcal_read.specs.Reading.{Reads};
 ghost use Rattle.pgo_mpcal_read.specs.ReadingSpec as spec;
 
 use crate::cursor::Cursor;
-use crate::declarations::definition;
-use crate::names::{names, names_behind};
-use crate::sign::Sign;
+use crate::item::{Item, behind, items};
+use pgo_base::expr::Infix;
 use pgo_lexer::errors::TextStop;
-use pgo_syntax::declaration::Definitions;
+use pgo_lexer::symbol::Symbol;
+use pgo_syntax::declaration::{Definition, Definitions};
 use pgo_syntax::name::{PlacedName, PlacedNames};
 use std::alloc::Global;
 
@@ -44,7 +44,7 @@ fn more_dashes(cursor: &mut Cursor<'_>, first: usize) -> usize
 fn dashes(cursor: &mut Cursor<'_>) -> Result<(), TextStop>
     ensures { Reads (spec.dashes cursor.old) result cursor.new }
 {
-    if !cursor.sees(Sign::Minus) {
+    if !cursor.sees(Symbol::Infix(Infix::Subtract)) {
         return Err(cursor.refuse());
     }
     let stop = cursor.stop();
@@ -63,7 +63,7 @@ fn extends(alloc: Global, cursor: &mut Cursor<'_>) -> Result<PlacedNames, TextSt
 {
     if cursor.begins_list(b"EXTENDS") {
         cursor.skip();
-        names(alloc, cursor)
+        items(alloc, cursor, Symbol::Comma)
     } else {
         Ok(PlacedNames::new(alloc))
     }
@@ -96,16 +96,15 @@ fn constants_part(
 ) -> Result<Header, TextStop>
     ensures { Reads (spec.constants_part before cursor.old) result cursor.new }
 {
-    let name = cursor.name(alloc)?;
-    let mut all = before;
-    all.constants.push(name)?;
+    let constant = cursor.name(alloc)?;
     let Header {
         name,
         extends,
-        constants,
+        mut constants,
         definitions,
-    } = all;
-    let constants = names_behind(alloc, cursor, constants)?;
+    } = before;
+    constants.push(constant)?;
+    let constants = behind(alloc, cursor, Symbol::Comma, constants)?;
     Ok(Header {
         name,
         extends,
@@ -123,7 +122,7 @@ fn definition_part(
 ) -> Result<Header, TextStop>
     ensures { Reads (spec.definition_part before cursor.old) result cursor.new }
 {
-    let d = definition(alloc, cursor)?;
+    let d = Definition::read(alloc, cursor)?;
     let mut all = before;
     all.definitions.push(d)?;
     Ok(all)

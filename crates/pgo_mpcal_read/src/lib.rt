@@ -7,6 +7,7 @@ mod declarations;
 mod deep;
 mod depths;
 mod header;
+mod item;
 mod lead;
 mod names;
 mod nesting;

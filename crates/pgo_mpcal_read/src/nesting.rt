@@ -3,17 +3,17 @@ ghost use Rattle.std.specs.Prelude.{◌≡◌, [], ◌∷◌, Some};
 ghost use Rattle.pgo_mpcal_read.specs.Nests.{Nests};
 ghost use Rattle.pgo_mpcal_read.specs.Reading as reading;
 ghost use Rattle.pgo_mpcal_read.specs.Reading.{Reads, Passes};
+ghost use Rattle.pgo_mpcal_read.specs.ReadingSpec.{Updates};
 ghost use Rattle.pgo_mpcal_read.specs.ReadingStatements as spec;
 ghost use Rattle.pgo_mpcal_read.specs.Signs.{sees};
-ghost use Rattle.pgo_mpcal_read.specs.declared.sign.Sign.TheVariants as sign;
 
 use crate::cursor::Cursor;
-use crate::deep::{Deep, at_depth, push_branch, push_row, push_statement};
+use crate::deep::{Deep, push_branch, push_row, push_statement};
 use crate::depths::MacroDepths;
-use crate::sign::Sign;
 use crate::statements::Statements;
-use pgo_base::expr::Sub;
+use pgo_base::expr::{Infix, Sub};
 use pgo_lexer::errors::TextStop;
+use pgo_lexer::symbol::{Bracket, Keyword, Symbol};
 use pgo_lexer::token::Lexeme;
 use pgo_syntax::name::PlacedName;
 use pgo_syntax::statement::{Alternatives, Block, Branches, Nested, Stmt};
@@ -23,7 +23,7 @@ use std::alloc::Global;
 fn sees_else_if(cursor: &Cursor<'_>) -> bool
     ensures { result ≡ spec.sees_else_if cursor.now }
 {
-    cursor.sees(Sign::Else) && cursor.sees_second(Sign::If)
+    cursor.sees(Symbol::Keyword(Keyword::Else)) && cursor.sees_second(Symbol::Keyword(Keyword::If))
 }
 
 /// Goes past a label's `+` or `-`, if there is one.
@@ -31,32 +31,23 @@ fn sees_else_if(cursor: &Cursor<'_>) -> bool
 fn fairness(cursor: &mut Cursor<'_>)
     ensures { cursor.new ≡ spec.fairness cursor.old }
 {
-    if cursor.sees(Sign::Plus) || cursor.sees(Sign::Minus) {
+    if cursor.sees(Symbol::Infix(Infix::Add)) || cursor.sees(Symbol::Infix(Infix::Subtract)) {
         cursor.skip();
     }
 }
 
-/// A label.
-#[tactic(auto, unfolding(crate::specs::ReadingStatements::label))]
-fn label(alloc: Global, cursor: &mut Cursor<'_>) -> Result<Option<PlacedName>, TextStop>
-    ensures { Reads (spec.label cursor.old) result cursor.new }
-{
-    let name = cursor.name(alloc)?;
-    cursor.expect(Sign::Colon)?;
-    fairness(cursor);
-    Ok(Some(name))
-}
-
 /// A label, where one is next.
-#[tactic(auto, unfolding(crate::specs::ReadingStatements::optional_label))]
+#[tactic(auto, unfolding(crate::specs::ReadingStatements::optional_label, crate::specs::ReadingStatements::label))]
 fn optional_label(alloc: Global, cursor: &mut Cursor<'_>) -> Result<Option<PlacedName>, TextStop>
     ensures { Reads (spec.optional_label cursor.old) result cursor.new }
 {
-    if cursor.sees_name() && cursor.sees_second(Sign::Colon) {
-        label(alloc, cursor)
-    } else {
-        Ok(None)
+    if !cursor.sees_name() || !cursor.sees_second(Symbol::Colon) {
+        return Ok(None);
     }
+    let name = cursor.name(alloc)?;
+    cursor.expect(Symbol::Colon)?;
+    fairness(cursor);
+    Ok(Some(name))
 }
 
 /// Goes past what stands between a statement of a block, which was read from `before` on, and the next one.
@@ -64,7 +55,7 @@ fn optional_label(alloc: Global, cursor: &mut Cursor<'_>) -> Result<Option<Place
 fn end_row(cursor: &mut Cursor<'_>, before: &[Lexeme]) -> Result<(), TextStop>
     ensures { Passes (spec.row_ended before.now cursor.old) result cursor.new }
 {
-    if cursor.sees(Sign::CurlyClose) {
+    if cursor.sees(Symbol::Close(Bracket::Curly)) {
         Ok(())
     } else {
         cursor.end(before)
@@ -81,12 +72,14 @@ impl<
         requires { Nests self.now.below (F.pre self.now.statement) (F.post self.now.statement) }
         ensures { Reads (spec.branch self.now.macros.now self.now.limit (spec.statement self.now.macros.now self.now.below) cursor.old) result cursor.new }
     {
-        let place = cursor.mark(Sign::If)?;
-        cursor.expect(Sign::RoundOpen)?;
+        let place = cursor.mark(Symbol::Keyword(Keyword::If))?;
+        cursor.expect(Symbol::Open(Bracket::Round))?;
         let condition = cursor.expression(self.alloc)?;
-        cursor.expect(Sign::RoundClose)?;
+        cursor.expect(Symbol::Close(Bracket::Round))?;
         let s = self.inner(cursor)?;
-        Ok(at_depth(s.depth, (place, (condition, s.part))))
+        let depth = s.depth;
+        let part = (place, (condition, s.part));
+        Ok(Deep { depth, part })
     }
 
     /// `else` and one branch more.
@@ -94,14 +87,15 @@ impl<
     fn more_branches(
         &self,
         cursor: &mut Cursor<'_>,
-        all: Deep<Branches>,
-    ) -> Result<Deep<Branches>, TextStop>
+        all: &mut Deep<Branches>,
+    ) -> Result<(), TextStop>
         requires { Nests self.now.below (F.pre self.now.statement) (F.post self.now.statement) }
-        ensures { Reads (spec.one_more_branch self.now.macros.now self.now.limit (spec.statement self.now.macros.now self.now.below) all cursor.old) result cursor.new }
+        ensures { Updates (spec.one_more_branch self.now.macros.now self.now.limit (spec.statement self.now.macros.now self.now.below) all.old cursor.old) result all.new cursor.new }
     {
-        cursor.expect(Sign::Else)?;
+        cursor.expect(Symbol::Keyword(Keyword::Else))?;
         let b = self.branch(cursor)?;
-        Ok(push_branch(all, b)?)
+        push_branch(all, b)?;
+        Ok(())
     }
 
     /// Further branches, as far as they go.
@@ -118,7 +112,7 @@ impl<
             if !sees_else_if(cursor) {
                 return Ok(all);
             }
-            all = self.more_branches(cursor, all)?;
+            self.more_branches(cursor, &mut all)?;
         }
         Ok(all)
     }
@@ -149,7 +143,7 @@ impl<
         let place = first.part.0;
         let one = one_branch(self.alloc, first)?;
         let all = self.branches_behind(cursor, one)?;
-        if cursor.eat(Sign::Else) {
+        if cursor.eat(Symbol::Keyword(Keyword::Else)) {
             return self.last_else(cursor, place, all);
         }
         self.node(cursor, all.depth, Stmt::If(place, all.part))
@@ -160,14 +154,15 @@ impl<
     fn more_alternatives(
         &self,
         cursor: &mut Cursor<'_>,
-        all: Deep<Alternatives>,
-    ) -> Result<Deep<Alternatives>, TextStop>
+        all: &mut Deep<Alternatives>,
+    ) -> Result<(), TextStop>
         requires { Nests self.now.below (F.pre self.now.statement) (F.post self.now.statement) }
-        ensures { Reads (spec.one_more_or self.now.macros.now self.now.limit (spec.statement self.now.macros.now self.now.below) all cursor.old) result cursor.new }
+        ensures { Updates (spec.one_more_or self.now.macros.now self.now.limit (spec.statement self.now.macros.now self.now.below) all.old cursor.old) result all.new cursor.new }
     {
-        cursor.expect(Sign::Or)?;
+        cursor.expect(Symbol::Keyword(Keyword::Or))?;
         let s = self.inner(cursor)?;
-        Ok(push_statement(all, s)?)
+        push_statement(all, s)?;
+        Ok(())
     }
 
     /// Further ones, as far as they go.
@@ -177,14 +172,14 @@ impl<
         first: Deep<Alternatives>,
     ) -> Result<Deep<Alternatives>, TextStop>
         requires { Nests self.now.below (F.pre self.now.statement) (F.post self.now.statement) }
-        ensures { Reads (reading.all_folded (sees sign.Or) (spec.one_more_or self.now.macros.now self.now.limit (spec.statement self.now.macros.now self.now.below)) first cursor.old) result cursor.new }
+        ensures { Reads (reading.all_folded (sees (Symbol.Keyword Keyword.Or)) (spec.one_more_or self.now.macros.now self.now.limit (spec.statement self.now.macros.now self.now.below)) first cursor.old) result cursor.new }
     {
         let mut all = first;
         for _turn in 0..cursor.left() {
-            if !cursor.sees(Sign::Or) {
+            if !cursor.sees(Symbol::Keyword(Keyword::Or)) {
                 return Ok(all);
             }
-            all = self.more_alternatives(cursor, all)?;
+            self.more_alternatives(cursor, &mut all)?;
         }
         Ok(all)
     }
@@ -195,10 +190,10 @@ impl<
         requires { Nests self.now.below (F.pre self.now.statement) (F.post self.now.statement) }
         ensures { Reads (spec.either_form self.now.macros.now self.now.limit (spec.statement self.now.macros.now self.now.below) cursor.old) result cursor.new }
     {
-        let place = cursor.mark(Sign::Either)?;
+        let place = cursor.mark(Symbol::Keyword(Keyword::Either))?;
         let first = self.inner(cursor)?;
-        let one = one_statement(self.alloc, first)?;
-        let two = self.more_alternatives(cursor, one)?;
+        let mut two = one_statement(self.alloc, first)?;
+        self.more_alternatives(cursor, &mut two)?;
         let all = self.alternatives_behind(cursor, two)?;
         self.node(cursor, all.depth, Stmt::Either(place, all.part))
     }
@@ -214,19 +209,22 @@ impl<
     {
         let label = optional_label(self.alloc, cursor)?;
         let s = self.inner(cursor)?;
-        Ok(at_depth(s.depth, (label, s.part)))
+        let depth = s.depth;
+        let part = (label, s.part);
+        Ok(Deep { depth, part })
     }
 
     /// One statement of a block more.
     #[tactic(auto, unfolding(crate::specs::ReadingStatements::one_more_row))]
-    fn more_rows(&self, cursor: &mut Cursor<'_>, all: Deep<Block>) -> Result<Deep<Block>, TextStop>
+    fn more_rows(&self, cursor: &mut Cursor<'_>, all: &mut Deep<Block>) -> Result<(), TextStop>
         requires { Nests self.now.below (F.pre self.now.statement) (F.post self.now.statement) }
-        ensures { Reads (spec.one_more_row self.now.macros.now self.now.limit (spec.statement self.now.macros.now self.now.below) all cursor.old) result cursor.new }
+        ensures { Updates (spec.one_more_row self.now.macros.now self.now.limit (spec.statement self.now.macros.now self.now.below) all.old cursor.old) result all.new cursor.new }
     {
         let before = cursor.rest();
         let r = self.labeled_statement(cursor)?;
         end_row(cursor, before)?;
-        Ok(push_row(all, r)?)
+        push_row(all, r)?;
+        Ok(())
     }
 
     /// The statements of a block up to its `}`.
@@ -234,12 +232,13 @@ impl<
         requires { Nests self.now.below (F.pre self.now.statement) (F.post self.now.statement) }
         ensures { Reads (reading.all_folded spec.goes_on (spec.one_more_row self.now.macros.now self.now.limit (spec.statement self.now.macros.now self.now.below)) (spec.deep 0 []) cursor.old) result cursor.new }
     {
-        let mut all = at_depth(0, Block::new(self.alloc));
+        let part = Block::new(self.alloc);
+        let mut all = Deep { depth: 0, part };
         for _turn in 0..cursor.left() {
-            if cursor.sees(Sign::CurlyClose) {
+            if cursor.sees(Symbol::Close(Bracket::Curly)) {
                 return Ok(all);
             }
-            all = self.more_rows(cursor, all)?;
+            self.more_rows(cursor, &mut all)?;
         }
         Ok(all)
     }
@@ -251,7 +250,7 @@ impl<
         ensures { Reads (spec.rows self.now.macros.now self.now.limit (spec.statement self.now.macros.now self.now.below) cursor.old) result cursor.new }
     {
         let all = self.all_rows(cursor)?;
-        cursor.expect(Sign::CurlyClose)?;
+        cursor.expect(Symbol::Close(Bracket::Curly))?;
         Ok(all)
     }
 
@@ -261,7 +260,7 @@ impl<
         requires { Nests self.now.below (F.pre self.now.statement) (F.post self.now.statement) }
         ensures { Reads (spec.block_form self.now.macros.now self.now.limit (spec.statement self.now.macros.now self.now.below) cursor.old) result cursor.new }
     {
-        let place = cursor.mark(Sign::CurlyOpen)?;
+        let place = cursor.mark(Symbol::Open(Bracket::Curly))?;
         let all = self.rows(cursor)?;
         self.node(cursor, all.depth, Stmt::Block(place, all.part))
     }
@@ -272,7 +271,7 @@ impl<
         requires { Nests self.now.below (F.pre self.now.statement) (F.post self.now.statement) }
         ensures { Reads (spec.body self.now.macros.now self.now.limit (spec.statement self.now.macros.now self.now.below) cursor.old) result cursor.new }
     {
-        cursor.expect(Sign::CurlyOpen)?;
+        cursor.expect(Symbol::Open(Bracket::Curly))?;
         self.rows(cursor)
     }
 }
@@ -284,7 +283,8 @@ fn one_branch(alloc: Global, first: Deep<(u32, (Sub, Nested))>) -> Result<Deep<B
     let mut list = Branches::new(alloc);
     let (place, (condition, nested)) = first.part;
     list.push(place, condition, nested)?;
-    Ok(at_depth(first.depth, list))
+    let depth = first.depth;
+    Ok(Deep { depth, part: list })
 }
 
 /// One statement.
@@ -293,5 +293,6 @@ fn one_statement(alloc: Global, first: Deep<Nested>) -> Result<Deep<Alternatives
 {
     let mut list = Alternatives::new(alloc);
     list.push(first.part)?;
-    Ok(at_depth(first.depth, list))
+    let depth = first.depth;
+    Ok(Deep { depth, part: list })
 }

@@ -1,15 +1,13 @@
 // Parameters, arguments and mapping clauses.
-ghost use Rattle.std.specs.Prelude.{◌≡◌, [], ◌∷◌, ◌++◌};
-ghost use Rattle.pgo_mpcal_read.specs.Reading as reading;
-ghost use Rattle.pgo_mpcal_read.specs.Reading.{Reads, Passes};
+ghost use Rattle.pgo_mpcal_read.specs.Reading.{Reads};
 ghost use Rattle.pgo_mpcal_read.specs.ReadingUnits as spec;
-ghost use Rattle.pgo_mpcal_read.specs.declared.sign.Sign.TheVariants as sign;
 
 use crate::cursor::Cursor;
-use crate::sign::Sign;
+use crate::item::{Item, RowItem};
 use pgo_lexer::errors::TextStop;
-use pgo_syntax::archetype::{Extent, Parameter, ParameterKind, Parameters};
-use pgo_syntax::process::{Argument, Arguments, MappingClause, MappingClauses, MappingTarget};
+use pgo_lexer::symbol::{Bracket, Keyword, Symbol};
+use pgo_syntax::archetype::{Extent, Parameter, ParameterKind};
+use pgo_syntax::process::{Argument, MappingClause, MappingTarget};
 use std::alloc::Global;
 
 /// Nothing, or `[_]`.
@@ -17,173 +15,48 @@ use std::alloc::Global;
 fn extent(cursor: &mut Cursor<'_>) -> Result<Extent, TextStop>
     ensures { Reads (spec.extent cursor.old) result cursor.new }
 {
-    if !cursor.sees(Sign::SquareOpen) {
+    if !cursor.sees(Symbol::Open(Bracket::Square)) {
         return Ok(Extent::Whole);
     }
-    cursor.expect(Sign::SquareOpen)?;
-    cursor.expect(Sign::Underscore)?;
-    cursor.expect(Sign::SquareClose)?;
+    cursor.expect(Symbol::Open(Bracket::Square))?;
+    cursor.expect(Symbol::Underscore)?;
+    cursor.expect(Symbol::Close(Bracket::Square))?;
     Ok(Extent::Element)
 }
 
-/// A parameter of an archetype.
-#[tactic(auto, unfolding(crate::specs::ReadingUnits::parameter, crate::specs::ReadingUnits::ref_parameter, crate::specs::ReadingUnits::value_parameter))]
-fn parameter(alloc: Global, cursor: &mut Cursor<'_>) -> Result<Parameter, TextStop>
-    ensures { Reads (spec.parameter cursor.old) result cursor.new }
-{
-    if cursor.eat(Sign::Ref) {
-        let name = cursor.name(alloc)?;
-        let extent = extent(cursor)?;
-        let kind = ParameterKind::Ref(extent);
-        return Ok(Parameter { name, kind });
-    }
-    let name = cursor.name(alloc)?;
-    let kind = ParameterKind::Value;
-    Ok(Parameter { name, kind })
-}
+impl Item for Parameter {
+    ghost parser = { spec.parameter };
 
-/// One more, behind a comma.
-#[tactic(auto, unfolding(crate::specs::Reading::one_behind))]
-fn more_parameters(
-    alloc: Global,
-    cursor: &mut Cursor<'_>,
-    all: Parameters,
-) -> Result<Parameters, TextStop>
-    ensures { Reads (reading.one_behind sign.Comma spec.parameter all cursor.old) result cursor.new }
-{
-    cursor.expect(Sign::Comma)?;
-    let a = parameter(alloc, cursor)?;
-    let mut list = all;
-    list.push(a)?;
-    Ok(list)
-}
-
-/// Further ones behind commas, as far as they go.
-fn parameters_behind(
-    alloc: Global,
-    cursor: &mut Cursor<'_>,
-    first: Parameters,
-) -> Result<Parameters, TextStop>
-    ensures { Reads (reading.behind sign.Comma spec.parameter first cursor.old) result cursor.new }
-{
-    let mut all = first;
-    for _turn in 0..cursor.left() {
-        if !cursor.sees(Sign::Comma) {
-            return Ok(all);
+    /// A parameter of an archetype.
+    #[tactic(auto, unfolding(crate::specs::ReadingUnits::parameter, crate::specs::ReadingUnits::ref_parameter, crate::specs::ReadingUnits::value_parameter))]
+    fn read(alloc: Global, cursor: &mut Cursor<'_>) -> Result<Parameter, TextStop> {
+        if cursor.eat(Symbol::Keyword(Keyword::Ref)) {
+            let name = cursor.name(alloc)?;
+            let extent = extent(cursor)?;
+            let kind = ParameterKind::Ref(extent);
+            return Ok(Parameter { name, kind });
         }
-        all = more_parameters(alloc, cursor, all)?;
-    }
-    Ok(all)
-}
-
-/// Parameters with commas between them.
-#[tactic(auto, unfolding(crate::specs::Reading::items))]
-fn parameters(alloc: Global, cursor: &mut Cursor<'_>) -> Result<Parameters, TextStop>
-    ensures { Reads (reading.items sign.Comma spec.parameter cursor.old) result cursor.new }
-{
-    let a = parameter(alloc, cursor)?;
-    let mut first = Parameters::new(alloc);
-    first.push(a)?;
-    parameters_behind(alloc, cursor, first)
-}
-
-/// Parameters in `( )`.
-#[tactic(auto, unfolding(crate::specs::Reading::in_brackets, crate::specs::Reading::some_in_brackets))]
-pub fn parameters_in_brackets(
-    alloc: Global,
-    cursor: &mut Cursor<'_>,
-) -> Result<Parameters, TextStop>
-    ensures { Reads (reading.in_brackets spec.parameter cursor.old) result cursor.new }
-{
-    cursor.expect(Sign::RoundOpen)?;
-    if cursor.eat(Sign::RoundClose) {
-        return Ok(Parameters::new(alloc));
-    }
-    let all = parameters(alloc, cursor)?;
-    cursor.expect(Sign::RoundClose)?;
-    Ok(all)
-}
-
-/// An argument of an instance that is an expression, with the place of its first token.
-#[tactic(auto, unfolding(crate::specs::ReadingUnits::value_argument))]
-fn value_argument(alloc: Global, cursor: &mut Cursor<'_>) -> Result<Argument, TextStop>
-    ensures { Reads (spec.value_argument cursor.old) result cursor.new }
-{
-    let place = cursor.place()?;
-    let e = cursor.expression(alloc)?;
-    Ok(Argument::Value(place, e))
-}
-
-/// An argument of an instance.
-#[tactic(auto, unfolding(crate::specs::ReadingUnits::argument, crate::specs::ReadingUnits::ref_argument))]
-fn argument(alloc: Global, cursor: &mut Cursor<'_>) -> Result<Argument, TextStop>
-    ensures { Reads (spec.argument cursor.old) result cursor.new }
-{
-    if cursor.eat(Sign::Ref) {
         let name = cursor.name(alloc)?;
-        let extent = extent(cursor)?;
-        return Ok(Argument::Ref(name, extent));
+        let kind = ParameterKind::Value;
+        Ok(Parameter { name, kind })
     }
-    value_argument(alloc, cursor)
 }
 
-/// One more, behind a comma.
-#[tactic(auto, unfolding(crate::specs::Reading::one_behind))]
-fn more_arguments(
-    alloc: Global,
-    cursor: &mut Cursor<'_>,
-    all: Arguments,
-) -> Result<Arguments, TextStop>
-    ensures { Reads (reading.one_behind sign.Comma spec.argument all cursor.old) result cursor.new }
-{
-    cursor.expect(Sign::Comma)?;
-    let a = argument(alloc, cursor)?;
-    let mut list = all;
-    list.push(a)?;
-    Ok(list)
-}
+impl Item for Argument {
+    ghost parser = { spec.argument };
 
-/// Further ones behind commas, as far as they go.
-fn arguments_behind(
-    alloc: Global,
-    cursor: &mut Cursor<'_>,
-    first: Arguments,
-) -> Result<Arguments, TextStop>
-    ensures { Reads (reading.behind sign.Comma spec.argument first cursor.old) result cursor.new }
-{
-    let mut all = first;
-    for _turn in 0..cursor.left() {
-        if !cursor.sees(Sign::Comma) {
-            return Ok(all);
+    /// An argument of an instance. An expression has the place of its first token.
+    #[tactic(auto, unfolding(crate::specs::ReadingUnits::argument, crate::specs::ReadingUnits::ref_argument, crate::specs::ReadingUnits::value_argument))]
+    fn read(alloc: Global, cursor: &mut Cursor<'_>) -> Result<Argument, TextStop> {
+        if cursor.eat(Symbol::Keyword(Keyword::Ref)) {
+            let name = cursor.name(alloc)?;
+            let extent = extent(cursor)?;
+            return Ok(Argument::Ref(name, extent));
         }
-        all = more_arguments(alloc, cursor, all)?;
+        let place = cursor.place()?;
+        let e = cursor.expression(alloc)?;
+        Ok(Argument::Value(place, e))
     }
-    Ok(all)
-}
-
-/// Arguments with commas between them.
-#[tactic(auto, unfolding(crate::specs::Reading::items))]
-fn arguments(alloc: Global, cursor: &mut Cursor<'_>) -> Result<Arguments, TextStop>
-    ensures { Reads (reading.items sign.Comma spec.argument cursor.old) result cursor.new }
-{
-    let a = argument(alloc, cursor)?;
-    let mut first = Arguments::new(alloc);
-    first.push(a)?;
-    arguments_behind(alloc, cursor, first)
-}
-
-/// Arguments in `( )`.
-#[tactic(auto, unfolding(crate::specs::Reading::in_brackets, crate::specs::Reading::some_in_brackets))]
-pub fn arguments_in_brackets(alloc: Global, cursor: &mut Cursor<'_>) -> Result<Arguments, TextStop>
-    ensures { Reads (reading.in_brackets spec.argument cursor.old) result cursor.new }
-{
-    cursor.expect(Sign::RoundOpen)?;
-    if cursor.eat(Sign::RoundClose) {
-        return Ok(Arguments::new(alloc));
-    }
-    let all = arguments(alloc, cursor)?;
-    cursor.expect(Sign::RoundClose)?;
-    Ok(all)
 }
 
 /// What a mapping clause speaks of.
@@ -191,8 +64,8 @@ pub fn arguments_in_brackets(alloc: Global, cursor: &mut Cursor<'_>) -> Result<A
 fn target(alloc: Global, cursor: &mut Cursor<'_>) -> Result<MappingTarget, TextStop>
     ensures { Reads (spec.target cursor.old) result cursor.new }
 {
-    if cursor.sees(Sign::At) {
-        let place = cursor.mark(Sign::At)?;
+    if cursor.sees(Symbol::At) {
+        let place = cursor.mark(Symbol::At)?;
         let number = cursor.number()?;
         let extent = extent(cursor)?;
         return Ok(MappingTarget::Argument {
@@ -206,50 +79,26 @@ fn target(alloc: Global, cursor: &mut Cursor<'_>) -> Result<MappingTarget, TextS
     Ok(MappingTarget::Global { name, extent })
 }
 
-/// `mapping target via name`.
-#[tactic(auto, unfolding(crate::specs::ReadingUnits::clause))]
-fn clause(alloc: Global, cursor: &mut Cursor<'_>) -> Result<MappingClause, TextStop>
-    ensures { Reads (spec.clause cursor.old) result cursor.new }
-{
-    cursor.expect(Sign::Mapping)?;
-    let target = target(alloc, cursor)?;
-    cursor.expect(Sign::Via)?;
-    let mapping = cursor.name(alloc)?;
-    Ok(MappingClause { target, mapping })
-}
+impl Item for MappingClause {
+    ghost parser = { spec.clause };
 
-/// Whether a mapping clause is next, and no mapping macro.
-fn sees_clause(cursor: &Cursor<'_>) -> bool
-    ensures { result ≡ spec.sees_clause cursor.now }
-{
-    cursor.sees(Sign::Mapping) && !cursor.sees_second(Sign::Macro)
-}
-
-/// One more of them.
-#[tactic(auto, unfolding(crate::specs::Reading::one_more))]
-fn more_clauses(
-    alloc: Global,
-    cursor: &mut Cursor<'_>,
-    all: MappingClauses,
-) -> Result<MappingClauses, TextStop>
-    ensures { Reads (reading.one_more spec.clause all cursor.old) result cursor.new }
-{
-    let a = clause(alloc, cursor)?;
-    let mut list = all;
-    list.push(a)?;
-    Ok(list)
-}
-
-/// Mapping clauses, as far as they go.
-pub fn clauses(alloc: Global, cursor: &mut Cursor<'_>) -> Result<MappingClauses, TextStop>
-    ensures { Reads (reading.row spec.sees_clause spec.clause cursor.old) result cursor.new }
-{
-    let mut all = MappingClauses::new(alloc);
-    for _turn in 0..cursor.left() {
-        if !sees_clause(cursor) {
-            return Ok(all);
-        }
-        all = more_clauses(alloc, cursor, all)?;
+    /// `mapping target via name`.
+    #[tactic(auto, unfolding(crate::specs::ReadingUnits::clause))]
+    fn read(alloc: Global, cursor: &mut Cursor<'_>) -> Result<MappingClause, TextStop> {
+        cursor.expect(Symbol::Keyword(Keyword::Mapping))?;
+        let target = target(alloc, cursor)?;
+        cursor.expect(Symbol::Keyword(Keyword::Via))?;
+        let mapping = cursor.name(alloc)?;
+        Ok(MappingClause { target, mapping })
     }
-    Ok(all)
+}
+
+impl RowItem for MappingClause {
+    ghost begins = { spec.sees_clause };
+
+    /// Whether a mapping clause is next, and no mapping macro.
+    fn is_next(cursor: &Cursor<'_>) -> bool {
+        cursor.sees(Symbol::Keyword(Keyword::Mapping))
+            && !cursor.sees_second(Symbol::Keyword(Keyword::Macro))
+    }
 }

@@ -5,7 +5,7 @@ ghost use Rattle.pgo_spec_text.specs.SpecText as layout;
 ghost use Rattle.pgo_spec_text.specs.SpecText.{IsSpecText};
 ghost use Rattle.pgo_syntax.specs.declared.spec.Spec.{Spec};
 ghost use Rattle.pgo_expr_read.specs.Stops.{IsWithin};
-ghost use Rattle.pgo_mpcal_read.specs.Reading.{Reads, Makes};
+ghost use Rattle.pgo_mpcal_read.specs.Reading.{Makes};
 ghost use Rattle.pgo_mpcal_read.specs.ReadingSpec as spec;
 ghost use Rattle.pgo_mpcal_read.specs.Spells.{declarations_of};
 ghost use Rattle.pgo_mpcal_read.specs.Shallow.{Tells};

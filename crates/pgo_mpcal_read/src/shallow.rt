@@ -1,5 +1,5 @@
 // How deep statements are, with macros in the place of their calls.
-ghost use Rattle.std.specs.Prelude.{◌≡◌, nat_le, map};
+ghost use Rattle.std.specs.Prelude.{nat_le, map};
 ghost use Rattle.pgo_syntax.specs.Statement.{statements, labeled, guarded};
 ghost use Rattle.pgo_syntax.specs.StatementView.{statement, labeled_pair, branch_parts};
 ghost use Rattle.pgo_mpcal_read.specs.Depths.{depth, statements_depth, labeled_depth, guarded_depth};

@@ -1,37 +1,37 @@
 // Which tokens may stand in a unit.
 ghost use Rattle.std.specs.Prelude.{◌≡◌};
 ghost use Rattle.pgo_expr_read.specs.Stops.{IsAsSevere, IsKeptIf};
-ghost use Rattle.pgo_mpcal_read.specs.Reading.{Reads};
+ghost use Rattle.pgo_mpcal_read.specs.Reading.{Outcome, Reads};
 ghost use Rattle.pgo_mpcal_read.specs.Reading as reading;
 ghost use Rattle.pgo_mpcal_read.specs.ReadingSpec as spec;
 ghost use Rattle.pgo_mpcal_read.specs.Units as units;
 
 use crate::cursor::Cursor;
-use crate::sign::{Sign, is_sign};
+use crate::sign::is_sign;
 use pgo_lexer::errors::TextStop;
+use pgo_lexer::symbol::{Keyword, Symbol};
 use pgo_lexer::token::{Lexeme, Token};
 
 /// Where tokens stand: `yield`, `$variable` and `$value` stand in mapping macros alone, and a macro has no `while` and no
 /// `goto`.
-#[derive(Clone, Copy, PartialEq, Eq)]
+#[derive(Clone, Copy)]
 pub enum Standing {
     Plain,
     Macro,
 }
 
-fn is_plain(token: &Token) -> bool
-    ensures { result ≡ units.is_plain token.now }
-{
-    !is_sign(Sign::Yield, token) && !is_sign(Sign::Variable, token) && !is_sign(Sign::Value, token)
-}
-
 fn may_stand(standing: Standing, token: &Token) -> bool
     ensures { result ≡ spec.stands standing token.now }
 {
+    let is_plain = !is_sign(Symbol::Keyword(Keyword::Yield), token)
+        && !is_sign(Symbol::Variable, token)
+        && !is_sign(Symbol::Value, token);
     match standing {
-        Standing::Plain => is_plain(token),
+        Standing::Plain => is_plain,
         Standing::Macro => {
-            is_plain(token) && !is_sign(Sign::While, token) && !is_sign(Sign::Goto, token)
+            is_plain
+                && !is_sign(Symbol::Keyword(Keyword::While), token)
+                && !is_sign(Symbol::Keyword(Keyword::Goto), token)
         }
     }
 }
@@ -95,4 +95,18 @@ pub fn checked<T: Drop>(
         }
         Err(stop) => Err(refused(standing, tokens, stop)),
     }
+}
+
+/// What was read of the tokens from `before` on, where all that were read may stand there.
+#[tactic(auto, using(crate::proofs::Checked::checked_reads))]
+pub fn checked_from<T: Drop>(
+    standing: Standing,
+    before: &[Lexeme],
+    cursor: &Cursor<'_>,
+    read: Result<T, TextStop>,
+) -> Result<T, TextStop>
+    ensures { (o : Outcome T) → Reads o read cursor.now → Reads (spec.checked standing before.now o) result cursor.now }
+{
+    let front = cursor.read_of(before);
+    checked(standing, before, front, cursor.refuse(), read)
 }

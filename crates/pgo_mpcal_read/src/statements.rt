@@ -1,20 +1,20 @@
 // Statements.
-ghost use Rattle.std.specs.Prelude.{◌≡◌, [], ◌∷◌};
-ghost use Rattle.pgo_syntax.specs.Statement as st;
+ghost use Rattle.std.specs.Prelude.{◌≡◌, []};
 ghost use Rattle.pgo_syntax.specs.StatementView.{statement};
 ghost use Rattle.pgo_mpcal_read.specs.Nests.{Nests};
 ghost use Rattle.pgo_mpcal_read.specs.Reading.{Reads};
 ghost use Rattle.pgo_mpcal_read.specs.ReadingStatements as spec;
-ghost use Rattle.pgo_mpcal_read.specs.declared.sign.Sign.TheVariants as sign;
 
-use crate::assignments::{assignments, with_names};
 use crate::cursor::Cursor;
-use crate::deep::{Deep, at_depth};
+use crate::deep::Deep;
 use crate::depths::{MacroDepths, depth_of};
+use crate::item::items;
 use crate::lead::Lead;
 use crate::names::expressions_in_brackets;
-use crate::sign::Sign;
+use pgo_base::expr::Sub;
 use pgo_lexer::errors::TextStop;
+use pgo_lexer::symbol::{Bracket, Keyword, Symbol};
+use pgo_syntax::assignment::Assignments;
 use pgo_syntax::statement::{Nested, Stmt};
 use std::alloc::Global;
 
@@ -56,8 +56,9 @@ impl<
         if depth >= self.limit {
             return Err(cursor.refuse());
         }
-        let nested = Nested::new(self.alloc, made)?;
-        Ok(at_depth(depth + 1, nested))
+        let part = Nested::new(self.alloc, made)?;
+        let depth = depth + 1;
+        Ok(Deep { depth, part })
     }
 
     /// `skip`.
@@ -65,58 +66,22 @@ impl<
     fn skip_form(&self, cursor: &mut Cursor<'_>) -> Result<Deep<Nested>, TextStop>
         ensures { Reads (spec.skip_form self.now.macros.now self.now.limit (spec.statement self.now.macros.now self.now.below) cursor.old) result cursor.new }
     {
-        let place = cursor.mark(Sign::Skip)?;
+        let place = cursor.mark(Symbol::Keyword(Keyword::Skip))?;
         self.node(cursor, 0, Stmt::Skip(place))
     }
 
-    /// `await e`.
+    /// `await e`, `when e`, `print e`, `assert e` or `yield e`.
     #[tactic(auto, unfolding(crate::specs::ReadingStatements::one_expression))]
-    fn await_form(&self, cursor: &mut Cursor<'_>) -> Result<Deep<Nested>, TextStop>
-        ensures { Reads (spec.one_expression self.now.macros.now self.now.limit (spec.statement self.now.macros.now self.now.below) sign.Await st.await_that cursor.old) result cursor.new }
+    fn one_expression(
+        &self,
+        cursor: &mut Cursor<'_>,
+        keyword: Keyword,
+    ) -> Result<Deep<Nested>, TextStop>
+        ensures { Reads (spec.one_expression self.now.macros.now self.now.limit (spec.statement self.now.macros.now self.now.below) keyword cursor.old) result cursor.new }
     {
-        let place = cursor.mark(Sign::Await)?;
-        let condition = cursor.expression(self.alloc)?;
-        self.node(cursor, 0, Stmt::Await(place, condition))
-    }
-
-    /// `when e`.
-    #[tactic(auto, unfolding(crate::specs::ReadingStatements::one_expression))]
-    fn when_form(&self, cursor: &mut Cursor<'_>) -> Result<Deep<Nested>, TextStop>
-        ensures { Reads (spec.one_expression self.now.macros.now self.now.limit (spec.statement self.now.macros.now self.now.below) sign.When st.await_that cursor.old) result cursor.new }
-    {
-        let place = cursor.mark(Sign::When)?;
-        let condition = cursor.expression(self.alloc)?;
-        self.node(cursor, 0, Stmt::Await(place, condition))
-    }
-
-    /// `print e`.
-    #[tactic(auto, unfolding(crate::specs::ReadingStatements::one_expression))]
-    fn print_form(&self, cursor: &mut Cursor<'_>) -> Result<Deep<Nested>, TextStop>
-        ensures { Reads (spec.one_expression self.now.macros.now self.now.limit (spec.statement self.now.macros.now self.now.below) sign.Print st.print_out cursor.old) result cursor.new }
-    {
-        let place = cursor.mark(Sign::Print)?;
+        let place = cursor.mark(Symbol::Keyword(keyword))?;
         let e = cursor.expression(self.alloc)?;
-        self.node(cursor, 0, Stmt::Print(place, e))
-    }
-
-    /// `assert e`.
-    #[tactic(auto, unfolding(crate::specs::ReadingStatements::one_expression))]
-    fn assert_form(&self, cursor: &mut Cursor<'_>) -> Result<Deep<Nested>, TextStop>
-        ensures { Reads (spec.one_expression self.now.macros.now self.now.limit (spec.statement self.now.macros.now self.now.below) sign.Assert st.assert_that cursor.old) result cursor.new }
-    {
-        let place = cursor.mark(Sign::Assert)?;
-        let condition = cursor.expression(self.alloc)?;
-        self.node(cursor, 0, Stmt::Assert(place, condition))
-    }
-
-    /// `yield e`.
-    #[tactic(auto, unfolding(crate::specs::ReadingStatements::one_expression))]
-    fn yield_form(&self, cursor: &mut Cursor<'_>) -> Result<Deep<Nested>, TextStop>
-        ensures { Reads (spec.one_expression self.now.macros.now self.now.limit (spec.statement self.now.macros.now self.now.below) sign.Yield st.yield_as cursor.old) result cursor.new }
-    {
-        let place = cursor.mark(Sign::Yield)?;
-        let e = cursor.expression(self.alloc)?;
-        self.node(cursor, 0, Stmt::Yield(place, e))
+        self.node(cursor, 0, said(keyword, place, e))
     }
 
     /// `goto l`.
@@ -124,7 +89,7 @@ impl<
     fn goto_form(&self, cursor: &mut Cursor<'_>) -> Result<Deep<Nested>, TextStop>
         ensures { Reads (spec.goto_form self.now.macros.now self.now.limit (spec.statement self.now.macros.now self.now.below) cursor.old) result cursor.new }
     {
-        let place = cursor.mark(Sign::Goto)?;
+        let place = cursor.mark(Symbol::Keyword(Keyword::Goto))?;
         let label = cursor.name(self.alloc)?;
         self.node(cursor, 0, Stmt::Goto(place, label))
     }
@@ -134,7 +99,7 @@ impl<
     fn assign_form(&self, cursor: &mut Cursor<'_>) -> Result<Deep<Nested>, TextStop>
         ensures { Reads (spec.assign_form self.now.macros.now self.now.limit (spec.statement self.now.macros.now self.now.below) cursor.old) result cursor.new }
     {
-        let all = assignments(self.alloc, cursor)?;
+        let all: Assignments = items(self.alloc, cursor, Symbol::Bars)?;
         let place = match all.as_slice() {
             [] => return Err(cursor.refuse()),
             [first, ..] => first.left.name.place,
@@ -164,10 +129,10 @@ impl<
         requires { Nests self.now.below (F.pre self.now.statement) (F.post self.now.statement) }
         ensures { Reads (spec.while_form self.now.macros.now self.now.limit (spec.statement self.now.macros.now self.now.below) cursor.old) result cursor.new }
     {
-        let place = cursor.mark(Sign::While)?;
-        cursor.expect(Sign::RoundOpen)?;
+        let place = cursor.mark(Symbol::Keyword(Keyword::While))?;
+        cursor.expect(Symbol::Open(Bracket::Round))?;
         let condition = cursor.expression(self.alloc)?;
-        cursor.expect(Sign::RoundClose)?;
+        cursor.expect(Symbol::Close(Bracket::Round))?;
         let body = self.inner(cursor)?;
         self.node(cursor, body.depth, Stmt::While(place, condition, body.part))
     }
@@ -178,12 +143,34 @@ impl<
         requires { Nests self.now.below (F.pre self.now.statement) (F.post self.now.statement) }
         ensures { Reads (spec.with_form self.now.macros.now self.now.limit (spec.statement self.now.macros.now self.now.below) cursor.old) result cursor.new }
     {
-        let place = cursor.mark(Sign::With)?;
-        cursor.expect(Sign::RoundOpen)?;
-        let names = with_names(self.alloc, cursor)?;
-        cursor.expect(Sign::RoundClose)?;
+        let place = cursor.mark(Symbol::Keyword(Keyword::With))?;
+        cursor.expect(Symbol::Open(Bracket::Round))?;
+        let names = items(self.alloc, cursor, Symbol::Comma)?;
+        cursor.expect(Symbol::Close(Bracket::Round))?;
         let body = self.inner(cursor)?;
         self.node(cursor, body.depth, Stmt::With(place, names, body.part))
+    }
+
+    /// A statement that begins with this word.
+    fn keyword_form(
+        &self,
+        cursor: &mut Cursor<'_>,
+        keyword: Keyword,
+    ) -> Result<Deep<Nested>, TextStop>
+        requires { Nests self.now.below (F.pre self.now.statement) (F.post self.now.statement) }
+        ensures { Reads (spec.keyword_form self.now.macros.now self.now.limit (spec.statement self.now.macros.now self.now.below) keyword cursor.old) result cursor.new }
+    {
+        match keyword {
+            Keyword::Skip => self.skip_form(cursor),
+            Keyword::If => self.if_form(cursor),
+            Keyword::While => self.while_form(cursor),
+            Keyword::Either => self.either_form(cursor),
+            Keyword::With => self.with_form(cursor),
+            Keyword::Goto => self.goto_form(cursor),
+            Keyword::Await | Keyword::When | Keyword::Print | Keyword::Assert | Keyword::Yield =>
+                self.one_expression(cursor, keyword),
+            _ => Err(cursor.refuse()),
+        }
     }
 
     /// A statement that doesn't stand in another one.
@@ -193,22 +180,24 @@ impl<
         ensures { Reads (spec.any_form self.now.macros.now self.now.limit (spec.statement self.now.macros.now self.now.below) cursor.old) result cursor.new }
     {
         match cursor.lead() {
-            Lead::Skip => self.skip_form(cursor),
             Lead::Assign => self.assign_form(cursor),
             Lead::Call => self.call_form(cursor),
-            Lead::If => self.if_form(cursor),
-            Lead::While => self.while_form(cursor),
-            Lead::Either => self.either_form(cursor),
-            Lead::Await => self.await_form(cursor),
-            Lead::When => self.when_form(cursor),
-            Lead::With => self.with_form(cursor),
-            Lead::Print => self.print_form(cursor),
-            Lead::Assert => self.assert_form(cursor),
-            Lead::Goto => self.goto_form(cursor),
-            Lead::Yield => self.yield_form(cursor),
             Lead::Block => self.block_form(cursor),
+            Lead::Keyword(keyword) => self.keyword_form(cursor, keyword),
             Lead::None => Err(cursor.refuse()),
         }
+    }
+}
+
+/// What this word and an expression make; `await` and `when` are one.
+fn said(keyword: Keyword, place: u32, e: Sub) -> Stmt
+    ensures { statement result ≡ spec.said keyword place e }
+{
+    match keyword {
+        Keyword::Print => Stmt::Print(place, e),
+        Keyword::Assert => Stmt::Assert(place, e),
+        Keyword::Yield => Stmt::Yield(place, e),
+        _ => Stmt::Await(place, e),
     }
 }
 

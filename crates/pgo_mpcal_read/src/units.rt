@@ -1,21 +1,20 @@
 // The units of an algorithm.
-ghost use Rattle.std.specs.Prelude.{◌≡◌, [], ◌∷◌, ◌++◌, Some, None};
+ghost use Rattle.std.specs.Prelude.{◌≡◌, Some, None};
 ghost use Rattle.pgo_mpcal_read.specs.Reading as reading;
 ghost use Rattle.pgo_mpcal_read.specs.Reading.{Reads};
 ghost use Rattle.pgo_mpcal_read.specs.ReadingSpec as spec;
+ghost use Rattle.pgo_mpcal_read.specs.ReadingSpec.{Updates};
 ghost use Rattle.pgo_mpcal_read.specs.ReadingStatements.{goes_on};
 ghost use Rattle.pgo_mpcal_read.specs.ReadingUnits as units;
 ghost use Rattle.pgo_mpcal_read.specs.Units.{no_units};
-ghost use Rattle.pgo_mpcal_read.specs.declared.standing.Standing.TheVariants as standing;
 
 use crate::cursor::Cursor;
 use crate::declarations::variables;
-use crate::deep::Deep;
 use crate::depths::{MacroDepth, MacroDepths};
-use crate::sign::Sign;
-use crate::standing::{Standing, checked};
+use crate::standing::{Standing, checked_from};
 use crate::whole_parts::{archetype, define, macro_definition, mapping_macro, process};
 use pgo_lexer::errors::TextStop;
+use pgo_lexer::symbol::{Bracket, Keyword, Symbol};
 use pgo_syntax::archetype::{Archetype, Archetypes};
 use pgo_syntax::declaration::{Declarations, Definitions};
 use pgo_syntax::macros::{Macro, Macros, MappingMacros};
@@ -50,157 +49,100 @@ fn no_units(alloc: Global) -> Units
     }
 }
 
-/// The definitions of `define`, all of whose tokens may stand there.
-#[tactic(auto, using(crate::proofs::Checked::checked_reads))]
-fn checked_define(alloc: Global, cursor: &mut Cursor<'_>) -> Result<Definitions, TextStop>
-    ensures { Reads (spec.checked standing.Plain cursor.old (units.define cursor.old)) result cursor.new }
-{
-    let before = cursor.rest();
-    let read = define(alloc, cursor);
-    let front = cursor.read_of(before);
-    checked(Standing::Plain, before, front, cursor.refuse(), read)
-}
-
-/// A macro, all of whose tokens may stand there.
-#[tactic(auto, using(crate::proofs::Checked::checked_reads))]
-fn checked_macro_definition(
-    alloc: Global,
-    macros: &MacroDepths,
-    cursor: &mut Cursor<'_>,
-) -> Result<Deep<Macro>, TextStop>
-    ensures { Reads (spec.checked standing.Macro cursor.old (units.macro_definition macros.now cursor.old)) result cursor.new }
-{
-    let before = cursor.rest();
-    let read = macro_definition(alloc, macros, cursor);
-    let front = cursor.read_of(before);
-    checked(Standing::Macro, before, front, cursor.refuse(), read)
-}
-
-/// An archetype, all of whose tokens may stand there.
-#[tactic(auto, using(crate::proofs::Checked::checked_reads))]
-fn checked_archetype(
-    alloc: Global,
-    macros: &MacroDepths,
-    cursor: &mut Cursor<'_>,
-) -> Result<Archetype, TextStop>
-    ensures { Reads (spec.checked standing.Plain cursor.old (units.archetype macros.now cursor.old)) result cursor.new }
-{
-    let before = cursor.rest();
-    let read = archetype(alloc, macros, cursor);
-    let front = cursor.read_of(before);
-    checked(Standing::Plain, before, front, cursor.refuse(), read)
-}
-
-/// Variables, all of whose tokens may stand there.
-#[tactic(auto, using(crate::proofs::Checked::checked_reads))]
-fn checked_variables(alloc: Global, cursor: &mut Cursor<'_>) -> Result<Declarations, TextStop>
-    ensures { Reads (spec.checked standing.Plain cursor.old (units.variables cursor.old)) result cursor.new }
-{
-    let before = cursor.rest();
-    let read = variables(alloc, cursor);
-    let front = cursor.read_of(before);
-    checked(Standing::Plain, before, front, cursor.refuse(), read)
-}
-
-/// A process, all of whose tokens may stand there.
-#[tactic(auto, using(crate::proofs::Checked::checked_reads))]
-fn checked_process(alloc: Global, cursor: &mut Cursor<'_>) -> Result<Process, TextStop>
-    ensures { Reads (spec.checked standing.Plain cursor.old (units.process cursor.old)) result cursor.new }
-{
-    let before = cursor.rest();
-    let read = process(alloc, cursor);
-    let front = cursor.read_of(before);
-    checked(Standing::Plain, before, front, cursor.refuse(), read)
-}
-
 #[tactic(auto, unfolding(crate::specs::ReadingSpec::define_unit))]
-fn define_unit(alloc: Global, cursor: &mut Cursor<'_>, before: Units) -> Result<Units, TextStop>
-    ensures { Reads (spec.define_unit before cursor.old) result cursor.new }
+fn define_unit(alloc: Global, cursor: &mut Cursor<'_>, all: &mut Units) -> Result<(), TextStop>
+    ensures { Updates (spec.define_unit all.old cursor.old) result all.new cursor.new }
 {
-    match &before.define {
+    match &all.define {
         Some(_) => return Err(cursor.refuse()),
         None => {}
     }
-    let definitions = checked_define(alloc, cursor)?;
-    let mut all = before;
+    let start = cursor.rest();
+    let read = define(alloc, cursor);
+    let definitions = checked_from(Standing::Plain, start, cursor, read)?;
     all.define = Some(definitions);
-    Ok(all)
+    Ok(())
 }
 
 #[tactic(auto, unfolding(crate::specs::ReadingSpec::macro_unit))]
-fn macro_unit(alloc: Global, cursor: &mut Cursor<'_>, before: Units) -> Result<Units, TextStop>
-    ensures { Reads (spec.macro_unit before cursor.old) result cursor.new }
+fn macro_unit(alloc: Global, cursor: &mut Cursor<'_>, all: &mut Units) -> Result<(), TextStop>
+    ensures { Updates (spec.macro_unit all.old cursor.old) result all.new cursor.new }
 {
-    let m = checked_macro_definition(alloc, &before.depths, cursor)?;
+    let start = cursor.rest();
+    let read = macro_definition(alloc, &all.depths, cursor);
+    let m = checked_from(Standing::Macro, start, cursor, read)?;
     let name = m.part.name.name.copy(alloc)?;
     let depth = m.depth;
-    let mut all = before;
     all.macros.push(m.part)?;
     all.depths.push(MacroDepth { name, depth })?;
-    Ok(all)
+    Ok(())
 }
 
 #[tactic(auto, unfolding(crate::specs::ReadingSpec::mapping_unit))]
-fn mapping_unit(alloc: Global, cursor: &mut Cursor<'_>, before: Units) -> Result<Units, TextStop>
-    ensures { Reads (spec.mapping_unit before cursor.old) result cursor.new }
+fn mapping_unit(alloc: Global, cursor: &mut Cursor<'_>, all: &mut Units) -> Result<(), TextStop>
+    ensures { Updates (spec.mapping_unit all.old cursor.old) result all.new cursor.new }
 {
-    let m = mapping_macro(alloc, &before.depths, cursor)?;
-    let mut all = before;
+    let m = mapping_macro(alloc, &all.depths, cursor)?;
     all.mappings.push(m)?;
-    Ok(all)
+    Ok(())
 }
 
 #[tactic(auto, unfolding(crate::specs::ReadingSpec::archetype_unit))]
-fn archetype_unit(alloc: Global, cursor: &mut Cursor<'_>, before: Units) -> Result<Units, TextStop>
-    ensures { Reads (spec.archetype_unit before cursor.old) result cursor.new }
+fn archetype_unit(alloc: Global, cursor: &mut Cursor<'_>, all: &mut Units) -> Result<(), TextStop>
+    ensures { Updates (spec.archetype_unit all.old cursor.old) result all.new cursor.new }
 {
-    let a = checked_archetype(alloc, &before.depths, cursor)?;
-    let mut all = before;
+    let start = cursor.rest();
+    let read = archetype(alloc, &all.depths, cursor);
+    let a = checked_from(Standing::Plain, start, cursor, read)?;
     all.archetypes.push(a)?;
-    Ok(all)
+    Ok(())
 }
 
 #[tactic(auto, unfolding(crate::specs::ReadingSpec::globals_unit))]
-fn globals_unit(alloc: Global, cursor: &mut Cursor<'_>, before: Units) -> Result<Units, TextStop>
-    ensures { Reads (spec.globals_unit before cursor.old) result cursor.new }
+fn globals_unit(alloc: Global, cursor: &mut Cursor<'_>, all: &mut Units) -> Result<(), TextStop>
+    ensures { Updates (spec.globals_unit all.old cursor.old) result all.new cursor.new }
 {
-    match &before.globals {
+    match &all.globals {
         Some(_) => return Err(cursor.refuse()),
         None => {}
     }
-    let declarations = checked_variables(alloc, cursor)?;
-    let mut all = before;
+    let start = cursor.rest();
+    let read = variables(alloc, cursor);
+    let declarations = checked_from(Standing::Plain, start, cursor, read)?;
     all.globals = Some(declarations);
-    Ok(all)
+    Ok(())
 }
 
 #[tactic(auto, unfolding(crate::specs::ReadingSpec::process_unit))]
-fn process_unit(alloc: Global, cursor: &mut Cursor<'_>, before: Units) -> Result<Units, TextStop>
-    ensures { Reads (spec.process_unit before cursor.old) result cursor.new }
+fn process_unit(alloc: Global, cursor: &mut Cursor<'_>, all: &mut Units) -> Result<(), TextStop>
+    ensures { Updates (spec.process_unit all.old cursor.old) result all.new cursor.new }
 {
-    let p = checked_process(alloc, cursor)?;
-    let mut all = before;
+    let start = cursor.rest();
+    let read = process(alloc, cursor);
+    let p = checked_from(Standing::Plain, start, cursor, read)?;
     all.processes.push(p)?;
-    Ok(all)
+    Ok(())
 }
 
 /// One unit more.
 #[tactic(auto, unfolding(crate::specs::ReadingSpec::unit))]
-fn unit(alloc: Global, cursor: &mut Cursor<'_>, before: Units) -> Result<Units, TextStop>
-    ensures { Reads (spec.unit before cursor.old) result cursor.new }
+fn unit(alloc: Global, cursor: &mut Cursor<'_>, all: &mut Units) -> Result<(), TextStop>
+    ensures { Updates (spec.unit all.old cursor.old) result all.new cursor.new }
 {
-    if cursor.sees(Sign::Define) {
-        define_unit(alloc, cursor, before)
-    } else if cursor.sees(Sign::Macro) {
-        macro_unit(alloc, cursor, before)
-    } else if cursor.sees(Sign::Mapping) {
-        mapping_unit(alloc, cursor, before)
-    } else if cursor.sees(Sign::Archetype) {
-        archetype_unit(alloc, cursor, before)
-    } else if cursor.sees(Sign::Variables) {
-        globals_unit(alloc, cursor, before)
-    } else if cursor.sees(Sign::Fair) || cursor.sees(Sign::Process) {
-        process_unit(alloc, cursor, before)
+    if cursor.sees(Symbol::Keyword(Keyword::Define)) {
+        define_unit(alloc, cursor, all)
+    } else if cursor.sees(Symbol::Keyword(Keyword::Macro)) {
+        macro_unit(alloc, cursor, all)
+    } else if cursor.sees(Symbol::Keyword(Keyword::Mapping)) {
+        mapping_unit(alloc, cursor, all)
+    } else if cursor.sees(Symbol::Keyword(Keyword::Archetype)) {
+        archetype_unit(alloc, cursor, all)
+    } else if cursor.sees(Symbol::Keyword(Keyword::Variables)) {
+        globals_unit(alloc, cursor, all)
+    } else if cursor.sees(Symbol::Keyword(Keyword::Fair))
+        || cursor.sees(Symbol::Keyword(Keyword::Process))
+    {
+        process_unit(alloc, cursor, all)
     } else {
         Err(cursor.refuse())
     }
@@ -212,10 +154,10 @@ fn all_units(alloc: Global, cursor: &mut Cursor<'_>) -> Result<Units, TextStop>
 {
     let mut all = no_units(alloc);
     for _turn in 0..cursor.left() {
-        if cursor.sees(Sign::CurlyClose) {
+        if cursor.sees(Symbol::Close(Bracket::Curly)) {
             return Ok(all);
         }
-        all = unit(alloc, cursor, all)?;
+        unit(alloc, cursor, &mut all)?;
     }
     Ok(all)
 }
@@ -226,8 +168,8 @@ pub fn algorithm(alloc: Global, cursor: &mut Cursor<'_>) -> Result<(PlacedName, 
     ensures { Reads (spec.algorithm cursor.old) result cursor.new }
 {
     let name = cursor.name(alloc)?;
-    cursor.expect(Sign::CurlyOpen)?;
+    cursor.expect(Symbol::Open(Bracket::Curly))?;
     let units = all_units(alloc, cursor)?;
-    cursor.expect(Sign::CurlyClose)?;
+    cursor.expect(Symbol::Close(Bracket::Curly))?;
     Ok((name, units))
 }

@@ -1,20 +1,18 @@
 // Macros, mapping macros, archetypes and processes.
-ghost use Rattle.std.specs.Prelude.{◌≡◌, [], ◌∷◌, ◌++◌};
-ghost use Rattle.pgo_mpcal_read.specs.Reading as reading;
+ghost use Rattle.std.specs.Prelude.{◌≡◌};
 ghost use Rattle.pgo_mpcal_read.specs.Reading.{Reads};
 ghost use Rattle.pgo_mpcal_read.specs.ReadingUnits as spec;
-ghost use Rattle.pgo_mpcal_read.specs.declared.sign.Sign.TheVariants as sign;
 
 use crate::assignments::origin;
 use crate::cursor::Cursor;
-use crate::declarations::{definitions, locals};
-use crate::deep::{Deep, at_depth};
+use crate::declarations::locals;
+use crate::deep::Deep;
 use crate::depths::MacroDepths;
-use crate::names::names_in_brackets;
-use crate::parameters::{arguments_in_brackets, clauses, parameters_in_brackets};
-use crate::sign::Sign;
+use crate::item::{in_brackets, row};
 use crate::statements::{Statements, statement};
+use pgo_base::expr::Infix;
 use pgo_lexer::errors::TextStop;
+use pgo_lexer::symbol::{Bracket, Keyword, Symbol};
 use pgo_syntax::archetype::Archetype;
 use pgo_syntax::binding::Origin;
 use pgo_syntax::declaration::Definitions;
@@ -51,10 +49,10 @@ fn block(
 pub fn define(alloc: Global, cursor: &mut Cursor<'_>) -> Result<Definitions, TextStop>
     ensures { Reads (spec.define cursor.old) result cursor.new }
 {
-    cursor.expect(Sign::Define)?;
-    cursor.expect(Sign::CurlyOpen)?;
-    let all = definitions(alloc, cursor)?;
-    cursor.expect(Sign::CurlyClose)?;
+    cursor.expect(Symbol::Keyword(Keyword::Define))?;
+    cursor.expect(Symbol::Open(Bracket::Curly))?;
+    let all = row(alloc, cursor)?;
+    cursor.expect(Symbol::Close(Bracket::Curly))?;
     Ok(all)
 }
 
@@ -67,12 +65,14 @@ pub fn macro_definition(
 ) -> Result<Deep<Macro>, TextStop>
     ensures { Reads (spec.macro_definition macros.now cursor.old) result cursor.new }
 {
-    cursor.expect(Sign::Macro)?;
+    cursor.expect(Symbol::Keyword(Keyword::Macro))?;
     let name = cursor.name(alloc)?;
-    let params = names_in_brackets(alloc, cursor)?;
+    let params = in_brackets(alloc, cursor)?;
     let b = block(alloc, macros, cursor)?;
+    let depth = b.depth;
     let body = b.part;
-    Ok(at_depth(b.depth, Macro { name, params, body }))
+    let part = Macro { name, params, body };
+    Ok(Deep { depth, part })
 }
 
 /// A mapping macro.
@@ -84,15 +84,15 @@ pub fn mapping_macro(
 ) -> Result<MappingMacro, TextStop>
     ensures { Reads (spec.mapping_macro macros.now cursor.old) result cursor.new }
 {
-    cursor.expect(Sign::Mapping)?;
-    cursor.expect(Sign::Macro)?;
+    cursor.expect(Symbol::Keyword(Keyword::Mapping))?;
+    cursor.expect(Symbol::Keyword(Keyword::Macro))?;
     let name = cursor.name(alloc)?;
-    cursor.expect(Sign::CurlyOpen)?;
-    cursor.expect(Sign::Read)?;
+    cursor.expect(Symbol::Open(Bracket::Curly))?;
+    cursor.expect(Symbol::Keyword(Keyword::Read))?;
     let r = block(alloc, macros, cursor)?;
-    cursor.expect(Sign::Write)?;
+    cursor.expect(Symbol::Keyword(Keyword::Write))?;
     let w = block(alloc, macros, cursor)?;
-    cursor.expect(Sign::CurlyClose)?;
+    cursor.expect(Symbol::Close(Bracket::Curly))?;
     let read = r.part;
     let write = w.part;
     Ok(MappingMacro { name, read, write })
@@ -107,9 +107,9 @@ pub fn archetype(
 ) -> Result<Archetype, TextStop>
     ensures { Reads (spec.archetype macros.now cursor.old) result cursor.new }
 {
-    cursor.expect(Sign::Archetype)?;
+    cursor.expect(Symbol::Keyword(Keyword::Archetype))?;
     let name = cursor.name(alloc)?;
-    let params = parameters_in_brackets(alloc, cursor)?;
+    let params = in_brackets(alloc, cursor)?;
     let locals = locals(alloc, cursor)?;
     let b = block(alloc, macros, cursor)?;
     let body = b.part;
@@ -126,9 +126,9 @@ pub fn archetype(
 fn fair(cursor: &mut Cursor<'_>)
     ensures { cursor.new ≡ spec.fair cursor.old }
 {
-    if cursor.sees(Sign::Fair) {
+    if cursor.sees(Symbol::Keyword(Keyword::Fair)) {
         cursor.skip();
-        cursor.eat(Sign::Plus);
+        cursor.eat(Symbol::Infix(Infix::Add));
     }
 }
 
@@ -137,11 +137,11 @@ fn fair(cursor: &mut Cursor<'_>)
 fn process_head(alloc: Global, cursor: &mut Cursor<'_>) -> Result<(PlacedName, Origin), TextStop>
     ensures { Reads (spec.process_head cursor.old) result cursor.new }
 {
-    cursor.expect(Sign::Process)?;
-    cursor.expect(Sign::RoundOpen)?;
+    cursor.expect(Symbol::Keyword(Keyword::Process))?;
+    cursor.expect(Symbol::Open(Bracket::Round))?;
     let name = cursor.name(alloc)?;
     let ids = origin(alloc, cursor)?;
-    cursor.expect(Sign::RoundClose)?;
+    cursor.expect(Symbol::Close(Bracket::Round))?;
     Ok((name, ids))
 }
 
@@ -154,12 +154,12 @@ fn process_tail(
 ) -> Result<Process, TextStop>
     ensures { Reads (spec.process_tail head cursor.old) result cursor.new }
 {
-    cursor.expect(Sign::Defines)?;
-    cursor.expect(Sign::Instance)?;
+    cursor.expect(Symbol::Defines)?;
+    cursor.expect(Symbol::Keyword(Keyword::Instance))?;
     let archetype = cursor.name(alloc)?;
-    let arguments = arguments_in_brackets(alloc, cursor)?;
-    let clauses = clauses(alloc, cursor)?;
-    cursor.eat(Sign::Semicolon);
+    let arguments = in_brackets(alloc, cursor)?;
+    let clauses = row(alloc, cursor)?;
+    cursor.eat(Symbol::Semicolon);
     let (name, ids) = head;
     Ok(Process {
         name,

@@ -1,5 +1,5 @@
 use Rattle.std.proofs.Common.{◌≡◌, ◌-◌, length}
-use Rattle.pgo_mpcal_read.specs.declared.sign.Sign.TheVariants as sign
+use Rattle.pgo_lexer.specs.declared.symbol.Symbol.TheVariants as symbol
 use Rattle.pgo_mpcal_read.specs.Signs.{sees}
 use Rattle.pgo_mpcal_read.specs.Reading.{expression}
 use Rattle.pgo_mpcal_read.specs.Reading.{one_behind}
@@ -7,4 +7,4 @@ use Rattle.pgo_mpcal_read.specs.Reading.{folded}
 use Rattle.pgo_mpcal_read.proofs.names.expressions_behind.Given as goal
 
 abbrev pub invariant-loop-turn : goal.invariant-loop-turn
-invariant-loop-turn l = folded (sees sign.Comma) (one_behind sign.Comma expression) (length l.fn.cursor) l.fn.first l.fn.cursor ≡ folded (sees sign.Comma) (one_behind sign.Comma expression) (l._turn-end - l._turn) l.all l.cursor
+invariant-loop-turn l = folded (sees symbol.Comma) (one_behind symbol.Comma expression) (length l.fn.cursor) l.fn.first l.fn.cursor ≡ folded (sees symbol.Comma) (one_behind symbol.Comma expression) (l._turn-end - l._turn) l.all l.cursor

@@ -12,9 +12,9 @@ returns-then-sees c =
     let e = turn_more (λ n. folded goes_on unit n c.loop-turn.all c.loop-turn.cursor) _ c.loop-turn._turn c.loop-turn-test.true c.loop-turn.invariant in
     first_of (search rules, grind (arith, common_steps))
 
-pub returns-in_err-all : goal.returns-in_err-all
+pub returns-in_err-unit : goal.returns-in_err-unit
 unfolding folded
-returns-in_err-all c =
+returns-in_err-unit c =
     let e = turn_more (λ n. folded goes_on unit n c.loop-turn.all c.loop-turn.cursor) _ c.loop-turn._turn c.loop-turn-test.true c.loop-turn.invariant in
     first_of (search rules, grind (arith, common_steps))
 

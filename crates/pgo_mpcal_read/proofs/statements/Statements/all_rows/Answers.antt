@@ -11,9 +11,9 @@ returns-then-sees g c =
     let e = turn_more (λ n. folded goes_on (one_more_row c.args.self.now.macros.now c.args.self.now.limit (statement c.args.self.now.macros.now c.args.self.now.below)) n c.loop-turn.all c.loop-turn.cursor) _ c.loop-turn._turn c.loop-turn-test.true c.loop-turn.invariant in
     first_of (search rules, grind (arith, common_steps))
 
-pub returns-in_err-all : goal.returns-in_err-all
+pub returns-in_err-more_rows : goal.returns-in_err-more_rows
 unfolding folded
-returns-in_err-all g c =
+returns-in_err-more_rows g c =
     let e = turn_more (λ n. folded goes_on (one_more_row c.args.self.now.macros.now c.args.self.now.limit (statement c.args.self.now.macros.now c.args.self.now.below)) n c.loop-turn.all c.loop-turn.cursor) _ c.loop-turn._turn c.loop-turn-test.true c.loop-turn.invariant in
     first_of (search rules, grind (arith, common_steps))
 

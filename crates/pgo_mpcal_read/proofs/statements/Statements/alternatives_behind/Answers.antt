@@ -1,6 +1,7 @@
 use Rattle.std.proofs.Common.{rules, arith}
 use Rattle.std.proofs.lemmas.Grind.{common_steps}
-use Rattle.pgo_mpcal_read.specs.declared.sign.Sign.TheVariants as sign
+use Rattle.pgo_lexer.specs.declared.symbol.Keyword.TheVariants as keyword
+use Rattle.pgo_lexer.specs.declared.symbol.Symbol.TheVariants as symbol
 use Rattle.pgo_mpcal_read.specs.Signs.{sees}
 use Rattle.pgo_mpcal_read.specs.ReadingStatements.{one_more_or, statement}
 use Rattle.pgo_mpcal_read.specs.Reading.{folded}
@@ -10,23 +11,23 @@ use Rattle.pgo_mpcal_read.proofs.statements.Statements.alternatives_behind.Goals
 pub returns-then-not-sees : goal.returns-then-not-sees
 unfolding folded
 returns-then-not-sees g c =
-    let e = turn_more (λ n. folded (sees sign.Or) (one_more_or c.args.self.now.macros.now c.args.self.now.limit (statement c.args.self.now.macros.now c.args.self.now.below)) n c.loop-turn.all c.loop-turn.cursor) _ c.loop-turn._turn c.loop-turn-test.true c.loop-turn.invariant in
+    let e = turn_more (λ n. folded (sees (symbol.Keyword keyword.Or)) (one_more_or c.args.self.now.macros.now c.args.self.now.limit (statement c.args.self.now.macros.now c.args.self.now.below)) n c.loop-turn.all c.loop-turn.cursor) _ c.loop-turn._turn c.loop-turn-test.true c.loop-turn.invariant in
     first_of (search rules, grind (arith, common_steps))
 
-pub returns-in_err-all : goal.returns-in_err-all
+pub returns-in_err-more_alternatives : goal.returns-in_err-more_alternatives
 unfolding folded
-returns-in_err-all g c =
-    let e = turn_more (λ n. folded (sees sign.Or) (one_more_or c.args.self.now.macros.now c.args.self.now.limit (statement c.args.self.now.macros.now c.args.self.now.below)) n c.loop-turn.all c.loop-turn.cursor) _ c.loop-turn._turn c.loop-turn-test.true c.loop-turn.invariant in
+returns-in_err-more_alternatives g c =
+    let e = turn_more (λ n. folded (sees (symbol.Keyword keyword.Or)) (one_more_or c.args.self.now.macros.now c.args.self.now.limit (statement c.args.self.now.macros.now c.args.self.now.below)) n c.loop-turn.all c.loop-turn.cursor) _ c.loop-turn._turn c.loop-turn-test.true c.loop-turn.invariant in
     first_of (search rules, grind (arith, common_steps))
 
 pub loop-turn-preserved : goal.loop-turn-preserved
 unfolding folded
 loop-turn-preserved g c =
-    let e = turn_more (λ n. folded (sees sign.Or) (one_more_or c.args.self.now.macros.now c.args.self.now.limit (statement c.args.self.now.macros.now c.args.self.now.below)) n c.loop-turn.all c.loop-turn.cursor) _ c.loop-turn._turn c.loop-turn-test.true c.loop-turn.invariant in
+    let e = turn_more (λ n. folded (sees (symbol.Keyword keyword.Or)) (one_more_or c.args.self.now.macros.now c.args.self.now.limit (statement c.args.self.now.macros.now c.args.self.now.below)) n c.loop-turn.all c.loop-turn.cursor) _ c.loop-turn._turn c.loop-turn-test.true c.loop-turn.invariant in
     first_of (search rules, grind (arith, common_steps))
 
 pub returns : goal.returns
 unfolding folded
 returns g c =
-    let e = no_more (λ n. folded (sees sign.Or) (one_more_or c.args.self.now.macros.now c.args.self.now.limit (statement c.args.self.now.macros.now c.args.self.now.below)) n c.loop-turn.all c.loop-turn.cursor) _ c.loop-turn._turn c.loop-turn-test.false c.loop-turn.invariant in
+    let e = no_more (λ n. folded (sees (symbol.Keyword keyword.Or)) (one_more_or c.args.self.now.macros.now c.args.self.now.limit (statement c.args.self.now.macros.now c.args.self.now.below)) n c.loop-turn.all c.loop-turn.cursor) _ c.loop-turn._turn c.loop-turn-test.false c.loop-turn.invariant in
     first_of (search rules, grind (arith, common_steps))

@@ -1,0 +1,30 @@
+use Rattle.std.proofs.Common.{rules, arith}
+use Rattle.std.proofs.lemmas.Grind.{common_steps}
+use Rattle.pgo_mpcal_read.specs.Signs.{sees}
+use Rattle.pgo_mpcal_read.specs.Reading.{one_behind, folded}
+use Rattle.pgo_mpcal_read.proofs.Turns.{turn_more, no_more}
+use Rattle.pgo_mpcal_read.proofs.item.behind.Goals as goal
+
+pub returns-then-not-sees : goal.returns-then-not-sees
+unfolding folded
+returns-then-not-sees g c =
+    let e = turn_more (λ n. folded (sees c.args.sign) (one_behind c.args.sign g.T.Item.parser) n c.loop-turn.all c.loop-turn.cursor) _ c.loop-turn._turn c.loop-turn-test.true c.loop-turn.invariant in
+    first_of (search rules, grind (arith, common_steps))
+
+pub returns-in_err-one_behind : goal.returns-in_err-one_behind
+unfolding folded
+returns-in_err-one_behind g c =
+    let e = turn_more (λ n. folded (sees c.args.sign) (one_behind c.args.sign g.T.Item.parser) n c.loop-turn.all c.loop-turn.cursor) _ c.loop-turn._turn c.loop-turn-test.true c.loop-turn.invariant in
+    first_of (search rules, grind (arith, common_steps))
+
+pub loop-turn-preserved : goal.loop-turn-preserved
+unfolding folded
+loop-turn-preserved g c =
+    let e = turn_more (λ n. folded (sees c.args.sign) (one_behind c.args.sign g.T.Item.parser) n c.loop-turn.all c.loop-turn.cursor) _ c.loop-turn._turn c.loop-turn-test.true c.loop-turn.invariant in
+    first_of (search rules, grind (arith, common_steps))
+
+pub returns : goal.returns
+unfolding folded
+returns g c =
+    let e = no_more (λ n. folded (sees c.args.sign) (one_behind c.args.sign g.T.Item.parser) n c.loop-turn.all c.loop-turn.cursor) _ c.loop-turn._turn c.loop-turn-test.false c.loop-turn.invariant in
+    first_of (search rules, grind (arith, common_steps))
