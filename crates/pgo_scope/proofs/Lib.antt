@@ -2,5 +2,4 @@ mod Answered
 mod Clashing
 mod Doubled
 mod Only
-mod Ruled
 mod Sorting

@@ -2,8 +2,9 @@
 use Rattle.std.specs.Prelude.{Bool, map}
 use Rattle.pgo_base.specs.Lookup.{Name}
 use Rattle.pgo_uses.specs.Names.{Rows, is_among}
-use Rattle.pgo_scope.specs.Twice.{MacroTests}
+use Rattle.pgo_scope.specs.Twice.{MacroTests, Tests}
 use Rattle.pgo_scope.specs.declared.captures.Captures.{Captures}
+use Rattle.pgo_scope.specs.declared.captures.KnownCaptures.{KnownCaptures}
 
 abbrev pub see_test : Rows → Name → Bool
 see_test rows x = is_among x rows
@@ -11,5 +12,5 @@ see_test rows x = is_among x rows
 abbrev pub see_tests : Captures → MacroTests
 see_tests c = (map see_test c.tests.items, see_test c.behind)
 
-abbrev pub see_captures : Captures → Name × MacroTests
-see_captures c = (c.name, see_tests c)
+abbrev pub see_captures : KnownCaptures → Tests
+see_captures k = (k.macros.now, map see_tests k.list.now)

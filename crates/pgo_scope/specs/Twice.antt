@@ -1,7 +1,7 @@
 -- Rule 2: a name has two meanings.
 use Rattle.std.specs.Prelude.{ℕ, suc, Bool, true, false, not, ◌&&◌, ◌||◌, if◌then◌else◌, List, [], ◌∷◌, ◌++◌, Option, Some, None}
 use Rattle.pgo_base.specs.Tree.{Tree}
-use Rattle.pgo_base.specs.Lookup.{Name, same_name, find}
+use Rattle.pgo_base.specs.Lookup.{Name, same_name}
 use Rattle.pgo_model.specs.Written.{self_name, default_init_value}
 use Rattle.pgo_syntax.specs.declared.name.PlacedName.{PlacedName}
 use Rattle.pgo_syntax.specs.declared.macros.Macro.{Macro}
@@ -13,16 +13,19 @@ use Rattle.pgo_uses.specs.declared.uses.Home.TheVariants as homes
 use Rattle.pgo_uses.specs.declared.uses.Form.{Form}
 use Rattle.pgo_uses.specs.declared.uses.Form.TheVariants as forms
 use Rattle.pgo_uses.specs.declared.uses.Use.{Use}
-use Rattle.pgo_uses.specs.Names.{Rows, is_among}
+use Rattle.pgo_uses.specs.Names.{Rows, is_among, first_at}
 use Rattle.pgo_uses.specs.Uses.{uses}
-use Rattle.pgo_uses.specs.Tables.{tables_of, operator_rows}
+use Rattle.pgo_uses.specs.Tables.{tables_of, operator_rows, macro_rows}
 use Rattle.pgo_uses.specs.AllUses.{all_uses, macro_uses, names_of}
 use Rattle.pgo_uses.specs.Heads.{shared_names, macro_names, mapping_names, archetype_names, process_names, unit_names}
 use Rattle.pgo_scope.specs.declared.errors.ScopeError.TheVariants as errors
 use Rattle.pgo_scope.specs.declared.finding.Finding.{Finding}
+use Rattle.pgo_scope.specs.declared.twice.Heads.{Heads}
+use Rattle.pgo_scope.specs.declared.twice.Heads.TheVariants.{Shared, Macros, Mappings, Archetypes, Processes}
 use Rattle.pgo_scope.specs.Findings.{found_if, each_use, each_name}
 use Rattle.pgo_scope.specs.TextOrder.{in_text_order}
 use Rattle.pgo_scope.specs.Unknown.{knows_self}
+use Rattle.pgo_scope.specs.Ways.{known_at}
 
 -- each name that stands among those before it, which are rows with the number 0
 abbrev pub repeated : Rows → List PlacedName → List Finding
@@ -35,13 +38,20 @@ repeated_in xs = repeated [] (in_text_order (λ x. x.place) xs)
 
 -- first case, in the heads of units: constants, definitions and globals share one scope; macros, mapping macros,
 -- archetypes and processes have one each
+abbrev pub names_in : Heads → Spec → List PlacedName
+names_in Shared s = shared_names s
+names_in Macros s = macro_names s.macros
+names_in Mappings s = mapping_names s.mappings
+names_in Archetypes s = archetype_names s.archetypes
+names_in Processes s = process_names s.processes
+
 abbrev pub declared_twice : Spec → List Finding
 declared_twice s =
-    repeated_in (shared_names s)
-    ++ repeated_in (macro_names s.macros)
-    ++ repeated_in (mapping_names s.mappings)
-    ++ repeated_in (archetype_names s.archetypes)
-    ++ repeated_in (process_names s.processes)
+    repeated_in (names_in Shared s)
+    ++ repeated_in (names_in Macros s)
+    ++ repeated_in (names_in Mappings s)
+    ++ repeated_in (names_in Archetypes s)
+    ++ repeated_in (names_in Processes s)
 
 -- third case: the name of an operator, or `defaultInitValue`
 abbrev pub is_reserved : Name → Bool
@@ -78,8 +88,13 @@ hiding_use ts u = found_if (hiding_of ts u u.form) u.around.place (errors.Twice 
 abbrev pub MacroTests : Type 0
 MacroTests = List (Name → Bool) × (Name → Bool)
 
+-- the names of all macros, and the tests of the first of them
 abbrev pub Tests : Type 0
-Tests = List (Name × MacroTests)
+Tests = Rows × List MacroTests
+
+-- those of the macro, where it is one of the first
+abbrev pub macro_tests_of : Tests → Name → Option MacroTests
+macro_tests_of known m = known_at (first_at m known.0) known.1
 
 -- a name stands there, bound or not
 abbrev pub stands_of : Name → Use → Form → Bool
@@ -104,7 +119,7 @@ or_none None = []
 or_none (Some r) = r.0
 
 abbrev pub tests_of : Tests → Name → List (Name → Bool)
-tests_of known m = or_none (find m known)
+tests_of known m = or_none (macro_tests_of known m)
 
 -- b, or x may not stand in this argument, in which p stands
 abbrev pub handed_at : Bool → (Name → Bool) → Around → Name → Tree → Name → Bool
@@ -138,10 +153,14 @@ macro_tests known us ps = (parameter_tests known us ps, is_bound_in false us)
 abbrev pub captures_from : Tests → ℕ → List Macro → Tests
 captures_from known i [] = known
 captures_from known i (m ∷ ms) =
-    captures_from (known ++ (m.name.name, macro_tests known (macro_uses i m) (names_of m.params)) ∷ []) (suc i) ms
+    captures_from (known.0, known.1 ++ macro_tests known (macro_uses i m) (names_of m.params) ∷ []) (suc i) ms
+
+-- the same, where the macros have these names
+abbrev pub captures_by : Rows → List Macro → Tests
+captures_by rows ms = captures_from (rows, []) 0 ms
 
 abbrev pub captures : List Macro → Tests
-captures ms = captures_from [] 0 ms
+captures ms = captures_by (macro_rows ms) ms
 
 -- the names in an argument that may not stand there
 abbrev pub captured_of : (Name → Bool) → Use → Form → List Finding
@@ -170,7 +189,7 @@ captured_by None a ts = []
 captured_by (Some r) a ts = captured_in r.0 r.1 a ts
 
 abbrev pub call_captures : Tests → Use → Form → List Finding
-call_captures known u (forms.Called ts) = captured_by (find u.name known) u.around ts
+call_captures known u (forms.Called ts) = captured_by (macro_tests_of known u.name) u.around ts
 call_captures known u f = []
 
 abbrev pub capture_use : Tests → Use → List Finding
@@ -180,5 +199,4 @@ abbrev pub names_twice : Spec → List Finding
 names_twice s =
     declared_twice s
     ++ each_name reserved_name (unit_names s)
-    ++ each_use (hiding_use (tables_of s)) (all_uses s)
-    ++ each_use (capture_use (captures s.macros)) (all_uses s)
+    ++ (each_use (hiding_use (tables_of s)) (all_uses s) ++ each_use (capture_use (captures s.macros)) (all_uses s))

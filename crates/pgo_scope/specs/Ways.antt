@@ -6,9 +6,9 @@
 -- it that it calls, to which it hands its parameters on. No body is put in place, and the findings are those that putting
 -- bodies in place would give: an argument's own names keep their order and their forms, and of its place only the ways
 -- matter.
-use Rattle.std.specs.Prelude.{ℕ, suc, Bool, true, false, not, ◌&&◌, ◌||◌, if◌then◌else◌, List, [], ◌∷◌, ◌++◌, Option, Some, None}
+use Rattle.std.specs.Prelude.{ℕ, suc, Bool, true, false, not, ◌&&◌, ◌||◌, if◌then◌else◌, List, [], ◌∷◌, ◌++◌, slice_get, Option, Some, None}
 use Rattle.pgo_base.specs.Tree.{Tree, name, index, field, Trees, no_trees, more_trees}
-use Rattle.pgo_base.specs.Lookup.{Name, same_name, find}
+use Rattle.pgo_base.specs.Lookup.{Name, same_name}
 use Rattle.pgo_syntax.specs.declared.macros.Macro.{Macro}
 use Rattle.pgo_uses.specs.declared.uses.Around.{Around}
 use Rattle.pgo_uses.specs.declared.uses.Shape.{Shape}
@@ -16,6 +16,8 @@ use Rattle.pgo_uses.specs.declared.uses.Shape.TheVariants.{Bare, OneIndex, Furth
 use Rattle.pgo_uses.specs.declared.uses.Form.{Form}
 use Rattle.pgo_uses.specs.declared.uses.Form.TheVariants as forms
 use Rattle.pgo_uses.specs.declared.uses.Use.{Use}
+use Rattle.pgo_uses.specs.Names.{Rows, first_at}
+use Rattle.pgo_uses.specs.Tables.{macro_rows}
 use Rattle.pgo_uses.specs.Uses.{uses, inside}
 use Rattle.pgo_uses.specs.AllUses.{macro_uses, names_of}
 use Rattle.pgo_scope.specs.declared.ways.Ways.{Ways}
@@ -125,9 +127,9 @@ passed_ways w a p t =
     (either_way (ways_if w.one_index (writes_at OneIndex a p t))
     (ways_if w.further (writes_at Further a p t)))))))
 
--- a macro: its parameters with the ways in which each stands
+-- what is known of macros: the names of all, and of the first of them the parameters with the ways in which each stands
 abbrev pub Known : Type 0
-Known = List (Name × List (Name × Ways))
+Known = Rows × List (List (Name × Ways))
 
 -- the ways w, and those in which p stands in the arguments of a call of a macro with these parameters
 abbrev pub call_ways_from : Ways → List (Name × Ways) → Around → Name → List Tree → Ways
@@ -142,9 +144,14 @@ abbrev pub or_none : Option (List (Name × Ways)) → List (Name × Ways)
 or_none None = []
 or_none (Some ps) = ps
 
--- what is known of the macro; nothing where there is none of the name
+-- the one in this place
+abbrev pub known_at : {A : Type 0} → Option ℕ → List A → Option A
+known_at None xs = None
+known_at (Some i) xs = slice_get xs i
+
+-- what is known of the macro; nothing where there is none of the name, or where it is not among the first ones
 abbrev pub parameters_of : Known → Name → List (Name × Ways)
-parameters_of known m = or_none (find m known)
+parameters_of known m = or_none (known_at (first_at m known.0) known.1)
 
 -- the ways in which p stands by this use: an argument of a call counts by what becomes of it
 abbrev pub use_ways : Known → Name → Use → Form → Ways
@@ -169,7 +176,11 @@ each_parameter known us (p ∷ ps) = (p, ways_in known p us) ∷ each_parameter 
 abbrev pub known_from : Known → ℕ → List Macro → Known
 known_from known i [] = known
 known_from known i (m ∷ ms) =
-    known_from (known ++ (m.name.name, each_parameter known (macro_uses i m) (names_of m.params)) ∷ []) (suc i) ms
+    known_from (known.0, known.1 ++ each_parameter known (macro_uses i m) (names_of m.params) ∷ []) (suc i) ms
+
+-- the same, where the macros have these names
+abbrev pub known_by : Rows → List Macro → Known
+known_by rows ms = known_from (rows, []) 0 ms
 
 abbrev pub known_macros : List Macro → Known
-known_macros ms = known_from [] 0 ms
+known_macros ms = known_by (macro_rows ms) ms

@@ -2,9 +2,7 @@
 ghost use Rattle.std.specs.Prelude.{◌≡◌, [], ◌∷◌, ◌++◌, map, option_map, IfOk};
 ghost use Rattle.pgo_uses.specs.AllUses.{names_of};
 ghost use Rattle.pgo_uses.specs.Names.{is_member};
-ghost use Rattle.pgo_scope.specs.declared.errors.ScopeError.TheVariants as errors;
 ghost use Rattle.pgo_base.specs.ExprView.{tree};
-ghost use Rattle.pgo_scope.specs.Findings.{found_if};
 ghost use Rattle.pgo_scope.specs.KnownView.{see_known, see_ways};
 ghost use Rattle.pgo_scope.specs.Assigned as spec;
 
@@ -86,19 +84,6 @@ fn may_assign(s: &Spec, home: Home, x: &Text) -> bool
     }
 }
 
-/// Adds a name, where it may not be assigned.
-fn add_assigned(
-    alloc: Global,
-    wrong: bool,
-    place: u32,
-    x: &Text,
-    out: &mut Vec<Finding>,
-) -> Result<(), AllocError>
-    ensures { IfOk result (λ _. out.new.items ≡ out.old.items ++ found_if wrong place (errors.AssignedNotRef x.now)) }
-{
-    add_if(alloc, wrong, Cause::AssignedNotRef, place, x, out)
-}
-
 /// Adds what is wrong with an argument for the parameter p, which the macro assigns.
 fn add_argument(
     alloc: Global,
@@ -110,15 +95,16 @@ fn add_argument(
 ) -> Result<(), AllocError>
     ensures { IfOk result (λ _. out.new.items ≡ out.old.items ++ spec.assigned_argument s.now u.now p.now (option_map (λ x. x.now) base.entry)) }
 {
+    let (cause, place) = (Cause::AssignedNotRef, u.around.place);
     match base {
         Some(x) => {
             if is_word(x, b"$value") {
-                return add_assigned(alloc, true, u.around.place, p, out);
+                return add_if(alloc, true, cause, place, p, out);
             }
             let wrong = !may_assign(s, u.around.home, x);
-            add_assigned(alloc, wrong, u.around.place, x, out)
+            add_if(alloc, wrong, cause, place, x, out)
         }
-        None => add_assigned(alloc, true, u.around.place, p, out),
+        None => add_if(alloc, true, cause, place, p, out),
     }
 }
 
@@ -162,16 +148,23 @@ fn add_arguments(
 pub fn add_assigned_use(
     alloc: Global,
     s: &Spec,
-    known: &[Known],
+    known: &Known<'_>,
     u: &Use,
     out: &mut Vec<Finding>,
 ) -> Result<(), AllocError>
-    ensures { IfOk result (λ _. out.new.items ≡ out.old.items ++ spec.assigned_use s.now (map see_known known.now) u.now) }
+    ensures { IfOk result (λ _. out.new.items ≡ out.old.items ++ spec.assigned_use s.now (see_known known.now) u.now) }
 {
     match &u.form {
         Form::Assigned(_) => {
             let wrong = !may_assign(s, u.around.home, &u.name);
-            add_assigned(alloc, wrong, u.around.place, &u.name, out)
+            add_if(
+                alloc,
+                wrong,
+                Cause::AssignedNotRef,
+                u.around.place,
+                &u.name,
+                out,
+            )
         }
         Form::Called(list) => {
             let params = parameters_of(known, &u.name);

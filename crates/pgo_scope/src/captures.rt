@@ -1,7 +1,7 @@
 // Rule 2, its fourth case: a name that a macro binds stands in an argument of a call of it.
-ghost use Rattle.std.specs.Prelude.{◌≡◌, ◌||◌, false, ◌++◌, map, option_map, IfOk};
+ghost use Rattle.std.specs.Prelude.{◌≡◌, false, ◌++◌, map, option_map, IfOk};
 ghost use Rattle.pgo_base.specs.ExprView.{tree};
-ghost use Rattle.pgo_base.specs.Lookup.{Name, find};
+ghost use Rattle.pgo_base.specs.Lookup.{Name};
 ghost use Rattle.pgo_uses.specs.AllUses.{names_of};
 ghost use Rattle.pgo_uses.specs.Names.{is_among};
 ghost use Rattle.pgo_scope.specs.CaptureView.{see_test, see_tests, see_captures};
@@ -19,14 +19,20 @@ use pgo_uses::uses::{Around, Form, Use};
 use pgo_uses::walk::add_uses;
 use std::alloc::{AllocError, Global};
 
-/// A macro, and the names that may not stand in its arguments.
+/// The names that may not stand in the arguments of a macro.
 #[derive(Drop)]
 pub struct Captures {
-    pub name: Text,
     /// those of each parameter's argument
     pub tests: Vec<Names>,
     /// those of each argument behind them
     pub behind: Names,
+}
+
+/// The names of all macros, and what may not stand in the arguments of the first of them.
+#[derive(Clone, Copy)]
+pub struct KnownCaptures<'a> {
+    pub macros: &'a Names,
+    pub list: &'a [Captures],
 }
 
 /// Whether the name stands there, bound or not.
@@ -51,45 +57,26 @@ fn stands_in(x: &Text, uses: &[Use]) -> bool
     false
 }
 
-/// Adds the name where it is bound.
-fn add_bound_name(alloc: Global, u: &Use, names: &mut Names) -> Result<(), AllocError>
-    ensures { IfOk result (λ _. (x : Name) → is_among x names.new ≡ spec.binds_of x u.now u.now.form || is_among x names.old) }
-{
-    match &u.form {
-        Form::Bound => names.add(alloc, &u.name),
-        _ => Ok(()),
-    }
-}
-
 /// Adds the names that are bound among these.
 fn add_bound_names(alloc: Global, uses: &[Use], names: &mut Names) -> Result<(), AllocError>
     ensures { IfOk result (λ _. (x : Name) → is_among x names.new ≡ spec.is_bound_in (is_among x names.old) uses.now x) }
 {
     for u in uses {
-        add_bound_name(alloc, u, names)?;
+        let Form::Bound = &u.form else {
+            continue;
+        };
+        names.add(alloc, &u.name)?;
     }
     Ok(())
 }
 
 /// What is known of the macro of this name.
-fn captures_of<'a>(known: &'a [Captures], name: &Text) -> Option<&'a Captures>
-    ensures { option_map (λ c. see_tests c.now) result ≡ find name.now (map see_captures known.now) }
+fn captures_of<'a>(known: &KnownCaptures<'a>, name: &Text) -> Option<&'a Captures>
+    ensures { option_map (λ c. see_tests c.now) result ≡ spec.macro_tests_of (see_captures known.now) name.now }
 {
-    for k in known {
-        if name.is(&k.name) {
-            return Some(k);
-        }
-    }
-    None
-}
-
-/// The names that may not stand in the arguments for the parameters of the macro of this name.
-fn tests_of<'a>(known: &'a [Captures], name: &Text) -> &'a [Names]
-    ensures { map see_test result.now ≡ spec.tests_of (map see_captures known.now) name.now }
-{
-    match captures_of(known, name) {
-        Some(c) => c.tests.as_slice(),
-        None => &[],
+    match known.macros.position(name) {
+        Some(i) => known.list.get(i),
+        None => None,
     }
 }
 
@@ -106,7 +93,7 @@ fn add_if_stands(
     ensures { IfOk result (λ _. (x : Name) → is_among x names.new ≡ spec.handed_at (is_among x names.old) (see_test test.now) around p.now (tree e.now) x) }
 {
     let mut uses = Vec::new(alloc);
-    add_uses(alloc, &[], around, e, &mut uses)?;
+    add_uses(alloc, around, e, &mut uses)?;
     if stands_in(p, uses.as_slice()) {
         names.add_all(alloc, test)?;
     }
@@ -135,16 +122,19 @@ fn add_handed_on(
 
 fn add_call(
     alloc: Global,
-    known: &[Captures],
+    known: &KnownCaptures<'_>,
     p: &Text,
     u: &Use,
     names: &mut Names,
 ) -> Result<(), AllocError>
-    ensures { IfOk result (λ _. (x : Name) → is_among x names.new ≡ spec.calls_capture (is_among x names.old) (map see_captures known.now) p.now u.now u.now.form x) }
+    ensures { IfOk result (λ _. (x : Name) → is_among x names.new ≡ spec.calls_capture (is_among x names.old) (see_captures known.now) p.now u.now u.now.form x) }
 {
     match &u.form {
         Form::Called(list) => {
-            let tests = tests_of(known, &u.name);
+            let Some(c) = captures_of(known, &u.name) else {
+                return Ok(());
+            };
+            let tests = c.tests.as_slice();
             add_handed_on(alloc, tests, u.around, p, list.as_slice(), names)
         }
         _ => Ok(()),
@@ -154,12 +144,12 @@ fn add_call(
 /// Adds the names that may not stand where p is handed on to another macro.
 fn add_calls(
     alloc: Global,
-    known: &[Captures],
+    known: &KnownCaptures<'_>,
     p: &Text,
     uses: &[Use],
     names: &mut Names,
 ) -> Result<(), AllocError>
-    ensures { IfOk result (λ _. (x : Name) → is_among x names.new ≡ spec.some_capture (is_among x names.old) (map see_captures known.now) p.now uses.now x) }
+    ensures { IfOk result (λ _. (x : Name) → is_among x names.new ≡ spec.some_capture (is_among x names.old) (see_captures known.now) p.now uses.now x) }
 {
     for u in uses {
         add_call(alloc, known, p, u, names)?;
@@ -170,11 +160,11 @@ fn add_calls(
 /// The names that may not stand in the argument for the parameter p.
 fn parameter_test(
     alloc: Global,
-    known: &[Captures],
+    known: &KnownCaptures<'_>,
     uses: &[Use],
     p: &Text,
 ) -> Result<Names, AllocError>
-    ensures { IfOk result (λ names. (x : Name) → is_among x names ≡ spec.parameter_test (map see_captures known.now) uses.now p.now x) }
+    ensures { IfOk result (λ names. (x : Name) → is_among x names ≡ spec.parameter_test (see_captures known.now) uses.now p.now x) }
 {
     let mut names = Names::new(alloc);
     add_calls(alloc, known, p, uses, &mut names)?;
@@ -185,11 +175,11 @@ fn parameter_test(
 /// The same for each parameter.
 fn parameter_tests(
     alloc: Global,
-    known: &[Captures],
+    known: &KnownCaptures<'_>,
     uses: &[Use],
     params: &[PlacedName],
 ) -> Result<Vec<Names>, AllocError>
-    ensures { IfOk result (λ v. map see_test v.items ≡ spec.parameter_tests (map see_captures known.now) uses.now (names_of params.now)) }
+    ensures { IfOk result (λ v. map see_test v.items ≡ spec.parameter_tests (see_captures known.now) uses.now (names_of params.now)) }
 {
     let mut tests = Vec::new(alloc);
     for p in params {
@@ -208,24 +198,26 @@ fn bound_names(alloc: Global, uses: &[Use]) -> Result<Names, AllocError>
 }
 
 /// The names that may not stand in the arguments of each of these macros, each by those before it.
-pub fn known_captures(alloc: Global, list: &[Macro]) -> Result<Vec<Captures>, AllocError>
-    ensures { IfOk result (λ v. map see_captures v.items ≡ spec.captures list.now) }
+pub fn known_captures(
+    alloc: Global,
+    macros: &Names,
+    list: &[Macro],
+) -> Result<Vec<Captures>, AllocError>
+    ensures { IfOk result (λ v. (macros.now, map see_tests v.items) ≡ spec.captures_by macros.now list.now) }
 {
-    let mut known: Vec<Captures> = Vec::new(alloc);
+    let mut made: Vec<Captures> = Vec::new(alloc);
     for (i, m) in list.iter().enumerate() {
         let mut uses = Vec::new(alloc);
         add_macro(alloc, i, m, &mut uses)?;
-        let params = m.params.as_slice();
-        let tests = parameter_tests(alloc, known.as_slice(), uses.as_slice(), params)?;
+        let known = KnownCaptures {
+            macros,
+            list: made.as_slice(),
+        };
+        let tests = parameter_tests(alloc, &known, uses.as_slice(), m.params.as_slice())?;
         let behind = bound_names(alloc, uses.as_slice())?;
-        let name = m.name.name.copy(alloc)?;
-        known.push(Captures {
-            name,
-            tests,
-            behind,
-        })?;
+        made.push(Captures { tests, behind })?;
     }
-    Ok(known)
+    Ok(made)
 }
 
 fn add_captured_use(
@@ -271,7 +263,7 @@ fn add_captured_at(
     ensures { IfOk result (λ _. out.new.items ≡ out.old.items ++ spec.captured_at (see_test test.now) around (tree e.now)) }
 {
     let mut uses = Vec::new(alloc);
-    add_uses(alloc, &[], around, e, &mut uses)?;
+    add_uses(alloc, around, e, &mut uses)?;
     add_captured_uses(alloc, test, uses.as_slice(), out)
 }
 
@@ -313,11 +305,11 @@ fn add_captured_in(
 
 pub fn add_capture_use(
     alloc: Global,
-    known: &[Captures],
+    known: &KnownCaptures<'_>,
     u: &Use,
     out: &mut Vec<Finding>,
 ) -> Result<(), AllocError>
-    ensures { IfOk result (λ _. out.new.items ≡ out.old.items ++ spec.capture_use (map see_captures known.now) u.now) }
+    ensures { IfOk result (λ _. out.new.items ≡ out.old.items ++ spec.capture_use (see_captures known.now) u.now) }
 {
     match &u.form {
         Form::Called(list) => {

@@ -3,7 +3,7 @@ ghost use Rattle.std.specs.Prelude.{◌≡◌, [], ◌++◌, map, option_map, If
 ghost use Rattle.pgo_base.specs.ExprView.{tree};
 ghost use Rattle.pgo_uses.specs.Uses.{inside};
 ghost use Rattle.pgo_uses.specs.AllUses.{names_of};
-ghost use Rattle.pgo_scope.specs.KnownView.{see_known, see_ways};
+ghost use Rattle.pgo_scope.specs.KnownView.{see_known, see_parameters, see_ways};
 ghost use Rattle.pgo_scope.specs.Ways as spec;
 
 use crate::ways::{
@@ -13,6 +13,7 @@ use pgo_base::expr::Expr;
 use pgo_base::text::Text;
 use pgo_syntax::macros::Macro;
 use pgo_syntax::name::PlacedName;
+use pgo_uses::names::Names;
 use pgo_uses::unit_uses::add_macro;
 use pgo_uses::uses::{Around, Form, Shape, Use};
 use pgo_uses::walk::add_uses;
@@ -25,11 +26,17 @@ pub struct ParameterWays {
     pub ways: Ways,
 }
 
-/// A macro with its parameters.
+/// The parameters of a macro.
 #[derive(Drop)]
-pub struct Known {
-    pub name: Text,
-    pub params: Vec<ParameterWays>,
+pub struct Parameters {
+    pub list: Vec<ParameterWays>,
+}
+
+/// What is known of macros: the names of all, and the parameters of the first of them.
+#[derive(Clone, Copy)]
+pub struct Known<'a> {
+    pub macros: &'a Names,
+    pub list: &'a [Parameters],
 }
 
 /// Adds the names in the path of a left side.
@@ -45,7 +52,7 @@ pub fn add_left_uses(
         Expr::Index(f, list) => match only(list) {
             Some(i) => {
                 add_left_uses(alloc, around, f.get(), out)?;
-                add_uses(alloc, &[], plainly(around), i, out)
+                add_uses(alloc, plainly(around), i, out)
             }
             None => Ok(()),
         },
@@ -89,13 +96,7 @@ fn read_if(
         return Ok(no_ways());
     }
     let mut uses = Vec::new(alloc);
-    add_uses(
-        alloc,
-        &[],
-        read_around(around, hidden, indexed),
-        e,
-        &mut uses,
-    )?;
+    add_uses(alloc, read_around(around, hidden, indexed), e, &mut uses)?;
     Ok(reads(p, uses.as_slice()))
 }
 
@@ -172,20 +173,21 @@ fn call_ways(
 }
 
 /// The parameters of the macro of this name; none where nothing is known of it.
-pub fn parameters_of<'a>(known: &'a [Known], name: &Text) -> &'a [ParameterWays]
-    ensures { map see_ways result.now ≡ spec.parameters_of (map see_known known.now) name.now }
+pub fn parameters_of<'a>(known: &Known<'a>, name: &Text) -> &'a [ParameterWays]
+    ensures { map see_ways result.now ≡ spec.parameters_of (see_known known.now) name.now }
 {
-    for k in known {
-        if name.is(&k.name) {
-            return k.params.as_slice();
-        }
+    let Some(i) = known.macros.position(name) else {
+        return &[];
+    };
+    match known.list.get(i) {
+        Some(k) => k.list.as_slice(),
+        None => &[],
     }
-    &[]
 }
 
 /// The ways in which p stands by this use.
-fn use_ways(alloc: Global, known: &[Known], p: &Text, u: &Use) -> Result<Ways, AllocError>
-    ensures { IfOk result (λ w. w ≡ spec.use_ways (map see_known known.now) p.now u.now u.now.form) }
+fn use_ways(alloc: Global, known: &Known<'_>, p: &Text, u: &Use) -> Result<Ways, AllocError>
+    ensures { IfOk result (λ w. w ≡ spec.use_ways (see_known known.now) p.now u.now u.now.form) }
 {
     match &u.form {
         Form::Alone => {
@@ -211,8 +213,8 @@ fn use_ways(alloc: Global, known: &[Known], p: &Text, u: &Use) -> Result<Ways, A
 }
 
 /// The ways in which p stands among these.
-fn ways_in(alloc: Global, known: &[Known], p: &Text, uses: &[Use]) -> Result<Ways, AllocError>
-    ensures { IfOk result (λ w. w ≡ spec.ways_in (map see_known known.now) p.now uses.now) }
+fn ways_in(alloc: Global, known: &Known<'_>, p: &Text, uses: &[Use]) -> Result<Ways, AllocError>
+    ensures { IfOk result (λ w. w ≡ spec.ways_in (see_known known.now) p.now uses.now) }
 {
     let mut all = no_ways();
     for u in uses {
@@ -224,37 +226,39 @@ fn ways_in(alloc: Global, known: &[Known], p: &Text, uses: &[Use]) -> Result<Way
 /// Each of these parameters with the ways in which it stands.
 fn each_parameter(
     alloc: Global,
-    known: &[Known],
+    known: &Known<'_>,
     uses: &[Use],
     names: &[PlacedName],
-) -> Result<Vec<ParameterWays>, AllocError>
-    ensures { IfOk result (λ v. map see_ways v.items ≡ spec.each_parameter (map see_known known.now) uses.now (names_of names.now)) }
+) -> Result<Parameters, AllocError>
+    ensures { IfOk result (λ v. see_parameters v ≡ spec.each_parameter (see_known known.now) uses.now (names_of names.now)) }
 {
-    let mut params = Vec::new(alloc);
+    let mut list = Vec::new(alloc);
     for x in names {
         let ways = ways_in(alloc, known, &x.name, uses)?;
         let name = x.name.copy(alloc)?;
-        params.push(ParameterWays { name, ways })?;
+        list.push(ParameterWays { name, ways })?;
     }
-    Ok(params)
+    Ok(Parameters { list })
 }
 
 /// What is known of these macros, each by those before it.
-pub fn known_macros(alloc: Global, list: &[Macro]) -> Result<Vec<Known>, AllocError>
-    ensures { IfOk result (λ v. map see_known v.items ≡ spec.known_macros list.now) }
+pub fn known_macros(
+    alloc: Global,
+    macros: &Names,
+    list: &[Macro],
+) -> Result<Vec<Parameters>, AllocError>
+    ensures { IfOk result (λ v. (macros.now, map see_parameters v.items) ≡ spec.known_by macros.now list.now) }
 {
-    let mut known: Vec<Known> = Vec::new(alloc);
+    let mut made: Vec<Parameters> = Vec::new(alloc);
     for (i, m) in list.iter().enumerate() {
         let mut uses = Vec::new(alloc);
         add_macro(alloc, i, m, &mut uses)?;
-        let params = each_parameter(
-            alloc,
-            known.as_slice(),
-            uses.as_slice(),
-            m.params.as_slice(),
-        )?;
-        let name = m.name.name.copy(alloc)?;
-        known.push(Known { name, params })?;
+        let known = Known {
+            macros,
+            list: made.as_slice(),
+        };
+        let params = each_parameter(alloc, &known, uses.as_slice(), m.params.as_slice())?;
+        made.push(params)?;
     }
-    Ok(known)
+    Ok(made)
 }

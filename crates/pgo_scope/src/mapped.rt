@@ -1,8 +1,7 @@
 // Rule 6: a mapped parameter is read or assigned in a form in which it may not be.
 ghost use Rattle.std.specs.Prelude.{◌≡◌, suc, nat_eq, ◌++◌, map, option_map, IfOk};
 ghost use Rattle.pgo_base.specs.ExprView.{tree};
-ghost use Rattle.pgo_scope.specs.declared.errors.ScopeError.TheVariants as errors;
-ghost use Rattle.pgo_scope.specs.Findings.{each_use, found_if, found_where};
+ghost use Rattle.pgo_scope.specs.Findings.{each_use, found_where};
 ghost use Rattle.pgo_scope.specs.KnownView.{see_known, see_ways};
 ghost use Rattle.pgo_scope.specs.Mapped as spec;
 
@@ -151,19 +150,6 @@ fn wrong_write(shape: Shape, mapped: Mapped) -> bool
     }
 }
 
-/// Adds the parameter where it stands so.
-fn add_mapped(
-    alloc: Global,
-    wrong: bool,
-    place: u32,
-    x: &Text,
-    out: &mut Vec<Finding>,
-) -> Result<(), AllocError>
-    ensures { IfOk result (λ _. out.new.items ≡ out.old.items ++ found_if wrong place (errors.MappedReadHere x.now)) }
-{
-    add_if(alloc, wrong, Cause::MappedReadHere, place, x, out)
-}
-
 fn add_mapped_read(
     alloc: Global,
     s: &Spec,
@@ -173,7 +159,8 @@ fn add_mapped_read(
     ensures { IfOk result (λ _. out.new.items ≡ out.old.items ++ spec.mapped_read s.now u.now) }
 {
     let wrong = wrong_read(u.around, mapped_in(s, u.around.home, &u.name));
-    add_mapped(alloc, wrong, u.around.place, &u.name, out)
+    let cause = Cause::MappedReadHere;
+    add_if(alloc, wrong, cause, u.around.place, &u.name, out)
 }
 
 fn add_mapped_write(
@@ -187,16 +174,7 @@ fn add_mapped_write(
     ensures { IfOk result (λ _. out.new.items ≡ out.old.items ++ spec.mapped_write s.now around x.now shape) }
 {
     let wrong = wrong_write(shape, mapped_in(s, around.home, x));
-    add_mapped(alloc, wrong, around.place, x, out)
-}
-
-fn add_read_use(alloc: Global, s: &Spec, u: &Use, out: &mut Vec<Finding>) -> Result<(), AllocError>
-    ensures { IfOk result (λ _. out.new.items ≡ out.old.items ++ spec.read_use s.now u.now) }
-{
-    match &u.form {
-        Form::Alone => add_mapped_read(alloc, s, u, out),
-        _ => Ok(()),
-    }
+    add_if(alloc, wrong, Cause::MappedReadHere, around.place, x, out)
 }
 
 /// Adds what is wrong with the names that are read among these.
@@ -209,7 +187,10 @@ fn add_read_uses(
     ensures { IfOk result (λ _. out.new.items ≡ out.old.items ++ each_use (spec.read_use s.now) uses.now) }
 {
     for u in uses {
-        add_read_use(alloc, s, u, out)?;
+        let Form::Alone = &u.form else {
+            continue;
+        };
+        add_mapped_read(alloc, s, u, out)?;
     }
     Ok(())
 }
@@ -229,7 +210,7 @@ fn add_argument_read(
         return Ok(());
     }
     let mut uses = Vec::new(alloc);
-    add_uses(alloc, &[], around, e, &mut uses)?;
+    add_uses(alloc, around, e, &mut uses)?;
     add_read_uses(alloc, s, uses.as_slice(), out)
 }
 
@@ -333,11 +314,11 @@ fn add_arguments(
 pub fn add_mapped_use(
     alloc: Global,
     s: &Spec,
-    known: &[Known],
+    known: &Known<'_>,
     u: &Use,
     out: &mut Vec<Finding>,
 ) -> Result<(), AllocError>
-    ensures { IfOk result (λ _. out.new.items ≡ out.old.items ++ spec.mapped_use s.now (map see_known known.now) u.now) }
+    ensures { IfOk result (λ _. out.new.items ≡ out.old.items ++ spec.mapped_use s.now (see_known known.now) u.now) }
 {
     match &u.form {
         Form::Alone => {

@@ -7,18 +7,19 @@ ghost use Rattle.pgo_scope.specs.RulesView.{see};
 
 use crate::arity::{add_arity_heads, add_arity_use};
 use crate::assigned::add_assigned_use;
-use crate::captures::{Captures, add_capture_use};
+use crate::captures::{KnownCaptures, add_capture_use};
 use crate::clash::add_clashes;
 use crate::errors::ScopeError;
-use crate::finding::{Finding, earliest};
-use crate::globals::add_global_use;
+use crate::finding::{Cause, Finding, add_if, earliest};
+use crate::globals::is_global;
 use crate::known::Known;
 use crate::mapped::add_mapped_use;
 use crate::modules::add_unknown_modules;
 use crate::things::things;
-use crate::twice::{add_declared_twice, add_hiding_use, add_reserved};
-use crate::underscores::{add_double_names, add_double_use};
-use crate::unknown::{add_unknown_heads, add_unknown_use};
+use crate::twice::{add_declared_twice, add_reserved, is_hiding};
+use crate::underscores::add_double_names;
+use crate::unknown::{add_unknown_heads, is_unknown};
+use crate::words::has_double_underscore;
 use pgo_syntax::spec::Spec;
 use pgo_uses::heads::{head_names, unit_names};
 use pgo_uses::tables::Tables;
@@ -31,9 +32,9 @@ pub struct Context<'a> {
     pub spec: &'a Spec,
     pub tables: &'a Tables,
     /// in what ways the parameters of macros stand
-    pub known: &'a [Known],
+    pub known: Known<'a>,
     /// which names may not stand in the arguments of macros
-    pub captures: &'a [Captures],
+    pub captures: KnownCaptures<'a>,
     /// the names that stand in the text
     pub uses: &'a [Use],
 }
@@ -87,17 +88,25 @@ fn add_use(
 ) -> Result<(), AllocError>
     ensures { IfOk result (λ _. out.new.items ≡ out.old.items ++ spec.use_findings rule (see c.now) u.now) }
 {
+    let (place, x) = (u.around.place, &u.name);
     match rule {
         UseRule::Unknown => {
-            add_unknown_use(alloc, c.tables, c.spec.archetypes.as_slice(), u, out)
+            let wrong = is_unknown(c.tables, c.spec.archetypes.as_slice(), u);
+            add_if(alloc, wrong, Cause::Unknown, place, x, out)
         }
-        UseRule::Hiding => add_hiding_use(alloc, c.tables, u, out),
-        UseRule::Captured => add_capture_use(alloc, c.captures, u, out),
+        UseRule::Hiding => add_if(alloc, is_hiding(c.tables, u), Cause::Twice, place, x, out),
+        UseRule::Captured => add_capture_use(alloc, &c.captures, u, out),
         UseRule::Arity => add_arity_use(alloc, c.tables, u, out),
-        UseRule::Global => add_global_use(alloc, c.tables, u, out),
-        UseRule::Assigned => add_assigned_use(alloc, c.spec, c.known, u, out),
-        UseRule::Mapped => add_mapped_use(alloc, c.spec, c.known, u, out),
-        UseRule::Underscores => add_double_use(alloc, u, out),
+        UseRule::Global => {
+            let wrong = is_global(c.tables, u);
+            add_if(alloc, wrong, Cause::GlobalInArchetype, place, x, out)
+        }
+        UseRule::Assigned => add_assigned_use(alloc, c.spec, &c.known, u, out),
+        UseRule::Mapped => add_mapped_use(alloc, c.spec, &c.known, u, out),
+        UseRule::Underscores => {
+            let wrong = has_double_underscore(x);
+            add_if(alloc, wrong, Cause::DoubleUnderscore, place, x, out)
+        }
     }
 }
 

@@ -2,9 +2,9 @@
 ghost use Rattle.std.specs.Prelude.{◌≡◌, IfOk};
 ghost use Rattle.pgo_scope.specs.Refusal.{scope_refusal, Answers};
 
-use crate::captures::known_captures;
+use crate::captures::{KnownCaptures, known_captures};
 use crate::errors::ScopeError;
-use crate::known::known_macros;
+use crate::known::{Known, known_macros};
 use crate::rules::{Context, RULES, first_of};
 use pgo_syntax::spec::Spec;
 use pgo_uses::all_uses::all_uses;
@@ -40,14 +40,21 @@ fn refusal(alloc: Global, s: &Spec) -> Result<Option<ScopeError>, AllocError>
     ensures { IfOk result (λ r. r ≡ scope_refusal s.now) }
 {
     let tables = tables_of(alloc, s)?;
-    let known = known_macros(alloc, s.macros.as_slice())?;
-    let captures = known_captures(alloc, s.macros.as_slice())?;
+    let macros = &tables.macros;
+    let known = known_macros(alloc, macros, s.macros.as_slice())?;
+    let captures = known_captures(alloc, macros, s.macros.as_slice())?;
     let uses = all_uses(alloc, s)?;
     let context = Context {
         spec: s,
         tables: &tables,
-        known: known.as_slice(),
-        captures: captures.as_slice(),
+        known: Known {
+            macros,
+            list: known.as_slice(),
+        },
+        captures: KnownCaptures {
+            macros,
+            list: captures.as_slice(),
+        },
         uses: uses.as_slice(),
     };
     first_of(alloc, &RULES, &context)

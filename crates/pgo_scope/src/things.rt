@@ -97,41 +97,26 @@ fn add_shared(alloc: Global, list: &[&PlacedName], out: &mut Vec<Thing>) -> Resu
     Ok(())
 }
 
-fn add_bound_thing(alloc: Global, u: &Use, out: &mut Vec<Thing>) -> Result<(), AllocError>
-    ensures { IfOk result (λ _. out.new.items ≡ out.old.items ++ spec.bound_thing u.now u.now.form) }
-{
-    match &u.form {
-        Form::Bound => add_itself(alloc, true, &u.name, u.around.place, out),
-        _ => Ok(()),
-    }
-}
-
 fn add_bound_things(alloc: Global, uses: &[Use], out: &mut Vec<Thing>) -> Result<(), AllocError>
     ensures { IfOk result (λ _. out.new.items ≡ out.old.items ++ spec.bound_things uses.now) }
 {
     for u in uses {
-        add_bound_thing(alloc, u, out)?;
+        let Form::Bound = &u.form else {
+            continue;
+        };
+        add_itself(alloc, true, &u.name, u.around.place, out)?;
     }
     Ok(())
-}
-
-fn add_value_name(alloc: Global, p: &Parameter, out: &mut Vec<Text>) -> Result<(), AllocError>
-    ensures { IfOk result (λ _. out.new.items ≡ out.old.items ++ spec.value_names (p.now ∷ [])) }
-{
-    match p.kind {
-        ParameterKind::Value => {
-            out.push(p.name.name.copy(alloc)?)?;
-            Ok(())
-        }
-        ParameterKind::Ref(_) => Ok(()),
-    }
 }
 
 fn add_value_names(alloc: Global, list: &[Parameter], out: &mut Vec<Text>) -> Result<(), AllocError>
     ensures { IfOk result (λ _. out.new.items ≡ out.old.items ++ spec.value_names list.now) }
 {
     for p in list {
-        add_value_name(alloc, p, out)?;
+        let ParameterKind::Value = p.kind else {
+            continue;
+        };
+        out.push(p.name.name.copy(alloc)?)?;
     }
     Ok(())
 }
@@ -149,32 +134,20 @@ fn add_variable_names(
     Ok(())
 }
 
-/// The name where it is a label that is not among those before it.
-fn new_label<'a>(before: &Names, u: &'a Use) -> Option<&'a Text>
-    ensures { option_map (λ l. l.now) result ≡ spec.new_label before.now u.now u.now.form }
-{
-    match &u.form {
-        Form::Label => {
-            if before.has(&u.name) {
-                None
-            } else {
-                Some(&u.name)
-            }
-        }
-        _ => None,
-    }
-}
-
 /// Adds the labels among these, each once.
 fn add_labels(alloc: Global, uses: &[Use], out: &mut Vec<Text>) -> Result<(), AllocError>
     ensures { IfOk result (λ _. out.new.items ≡ out.old.items ++ spec.labels_from [] uses.now) }
 {
     let mut before = Names::new(alloc);
     for u in uses {
-        if let Some(l) = new_label(&before, u) {
-            out.push(l.copy(alloc)?)?;
-            before.push(alloc, l, 0)?;
+        let Form::Label = &u.form else {
+            continue;
+        };
+        if before.has(&u.name) {
+            continue;
         }
+        out.push(u.name.copy(alloc)?)?;
+        before.push(alloc, &u.name, 0)?;
     }
     Ok(())
 }

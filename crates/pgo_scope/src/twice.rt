@@ -1,6 +1,5 @@
 // Rule 2: a name has two meanings, but for macros' arguments.
 ghost use Rattle.std.specs.Prelude.{◌≡◌, [], ◌++◌, IfOk};
-ghost use Rattle.pgo_uses.specs.Heads as heads;
 ghost use Rattle.pgo_uses.specs.PieceView.{placed_names};
 ghost use Rattle.pgo_scope.specs.Findings.{each_name};
 ghost use Rattle.pgo_scope.specs.TextOrder.{in_text_order};
@@ -13,7 +12,7 @@ use pgo_base::text::Text;
 use pgo_syntax::name::PlacedName;
 use pgo_syntax::spec::Spec;
 use pgo_uses::heads::{
-    add_archetype_names, add_macro_names, add_mapping_names, add_process_names, shared_names,
+    add_archetype_names, add_macro_names, add_mapping_names, add_process_names, add_shared_names,
 };
 use pgo_uses::names::Names;
 use pgo_uses::tables::Tables;
@@ -46,70 +45,59 @@ fn add_repeated(
     Ok(())
 }
 
-/// Adds each of these names that stands before among them in the text.
+/// The names in the heads of units by the scope that they share.
+#[derive(Clone, Copy)]
+enum Heads {
+    /// constants, definitions and globals
+    Shared,
+    Macros,
+    Mappings,
+    Archetypes,
+    Processes,
+}
+
+/// Adds the names of such heads.
+fn add_heads<'a>(
+    alloc: Global,
+    heads: Heads,
+    s: &'a Spec,
+    out: &mut Vec<&'a PlacedName>,
+) -> Result<(), AllocError>
+    ensures { IfOk result (λ _. placed_names out.new.items ≡ placed_names out.old.items ++ spec.names_in heads s.now) }
+{
+    match heads {
+        Heads::Shared => add_shared_names(alloc, s, out),
+        Heads::Macros => add_macro_names(out, s),
+        Heads::Mappings => add_mapping_names(out, s),
+        Heads::Archetypes => add_archetype_names(out, s),
+        Heads::Processes => add_process_names(out, s),
+    }
+}
+
+/// Adds each name of such heads that stands before among them in the text.
 fn add_repeated_in(
     alloc: Global,
-    list: Vec<&PlacedName>,
-    out: &mut Vec<Finding>,
-) -> Result<(), AllocError>
-    ensures { IfOk result (λ _. out.new.items ≡ out.old.items ++ spec.repeated_in (placed_names list.entry.items)) }
-{
-    let list = sorted(list)?;
-    add_repeated(alloc, list.as_slice(), out)
-}
-
-fn add_repeated_shared(alloc: Global, s: &Spec, out: &mut Vec<Finding>) -> Result<(), AllocError>
-    ensures { IfOk result (λ _. out.new.items ≡ out.old.items ++ spec.repeated_in (heads.shared_names s.now)) }
-{
-    let names = shared_names(alloc, s)?;
-    add_repeated_in(alloc, names, out)
-}
-
-fn add_repeated_macros(alloc: Global, s: &Spec, out: &mut Vec<Finding>) -> Result<(), AllocError>
-    ensures { IfOk result (λ _. out.new.items ≡ out.old.items ++ spec.repeated_in (heads.macro_names s.now.macros)) }
-{
-    let mut names = Vec::new(alloc);
-    add_macro_names(&mut names, s)?;
-    add_repeated_in(alloc, names, out)
-}
-
-fn add_repeated_mappings(alloc: Global, s: &Spec, out: &mut Vec<Finding>) -> Result<(), AllocError>
-    ensures { IfOk result (λ _. out.new.items ≡ out.old.items ++ spec.repeated_in (heads.mapping_names s.now.mappings)) }
-{
-    let mut names = Vec::new(alloc);
-    add_mapping_names(&mut names, s)?;
-    add_repeated_in(alloc, names, out)
-}
-
-fn add_repeated_archetypes(
-    alloc: Global,
+    heads: Heads,
     s: &Spec,
     out: &mut Vec<Finding>,
 ) -> Result<(), AllocError>
-    ensures { IfOk result (λ _. out.new.items ≡ out.old.items ++ spec.repeated_in (heads.archetype_names s.now.archetypes)) }
+    ensures { IfOk result (λ _. out.new.items ≡ out.old.items ++ spec.repeated_in (spec.names_in heads s.now)) }
 {
     let mut names = Vec::new(alloc);
-    add_archetype_names(&mut names, s)?;
-    add_repeated_in(alloc, names, out)
-}
-
-fn add_repeated_processes(alloc: Global, s: &Spec, out: &mut Vec<Finding>) -> Result<(), AllocError>
-    ensures { IfOk result (λ _. out.new.items ≡ out.old.items ++ spec.repeated_in (heads.process_names s.now.processes)) }
-{
-    let mut names = Vec::new(alloc);
-    add_process_names(&mut names, s)?;
-    add_repeated_in(alloc, names, out)
+    add_heads(alloc, heads, s, &mut names)?;
+    let list = sorted(names)?;
+    add_repeated(alloc, list.as_slice(), out)
 }
 
 /// Adds what is declared twice in the heads of units.
 pub fn add_declared_twice(alloc: Global, s: &Spec, out: &mut Vec<Finding>) -> Result<(), AllocError>
     ensures { IfOk result (λ _. out.new.items ≡ out.old.items ++ spec.declared_twice s.now) }
 {
-    add_repeated_shared(alloc, s, out)?;
-    add_repeated_macros(alloc, s, out)?;
-    add_repeated_mappings(alloc, s, out)?;
-    add_repeated_archetypes(alloc, s, out)?;
-    add_repeated_processes(alloc, s, out)
+    add_repeated_in(alloc, Heads::Shared, s, out)?;
+    add_repeated_in(alloc, Heads::Macros, s, out)?;
+    add_repeated_in(alloc, Heads::Mappings, s, out)?;
+    add_repeated_in(alloc, Heads::Archetypes, s, out)?;
+    add_repeated_in(alloc, Heads::Processes, s, out)
 }
 
 /// Whether the name is an operator's, or `defaultInitValue`.
@@ -152,7 +140,8 @@ fn hides(t: &Tables, u: &Use) -> bool
         || (is_self(&u.name) && knows_self(u.around.home))
 }
 
-fn is_hiding(t: &Tables, u: &Use) -> bool
+/// Whether the name is bound or declared in a unit and hides another.
+pub fn is_hiding(t: &Tables, u: &Use) -> bool
     ensures { result ≡ spec.hiding_of t.now u.now u.now.form }
 {
     match &u.form {
@@ -160,17 +149,4 @@ fn is_hiding(t: &Tables, u: &Use) -> bool
         Form::Named => { hides(t, u) || (t.globals.has(&u.name) && !may_be_global(u.around.home)) }
         _ => false,
     }
-}
-
-/// Adds the name where it is bound or declared in a unit and hides another.
-pub fn add_hiding_use(
-    alloc: Global,
-    t: &Tables,
-    u: &Use,
-    out: &mut Vec<Finding>,
-) -> Result<(), AllocError>
-    ensures { IfOk result (λ _. out.new.items ≡ out.old.items ++ spec.hiding_use t.now u.now) }
-{
-    let wrong = is_hiding(t, u);
-    add_if(alloc, wrong, Cause::Twice, u.around.place, &u.name, out)
 }

@@ -6,17 +6,7 @@ ghost use Rattle.pgo_scope.specs.Underscores as spec;
 use crate::finding::{Cause, Finding, add_if};
 use crate::words::has_double_underscore;
 use pgo_syntax::name::PlacedName;
-use pgo_uses::uses::Use;
 use std::alloc::{AllocError, Global};
-
-/// Adds the name where it breaks the rule.
-pub fn add_double_use(alloc: Global, u: &Use, out: &mut Vec<Finding>) -> Result<(), AllocError>
-    ensures { IfOk result (λ _. out.new.items ≡ out.old.items ++ spec.double_use u.now) }
-{
-    let wrong = has_double_underscore(&u.name);
-    let cause = Cause::DoubleUnderscore;
-    add_if(alloc, wrong, cause, u.around.place, &u.name, out)
-}
 
 /// Adds what breaks the rule among names in heads.
 pub fn add_double_names(

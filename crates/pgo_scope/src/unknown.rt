@@ -9,9 +9,7 @@ use crate::words::{is_default, is_self, operator_count};
 use pgo_base::text::Text;
 use pgo_syntax::archetype::{Archetype, Parameter};
 use pgo_syntax::declaration::Declaration;
-use pgo_syntax::name::PlacedName;
 use pgo_syntax::process::{Argument, MappingClause, MappingTarget, Process};
-use pgo_uses::names::Names;
 use pgo_uses::tables::Tables;
 use pgo_uses::uses::{Form, Home, Use};
 use std::alloc::{AllocError, Global};
@@ -104,7 +102,7 @@ fn may_call(t: &Tables, home: Home, x: &Text) -> bool
 }
 
 /// Whether the name has no meaning where it stands.
-fn is_unknown(t: &Tables, rs: &[Archetype], u: &Use) -> bool
+pub fn is_unknown(t: &Tables, rs: &[Archetype], u: &Use) -> bool
     ensures { result ≡ spec.is_unknown t.now rs.now u.now u.now.form }
 {
     match &u.form {
@@ -113,47 +111,6 @@ fn is_unknown(t: &Tables, rs: &[Archetype], u: &Use) -> bool
         }
         Form::Called(_) => !may_call(t, u.around.home, &u.name),
         Form::Bound | Form::Named | Form::Field | Form::Label | Form::Target => false,
-    }
-}
-
-/// Adds the name where it has no meaning.
-pub fn add_unknown_use(
-    alloc: Global,
-    t: &Tables,
-    rs: &[Archetype],
-    u: &Use,
-    out: &mut Vec<Finding>,
-) -> Result<(), AllocError>
-    ensures { IfOk result (λ _. out.new.items ≡ out.old.items ++ spec.unknown_use t.now rs.now u.now) }
-{
-    let wrong = is_unknown(t, rs, u);
-    add_if(alloc, wrong, Cause::Unknown, u.around.place, &u.name, out)
-}
-
-/// Adds a name in the head of a process that is not one of these.
-fn add_unknown_in(
-    alloc: Global,
-    names: &Names,
-    x: &PlacedName,
-    out: &mut Vec<Finding>,
-) -> Result<(), AllocError>
-    ensures { IfOk result (λ _. out.new.items ≡ out.old.items ++ spec.unknown_in names.now x.now) }
-{
-    let wrong = !names.has(&x.name);
-    add_if(alloc, wrong, Cause::Unknown, x.place, &x.name, out)
-}
-
-fn add_unknown_argument(
-    alloc: Global,
-    t: &Tables,
-    argument: &Argument,
-    out: &mut Vec<Finding>,
-) -> Result<(), AllocError>
-    ensures { IfOk result (λ _. out.new.items ≡ out.old.items ++ spec.unknown_argument t.now argument.now) }
-{
-    match argument {
-        Argument::Value(_, _) => Ok(()),
-        Argument::Ref(x, _) => add_unknown_in(alloc, &t.globals, x, out),
     }
 }
 
@@ -166,7 +123,10 @@ fn add_unknown_target(
     ensures { IfOk result (λ _. out.new.items ≡ out.old.items ++ spec.unknown_target t.now target.now) }
 {
     match target {
-        MappingTarget::Global { name, .. } => add_unknown_in(alloc, &t.globals, name, out),
+        MappingTarget::Global { name, .. } => {
+            let wrong = !t.globals.has(&name.name);
+            add_if(alloc, wrong, Cause::Unknown, name.place, &name.name, out)
+        }
         MappingTarget::Argument { .. } => Ok(()),
     }
 }
@@ -180,7 +140,11 @@ fn add_unknown_arguments(
     ensures { IfOk result (λ _. out.new.items ≡ out.old.items ++ spec.unknown_arguments t.now list.now) }
 {
     for argument in list {
-        add_unknown_argument(alloc, t, argument, out)?;
+        let Argument::Ref(x, _) = argument else {
+            continue;
+        };
+        let wrong = !t.globals.has(&x.name);
+        add_if(alloc, wrong, Cause::Unknown, x.place, &x.name, out)?;
     }
     Ok(())
 }
@@ -195,7 +159,9 @@ fn add_unknown_clauses(
 {
     for clause in list {
         add_unknown_target(alloc, t, &clause.target, out)?;
-        add_unknown_in(alloc, &t.mappings, &clause.mapping, out)?;
+        let x = &clause.mapping;
+        let wrong = !t.mappings.has(&x.name);
+        add_if(alloc, wrong, Cause::Unknown, x.place, &x.name, out)?;
     }
     Ok(())
 }
@@ -210,7 +176,9 @@ pub fn add_unknown_heads(
     ensures { IfOk result (λ _. out.new.items ≡ out.old.items ++ spec.unknown_heads t.now list.now) }
 {
     for p in list {
-        add_unknown_in(alloc, &t.archetypes, &p.archetype, out)?;
+        let x = &p.archetype;
+        let wrong = !t.archetypes.has(&x.name);
+        add_if(alloc, wrong, Cause::Unknown, x.place, &x.name, out)?;
         add_unknown_arguments(alloc, t, p.arguments.as_slice(), out)?;
         add_unknown_clauses(alloc, t, p.clauses.as_slice(), out)?;
     }

@@ -2,7 +2,6 @@
 use Rattle.std.proofs.Common.{◌≡◌, ℕ, suc, List, [], ◌∷◌, ◌++◌, map, length, refl, ap, sym, ◌∙◌, append_assoc}
 use Rattle.std.specs.Prelude.{Option, Some, None}
 use Rattle.std.proofs.lemmas.List.{append-nil}
-use denote.Ref.{Bor}
 use Rattle.pgo_base.specs.Tree.{Tree}
 use Rattle.pgo_base.specs.Lookup.{Name}
 use Rattle.pgo_syntax.specs.declared.name.PlacedName.{PlacedName}
@@ -15,7 +14,6 @@ use Rattle.pgo_uses.specs.declared.uses.Around.{Around}
 use Rattle.pgo_uses.specs.declared.uses.Form.TheVariants as forms
 use Rattle.pgo_uses.specs.declared.uses.Use.{Use}
 use Rattle.pgo_uses.specs.declared.statement_pieces.Part.{Part as Lent}
-use Rattle.pgo_uses.specs.PieceView.{texts}
 use Rattle.pgo_uses.specs.StatementPieceView.{see_part}
 use Rattle.pgo_uses.specs.Uses.{one, uses}
 use Rattle.pgo_uses.specs.Pieces.{within}
@@ -105,6 +103,6 @@ walked ns a (call_macro p m ts) = ap (λ l. placed ns a m (forms.Called ts) ++ l
 walked ns a (yield_as p e) = append-nil (uses ns (at_place p a) e)
 walked ns a (block p ss) = block_run ns [] a ss
 
-pub all_walked : (ns : List Name) (a : Around) (s : Statement) (xs ys : List Lent) (bs cs : List (Bor Name)) → xs ≡ ys → map see_part ys ≡ parts_of s → bs ≡ cs → texts cs ≡ bound_in s → parts_uses ns (texts bs) a (map see_part xs) ≡ statement_uses ns a s
-all_walked ns a s xs ys bs cs e f g h =
-    (λ i. parts_uses ns (texts (g i)) a (map see_part (e i))) ∙ (λ i. parts_uses ns (h i) a (f i)) ∙ walked ns a s
+pub all_walked : (ns : List Name) (a : Around) (s : Statement) (xs ys : List Lent) (bs : List Name) → xs ≡ ys → map see_part ys ≡ parts_of s → bs ≡ bound_in s → parts_uses ns bs a (map see_part xs) ≡ statement_uses ns a s
+all_walked ns a s xs ys bs e f h =
+    (λ i. parts_uses ns bs a (map see_part (e i))) ∙ (λ i. parts_uses ns (h i) a (f i)) ∙ walked ns a s

@@ -1,10 +1,8 @@
 -- The names in the pieces of an expression are the names in the expression.
-use Rattle.std.proofs.Common.{◌≡◌, ◌+◌, ℕ, zero, suc, Bool, true, false, List, [], ◌∷◌, ◌++◌, map, take, length, refl, ap, sym, ◌∙◌, append_assoc, arith}
-use Rattle.std.specs.Prelude.{if◌then◌else◌}
+use Rattle.std.proofs.Common.{◌≡◌, ◌+◌, ℕ, zero, suc, List, [], ◌∷◌, ◌++◌, map, take, length, refl, ap, sym, ◌∙◌, append_assoc, arith}
 use Rattle.std.proofs.lemmas.List.{append-nil, length-append}
 use Rattle.std.proofs.Math.Seq.{take-append_seam, take-length}
-use denote.Ref.{Bor}
-use Rattle.pgo_base.specs.Lookup.{Name, same_name}
+use Rattle.pgo_base.specs.Lookup.{Name}
 use Rattle.pgo_base.specs.Tree.{Tree, name, primed, number, text, truth, at, word, unary, binary, product, cond_of, case_of, case_other, let_in, quantified, choose, tuple, set_of, filter_of, image, fun_of, fun_set, record_of, record_set, except, index, field, call, unchanged, Trees, no_trees, more_trees, NamedTrees, no_named, more_named, TreePairs, no_arms, more_arms, BoundTrees, no_bound, more_bound, PathTrees, no_paths, more_paths}
 use Rattle.pgo_uses.specs.declared.uses.Around.{Around}
 use Rattle.pgo_uses.specs.declared.uses.Use.{Use}
@@ -13,18 +11,9 @@ use Rattle.pgo_uses.specs.declared.uses.Form.TheVariants as forms
 use Rattle.pgo_uses.specs.declared.pieces.Manner.{Manner}
 use Rattle.pgo_uses.specs.declared.pieces.Manner.TheVariants.{Plain, Hidden}
 use Rattle.pgo_uses.specs.declared.pieces.Piece.{Piece as Lent}
-use Rattle.pgo_uses.specs.PieceView.{see, texts}
-use Rattle.pgo_uses.specs.Names.{is_member}
+use Rattle.pgo_uses.specs.PieceView.{see}
 use Rattle.pgo_uses.specs.Uses.{one, inside, hide, indexed_by, count_trees, let_names, binder_names, bound_uses, uses, uses_of_all, uses_of_fields, uses_of_arms, uses_of_let, uses_of_binders, uses_of_updates}
 use Rattle.pgo_uses.specs.Pieces.{Piece, operand, bound_by, operands, field_pieces, arm_pieces, let_pieces, name_pieces, binder_pieces, bound_pieces, update_pieces, index_manner, pieces_of, in_manner, within, piece_uses, pieces_uses}
-
-pub member-append : (x : Name) (xs ys : List Name) → is_member x (xs ++ ys) ≡ (if is_member x xs then true else is_member x ys)
-member-append x [] ys = refl
-member-append x (z ∷ zs) ys = go (same_name x z) (member-append x zs ys)
-  where
-    go : (b : Bool) → is_member x (zs ++ ys) ≡ (if is_member x zs then true else is_member x ys) → (if b then true else is_member x (zs ++ ys)) ≡ (if (if b then true else is_member x zs) then true else is_member x ys)
-    go true h = refl
-    go false h = h
 
 pieces-append : (ns bs : List Name) (a : Around) (xs ys : List Piece) → pieces_uses ns bs a (xs ++ ys) ≡ pieces_uses ns bs a xs ++ pieces_uses ns bs a ys
 pieces-append ns bs a [] ys = refl
@@ -157,12 +146,6 @@ walked ns a (field t x) = refl
 walked ns a (call x ts) = ap (λ l. one ns a x (forms.Applied (count_trees ts)) ++ l) (operands_run ns [] a ts)
 walked ns a (unchanged xs) = refl
 
-pub stands_first : (x : Name) (ns bs : List Name) (n : ℕ) → is_member x ns ≡ true → is_member x (within ns bs n) ≡ true
-stands_first x ns bs n h = ap (is_member x) (within_is ns bs n) ∙ member-append x ns (take n bs) ∙ ap (λ b. if b then true else is_member x (take n bs)) h
-
-pub stands_behind : (x : Name) (ns bs : List Name) (n : ℕ) → is_member x ns ≡ false → is_member x (within ns bs n) ≡ is_member x (take n bs)
-stands_behind x ns bs n h = ap (is_member x) (within_is ns bs n) ∙ member-append x ns (take n bs) ∙ ap (λ b. if b then true else is_member x (take n bs)) h
-
-pub all_walked : (ns : List Name) (a : Around) (t : Tree) (xs ys : List Lent) (bs cs : List (Bor Name)) → xs ≡ ys → map see ys ≡ pieces_of t → bs ≡ cs → texts cs ≡ bound_by t → pieces_uses ns (texts bs) a (map see xs) ≡ uses ns a t
-all_walked ns a t xs ys bs cs e f g h =
-    (λ i. pieces_uses ns (texts (g i)) a (map see (e i))) ∙ (λ i. pieces_uses ns (h i) a (f i)) ∙ walked ns a t
+pub all_walked : (ns : List Name) (a : Around) (t : Tree) (xs ys : List Lent) (bs : List Name) → xs ≡ ys → map see ys ≡ pieces_of t → bs ≡ bound_by t → pieces_uses ns bs a (map see xs) ≡ uses ns a t
+all_walked ns a t xs ys bs e f h =
+    (λ i. pieces_uses ns bs a (map see (e i))) ∙ (λ i. pieces_uses ns (h i) a (f i)) ∙ walked ns a t

@@ -1,8 +1,11 @@
 // The names that stand in a specification.
-ghost use Rattle.std.specs.Prelude.{◌≡◌, ◌++◌, IfOk};
+ghost use Rattle.std.specs.Prelude.{◌≡◌, [], ◌∷◌, ◌++◌, IfOk};
 ghost use Rattle.pgo_uses.specs.AllUses as spec;
+ghost use Rattle.pgo_uses.specs.Scopes.{row_names};
 ghost use Rattle.pgo_uses.specs.Tables as tables;
 
+use crate::names::Names;
+use crate::scopes::Scope;
 use crate::tables::all_definitions;
 use crate::unit_uses::{
     add_archetype, add_definition, add_global, add_macro, add_mapping, add_process,
@@ -56,13 +59,25 @@ fn add_macros(alloc: Global, s: &Spec, out: &mut Vec<Use>) -> Result<(), AllocEr
     Ok(())
 }
 
-fn add_mappings(alloc: Global, s: &Spec, out: &mut Vec<Use>) -> Result<(), AllocError>
-    ensures { IfOk result (λ _. out.new.items ≡ out.old.items ++ spec.mappings_uses s.now.mappings) }
+/// The names of the content and of the value in a mapping macro.
+fn mapping_names(alloc: Global) -> Result<Names, AllocError>
+    ensures { IfOk result (λ n. row_names n ≡ tables.variable_name ∷ tables.value_name ∷ []) }
 {
     let variable = Text::from_slice(alloc, b"$variable")?;
     let value = Text::from_slice(alloc, b"$value")?;
+    let mut names = Names::new(alloc);
+    names.push(alloc, &variable, 0)?;
+    names.push(alloc, &value, 0)?;
+    Ok(names)
+}
+
+fn add_mappings(alloc: Global, s: &Spec, out: &mut Vec<Use>) -> Result<(), AllocError>
+    ensures { IfOk result (λ _. out.new.items ≡ out.old.items ++ spec.mappings_uses s.now.mappings) }
+{
+    let names = mapping_names(alloc)?;
+    let scope = Scope::of(&names);
     for m in s.mappings.as_slice() {
-        add_mapping(alloc, &variable, &value, m, out)?;
+        add_mapping(alloc, &scope, m, out)?;
     }
     Ok(())
 }

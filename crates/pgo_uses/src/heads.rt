@@ -42,7 +42,8 @@ pub fn shared_names<'a>(alloc: Global, s: &'a Spec) -> Result<Vec<&'a PlacedName
     Ok(out)
 }
 
-fn add_shared_names<'a>(
+/// Adds the names of constants, definitions and globals.
+pub fn add_shared_names<'a>(
     alloc: Global,
     s: &'a Spec,
     out: &mut Vec<&'a PlacedName>,

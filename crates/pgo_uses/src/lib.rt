@@ -7,6 +7,7 @@ pub mod heads;
 pub mod names;
 mod piece_lists;
 mod pieces;
+mod scopes;
 mod statement_pieces;
 mod statement_walk;
 pub mod tables;

@@ -1,5 +1,5 @@
 // Names that are declared, each with a number.
-ghost use Rattle.std.specs.Prelude.{◌≡◌, ◌||◌, [], ◌∷◌, ◌++◌, IfOk, IfErr};
+ghost use Rattle.std.specs.Prelude.{◌≡◌, ◌||◌, [], ◌∷◌, ◌++◌, length, IfOk, IfErr};
 ghost use Rattle.pgo_base.specs.Lookup.{Name, same_name, find};
 ghost use Rattle.pgo_uses.specs.Indexed.{found_in, after_note, number_at};
 ghost use Rattle.pgo_uses.specs.Names.{first_at, is_among, among_all, is_earlier, is_at};
@@ -50,6 +50,13 @@ impl Names {
         note(&mut self.index, key, place)?;
         self.list.push_reserved((copy, number));
         Ok(())
+    }
+
+    /// How many these are.
+    pub fn len(&self) -> usize
+        ensures { result ≡ length self.now }
+    {
+        self.list.len()
     }
 
     /// The place of the first of this name, from 0.

@@ -5,8 +5,10 @@ ghost use Rattle.pgo_base.specs.Tree.{trees, arms, paths, bound as bound_trees, 
 ghost use Rattle.pgo_uses.specs.Pieces as spec;
 ghost use Rattle.pgo_uses.specs.Uses.{binder_names, count_trees};
 ghost use Rattle.pgo_uses.specs.PieceView.{see};
+ghost use Rattle.pgo_uses.specs.Scopes.{row_names};
 ghost use Rattle.pgo_uses.specs.declared.pieces.Manner.TheVariants.{Plain, Hidden};
 
+use crate::names::Names;
 use crate::piece_lists::{add_all, add_arms, add_binders, add_fields, add_let, add_updates};
 use pgo_base::expr::{Arms, Binders, Expr, Exprs, Sub, Updates};
 use pgo_base::text::Text;
@@ -49,28 +51,29 @@ pub fn add<'a>(pieces: &mut Vec<Piece<'a>>, row: &[Piece<'a>]) -> Result<(), All
 #[derive(Drop)]
 pub struct Pieces<'a> {
     pub list: Vec<Piece<'a>>,
-    pub bound: Vec<&'a Text>,
+    pub bound: Names,
 }
 
 /// The pieces of an expression.
 pub fn pieces_of<'a>(alloc: Global, e: &'a Expr) -> Result<Pieces<'a>, AllocError>
     ensures pieces { IfOk result (λ v. map see v.list.items ≡ spec.pieces_of (tree e.now)) }
-    ensures bound { IfOk result (λ v. map (λ r. r.now) v.bound.items ≡ spec.bound_by (tree e.now)) }
+    ensures bound { IfOk result (λ v. row_names v.bound ≡ spec.bound_by (tree e.now)) }
 {
     let mut list = Vec::new(alloc);
-    let mut bound = Vec::new(alloc);
-    add_form(&mut list, &mut bound, e)?;
+    let mut bound = Names::new(alloc);
+    add_form(alloc, &mut list, &mut bound, e)?;
     Ok(Pieces { list, bound })
 }
 
 fn add_form<'a>(
+    alloc: Global,
     pieces: &mut Vec<Piece<'a>>,
-    bound: &mut Vec<&'a Text>,
+    bound: &mut Names,
     e: &'a Expr,
 ) -> Result<(), AllocError>
-    requires { bound.old.items ≡ [] }
+    requires { bound.old ≡ [] }
     ensures pieces { IfOk result (λ _. map see pieces.new.items ≡ map see pieces.old.items ++ spec.pieces_of (tree e.now)) }
-    ensures bound { IfOk result (λ _. map (λ r. r.now) bound.new.items ≡ spec.bound_by (tree e.now)) }
+    ensures bound { IfOk result (λ _. row_names bound.new ≡ spec.bound_by (tree e.now)) }
 {
     match e {
         Expr::Name(x) => add(pieces, &[Piece::Name(x)]),
@@ -87,10 +90,12 @@ fn add_form<'a>(
         Expr::If(p, a, b) => add(pieces, &[plain(p), hidden(a, 0), hidden(b, 0)]),
         Expr::Case(list) => add_arms(pieces, list),
         Expr::CaseOther(list, e) => add_case_other(pieces, list, e),
-        Expr::Let(list, e) => add_let(pieces, bound, list, e),
-        Expr::Quantified(_, list, e) | Expr::FunOf(list, e) => add_bound(pieces, bound, list, e),
-        Expr::Choose(x, s, p) | Expr::Filter(x, s, p) => add_choice(pieces, bound, x, s, p),
-        Expr::Image(e, x, s) => add_image(pieces, bound, e, x, s),
+        Expr::Let(list, e) => add_let(alloc, pieces, bound, list, e),
+        Expr::Quantified(_, list, e) | Expr::FunOf(list, e) => add_bound(
+            alloc, pieces, bound, list, e,
+        ),
+        Expr::Choose(x, s, p) | Expr::Filter(x, s, p) => add_choice(alloc, pieces, bound, x, s, p),
+        Expr::Image(e, x, s) => add_image(alloc, pieces, bound, e, x, s),
         Expr::Record(list) | Expr::RecordSet(list) => add_fields(pieces, list),
         Expr::Except(f, list) => add_except(pieces, f, list),
         Expr::Index(f, list) => add_index(pieces, f, list),
@@ -125,48 +130,51 @@ fn add_case_other<'a>(
 }
 
 fn add_bound<'a>(
+    alloc: Global,
     pieces: &mut Vec<Piece<'a>>,
-    bound: &mut Vec<&'a Text>,
+    bound: &mut Names,
     list: &'a Binders,
     e: &'a Sub,
 ) -> Result<(), AllocError>
-    requires { bound.old.items ≡ [] }
+    requires { bound.old ≡ [] }
     ensures pieces { IfOk result (λ _. map see pieces.new.items ≡ map see pieces.old.items ++ spec.bound_pieces (bound_trees list.now) e.now) }
-    ensures bound { IfOk result (λ _. map (λ r. r.now) bound.new.items ≡ binder_names (bound_trees list.now)) }
+    ensures bound { IfOk result (λ _. row_names bound.new ≡ binder_names (bound_trees list.now)) }
 {
-    add_binders(pieces, bound, list)?;
+    add_binders(alloc, pieces, bound, list)?;
     add(pieces, &[hidden(e, bound.len())])
 }
 
 /// `CHOOSE x \in S : p` and `{x \in S : p}`.
 fn add_choice<'a>(
+    alloc: Global,
     pieces: &mut Vec<Piece<'a>>,
-    bound: &mut Vec<&'a Text>,
+    bound: &mut Names,
     x: &'a Text,
     s: &'a Sub,
     p: &'a Sub,
 ) -> Result<(), AllocError>
-    requires { bound.old.items ≡ [] }
+    requires { bound.old ≡ [] }
     ensures pieces { IfOk result (λ _. map see pieces.new.items ≡ map see pieces.old.items ++ spec.pieces_of (choose x.now s.now p.now)) }
-    ensures bound { IfOk result (λ _. map (λ r. r.now) bound.new.items ≡ x.now ∷ []) }
+    ensures bound { IfOk result (λ _. row_names bound.new ≡ x.now ∷ []) }
 {
-    bound.push(x)?;
+    bound.push(alloc, x, 0)?;
     add(pieces, &[Piece::Bound(x, 0), plain(s), hidden(p, 1)])
 }
 
 /// `{e : x \in S}`.
 fn add_image<'a>(
+    alloc: Global,
     pieces: &mut Vec<Piece<'a>>,
-    bound: &mut Vec<&'a Text>,
+    bound: &mut Names,
     e: &'a Sub,
     x: &'a Text,
     s: &'a Sub,
 ) -> Result<(), AllocError>
-    requires { bound.old.items ≡ [] }
+    requires { bound.old ≡ [] }
     ensures pieces { IfOk result (λ _. map see pieces.new.items ≡ map see pieces.old.items ++ spec.pieces_of (image e.now x.now s.now)) }
-    ensures bound { IfOk result (λ _. map (λ r. r.now) bound.new.items ≡ x.now ∷ []) }
+    ensures bound { IfOk result (λ _. row_names bound.new ≡ x.now ∷ []) }
 {
-    bound.push(x)?;
+    bound.push(alloc, x, 0)?;
     add(pieces, &[hidden(e, 1), Piece::Bound(x, 0), plain(s)])
 }
 

@@ -3,11 +3,12 @@ ghost use Rattle.std.specs.Prelude.{◌≡◌, [], ◌∷◌, ◌++◌, map, len
 ghost use Rattle.pgo_syntax.specs.StatementView.{statement};
 ghost use Rattle.pgo_syntax.specs.Statement.{statements, labeled, guarded};
 ghost use Rattle.pgo_uses.specs.declared.uses.Form.TheVariants as forms;
-ghost use Rattle.pgo_uses.specs.PieceView.{texts};
+ghost use Rattle.pgo_uses.specs.Scopes.{row_names};
 ghost use Rattle.pgo_uses.specs.StatementPieces as spec;
 ghost use Rattle.pgo_uses.specs.StatementPieceView.{see_part};
 ghost use Rattle.pgo_uses.specs.StatementUses.{with_names, origin_tree, shape_of as as_shape};
 
+use crate::names::Names;
 use crate::uses::Shape;
 use pgo_base::expr::{Expr, Exprs, Sub};
 use pgo_base::text::Text;
@@ -52,28 +53,29 @@ fn add<'a>(parts: &mut Vec<Part<'a>>, row: &[Part<'a>]) -> Result<(), AllocError
 #[derive(Drop)]
 pub struct Parts<'a> {
     pub list: Vec<Part<'a>>,
-    pub bound: Vec<&'a Text>,
+    pub bound: Names,
 }
 
 /// The parts of a statement.
 pub fn parts_of<'a>(alloc: Global, s: &'a Stmt) -> Result<Parts<'a>, AllocError>
     ensures parts { IfOk result (λ v. map see_part v.list.items ≡ spec.parts_of (statement s.now)) }
-    ensures bound { IfOk result (λ v. texts v.bound.items ≡ spec.bound_in (statement s.now)) }
+    ensures bound { IfOk result (λ v. row_names v.bound ≡ spec.bound_in (statement s.now)) }
 {
     let mut list = Vec::new(alloc);
-    let mut bound = Vec::new(alloc);
-    add_form(&mut list, &mut bound, s)?;
+    let mut bound = Names::new(alloc);
+    add_form(alloc, &mut list, &mut bound, s)?;
     Ok(Parts { list, bound })
 }
 
 fn add_form<'a>(
+    alloc: Global,
     parts: &mut Vec<Part<'a>>,
-    bound: &mut Vec<&'a Text>,
+    bound: &mut Names,
     s: &'a Stmt,
 ) -> Result<(), AllocError>
-    requires { bound.old.items ≡ [] }
+    requires { bound.old ≡ [] }
     ensures parts { IfOk result (λ _. map see_part parts.new.items ≡ map see_part parts.old.items ++ spec.parts_of (statement s.now)) }
-    ensures bound { IfOk result (λ _. texts bound.new.items ≡ spec.bound_in (statement s.now)) }
+    ensures bound { IfOk result (λ _. row_names bound.new ≡ spec.bound_in (statement s.now)) }
 {
     match s {
         Stmt::Skip(_) => Ok(()),
@@ -86,7 +88,7 @@ fn add_form<'a>(
         | Stmt::Print(place, e)
         | Stmt::Assert(place, e)
         | Stmt::Yield(place, e) => add(parts, &[Part::Operand(*place, e, 0)]),
-        Stmt::With(_, names, s) => add_with(parts, bound, names, s),
+        Stmt::With(_, names, s) => add_with(alloc, parts, bound, names, s),
         Stmt::Goto(_, label) => add(parts, &[Part::Target(label)]),
         Stmt::Call(_, name, list) => add_call(parts, name, list),
         Stmt::Block(_, list) => add_block(parts, list),
@@ -175,17 +177,18 @@ fn add_alternatives<'a>(parts: &mut Vec<Part<'a>>, list: &'a Alternatives) -> Re
 
 /// Adds the names of a `with`, each before its expression, and the statement that sees them all.
 fn add_with<'a>(
+    alloc: Global,
     parts: &mut Vec<Part<'a>>,
-    bound: &mut Vec<&'a Text>,
+    bound: &mut Names,
     names: &'a WithNames,
     s: &'a Nested,
 ) -> Result<(), AllocError>
-    requires { bound.old.items ≡ [] }
+    requires { bound.old ≡ [] }
     ensures parts { IfOk result (λ _. map see_part parts.new.items ≡ map see_part parts.old.items ++ (spec.with_parts 0 names.now ++ spec.nested s.now (length (with_names names.now)) ∷ [])) }
-    ensures bound { IfOk result (λ _. texts bound.new.items ≡ with_names names.now) }
+    ensures bound { IfOk result (λ _. row_names bound.new ≡ with_names names.now) }
 {
     add_with_parts(parts, names)?;
-    add_with_names(bound, names)?;
+    add_with_names(alloc, bound, names)?;
     add(parts, &[Part::Nested(s, bound.len())])
 }
 
@@ -201,11 +204,11 @@ fn add_with_parts<'a>(parts: &mut Vec<Part<'a>>, names: &'a WithNames) -> Result
 }
 
 /// Adds the names that a `with` binds.
-fn add_with_names<'a>(bound: &mut Vec<&'a Text>, names: &'a WithNames) -> Result<(), AllocError>
-    ensures { IfOk result (λ _. texts bound.new.items ≡ texts bound.old.items ++ with_names names.now) }
+fn add_with_names(alloc: Global, bound: &mut Names, names: &WithNames) -> Result<(), AllocError>
+    ensures { IfOk result (λ _. row_names bound.new ≡ row_names bound.old ++ with_names names.now) }
 {
     for w in names.as_slice() {
-        bound.push(&w.name.name)?;
+        bound.push(alloc, &w.name.name, 0)?;
     }
     Ok(())
 }

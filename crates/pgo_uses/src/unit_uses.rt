@@ -2,16 +2,17 @@
 ghost use Rattle.std.specs.Prelude.{◌≡◌, [], ◌∷◌, ◌++◌, if◌then◌else◌, IfOk};
 ghost use Rattle.pgo_syntax.specs.Statement.{labeled};
 ghost use Rattle.pgo_uses.specs.declared.uses.Form.TheVariants as forms;
-ghost use Rattle.pgo_uses.specs.PieceView.{texts};
+ghost use Rattle.pgo_uses.specs.Scopes.{in_scope, row_names};
 ghost use Rattle.pgo_uses.specs.StatementUses.{uses_of_block, label_uses};
 ghost use Rattle.pgo_uses.specs.AllUses as spec;
 ghost use Rattle.pgo_uses.specs.Tables.{variable_name, value_name};
 
+use crate::names::Names;
+use crate::scopes::Scope;
 use crate::statement_pieces::origin_of;
 use crate::statement_walk::{add_placed, add_statement};
 use crate::uses::{Around, Form, Home, Use};
-use crate::walk::add_uses;
-use pgo_base::text::Text;
+use crate::walk::{add_uses, add_uses_in};
 use pgo_syntax::archetype::{Archetype, Parameter};
 use pgo_syntax::binding::Origin;
 use pgo_syntax::declaration::{Declaration, Definition};
@@ -42,20 +43,20 @@ fn head_form(named: bool) -> Form
 }
 
 /// Adds names that are declared one after another, each in the scope of those before it.
-fn add_heads<'a>(
+fn add_heads(
     alloc: Global,
     named: bool,
-    names: &mut Vec<&'a Text>,
+    names: &mut Names,
     around: Around,
-    list: &'a [PlacedName],
+    list: &[PlacedName],
     out: &mut Vec<Use>,
 ) -> Result<(), AllocError>
-    ensures uses { IfOk result (λ _. out.new.items ≡ out.old.items ++ spec.heads (if named then forms.Named else forms.Bound) (texts names.old.items) around list.now) }
-    ensures names { IfOk result (λ _. texts names.new.items ≡ texts names.old.items ++ spec.names_of list.now) }
+    ensures uses { IfOk result (λ _. out.new.items ≡ out.old.items ++ spec.heads (if named then forms.Named else forms.Bound) (row_names names.old) around list.now) }
+    ensures names { IfOk result (λ _. row_names names.new ≡ row_names names.old ++ spec.names_of list.now) }
 {
     for x in list {
-        add_placed(alloc, names, &[], 0, around, x, head_form(named), out)?;
-        names.push(&x.name)?;
+        add_placed(alloc, &Scope::of(names), around, x, head_form(named), out)?;
+        names.push(alloc, &x.name, 0)?;
     }
     Ok(())
 }
@@ -72,33 +73,33 @@ fn last_place(place: u32, list: &[PlacedName]) -> u32
 }
 
 /// Adds the names in a block.
-fn add_block_uses<'a>(
+fn add_block_uses(
     alloc: Global,
-    names: &[&'a Text],
+    scope: &Scope<'_>,
     around: Around,
-    block: &'a Block,
+    block: &Block,
     out: &mut Vec<Use>,
 ) -> Result<(), AllocError>
-    ensures { IfOk result (λ _. out.new.items ≡ out.old.items ++ uses_of_block (texts names.now) around (labeled block.now)) }
+    ensures { IfOk result (λ _. out.new.items ≡ out.old.items ++ uses_of_block (in_scope scope.now) around (labeled block.now)) }
 {
     for s in block.as_slice() {
-        add_label_use(alloc, names, around, &s.label, out)?;
-        add_statement(alloc, names, around, &s.statement, out)?;
+        add_label_use(alloc, scope, around, &s.label, out)?;
+        add_statement(alloc, scope, around, &s.statement, out)?;
     }
     Ok(())
 }
 
 fn add_label_use(
     alloc: Global,
-    names: &[&Text],
+    scope: &Scope<'_>,
     around: Around,
     label: &Option<PlacedName>,
     out: &mut Vec<Use>,
 ) -> Result<(), AllocError>
-    ensures { IfOk result (λ _. out.new.items ≡ out.old.items ++ label_uses (texts names.now) around label.now) }
+    ensures { IfOk result (λ _. out.new.items ≡ out.old.items ++ label_uses (in_scope scope.now) around label.now) }
 {
     match label {
-        Some(l) => add_placed(alloc, names, &[], 0, around, l, Form::Label, out),
+        Some(l) => add_placed(alloc, scope, around, l, Form::Label, out),
         None => Ok(()),
     }
 }
@@ -114,9 +115,9 @@ pub(crate) fn add_definition(
 {
     let params = d.params.as_slice();
     let around = start(Home::Definition(number), last_place(d.name.place, params));
-    let mut names = Vec::new(alloc);
+    let mut names = Names::new(alloc);
     add_heads(alloc, false, &mut names, around, params, out)?;
-    add_uses(alloc, names.as_slice(), around, d.body.get(), out)
+    add_uses_in(alloc, &Scope::of(&names), around, d.body.get(), out)
 }
 
 /// Adds the names in the initial value of a global of this number.
@@ -131,7 +132,7 @@ pub(crate) fn add_global(
     match &d.initial {
         Some(origin) => {
             let around = start(Home::Global(number), d.name.place);
-            add_uses(alloc, &[], around, origin_of(origin).get(), out)
+            add_uses(alloc, around, origin_of(origin).get(), out)
         }
         None => Ok(()),
     }
@@ -147,43 +148,40 @@ pub fn add_macro(
     ensures { IfOk result (λ _. out.new.items ≡ out.old.items ++ spec.macro_uses number m.now) }
 {
     let around = start(Home::Macro(number), m.name.place);
-    let mut names = Vec::new(alloc);
+    let mut names = Names::new(alloc);
     add_heads(alloc, true, &mut names, around, m.params.as_slice(), out)?;
-    add_block_uses(alloc, names.as_slice(), around, &m.body, out)
+    add_block_uses(alloc, &Scope::of(&names), around, &m.body, out)
 }
 
 /// Adds the names in a mapping macro, whose content and value have these names.
 pub(crate) fn add_mapping(
     alloc: Global,
-    variable: &Text,
-    value: &Text,
+    scope: &Scope<'_>,
     m: &MappingMacro,
     out: &mut Vec<Use>,
 ) -> Result<(), AllocError>
-    requires variable { variable.now ≡ variable_name }
-    requires value { value.now ≡ value_name }
+    requires { in_scope scope.now ≡ variable_name ∷ value_name ∷ [] }
     ensures { IfOk result (λ _. out.new.items ≡ out.old.items ++ spec.mapping_uses m.now) }
 {
     let around = start(Home::Mapping, m.name.place);
-    let names = [variable, value];
-    add_block_uses(alloc, &names, around, &m.read, out)?;
-    add_block_uses(alloc, &names, around, &m.write, out)
+    add_block_uses(alloc, scope, around, &m.read, out)?;
+    add_block_uses(alloc, scope, around, &m.write, out)
 }
 
 /// Adds the parameters of an archetype.
-fn add_parameters<'a>(
+fn add_parameters(
     alloc: Global,
-    names: &mut Vec<&'a Text>,
+    names: &mut Names,
     around: Around,
-    list: &'a [Parameter],
+    list: &[Parameter],
     out: &mut Vec<Use>,
 ) -> Result<(), AllocError>
-    ensures uses { IfOk result (λ _. out.new.items ≡ out.old.items ++ spec.parameter_uses (texts names.old.items) around list.now) }
-    ensures names { IfOk result (λ _. texts names.new.items ≡ texts names.old.items ++ spec.parameter_names list.now) }
+    ensures uses { IfOk result (λ _. out.new.items ≡ out.old.items ++ spec.parameter_uses (row_names names.old) around list.now) }
+    ensures names { IfOk result (λ _. row_names names.new ≡ row_names names.old ++ spec.parameter_names list.now) }
 {
     for p in list {
-        add_placed(alloc, names, &[], 0, around, &p.name, Form::Named, out)?;
-        names.push(&p.name.name)?;
+        add_placed(alloc, &Scope::of(names), around, &p.name, Form::Named, out)?;
+        names.push(alloc, &p.name.name, 0)?;
     }
     Ok(())
 }
@@ -209,28 +207,28 @@ fn add_initial(
     match &d.initial {
         Some(origin) => {
             let around = start(initial_home(archetype, origin), d.name.place);
-            add_uses(alloc, &[], around, origin_of(origin).get(), out)
+            add_uses(alloc, around, origin_of(origin).get(), out)
         }
         None => Ok(()),
     }
 }
 
 /// Adds the local variables of an archetype, and the names in their initial values.
-fn add_locals<'a>(
+fn add_locals(
     alloc: Global,
     archetype: usize,
-    names: &mut Vec<&'a Text>,
+    names: &mut Names,
     around: Around,
-    list: &'a [Declaration],
+    list: &[Declaration],
     out: &mut Vec<Use>,
 ) -> Result<(), AllocError>
-    ensures uses { IfOk result (λ _. out.new.items ≡ out.old.items ++ spec.local_uses archetype (texts names.old.items) around list.now) }
-    ensures names { IfOk result (λ _. texts names.new.items ≡ texts names.old.items ++ spec.variable_names list.now) }
+    ensures uses { IfOk result (λ _. out.new.items ≡ out.old.items ++ spec.local_uses archetype (row_names names.old) around list.now) }
+    ensures names { IfOk result (λ _. row_names names.new ≡ row_names names.old ++ spec.variable_names list.now) }
 {
     for d in list {
-        add_placed(alloc, names, &[], 0, around, &d.name, Form::Named, out)?;
+        add_placed(alloc, &Scope::of(names), around, &d.name, Form::Named, out)?;
         add_initial(alloc, archetype, d, out)?;
-        names.push(&d.name.name)?;
+        names.push(alloc, &d.name.name, 0)?;
     }
     Ok(())
 }
@@ -245,10 +243,10 @@ pub fn add_archetype(
     ensures { IfOk result (λ _. out.new.items ≡ out.old.items ++ spec.archetype_uses number r.now) }
 {
     let around = start(Home::Body(number), r.name.place);
-    let mut names = Vec::new(alloc);
+    let mut names = Names::new(alloc);
     add_parameters(alloc, &mut names, around, r.params.as_slice(), out)?;
     add_locals(alloc, number, &mut names, around, r.locals.as_slice(), out)?;
-    add_block_uses(alloc, names.as_slice(), around, &r.body, out)
+    add_block_uses(alloc, &Scope::of(&names), around, &r.body, out)
 }
 
 fn add_argument(alloc: Global, argument: &Argument, out: &mut Vec<Use>) -> Result<(), AllocError>
@@ -257,7 +255,7 @@ fn add_argument(alloc: Global, argument: &Argument, out: &mut Vec<Use>) -> Resul
     match argument {
         Argument::Value(place, e) => {
             let around = start(Home::Argument, *place);
-            add_uses(alloc, &[], around, e.get(), out)
+            add_uses(alloc, around, e.get(), out)
         }
         Argument::Ref(_, _) => Ok(()),
     }
@@ -268,7 +266,7 @@ pub(crate) fn add_process(alloc: Global, p: &Process, out: &mut Vec<Use>) -> Res
     ensures { IfOk result (λ _. out.new.items ≡ out.old.items ++ spec.process_uses p.now) }
 {
     let around = start(Home::Process, p.name.place);
-    add_uses(alloc, &[], around, origin_of(&p.ids).get(), out)?;
+    add_uses(alloc, around, origin_of(&p.ids).get(), out)?;
     for argument in p.arguments.as_slice() {
         add_argument(alloc, argument, out)?;
     }

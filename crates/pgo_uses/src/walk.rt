@@ -1,82 +1,37 @@
 // The names in an expression. Each call goes down to the height of the tree; lists are walked by loops.
-ghost use Rattle.std.specs.Prelude.{◌≡◌, ◌∷◌, ◌++◌, [], take, map, IfOk};
+ghost use Rattle.std.specs.Prelude.{◌≡◌, ◌++◌, [], map, IfOk};
 ghost use Rattle.pgo_base.specs.ExprView.{tree};
-ghost use Rattle.pgo_uses.specs.Names.{is_member};
-ghost use Rattle.pgo_uses.specs.Pieces.{within, in_manner as as_manner, piece_uses, pieces_uses};
-ghost use Rattle.pgo_uses.specs.PieceView.{see, texts};
+ghost use Rattle.pgo_uses.specs.Pieces.{in_manner as as_manner, piece_uses, pieces_uses};
+ghost use Rattle.pgo_uses.specs.PieceView.{see};
+ghost use Rattle.pgo_uses.specs.Scopes.{in_scope, row_names};
 ghost use Rattle.pgo_uses.specs.Uses as spec;
 
+use crate::names::Names;
 use crate::pieces::{Manner, Piece, pieces_of};
+use crate::scopes::Scope;
 use crate::uses::{Around, Form, Use};
 use pgo_base::expr::Expr;
 use pgo_base::text::Text;
 use std::alloc::{AllocError, Global};
 
-/// Whether this is one of the names.
-pub(crate) fn has(names: &[&Text], name: &Text) -> bool
-    ensures { result ≡ is_member name.now (texts names.now) }
-{
-    for n in names {
-        if name.is(n) {
-            return true;
-        }
-    }
-    false
-}
-
-/// The first so many names.
-fn front<'s, 'a>(names: &'s [&'a Text], count: usize) -> &'s [&'a Text]
-    ensures { texts result.now ≡ take count (texts names.now) }
-{
-    if count < names.len() {
-        &names[..count]
-    } else {
-        names
-    }
-}
-
-/// Adds a name as it stands, with what is known there.
-pub(crate) fn add_one(
+/// Adds a name as it stands, where these names are in scope.
+pub(crate) fn add_use(
     alloc: Global,
-    inner: bool,
+    scope: &Scope<'_>,
     around: Around,
     name: &Text,
     form: Form,
     out: &mut Vec<Use>,
 ) -> Result<(), AllocError>
-    ensures { IfOk result (λ _. out.new.items ≡ out.old.items ++ record { name = name.now; form = form; inner = inner; around = around } ∷ []) }
+    ensures { IfOk result (λ _. out.new.items ≡ out.old.items ++ spec.one (in_scope scope.now) around name.now form) }
 {
     out.push(Use {
         name: name.copy(alloc)?,
         form,
-        inner,
+        inner: scope.has(name),
         around,
     })?;
     Ok(())
-}
-
-/// Adds a name as it stands, where these names are in scope.
-pub(crate) fn add_use(
-    alloc: Global,
-    names: &[&Text],
-    around: Around,
-    name: &Text,
-    form: Form,
-    out: &mut Vec<Use>,
-) -> Result<(), AllocError>
-    ensures { IfOk result (λ _. out.new.items ≡ out.old.items ++ spec.one (texts names.now) around name.now form) }
-{
-    add_one(alloc, has(names, name), around, name, form, out)
-}
-
-/// Whether this is one of the names, or of the first so many of the others.
-pub(crate) fn stands_within(names: &[&Text], bound: &[&Text], count: usize, name: &Text) -> bool
-    ensures { result ≡ is_member name.now (within (texts names.now) (texts bound.now) count) }
-{
-    if has(names, name) {
-        return true;
-    }
-    has(front(bound, count), name)
 }
 
 /// What is known in an operand that stands so.
@@ -95,101 +50,82 @@ fn in_manner(around: Around, manner: Manner) -> Around
     inside
 }
 
-/// These names, and the first so many of the others behind them.
-pub(crate) fn joined<'a>(
+/// Adds the names in an expression, in the order of the text, where no names are in scope.
+pub fn add_uses(
     alloc: Global,
-    names: &[&'a Text],
-    bound: &[&'a Text],
-    count: usize,
-) -> Result<Vec<&'a Text>, AllocError>
-    ensures { IfOk result (λ v. texts v.items ≡ texts names.now ++ take count (texts bound.now)) }
+    around: Around,
+    e: &Expr,
+    out: &mut Vec<Use>,
+) -> Result<(), AllocError>
+    ensures { IfOk result (λ _. out.new.items ≡ out.old.items ++ spec.uses [] around (tree e.now)) }
 {
-    let mut inner = Vec::from_slice(alloc, names)?;
-    inner.extend_from_slice(front(bound, count))?;
-    Ok(inner)
+    let scope = Scope::new();
+    add_uses_in(alloc, &scope, around, e, out)
 }
 
 /// Adds the names in an expression, in the order of the text, where these names are in scope.
 #[cycle(walk)]
-pub fn add_uses<'a>(
+pub(crate) fn add_uses_in(
     alloc: Global,
-    names: &[&'a Text],
+    scope: &Scope<'_>,
     around: Around,
-    e: &'a Expr,
+    e: &Expr,
     out: &mut Vec<Use>,
 ) -> Result<(), AllocError>
-    ensures { IfOk result (λ _. out.new.items ≡ out.old.items ++ spec.uses (texts names.now) around (tree e.now)) }
+    ensures { IfOk result (λ _. out.new.items ≡ out.old.items ++ spec.uses (in_scope scope.now) around (tree e.now)) }
 {
     let pieces = pieces_of(alloc, e)?;
-    let bound = pieces.bound.as_slice();
-    add_pieces(alloc, names, bound, around, pieces.list.as_slice(), out)
+    let list = pieces.list.as_slice();
+    add_pieces(alloc, scope, &pieces.bound, around, list, out)
 }
 
 /// The same of the pieces of an expression, which binds the names `bound`.
 #[cycle(walk)]
-fn add_pieces<'a>(
+fn add_pieces(
     alloc: Global,
-    names: &[&'a Text],
-    bound: &[&'a Text],
+    scope: &Scope<'_>,
+    bound: &Names,
     around: Around,
-    pieces: &[Piece<'a>],
+    pieces: &[Piece<'_>],
     out: &mut Vec<Use>,
 ) -> Result<(), AllocError>
-    ensures { IfOk result (λ _. out.new.items ≡ out.old.items ++ pieces_uses (texts names.now) (texts bound.now) around (map see pieces.now)) }
+    ensures { IfOk result (λ _. out.new.items ≡ out.old.items ++ pieces_uses (in_scope scope.now) (row_names bound.now) around (map see pieces.now)) }
 {
     for piece in pieces {
-        add_piece(alloc, names, bound, around, *piece, out)?;
+        add_piece(alloc, scope, bound, around, *piece, out)?;
     }
     Ok(())
 }
 
 /// The same of one piece.
 #[cycle(walk)]
-fn add_piece<'a>(
+fn add_piece(
     alloc: Global,
-    names: &[&'a Text],
-    bound: &[&'a Text],
+    scope: &Scope<'_>,
+    bound: &Names,
     around: Around,
-    piece: Piece<'a>,
+    piece: Piece<'_>,
     out: &mut Vec<Use>,
 ) -> Result<(), AllocError>
-    ensures { IfOk result (λ _. out.new.items ≡ out.old.items ++ piece_uses (texts names.now) (texts bound.now) around (see piece.entry)) }
+    ensures { IfOk result (λ _. out.new.items ≡ out.old.items ++ piece_uses (in_scope scope.now) (row_names bound.now) around (see piece.entry)) }
 {
     match piece {
-        Piece::Name(x) => add_use(alloc, names, around, x, Form::Alone, out),
-        Piece::Applied(x, count) => add_use(alloc, names, around, x, Form::Applied(count), out),
-        Piece::Field(x) => add_use(alloc, names, around, x, Form::Field, out),
+        Piece::Name(x) => add_use(alloc, scope, around, x, Form::Alone, out),
+        Piece::Applied(x, count) => add_use(alloc, scope, around, x, Form::Applied(count), out),
+        Piece::Field(x) => add_use(alloc, scope, around, x, Form::Field, out),
         Piece::Bound(x, count) => {
-            let inner = stands_within(names, bound, count, x);
-            add_one(alloc, inner, around, x, Form::Bound, out)
+            let inner = Scope::within(&*scope, &*bound, count);
+            add_use(alloc, &inner, around, x, Form::Bound, out)
         }
         Piece::Operand(e, manner, count) => {
+            let inner = Scope::within(&*scope, &*bound, count);
             let inside = in_manner(around, manner);
-            add_within(alloc, names, bound, count, inside, e.get(), out)
+            add_uses_in(alloc, &inner, inside, e.get(), out)
         }
         Piece::Member(e, manner, count) => {
+            let inner = Scope::within(&*scope, &*bound, count);
             let inside = in_manner(around, manner);
-            add_within(alloc, names, bound, count, inside, e, out)
+            add_uses_in(alloc, &inner, inside, e, out)
         }
     }
-}
-
-/// The names in an operand, which sees the first so many of the names that are bound too.
-#[cycle(walk)]
-pub(crate) fn add_within<'a>(
-    alloc: Global,
-    names: &[&'a Text],
-    bound: &[&'a Text],
-    count: usize,
-    around: Around,
-    e: &'a Expr,
-    out: &mut Vec<Use>,
-) -> Result<(), AllocError>
-    ensures { IfOk result (λ _. out.new.items ≡ out.old.items ++ spec.uses (within (texts names.now) (texts bound.now) count) around (tree e.now)) }
-{
-    if count == 0 {
-        return add_uses(alloc, names, around, e, out);
-    }
-    let inner = joined(alloc, names, bound, count)?;
-    add_uses(alloc, inner.as_slice(), around, e, out)
 }

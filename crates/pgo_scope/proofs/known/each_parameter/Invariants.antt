@@ -6,4 +6,4 @@ use Rattle.pgo_scope.specs.Ways.{each_parameter}
 use Rattle.pgo_scope.proofs.known.each_parameter.Given as goal
 
 abbrev pub invariant-loop-x : goal.invariant-loop-x
-invariant-loop-x l = map see_ways l.params.items ++ each_parameter (map see_known l.known) l.uses (names_of (drop l.x-index l.names)) ≡ each_parameter (map see_known l.known) l.uses (names_of l.names)
+invariant-loop-x l = map see_ways l.list.items ++ each_parameter (see_known l.known) l.uses (names_of (drop l.x-index l.names)) ≡ each_parameter (see_known l.known) l.uses (names_of l.names)

@@ -1,22 +1,20 @@
-use Rattle.std.proofs.Common.{◌≡◌, map, ap, ◌∙◌}
-use Rattle.std.proofs.lemmas.Result.{IfOk-weaker}
-use Rattle.pgo_scope.specs.CaptureView.{see_captures}
-use Rattle.pgo_scope.specs.KnownView.{see_known}
-use Rattle.pgo_scope.specs.Refusal.{scope_refusal}
-use Rattle.pgo_scope.specs.Twice.{captures}
-use Rattle.pgo_scope.specs.Ways.{known_macros}
-use Rattle.pgo_scope.proofs.Ruled.{found, all_found}
+use Rattle.std.proofs.Common.{◌≡◌, map, sym, ◌∙◌, subst}
+use Rattle.std.specs.Prelude.{IfOk}
+use Rattle.pgo_scope.specs.CaptureView.{see_tests}
+use Rattle.pgo_scope.specs.KnownView.{see_parameters}
+use Rattle.pgo_scope.specs.Refusal.{first_broken, all_rules}
+use Rattle.pgo_scope.specs.Rules.{Context, found_by}
+use Rattle.pgo_scope.specs.Twice.{captures_by}
+use Rattle.pgo_scope.specs.Ways.{known_by}
 use Rattle.pgo_scope.proofs.scope.refusal.Goals as goal
 
 pub returns : goal.returns
 returns c =
-    let k = map see_known c.as_slice-3.result.now in
-    let q = map see_captures c.as_slice-4.result.now in
-    let us = c.as_slice-5.result.now in
-    IfOk-weaker c.first_of.result (λ r. r ≡ found c.args.s.now c.in_ok-tables.tables k q us) (λ r. r ≡ scope_refusal c.args.s.now)
-    (all_found c.args.s.now c.in_ok-tables.tables k q us
-    c.in_ok-tables.ensures
-    (ap (map see_known) c.as_slice-3.ensures.value ∙ c.in_ok-known.ensures ∙ ap known_macros c.as_slice.ensures)
-    (ap (map see_captures) c.as_slice-4.ensures.value ∙ c.in_ok-captures.ensures ∙ ap captures c.as_slice-2.ensures)
-    (c.as_slice-5.ensures.value ∙ c.in_ok-uses.ensures))
+    let names = c.in_ok-tables.tables.macros in
+    let t = c.in_ok-tables.ensures in
+    let k = (λ i. (names, map see_parameters (c.as_slice-3.ensures.value i))) ∙ c.in_ok-known.ensures ∙ (λ i. known_by ((t i).macros) (c.as_slice.ensures i)) in
+    let q = (λ i. (names, map see_tests (c.as_slice-4.ensures.value i))) ∙ c.in_ok-captures.ensures ∙ (λ i. captures_by ((t i).macros) (c.as_slice-2.ensures i)) in
+    let us = c.as_slice-5.ensures.value ∙ c.in_ok-uses.ensures in
+    subst (λ (x : Context). IfOk c.first_of.result (λ r. r ≡ first_broken (map (λ r. found_by r x) all_rules)))
+    (λ i. record { spec = c.args.s.now; tables = t i; known = k i; captures = q i; uses = us i })
     c.first_of.ensures
