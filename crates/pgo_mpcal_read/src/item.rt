@@ -6,9 +6,9 @@ ghost use Rattle.pgo_mpcal_read.specs.Reading.{Parser, Reads};
 ghost use Rattle.pgo_mpcal_read.specs.ReadingSpec.{Updates};
 
 use crate::cursor::Cursor;
+use pgo_base::items::Items;
 use pgo_lexer::errors::TextStop;
 use pgo_lexer::symbol::{Bracket, Symbol};
-use pgo_syntax::items::Items;
 use std::alloc::Global;
 
 /// What lists are made of.
