@@ -1,0 +1,322 @@
+-- What code may do is what it does for some words of choice.
+use Rattle.std.proofs.Common.{◌≡◌, ℕ, zero, suc, ◌+◌, ◌<◌, ◌%◌, true, false, List, [], ◌∷◌, ◌++◌, length, get_or, Option, Some, None, ◌⊎◌, Contains, refl, sym, ap, ◌∙◌, subst, arith, inl, inr, length-append, mod-lt, mod-eq_of_lt, option_and_then}
+use Rattle.std.proofs.lemmas.List.{get_or_default}
+use Rattle.pgo_base.specs.Data.{Data, boolean, integer, string, model, set, function}
+use Rattle.pgo_base.specs.Lookup.{Name, Names, Vars}
+use Rattle.pgo_model.specs.Operators.{truth_of}
+use Rattle.pgo_model.specs.Options.{on}
+use Rattle.pgo_model.specs.Outcome.{Blocked, NoValue, AssertFails}
+use Rattle.pgo_model.specs.System.{Words}
+use Rattle.pgo_sections.specs.Code.{Code, Skip, Let, Pick, Become, Set, Await, Assert, Print, If, Either, Seq, Goto, Yield, Read, Write, Codes, no_codes, more_codes, value_name}
+use Rattle.pgo_sections.specs.Context.{Context, content, put_content, put_new, content_state, new_content}
+use Rattle.pgo_sections.specs.Exec.{Gives, Stops, read_end, write_end, used_up, if_gives, touching, looking, becoming, count, exec, exec_arm}
+use Rattle.pgo_sections.specs.Held.{held, value_under}
+use Rattle.pgo_sections.specs.Run.{Run, begun, printed, picked_number, chosen, Out, Go, Jump, Gave, Stop, with_value, if_true, picked, go_on}
+use Rattle.pgo_sections.proofs.May.{block_of, left_content, left_is, May, SomeMay, never, never_at}
+
+abbrev pub Holds : (Vars → Type 0) → (Name → Vars → Type 0) → (Data → Vars → Type 0) → Out → Type 0
+Holds P J Y (Go run) = P run.changes
+Holds P J Y (Jump l run) = J l run.changes
+Holds P J Y (Gave v run) = Y v run.changes
+Holds P J Y (Stop kind run) = ⊥
+
+module _ (P : Vars → Type 0) (J : Name → Vars → Type 0) (Y : Data → Vars → Type 0) where
+  value_holds : {A : Type 0} → (o : Option A) (run : Run) (f : A → Out) → Holds P J Y (with_value o run f) → (v : A) × (o ≡ Some v) × Holds P J Y (f v)
+  value_holds None run f h = absurd h
+  value_holds (Some v) run f h = (v, refl, h)
+
+  picked_holds : (ms : List Data) (d : Words) (run : Run) (f : Data → Out) → Holds P J Y (picked ms d run f) → (v : Data) × Contains ms v × Holds P J Y (f v)
+  picked_holds [] d run f h = absurd h
+  picked_holds (m ∷ ms) d run f h =
+      let k = d run.used % length (m ∷ ms) in
+      let lt : k < length (m ∷ ms) = (let pos : 0 < length (m ∷ ms) = omega arith in mod-lt (d run.used) pos) in
+      (get_or (m ∷ ms) k m, (k, lt, get_or_default (m ∷ ms) k _ m lt), h)
+
+  go_holds : (r : Out) (f : Run → Out) (Q : Vars → Type 0) → ((run : Run) → Holds P J Y (f run) → Q run.changes) → Holds P J Y (go_on r f) → Holds Q J Y r
+  go_holds (Go run) f Q step h = step run h
+  go_holds (Jump l run) f Q step h = h
+  go_holds (Gave v run) f Q step h = h
+  go_holds (Stop kind run) f Q step h = h
+
+  read_holds : (r : Out) (now : Run) (f : Data × Option Data → Run → Out) (Q : Data → Vars → Type 0) → ((v : Data) (run : Run) (new : Option Data) → new_content run.changes ≡ Some new → Holds P J Y (f (v, new) (used_up run.used now)) → Q v run.changes) → Holds P J Y (if_gives (read_end r) now f) → Holds never never_at Q r
+  read_holds (Go run) now f Q step h = h
+  read_holds (Jump l run) now f Q step h = h
+  read_holds (Gave v run) now f Q step h = go (new_content run.changes) refl h
+    where
+      go : (o : Option (Option Data)) → new_content run.changes ≡ o → Holds P J Y (if_gives (on (Stops NoValue run.used) o (λ new. Gives (v, new) run.used)) now f) → Q v run.changes
+      go None e h = absurd h
+      go (Some new) e h = step v run new e h
+  read_holds (Stop kind run) now f Q step h = h
+
+  write_holds : (r : Out) (now : Run) (f : Data → Run → Out) (Q : Data → Vars → Type 0) → ((v : Data) (run : Run) → Holds P J Y (f v (used_up run.used now)) → Q v run.changes) → Holds P J Y (if_gives (write_end r) now f) → Holds never never_at Q r
+  write_holds (Go run) now f Q step h = h
+  write_holds (Jump l run) now f Q step h = h
+  write_holds (Gave v run) now f Q step h = step v run h
+  write_holds (Stop kind run) now f Q step h = h
+
+  only_true : (o : Option Data) (run : Run) (a b : Out) (A : Type 0) → (Holds P J Y a → A) → (Holds P J Y b → ⊥) → Holds P J Y (if_true (truth_of o) run a b) → (o ≡ Some (boolean true)) × A
+  only_true None run a b A f g h = absurd h
+  only_true (Some (boolean true)) run a b A f g h = (refl, f h)
+  only_true (Some (boolean false)) run a b A f g h = absurd (g h)
+  only_true (Some (integer z)) run a b A f g h = absurd h
+  only_true (Some (string z)) run a b A f g h = absurd h
+  only_true (Some (model z)) run a b A f g h = absurd h
+  only_true (Some (set z)) run a b A f g h = absurd h
+  only_true (Some (function z)) run a b A f g h = absurd h
+
+  true_or_false : (o : Option Data) (run : Run) (a b : Out) (A B : Type 0) → (Holds P J Y a → A) → (Holds P J Y b → B) → Holds P J Y (if_true (truth_of o) run a b) → ((o ≡ Some (boolean true)) × A) ⊎ ((o ≡ Some (boolean false)) × B)
+  true_or_false None run a b A B f g h = absurd h
+  true_or_false (Some (boolean true)) run a b A B f g h = inl (refl, f h)
+  true_or_false (Some (boolean false)) run a b A B f g h = inr (refl, g h)
+  true_or_false (Some (integer z)) run a b A B f g h = absurd h
+  true_or_false (Some (string z)) run a b A B f g h = absurd h
+  true_or_false (Some (model z)) run a b A B f g h = absurd h
+  true_or_false (Some (set z)) run a b A B f g h = absurd h
+  true_or_false (Some (function z)) run a b A B f g h = absurd h
+
+mutual
+  -- what it does, it may do
+  pub may_from : (k : Context) (c : Code) (env : Names) (d : Words) (run : Run) (P : Vars → Type 0) (J : Name → Vars → Type 0) (Y : Data → Vars → Type 0) → Holds P J Y (exec k c env d run) → May k c env run.changes P J Y
+  may_from k Skip env d run P J Y h = h
+  may_from k (Let b w e c) env d run P J Y h =
+      let x = value_holds P J Y _ _ _ h in (x.0, x.1, may_from k c ((w, Some x.0) ∷ env) d (looking k e run) P J Y x.2)
+  may_from k (Pick b w e c) env d run P J Y h =
+      let x = value_holds P J Y _ _ _ h in
+      let y = picked_holds P J Y x.0 _ _ _ x.2 in
+      (y.0, x.0, x.1, y.1, may_from k c ((w, Some y.0) ∷ env) d (chosen (looking k e run)) P J Y y.2)
+  may_from k (Become p w) env d run P J Y h = value_holds P J Y _ _ _ h
+  may_from k (Set b p e) env d run P J Y h = value_holds P J Y _ _ _ h
+  may_from k (Await e) env d run P J Y h = only_true P J Y _ _ _ _ (P run.changes) (λ a. a) (λ a. a) h
+  may_from k (Assert e) env d run P J Y h = only_true P J Y _ _ _ _ (P run.changes) (λ a. a) (λ a. a) h
+  may_from k (Print e) env d run P J Y h = value_holds P J Y _ _ _ h
+  may_from k (If e a b) env d run P J Y h =
+      true_or_false P J Y _ _ _ _ (May k a env run.changes P J Y) (May k b env run.changes P J Y) (λ x. may_from k a env d (looking k e run) P J Y x) (λ x. may_from k b env d (looking k e run) P J Y x) h
+  may_from k (Either cs) env d run P J Y h = may_from_arm k cs (picked_number d run (count cs)) env d (chosen run) P J Y h
+  may_from k (Seq a b) env d run P J Y h =
+      may_from k a env d run (λ st'. May k b env st' P J Y) J Y (go_holds P J Y (exec k a env d run) _ (λ st'. May k b env st' P J Y) (λ now x. may_from k b env d now P J Y x) h)
+  may_from k (Goto l) env d run P J Y h = h
+  may_from k (Yield e) env d run P J Y h = value_holds P J Y _ _ _ h
+  may_from k (Read w g i m c) env d run P J Y h =
+      let x = value_holds P J Y _ _ _ h in
+      let y = value_holds P J Y _ _ _ x.2 in (
+        x.0,
+        y.0,
+        x.1,
+        y.1,
+        may_from (block_of k) m [] d (begun (content_state y.0) run.used) never never_at _ (read_holds P J Y (exec (block_of k) m [] d (begun (content_state y.0) run.used)) (touching k g x.0 run) _ (λ v mem. (st' : Vars) × (left_content k g x.0 mem run.changes ≡ Some st') × May k c ((w, Some v) ∷ env) st' P J Y) (λ v block new is z.
+            let q = value_holds P J Y _ _ _ z in (
+              q.0,
+              left_is k g x.0 block.changes run.changes ∙ ap (option_and_then (λ new. put_new k g x.0 new run.changes)) is ∙ q.1,
+              may_from k c ((w, Some v) ∷ env) d (record (used_up block.used (touching k g x.0 run)) { changes = q.0 }) P J Y q.2,
+            )) y.2),
+      )
+  may_from k (Write g i w m) env d run P J Y h =
+      let x = value_holds P J Y _ _ _ h in
+      let y = value_holds P J Y _ _ _ x.2 in
+      let z = value_holds P J Y _ _ _ y.2 in
+      let own = (value_name, Some z.0) ∷ [] in
+      let begun' = begun (content_state y.0) run.used in (
+        x.0,
+        y.0,
+        x.1,
+        y.1,
+        (
+          z.0,
+          z.1,
+          may_from (block_of k) m own d begun' never never_at _ (write_holds P J Y (exec (block_of k) m own d begun') (touching k g x.0 run) _ (λ v mem. (st' : Vars) × (put_content k g x.0 (Some v) run.changes ≡ Some st') × P st') (λ v block q. value_holds P J Y _ _ _ q) z.2),
+        ),
+      )
+
+  may_from_arm : (k : Context) (cs : Codes) (i : ℕ) (env : Names) (d : Words) (run : Run) (P : Vars → Type 0) (J : Name → Vars → Type 0) (Y : Data → Vars → Type 0) → Holds P J Y (exec_arm k cs i env d run) → SomeMay k cs env run.changes P J Y
+  may_from_arm k no_codes i env d run P J Y h = absurd h
+  may_from_arm k (more_codes c cs) zero env d run P J Y h = inl (may_from k c env d run P J Y h)
+  may_from_arm k (more_codes c cs) (suc i) env d run P J Y h = inr (may_from_arm k cs i env d run P J Y h)
+
+-- d has these words from place u on
+abbrev pub Reads : Words → ℕ → List ℕ → Type 0
+Reads d u [] = Unit {0}
+Reads d u (w ∷ ws) = (d u ≡ w) × Reads d (suc u) ws
+
+reads_front : (d : Words) (u : ℕ) (a b : List ℕ) → Reads d u (a ++ b) → Reads d u a
+reads_front d u [] b h = tt
+reads_front d u (w ∷ a) b h = (h.0, reads_front d (suc u) a b h.1)
+
+reads_back : (d : Words) (u : ℕ) (a b : List ℕ) → Reads d u (a ++ b) → Reads d (u + length a) b
+reads_back d u [] b h = let e : u ≡ u + 0 = omega arith in subst (λ n. Reads d n b) e h
+reads_back d u (w ∷ a) b h =
+    let e : suc u + length a ≡ u + length (w ∷ a) = omega arith in subst (λ n. Reads d n b) e (reads_back d (suc u) a b h.1)
+
+-- an outcome that used the words up to n
+abbrev UsedTo : ℕ → Out → Type 0
+UsedTo n (Go run) = run.used ≡ n
+UsedTo n (Jump l run) = run.used ≡ n
+UsedTo n (Gave v run) = run.used ≡ n
+UsedTo n (Stop kind run) = ⊥
+
+-- some words from place u on make it end so
+pub record Ends (f : Words → Out) (u : ℕ) (P : Vars → Type 0) (J : Name → Vars → Type 0) (Y : Data → Vars → Type 0) : Type 0 where
+  pub words : List ℕ
+  pub out : Out
+  pub runs : (d : Words) → Reads d u words → f d ≡ out
+  pub used : UsedTo (u + length words) out
+  pub holds : Holds P J Y out
+
+module _ (u : ℕ) (P : Vars → Type 0) (J : Name → Vars → Type 0) (Y : Data → Vars → Type 0) where
+  ends_now : (o : Out) → UsedTo u o → Holds P J Y o → Ends (λ d. o) u P J Y
+  ends_now o us h = let e : u ≡ u + 0 = omega arith in record { words = []; out = o; runs = λ d r. refl; used = subst (λ n. UsedTo n o) e us; holds = h }
+
+  -- another run with the same end
+  ends_as : (f g : Words → Out) → ((d : Words) → g d ≡ f d) → Ends f u P J Y → Ends g u P J Y
+  ends_as f g e x = record { words = x.words; out = x.out; runs = λ d r. e d ∙ x.runs d r; used = x.used; holds = x.holds }
+
+  -- behind a value
+  value_ends : {A : Type 0} → (o : Option A) (run : Run) (v : A) (g : Words → A → Out) → o ≡ Some v → Ends (λ d. g d v) u P J Y → Ends (λ d. with_value o run (g d)) u P J Y
+  value_ends o run v g e x = ends_as (λ d. g d v) (λ d. with_value o run (g d)) (λ d. ap (λ o. with_value o run (g d)) e) x
+
+  -- one word first
+  ends_after : (w : ℕ) (f g : Words → Out) → ((d : Words) → d u ≡ w → g d ≡ f d) → Ends f (suc u) P J Y → Ends g u P J Y
+  ends_after w f g e x = record {
+    words = w ∷ x.words;
+    out = x.out;
+    runs = λ d r. e d r.0 ∙ x.runs d r.1;
+    used = let n : suc u + length x.words ≡ u + length (w ∷ x.words) = omega arith in subst (λ n. UsedTo n x.out) n x.used;
+    holds = x.holds;
+  }
+
+module _ (P : Vars → Type 0) (J : Name → Vars → Type 0) (Y : Data → Vars → Type 0) where
+  -- one run behind another
+  seq_ends : (u : ℕ) (f : Words → Out) (k : Words → Run → Out) (Q : Vars → Type 0) → Ends f u Q J Y → ((run : Run) → Q run.changes → Ends (λ d. k d run) run.used P J Y) → Ends (λ d. go_on (f d) (k d)) u P J Y
+  seq_ends u f k Q x next = go x.out x.runs x.used x.holds
+    where
+      go : (o : Out) → ((d : Words) → Reads d u x.words → f d ≡ o) → UsedTo (u + length x.words) o → Holds Q J Y o → Ends (λ d. go_on (f d) (k d)) u P J Y
+      go (Go run) runs used h =
+          let y = next run h in
+          record {
+            words = x.words ++ y.words;
+            out = y.out;
+            runs = λ d r. ap (λ o. go_on o (k d)) (runs d (reads_front d u x.words y.words r)) ∙ y.runs d (subst (λ n. Reads d n y.words) (sym used) (reads_back d u x.words y.words r));
+            used = let n : run.used + length y.words ≡ u + length (x.words ++ y.words) = omega (arith, used, length-append x.words y.words) in subst (λ n. UsedTo n y.out) n y.used;
+            holds = y.holds;
+          }
+      go (Jump l run) runs used h = record { words = x.words; out = Jump l run; runs = λ d r. ap (λ o. go_on o (k d)) (runs d r); used = used; holds = h }
+      go (Gave v run) runs used h = record { words = x.words; out = Gave v run; runs = λ d r. ap (λ o. go_on o (k d)) (runs d r); used = used; holds = h }
+      go (Stop kind run) runs used h = absurd h
+
+  read_ends : (u : ℕ) (now : Run) (f : Words → Out) (k : Words → Data × Option Data → Run → Out) (Q : Data → Vars → Type 0) → Ends f u never never_at Q → ((v : Data) (run : Run) → Q v run.changes → (new : Option Data) × (new_content run.changes ≡ Some new) × Ends (λ d. k d (v, new) (used_up run.used now)) run.used P J Y) → Ends (λ d. if_gives (read_end (f d)) now (k d)) u P J Y
+  read_ends u now f k Q x next = go x.out x.runs x.used x.holds
+    where
+      go : (o : Out) → ((d : Words) → Reads d u x.words → f d ≡ o) → UsedTo (u + length x.words) o → Holds never never_at Q o → Ends (λ d. if_gives (read_end (f d)) now (k d)) u P J Y
+      go (Go run) runs used h = absurd h
+      go (Jump l run) runs used h = absurd h
+      go (Gave v run) runs used h =
+          let n = next v run h in
+          let y = n.2 in
+          record {
+            words = x.words ++ y.words;
+            out = y.out;
+            runs = λ d r.
+                ap (λ o. if_gives (read_end o) now (k d)) (runs d (reads_front d u x.words y.words r))
+                ∙ ap (λ o. if_gives (on (Stops NoValue run.used) o (λ new. Gives (v, new) run.used)) now (k d)) n.1
+                ∙ y.runs d (subst (λ n. Reads d n y.words) (sym used) (reads_back d u x.words y.words r));
+            used = let e : run.used + length y.words ≡ u + length (x.words ++ y.words) = omega (arith, used, length-append x.words y.words) in subst (λ n. UsedTo n y.out) e y.used;
+            holds = y.holds;
+          }
+      go (Stop kind run) runs used h = absurd h
+
+  write_ends : (u : ℕ) (now : Run) (f : Words → Out) (k : Words → Data → Run → Out) (Q : Data → Vars → Type 0) → Ends f u never never_at Q → ((v : Data) (run : Run) → Q v run.changes → Ends (λ d. k d v (used_up run.used now)) run.used P J Y) → Ends (λ d. if_gives (write_end (f d)) now (k d)) u P J Y
+  write_ends u now f k Q x next = go x.out x.runs x.used x.holds
+    where
+      go : (o : Out) → ((d : Words) → Reads d u x.words → f d ≡ o) → UsedTo (u + length x.words) o → Holds never never_at Q o → Ends (λ d. if_gives (write_end (f d)) now (k d)) u P J Y
+      go (Go run) runs used h = absurd h
+      go (Jump l run) runs used h = absurd h
+      go (Gave v run) runs used h =
+          let y = next v run h in
+          record {
+            words = x.words ++ y.words;
+            out = y.out;
+            runs = λ d r. ap (λ o. if_gives (write_end o) now (k d)) (runs d (reads_front d u x.words y.words r)) ∙ y.runs d (subst (λ n. Reads d n y.words) (sym used) (reads_back d u x.words y.words r));
+            used = let e : run.used + length y.words ≡ u + length (x.words ++ y.words) = omega (arith, used, length-append x.words y.words) in subst (λ n. UsedTo n y.out) e y.used;
+            holds = y.holds;
+          }
+      go (Stop kind run) runs used h = absurd h
+
+-- the word that picks a member
+picked_by : (ms : List Data) (v : Data) → Contains ms v → (w : ℕ) × ((d : Words) (run : Run) (f : Data → Out) → d run.used ≡ w → picked ms d run f ≡ f v)
+picked_by [] v h = absurd (omega (arith, h.1))
+picked_by (x ∷ ms) v h =
+    let lt : h.0 < length (x ∷ ms) = h.1 in
+    (h.0, λ d run f e. ap f (ap (λ n. get_or (x ∷ ms) (n % length (x ∷ ms)) x) e ∙ ap (λ k. get_or (x ∷ ms) k x) (mod-eq_of_lt lt) ∙ get_or_default (x ∷ ms) h.0 x v lt ∙ h.2))
+
+-- the new content that a block left
+new_is : (o : Option (Option Data)) (f : Option Data → Option Vars) (s : Vars) → option_and_then f o ≡ Some s → (new : Option Data) × (o ≡ Some new) × (f new ≡ Some s)
+new_is None f s h = absurd (grind (arith, h))
+new_is (Some new) f s h = (new, refl, h)
+
+-- the number of an arm that ends so
+record ArmEnds (k : Context) (cs : Codes) (env : Names) (run : Run) (P : Vars → Type 0) (J : Name → Vars → Type 0) (Y : Data → Vars → Type 0) : Type 0 where
+  number : ℕ
+  few : number < count cs
+  arm : Ends (λ d. exec_arm k cs number env d run) run.used P J Y
+
+mutual
+  pub ends_from : (k : Context) (c : Code) (env : Names) (run : Run) (P : Vars → Type 0) (J : Name → Vars → Type 0) (Y : Data → Vars → Type 0) → May k c env run.changes P J Y → Ends (λ d. exec k c env d run) run.used P J Y
+  ends_from k Skip env run P J Y h = ends_now run.used P J Y (Go run) refl h
+  ends_from k (Let b w e c) env run P J Y h =
+      let now = looking k e run in
+      value_ends run.used P J Y _ now h.0 (λ d v. exec k c ((w, Some v) ∷ env) d now) h.1 (ends_from k c ((w, Some h.0) ∷ env) now P J Y h.2)
+  ends_from k (Pick b w e c) env run P J Y h =
+      let q = picked_by h.1 h.0 h.3 in
+      let now = looking k e run in
+      value_ends run.used P J Y _ now h.1 (λ d ms. picked ms d now (λ v. exec k c ((w, Some v) ∷ env) d (chosen now))) h.2 (ends_after run.used P J Y q.0 (λ d. exec k c ((w, Some h.0) ∷ env) d (chosen now)) _ (λ d r.
+      q.1 d now (λ v. exec k c ((w, Some v) ∷ env) d (chosen now)) r) (ends_from k c ((w, Some h.0) ∷ env) (chosen now) P J Y h.4))
+  ends_from k (Become p w) env run P J Y h =
+      value_ends run.used P J Y _ run h.0 (λ d v. Go (becoming p v run)) h.1 (ends_now run.used P J Y (Go (becoming p h.0 run)) refl h.2)
+  ends_from k (Set b p e) env run P J Y h =
+      let now = looking k e run in
+      value_ends run.used P J Y _ now h.0 (λ d v. Go (becoming p v now)) h.1 (ends_now run.used P J Y (Go (becoming p h.0 now)) refl h.2)
+  ends_from k (Await e) env run P J Y h =
+      let now = looking k e run in
+      ends_as run.used P J Y (λ d. Go now) _ (λ d. ap (λ o. if_true (truth_of o) now (Go now) (Stop Blocked now)) h.0) (ends_now run.used P J Y (Go now) refl h.1)
+  ends_from k (Assert e) env run P J Y h =
+      let now = looking k e run in
+      ends_as run.used P J Y (λ d. Go now) _ (λ d. ap (λ o. if_true (truth_of o) now (Go now) (Stop AssertFails now)) h.0) (ends_now run.used P J Y (Go now) refl h.1)
+  ends_from k (Print e) env run P J Y h =
+      let now = looking k e run in
+      value_ends run.used P J Y _ now h.0 (λ d v. Go (printed v now)) h.1 (ends_now run.used P J Y (Go (printed h.0 now)) refl h.2)
+  ends_from k (If e a b) env run P J Y (inl h) =
+      let now = looking k e run in
+      ends_as run.used P J Y (λ d. exec k a env d now) _ (λ d. ap (λ o. if_true (truth_of o) now (exec k a env d now) (exec k b env d now)) h.0) (ends_from k a env now P J Y h.1)
+  ends_from k (If e a b) env run P J Y (inr h) =
+      let now = looking k e run in
+      ends_as run.used P J Y (λ d. exec k b env d now) _ (λ d. ap (λ o. if_true (truth_of o) now (exec k a env d now) (exec k b env d now)) h.0) (ends_from k b env now P J Y h.1)
+  ends_from k (Either cs) env run P J Y h =
+      let x = arm_from k cs env (chosen run) P J Y h in
+      ends_after run.used P J Y x.number (λ d. exec_arm k cs x.number env d (chosen run)) _ (λ d r.
+      ap (λ n. exec_arm k cs (n % count cs) env d (chosen run)) r ∙ ap (λ n. exec_arm k cs n env d (chosen run)) (mod-eq_of_lt x.few)) x.arm
+  ends_from k (Seq a b) env run P J Y h =
+      seq_ends P J Y run.used (λ d. exec k a env d run) (λ d now. exec k b env d now) (λ st'. May k b env st' P J Y) (ends_from k a env run (λ st'. May k b env st' P J Y) J Y h) (λ now x. ends_from k b env now P J Y x)
+  ends_from k (Goto l) env run P J Y h = ends_now run.used P J Y (Jump l run) refl h
+  ends_from k (Yield e) env run P J Y h =
+      value_ends run.used P J Y _ run h.0 (λ d v. Gave v run) h.1 (ends_now run.used P J Y (Gave h.0 run) refl h.2)
+  ends_from k (Read w g i m c) env run P J Y h =
+      let rest = λ (j : Option Data) (d : Words) (r : Data × Option Data) (then' : Run). with_value (put_new k g j r.1 run.changes) then' (λ ch. exec k c ((w, Some r.0) ∷ env) d (record then' { changes = ch })) in
+      let block = λ (old : Data) (d : Words). exec (block_of k) m [] d (begun (content_state old) run.used) in
+      let now = touching k g h.0 run in
+      value_ends run.used P J Y _ run h.0 (λ d j. with_value (held (content k g j run.changes)) (touching k g j run) (λ old. if_gives (read_end (block old d)) (touching k g j run) (rest j d))) h.2 (value_ends run.used P J Y _ now h.1 (λ d old. if_gives (read_end (block old d)) now (rest h.0 d)) h.3 (read_ends P J Y run.used now (block h.1) (rest h.0) (λ v mem. (st' : Vars) × (left_content k g h.0 mem run.changes ≡ Some st') × May k c ((w, Some v) ∷ env) st' P J Y) (ends_from (block_of k) m [] (begun (content_state h.1) run.used) never never_at _ h.4) (λ v b z.
+      let new = new_is (new_content b.changes) (λ n. put_new k g h.0 n run.changes) z.0 (sym (left_is k g h.0 b.changes run.changes) ∙ z.1) in
+      let then' = used_up b.used now in
+      (new.0, new.1, value_ends b.used P J Y _ then' z.0 (λ d ch. exec k c ((w, Some v) ∷ env) d (record then' { changes = ch })) new.2 (ends_from k c ((w, Some v) ∷ env) (record then' { changes = z.0 }) P J Y z.2)))))
+  ends_from k (Write g i w m) env run P J Y h =
+      let rest = λ (j : Option Data) (d : Words) (v : Data) (then' : Run). with_value (put_content k g j (Some v) run.changes) then' (λ ch. Go (record then' { changes = ch })) in
+      let block = λ (old value : Data) (d : Words). exec (block_of k) m ((value_name, Some value) ∷ []) d (begun (content_state old) run.used) in
+      let now = touching k g h.0 run in
+      let x = h.4 in
+      value_ends run.used P J Y _ run h.0 (λ d j. with_value (held (content k g j run.changes)) (touching k g j run) (λ old. with_value (value_under w env) (touching k g j run) (λ value. if_gives (write_end (block old value d)) (touching k g j run) (rest j d)))) h.2 (value_ends run.used P J Y _ now h.1 (λ d old. with_value (value_under w env) now (λ value. if_gives (write_end (block old value d)) now (rest h.0 d))) h.3 (value_ends run.used P J Y _ now x.0 (λ d value. if_gives (write_end (block h.1 value d)) now (rest h.0 d)) x.1 (write_ends P J Y run.used now (block h.1 x.0) (rest h.0) (λ v mem. (st' : Vars) × (put_content k g h.0 (Some v) run.changes ≡ Some st') × P st') (ends_from (block_of k) m ((value_name, Some x.0) ∷ []) (begun (content_state h.1) run.used) never never_at _ x.2) (λ v b z.
+      let then' = used_up b.used now in
+      value_ends b.used P J Y _ then' z.0 (λ d ch. Go (record then' { changes = ch })) z.1 (ends_now b.used P J Y (Go (record then' { changes = z.0 })) refl z.2)))))
+
+  arm_from : (k : Context) (cs : Codes) (env : Names) (run : Run) (P : Vars → Type 0) (J : Name → Vars → Type 0) (Y : Data → Vars → Type 0) → SomeMay k cs env run.changes P J Y → ArmEnds k cs env run P J Y
+  arm_from k no_codes env run P J Y h = absurd h
+  arm_from k (more_codes c cs) env run P J Y (inl h) = record { number = 0; few = omega arith; arm = ends_from k c env run P J Y h }
+  arm_from k (more_codes c cs) env run P J Y (inr h) =
+      let x = arm_from k cs env run P J Y h in record { number = suc x.number; few = omega (arith, x.few); arm = x.arm }

@@ -1,0 +1,112 @@
+-- What code does on a state, with words of choice: the meaning of sections, and of the blocks of mapping macros.
+--
+-- A mapping macro's block is code without mapped parameters. What it does on a content is `block_read` and `block_write`; a
+-- section's reads and writes of mapped parameters are these, written out since they stand in the same recursion; Macros has
+-- them by name.
+use Rattle.std.specs.Prelude.{ℕ, zero, suc, Bool, true, false, List, [], ◌∷◌, Option, Some, None, option_and_then}
+use Rattle.pgo_base.specs.Data.{Data}
+use Rattle.pgo_base.specs.Lookup.{Name, Names}
+use Rattle.pgo_base.specs.Tree.{Tree}
+use Rattle.pgo_model.specs.Operators.{members_of, truth_of}
+use Rattle.pgo_model.specs.Options.{on}
+use Rattle.pgo_model.specs.Outcome.{Kind, Blocked, NoValue, AssertFails}
+use Rattle.pgo_model.specs.System.{Words, Touched}
+use Rattle.pgo_sections.specs.Access.{looks, touched_whole}
+use Rattle.pgo_sections.specs.Code.{Place, variable_of, Code, Skip, Let, Pick, Become, Set, Await, Assert, Print, If, Either, Seq, Goto, Yield, Read, Write, Codes, no_codes, more_codes, value_name}
+use Rattle.pgo_sections.specs.Context.{Context, block_context, content, put_content, put_new, content_state, new_content, value_of, index_value}
+use Rattle.pgo_sections.specs.Held.{held, value_under}
+use Rattle.pgo_sections.specs.Run.{Run, begun, changed, seen, printed, picked_number, chosen, Out, Go, Jump, Gave, Stop, with_value, if_true, picked, go_on}
+
+-- how a macro's block ends: with what it gives, or stopped; and how many words of choice are used then
+pub data MacroEnd (A : Type 0) : Type 0 where
+  Gives : (a : A) → (used : ℕ) → MacroEnd A
+  Stops : (kind : Kind) → (used : ℕ) → MacroEnd A
+
+-- a read gives the value, and the new content where the block assigned it
+abbrev pub read_end : Out → MacroEnd (Data × Option Data)
+read_end (Go run) = Stops NoValue run.used
+read_end (Jump l run) = Stops NoValue run.used
+read_end (Gave v run) = on (Stops NoValue run.used) (new_content run.changes) (λ new. Gives (v, new) run.used)
+read_end (Stop kind run) = Stops kind run.used
+
+-- a write gives the new content
+abbrev pub write_end : Out → MacroEnd Data
+write_end (Go run) = Stops NoValue run.used
+write_end (Jump l run) = Stops NoValue run.used
+write_end (Gave v run) = Gives v run.used
+write_end (Stop kind run) = Stops kind run.used
+
+abbrev pub used_up : ℕ → Run → Run
+used_up n run = record run { used = n }
+
+-- the section goes on where the block gives something
+abbrev pub if_gives : {A : Type 0} → MacroEnd A → Run → (A → Run → Out) → Out
+if_gives (Gives a n) run f = f a (used_up n run)
+if_gives (Stops kind n) run f = Stop kind (used_up n run)
+
+-- the resource is read or written: of a global that is bound by element an index outside its domain is no resource
+abbrev pub touched : Bool → Name → Option Data → Option Data → List Touched
+touched false g i old = (g, None) ∷ []
+touched true g i None = []
+touched true g i (Some old) = (g, i) ∷ []
+
+abbrev pub touching : Context → Name → Option Data → Run → Run
+touching k g i run = seen (touched (k.by_element g) g i (content k g i run.changes)) run
+
+-- an expression's unmapped parameters are read
+abbrev pub looking : Context → Tree → Run → Run
+looking k e run = seen (looks k.places e) run
+
+-- a place becomes v
+abbrev pub becoming : Place → Data → Run → Run
+becoming p v run = changed (variable_of p) v (seen (touched_whole (Some p) []) run)
+
+abbrev pub count : Codes → ℕ
+count no_codes = 0
+count (more_codes c cs) = suc (count cs)
+
+abbrev mutual
+  pub exec : Context → Code → Names → Words → Run → Out
+  exec k Skip env d run = Go run
+  exec k (Let b w e c) env d run =
+      let now = looking k e run in with_value (held (value_of k e env run.changes)) now (λ v. exec k c ((w, Some v) ∷ env) d now)
+  exec k (Pick b w e c) env d run =
+      let now = looking k e run in
+      with_value (option_and_then members_of (value_of k e env run.changes)) now (λ ms.
+      picked ms d now (λ v. exec k c ((w, Some v) ∷ env) d (chosen now)))
+  exec k (Become p w) env d run = with_value (value_under w env) run (λ v. Go (becoming p v run))
+  exec k (Set b p e) env d run =
+      let now = looking k e run in with_value (held (value_of k e env run.changes)) now (λ v. Go (becoming p v now))
+  exec k (Await e) env d run =
+      let now = looking k e run in if_true (truth_of (value_of k e env run.changes)) now (Go now) (Stop Blocked now)
+  exec k (Assert e) env d run =
+      let now = looking k e run in if_true (truth_of (value_of k e env run.changes)) now (Go now) (Stop AssertFails now)
+  exec k (Print e) env d run =
+      let now = looking k e run in with_value (value_of k e env run.changes) now (λ v. Go (printed v now))
+  exec k (If e a b) env d run =
+      let now = looking k e run in
+      if_true (truth_of (value_of k e env run.changes)) now (exec k a env d now) (exec k b env d now)
+  exec k (Either cs) env d run = exec_arm k cs (picked_number d run (count cs)) env d (chosen run)
+  exec k (Seq a b) env d run = go_on (exec k a env d run) (λ now. exec k b env d now)
+  exec k (Goto l) env d run = Jump l run
+  exec k (Yield e) env d run = with_value (held (value_of k e env run.changes)) run (λ v. Gave v run)
+  exec k (Read w g i block c) env d run =
+      with_value (index_value i env) run (λ j.
+      let now = touching k g j run in
+      with_value (held (content k g j run.changes)) now (λ old.
+      if_gives (read_end (exec (block_context k.defs k.id) block [] d (begun (content_state old) run.used))) now (λ r then'.
+      with_value (put_new k g j r.1 run.changes) then' (λ ch.
+      exec k c ((w, Some r.0) ∷ env) d (record then' { changes = ch })))))
+  exec k (Write g i w block) env d run =
+      with_value (index_value i env) run (λ j.
+      let now = touching k g j run in
+      with_value (held (content k g j run.changes)) now (λ old.
+      with_value (value_under w env) now (λ v.
+      if_gives (write_end (exec (block_context k.defs k.id) block ((value_name, Some v) ∷ []) d (begun (content_state old) run.used))) now (λ new then'.
+      with_value (put_content k g j (Some new) run.changes) then' (λ ch.
+      Go (record then' { changes = ch }))))))
+
+  pub exec_arm : Context → Codes → ℕ → Names → Words → Run → Out
+  exec_arm k no_codes i env d run = Stop NoValue run
+  exec_arm k (more_codes c cs) zero env d run = exec k c env d run
+  exec_arm k (more_codes c cs) (suc i) env d run = exec_arm k cs i env d run

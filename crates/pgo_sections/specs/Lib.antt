@@ -1,0 +1,17 @@
+pub mod Among
+pub mod Code
+pub mod Access
+pub mod Held
+pub mod Context
+pub mod Run
+pub mod Exec
+pub mod Macros
+pub mod Section
+pub mod Replaced
+pub mod Expansion
+pub mod Expand
+pub mod Plain
+pub mod WellFormed
+pub mod Agrees
+pub mod Closed
+pub mod PlainTest

@@ -1,0 +1,33 @@
+-- What a mapping macro's block does on a content: the reads and writes that sections use for their mapped parameters.
+use Rattle.std.specs.Prelude.{◌≡◌, ℕ, List, [], ◌∷◌, Option, Some}
+use Rattle.pgo_base.specs.Data.{Data}
+use Rattle.pgo_base.specs.Lookup.{Name, Names, Vars}
+use Rattle.pgo_model.specs.System.{Words}
+use Rattle.pgo_model.specs.Val.{Meaning}
+use Rattle.pgo_sections.specs.Code.{Code, value_name}
+use Rattle.pgo_sections.specs.Context.{Context, block_context, content, content_state, index_value, put_content, put_new}
+use Rattle.pgo_sections.specs.Exec.{MacroEnd, read_end, write_end, exec}
+use Rattle.pgo_sections.specs.Held.{held}
+use Rattle.pgo_sections.specs.Run.{Run, begun, Out, Go, with_value}
+
+-- a `read` block on the old content, with these definitions and this `self`, and the words of choice from number `used` on
+abbrev pub block_read : Code → List Meaning → Data → Data → Words → ℕ → MacroEnd (Data × Option Data)
+block_read block defs id old d used = read_end (exec (block_context defs id) block [] d (begun (content_state old) used))
+
+-- a `write` block, with the value that is written besides
+abbrev pub block_write : Code → List Meaning → Data → Data → Data → Words → ℕ → MacroEnd Data
+block_write block defs id old v d used =
+    write_end (exec (block_context defs id) block ((value_name, Some v) ∷ []) d (begun (content_state old) used))
+
+-- what follows a read: w stands for its value in c, and a new content is put back
+abbrev pub after_read : Context → Name → Name → Option Data → Code → Names → Words → Vars → Data × Option Data → Run → Out
+after_read k w g j c env d ch r then' =
+    with_value (put_new k g j r.1 ch) then' (λ ch'. exec k c ((w, Some r.0) ∷ env) d (record then' { changes = ch' }))
+
+-- what follows a write: the new content is put back
+abbrev pub after_write : Context → Name → Option Data → Vars → Data → Run → Out
+after_write k g j ch new then' = with_value (put_content k g j (Some new) ch) then' (λ ch'. Go (record then' { changes = ch' }))
+
+-- of a mapped parameter of g, whose index stands under i and is j, and whose content is `old`
+abbrev pub IsMapped : Context → Name → Option Name → Names → Vars → Option Data → Data → Type 0
+IsMapped k g i env ch j old = (index_value i env ≡ Some j) × (held (content k g j ch) ≡ Some old)
