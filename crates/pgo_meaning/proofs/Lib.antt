@@ -1,8 +1,10 @@
 pub mod RowTools
 mod Rows
 mod SectRows
+mod StepRows
 pub mod Trees
 pub mod SystemStates
 pub mod BoundKinds
 pub mod LabelSections
 pub mod MacroUse
+pub mod Ends

@@ -33,7 +33,7 @@ find_map {A} {B} f (p ∷ l) x = go (same_name x p.0) (find_map f l x)
     go true e = refl
     go false e = e
 
-keys_map : (s : Vars) → keys s ≡ map (λ p. p.0) s
+pub keys_map : (s : Vars) → keys s ≡ map (λ p. p.0) s
 keys_map [] = refl
 keys_map (p ∷ s) = ap (λ l. p.0 ∷ l) (keys_map s)
 
@@ -49,7 +49,7 @@ or_left : (b c d : Bool) → (b ≡ true → c ≡ true) → d || b ≡ true →
 or_left b c true f h = refl
 or_left b c false f h = f h
 
-among_front : (x : Name) (xs ys : List Name) → is_among x xs ≡ true → is_among x (xs ++ ys) ≡ true
+pub among_front : (x : Name) (xs ys : List Name) → is_among x xs ≡ true → is_among x (xs ++ ys) ≡ true
 among_front x [] ys h = absurd (grind (arith, h))
 among_front x (z ∷ xs) ys h = or_left (is_among x xs) (is_among x (xs ++ ys)) (same_name x z) (λ k. among_front x xs ys k) h
 

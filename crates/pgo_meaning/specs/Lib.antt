@@ -11,3 +11,4 @@ pub mod System
 pub mod SystemStates
 pub mod LabelSections
 pub mod Macros
+pub mod Ends

@@ -7,6 +7,8 @@ ghost use Rattle.pgo_base.specs.Data.{Data, string};
 ghost use Rattle.pgo_base.specs.Lookup.{Name, Names, Vars, find};
 ghost use Rattle.pgo_base.specs.declared.module.Defined.{Defined};
 ghost use Rattle.pgo_model.specs.Machine.{nth};
+ghost use Rattle.pgo_model.specs.Outcome.{Next};
+ghost use Rattle.pgo_model.specs.State.{AllValues};
 ghost use Rattle.pgo_model.specs.System.{Words};
 ghost use Rattle.pgo_model.specs.SystemState.{IsSystemState};
 ghost use Rattle.pgo_model.specs.Written.{pc};
@@ -25,18 +27,19 @@ ghost use Rattle.pgo_sections.specs.Exec.{exec, Gives, if_gives, touching};
 ghost use Rattle.pgo_sections.specs.Held.{held, value_under};
 ghost use Rattle.pgo_sections.specs.Macros.{IsMapped, after_read, after_write};
 ghost use Rattle.pgo_sections.specs.Run.{Run};
+ghost use Rattle.pgo_meaning.specs.Ends.{KeepsElements};
 ghost use Rattle.pgo_meaning.specs.Expansions.{trees_of};
 ghost use Rattle.pgo_meaning.specs.LabelSections.{AreUnlabelled, NoneIsDone};
 ghost use Rattle.pgo_meaning.specs.Macros.{MacRead, MacWrite};
 ghost use Rattle.pgo_meaning.specs.Parameters.{reads_by, writes_by};
-ghost use Rattle.pgo_meaning.specs.Sect.{context_of, Allows};
+ghost use Rattle.pgo_meaning.specs.Sect.{context_of, Sect, Allows};
 ghost use Rattle.pgo_meaning.specs.Statements.{label_of};
 ghost use Rattle.pgo_meaning.specs.System.{system_of};
 ghost use Rattle.pgo_meaning.specs.SystemStates.{GlobalsBound, RefsDeclared};
 ghost use Rattle.pgo_meaning.specs.TreeAllows.{TreeAllows};
 ghost use Rattle.pgo_meaning.specs.TreesAgree.{Named, OwnLabels, sections_at, expansions_at};
 
-use pgo_sections::sections_agree;
+use pgo_sections::{ends_keep, sections_agree};
 
 /// The law of the expansions of a bound specification, over all states.
 ///
@@ -80,6 +83,21 @@ pub fn sections_of_labels()
     ensures each { (b : Bound) (i : Instance) (l : Name) → AreUnlabelled b.spec.macros → NoneIsDone i → IsLabel i l → (c : Code) × (find l (sections_at b i) ≡ Some c) }
     ensures only { (b : Bound) (i : Instance) (l : Name) (c : Code) → AreUnlabelled b.spec.macros → NoneIsDone i → find l (sections_at b i) ≡ Some c → IsLabel i l }
 {}
+
+/// A section leads from a state to a state, if the values of its end are values.
+///
+/// - `state`: from a state to a state.
+/// - `domains`: from a state in which each element-bound global has the domain that it starts with to such a state.
+///
+/// The premises are what the rules on names give (`KeepsElements`).
+///
+/// Source: this project's choice.
+pub fn ends_are_states()
+    ensures state { (b : Bound) (k : ℕ) (i : Instance) (s t : Vars) (d : Words) (prints : List Data) → nth b.instances k ≡ Some i → KeepsElements b i → IsState b s → (Sect b k s d).end ≡ Next t prints → AllValues t → IsState b t }
+    ensures domains { (b : Bound) (k : ℕ) (i : Instance) (s t : Vars) (d : Words) (prints : List Data) → nth b.instances k ≡ Some i → KeepsElements b i → IsStateOnDomains b s → (Sect b k s d).end ≡ Next t prints → AllValues t → IsStateOnDomains b t }
+{
+    ends_keep();
+}
 
 /// A state of a bound specification, with the domains that element-bound globals start with, is a state of its system, and
 /// the other way round (`same`). Its premise on globals and resources holds of what a specification is bound to, where each

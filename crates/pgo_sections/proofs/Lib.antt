@@ -11,3 +11,4 @@ pub mod Whole
 pub mod Closed
 pub mod PlainTest
 pub mod Macros
+pub mod Domains

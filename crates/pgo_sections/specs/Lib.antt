@@ -15,3 +15,4 @@ pub mod WellFormed
 pub mod Agrees
 pub mod Closed
 pub mod PlainTest
+pub mod Domains

@@ -4,14 +4,18 @@
 ghost use Rattle.std.specs.Prelude.{◌≡◌, ◌<◌, ◌^◌, ◌↔◌, true, false, ℕ, List, [], ◌∷◌, Option, Some, None};
 ghost use Rattle.pgo_base.specs.Data.{Data};
 ghost use Rattle.pgo_base.specs.Lookup.{Name, Names, Vars, find};
+ghost use Rattle.pgo_model.specs.Outcome.{Next};
+ghost use Rattle.pgo_model.specs.State.{is_shallow};
 ghost use Rattle.pgo_model.specs.System.{Words};
 ghost use Rattle.pgo_model.specs.Val.{Defined, meanings, call_def};
+ghost use Rattle.pgo_model.specs.Variables.{IsFunctionOn};
 ghost use Rattle.pgo_model.specs.Written.{self_name};
-ghost use Rattle.pgo_sections.specs.Agrees.{Fit};
+ghost use Rattle.pgo_sections.specs.Agrees.{keys, Fit};
 ghost use Rattle.pgo_sections.specs.Among.{is_among};
 ghost use Rattle.pgo_sections.specs.Closed.{AreClosed};
 ghost use Rattle.pgo_sections.specs.Code.{Code, Place, Read, Write};
 ghost use Rattle.pgo_sections.specs.Context.{Context};
+ghost use Rattle.pgo_sections.specs.Domains.{ByElements, KeepsDomain};
 ghost use Rattle.pgo_sections.specs.Exec.{exec, if_gives, touching};
 ghost use Rattle.pgo_sections.specs.Expand.{expansion};
 ghost use Rattle.pgo_sections.specs.Expansion.{Around, Path};
@@ -19,7 +23,7 @@ ghost use Rattle.pgo_sections.specs.Held.{value_under};
 ghost use Rattle.pgo_sections.specs.Macros.{IsMapped, block_read, block_write, after_read, after_write};
 ghost use Rattle.pgo_sections.specs.PlainTest.{plain_code, names_pass, NamesFit};
 ghost use Rattle.pgo_sections.specs.Run.{Run};
-ghost use Rattle.pgo_sections.specs.Section.{Reaches};
+ghost use Rattle.pgo_sections.specs.Section.{section, Reaches};
 ghost use Rattle.pgo_sections.specs.WellFormed.{PlainCode, most_made};
 
 /// The laws of sections, over the definitions alone: for all code, all states, all words of choice.
@@ -37,6 +41,18 @@ pub fn sections_agree()
     ensures definitions { (vs : List Name) (ds : List Defined) (s : Vars) (t : Option Vars) → AreClosed vs ds → ((x : Name) → is_among x vs ≡ false → find x s ≡ None) → (x : Name) (args : List Data) → call_def x args (meanings ds s t) ≡ call_def x args (meanings ds [] None) }
     ensures reads { (k : Context) (w g : Name) (i : Option Name) (block c : Code) (env : Names) (d : Words) (run : Run) (j : Option Data) (old : Data) → IsMapped k g i env run.changes j old → exec k (Read w g i block c) env d run ≡ if_gives (block_read block k.defs k.id old d run.used) (touching k g j run) (after_read k w g j c env d run.changes) }
     ensures writes { (k : Context) (w g : Name) (i : Option Name) (block : Code) (env : Names) (d : Words) (run : Run) (j : Option Data) (old v : Data) → IsMapped k g i env run.changes j old → value_under w env ≡ Some v → exec k (Write g i w block) env d run ≡ if_gives (block_write block k.defs k.id old v d run.used) (touching k g j run) (after_write k g j run.changes) }
+{}
+
+/// What of a state the end of a section keeps.
+///
+/// - `variables`: it has the variables of the start, in their order, and none of their values is more than 256 deep.
+/// - `domains`: a variable that is a function stays one on its domain, if it is `pc`, or no global, or a global that is bound
+///   by element, where the code changes these by their elements alone (`ByElements`).
+///
+/// Source: this project's choice.
+pub fn ends_keep()
+    ensures variables { (k : Context) (c : Code) (d : Words) (t : Vars) (prints : List Data) → (section k c d).end ≡ Next t prints → (keys t ≡ keys k.start) × (is_shallow t ≡ true) }
+    ensures domains { (k : Context) (c : Code) (d : Words) (t : Vars) (prints : List Data) (x : Name) (ids : List Data) → ByElements k.by_element c → (section k c d).end ≡ Next t prints → KeepsDomain k x → IsFunctionOn ids (find x k.start) → IsFunctionOn ids (find x t) }
 {}
 
 /// The tests for well-formed names, which compute, say no more than holds.

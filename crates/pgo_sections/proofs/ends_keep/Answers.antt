@@ -1,0 +1,8 @@
+use Rattle.pgo_sections.proofs.Domains as domains
+use Rattle.pgo_sections.proofs.ends_keep.Goals as goal
+
+pub returns-clause-variables : goal.returns-clause-variables
+returns-clause-variables c k code d t prints e = domains.variables_kept k code d t prints e
+
+pub returns-clause-domains : goal.returns-clause-domains
+returns-clause-domains c k code d t prints x ids b e keeps starts = domains.domains_kept k code d t prints x ids b e keeps starts
