@@ -2,6 +2,7 @@ pub mod RowTools
 mod Rows
 mod SectRows
 mod StepRows
+pub mod SectionBlocks
 pub mod Trees
 pub mod SystemStates
 pub mod BoundKinds

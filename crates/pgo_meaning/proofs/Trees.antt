@@ -24,6 +24,7 @@ use Rattle.pgo_sections.specs.Expansion.{Path}
 use Rattle.pgo_meaning.specs.TreesAgree.{Named, TreesAgree, AllTreesAgree, sections_at, expansions_at}
 use Rattle.pgo_meaning.specs.Sect.{context_of, code_at, nothing, Sect, Allows}
 use Rattle.pgo_meaning.specs.TreeAllows.{around, TreeAllows}
+use Rattle.pgo_meaning.proofs.SectionBlocks.{section_has_blocks}
 
 find_map : {A B : Type 0} → (f : A → B) (l : List (Name × A)) (x : Name) → find x (map (λ c. (c.0, f c.1)) l) ≡ option_map f (find x l)
 find_map f [] x = refl
@@ -101,7 +102,7 @@ module _ (sections_agree : SectionsAgree) (alike : ClosedAlike) (b : Bound) (k :
         absurd (let q : Nowhere ≡ Next t h.prints = sym (ap (λ x. x.end) (sect_is None e (word_at h.words))) ∙ h.leads in grind (arith, q)),
   )
   cases (Some c) e =
-      let agree = sections_agree (around b (id_of i)) (context_of b i s) c t fit (n.plain l c e) (n.few l c e) in
+      let agree = sections_agree (around b (id_of i)) (context_of b i s) c t fit (section_has_blocks b.spec.macros i.process i.archetype i.bindings l c e) (n.plain l c e) (n.few l c e) in
       let there = tree_is ∙ ap (option_map (expansion (places_of i.process i.archetype i.bindings))) e in (
         λ h.
             (let same = got _ _ (sym there ∙ h.1) in

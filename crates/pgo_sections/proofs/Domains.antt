@@ -19,10 +19,11 @@ use Rattle.pgo_model.specs.Variables.{IsFunctionOn}
 use Rattle.pgo_model.specs.Written.{pc}
 use Rattle.pgo_sections.specs.Agrees.{keys as names_of}
 use Rattle.pgo_sections.specs.Among.{is_among}
-use Rattle.pgo_sections.specs.Code.{Whole, variable_of, Code, Skip, Let, Pick, Become, Set, Await, Assert, Print, If, Either, Seq, Goto, Yield, Read, Write, Codes, no_codes, more_codes, value_name}
-use Rattle.pgo_sections.specs.Context.{Context, block_context, content, content_state, index_value, put_content, put_new, value_now, value_of, with_content}
+use Rattle.pgo_sections.specs.Code.{Whole, variable_of, Code, Skip, Let, Pick, Become, Set, Await, Assert, Print, If, Either, Seq, Goto, Yield, Read, Write, Codes, no_codes, more_codes}
+use Rattle.pgo_sections.specs.Context.{Context, content, index_value, put_content, put_new, value_now, value_of, with_content}
 use Rattle.pgo_sections.specs.Domains.{HasIndex, ByElements, AllByElements, KeepsDomain, place, own, elements}
-use Rattle.pgo_sections.specs.Exec.{MacroEnd, Gives, Stops, read_end, write_end, used_up, if_gives, touching, looking, becoming, count, exec, exec_arm}
+use Rattle.pgo_sections.specs.Exec.{MacroEnd, Gives, Stops, used_up, if_gives, touching, looking, becoming, count, exec_arm_with}
+use Rattle.pgo_sections.specs.Macros.{block_read, block_write, exec}
 use Rattle.pgo_sections.specs.Held.{held, value_under, put_part, value_put}
 use Rattle.pgo_sections.specs.Run.{Run, begun, printed, picked_number, chosen, Out, Go, Jump, Gave, Stop, with_value, if_true, picked, go_on}
 use Rattle.pgo_sections.specs.Section.{closed_value, closed, if_state, end_of, section}
@@ -199,7 +200,7 @@ module _ (k : Context) where
     kept_by (Goto l) env d run b h = h
     kept_by (Yield e) env d run b h = value_kept (held (value_of k e env run.changes)) run (λ v. Gave v run) (λ v _. tt)
     kept_by (Read w g i block c) env d run b h =
-        let m = λ (old : Data). read_end (exec (block_context k.defs k.id) block [] d (begun (content_state old) run.used)) in
+        let m = λ (old : Data). block_read block k.defs k.id old d run.used in
         let end = λ (r : Data × Option Data) (then' : Run) (ch : Vars). exec k c ((w, Some r.0) ∷ env) d (record then' { changes = ch }) in
         let rest = λ (j : Option Data) (r : Data × Option Data) (then' : Run). with_value (put_new k g j r.1 run.changes) then' (end r then') in
         value_kept (index_value i env) run (λ j. with_value (held (content k g j run.changes)) (touching k g j run) (λ old. if_gives (m old) (touching k g j run) (rest j))) (λ j at_j.
@@ -209,7 +210,7 @@ module _ (k : Context) where
         value_kept (put_new k g j r.1 run.changes) then' (end r then') (λ ch put.
         kept_by c ((w, Some r.0) ∷ env) d (record then' { changes = ch }) b.1 (new_kept g i j env r.1 run.changes ch b.0 at_j h put)))))
     kept_by (Write g i w block) env d run b h =
-        let m = λ (old v : Data). write_end (exec (block_context k.defs k.id) block ((value_name, Some v) ∷ []) d (begun (content_state old) run.used)) in
+        let m = λ (old v : Data). block_write block k.defs k.id old v d run.used in
         let end = λ (then' : Run) (ch : Vars). Go (record then' { changes = ch }) in
         let rest = λ (j : Option Data) (new : Data) (then' : Run). with_value (put_content k g j (Some new) run.changes) then' (end then') in
         value_kept (index_value i env) run (λ j. with_value (held (content k g j run.changes)) (touching k g j run) (λ old. with_value (value_under w env) (touching k g j run) (λ v. if_gives (m old v) (touching k g j run) (rest j)))) (λ j at_j.
@@ -220,7 +221,7 @@ module _ (k : Context) where
         value_kept (put_content k g j (Some new) run.changes) then' (end then') (λ ch put.
         put_kept g i j env (Some new) run.changes ch b at_j h put)))))
 
-    kept_by_arm : (cs : Codes) (i : ℕ) (env : Names) (d : Words) (run : Run) → AllByElements k.by_element cs → Kept run.changes → KeptBy (exec_arm k cs i env d run)
+    kept_by_arm : (cs : Codes) (i : ℕ) (env : Names) (d : Words) (run : Run) → AllByElements k.by_element cs → Kept run.changes → KeptBy (exec_arm_with block_read block_write k cs i env d run)
     kept_by_arm no_codes i env d run b h = tt
     kept_by_arm (more_codes c cs) zero env d run b h = kept_by c env d run b.0 h
     kept_by_arm (more_codes c cs) (suc i) env d run b h = kept_by_arm cs i env d run b.1 h

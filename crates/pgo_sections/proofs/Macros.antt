@@ -5,9 +5,9 @@ use Rattle.pgo_base.specs.Lookup.{Name, Names}
 use Rattle.pgo_model.specs.System.{Words}
 use Rattle.pgo_sections.specs.Code.{Code, Read, Write}
 use Rattle.pgo_sections.specs.Context.{Context, content}
-use Rattle.pgo_sections.specs.Exec.{if_gives, touching, exec}
+use Rattle.pgo_sections.specs.Exec.{if_gives, touching}
 use Rattle.pgo_sections.specs.Held.{held, value_under}
-use Rattle.pgo_sections.specs.Macros.{block_read, block_write, after_read, after_write, IsMapped}
+use Rattle.pgo_sections.specs.Macros.{block_read, block_write, exec, after_read, after_write, IsMapped}
 use Rattle.pgo_sections.specs.Run.{Run, with_value}
 
 pub read_is : (k : Context) (w g : Name) (i : Option Name) (block c : Code) (env : Names) (d : Words) (run : Run) (j : Option Data) (old : Data) → IsMapped k g i env run.changes j old → exec k (Read w g i block c) env d run ≡ if_gives (block_read block k.defs k.id old d run.used) (touching k g j run) (after_read k w g j c env d run.changes)

@@ -11,8 +11,9 @@ use Rattle.pgo_model.specs.State.{is_shallow}
 use Rattle.pgo_model.specs.Val.{or_else, sem, plain, call_def, meanings, index_of}
 use Rattle.pgo_model.specs.Written.{pc, self_name}
 use Rattle.pgo_sections.specs.Agrees.{Distinct, IsPlace, Fit, Agrees, SectionsAgree}
+use Rattle.pgo_sections.specs.Blocks.{HasBlocks}
 use Rattle.pgo_sections.specs.Code.{Place, Whole, Own, Code}
-use Rattle.pgo_sections.specs.Exec.{exec}
+use Rattle.pgo_sections.specs.Macros.{exec}
 use Rattle.pgo_sections.specs.Context.{Context, value_before}
 use Rattle.pgo_sections.specs.Run.{Run, begun, Out, Go, Jump, Gave, Stop}
 use Rattle.pgo_sections.specs.Section.{closed_value, closed, end_of, if_state, Reaches}
@@ -63,8 +64,8 @@ module _ (a : Around) (k : Context) (t : Vars) (f : Fit a k t) where
   there x h = found_among k.start x (ap (λ l. is_among x l) f.before ∙ h)
 
   -- what the section does by words is what it may
-  reaches_may : (c : Code) → May k c [] [] never J no_gift ↔ Reaches k c t
-  reaches_may c = (forward, backward)
+  reaches_may : (c : Code) → HasBlocks c → May k c [] [] never J no_gift ↔ Reaches k c t
+  reaches_may c bl = (forward, backward)
     where
       ended_next : (o : Out) → Holds never J no_gift o → (prints : List Data) × (end_of k o ≡ Next t prints)
       ended_next (Go run) h = absurd h
@@ -75,7 +76,7 @@ module _ (a : Around) (k : Context) (t : Vars) (f : Fit a k t) where
 
       forward : May k c [] [] never J no_gift → Reaches k c t
       forward m =
-          let x = ends_from k c [] (begun [] 0) never J no_gift m in
+          let x = ends_from k c [] (begun [] 0) never J no_gift bl m in
           let e = ended_next x.out x.holds in
           record { words = x.words; prints = e.0; leads = ap (end_of k) (x.runs (word_at x.words) (reads_all [] x.words)) ∙ e.1 }
 
@@ -95,7 +96,7 @@ module _ (a : Around) (k : Context) (t : Vars) (f : Fit a k t) where
 
       backward : Reaches k c t → May k c [] [] never J no_gift
       backward r =
-          may_from k c [] (word_at r.words) (begun [] 0) never J no_gift (holds (exec k c [] (word_at r.words) (begun [] 0)) r.prints r.leads)
+          may_from k c [] (word_at r.words) (begun [] 0) never J no_gift bl (holds (exec k c [] (word_at r.words) (begun [] 0)) r.prints r.leads)
 
   -- the end of the path
   end_value : (n : ℕ) (cur : Current) (env : Names) (ch : Vars) (l x : Name) (old : Data) → Changed a.variables L apart k.start t (meanings a.defs k.start (Some t)) not_there n cur env ch → find x k.start ≡ Some old → value_at_end a env cur l k.start x ≡ option_and_then (closed_value k l ch x) (find x k.start)
@@ -179,13 +180,13 @@ module _ (a : Around) (k : Context) (t : Vars) (f : Fit a k t) where
     long = (refl, λ x. tt);
   }
 
-  pub section_agrees : (c : Code) → PlainCode a.variables k.globals k.places [] c → most_made c < 2 ^ 64 → Agrees a k c t
-  section_agrees c pl few =
+  pub section_agrees : (c : Code) → HasBlocks c → PlainCode a.variables k.globals k.places [] c → most_made c < 2 ^ 64 → Agrees a k c t
+  section_agrees c bl pl few =
       iff_then (path_may a.variables L apart a k.start t not_there c k (record { places = f.places; defs = f.defs }) 0 [] [] ((self_name, Some a.id) ∷ []) [] [] no_go to_end no_yield never J no_gift pl (omega (arith, few)) start_here (record {
         on_go = λ cur n env ch l m x v long. iff_same;
         on_jump = λ l cur n env ch le m x v long. ends_may n cur env ch l long;
         on_yield = λ e cur n env ch l m x v long. (λ b. absurd b, λ p. absurd p.2);
-      })) (reaches_may c)
+      })) (reaches_may c bl)
 
 pub sections_agree : SectionsAgree
-sections_agree a k c t f pl few = section_agrees a k t f c pl few
+sections_agree a k c t f bl pl few = section_agrees a k t f c bl pl few

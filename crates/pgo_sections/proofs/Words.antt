@@ -8,9 +8,11 @@ use Rattle.pgo_model.specs.Options.{on}
 use Rattle.pgo_model.specs.Outcome.{Blocked, NoValue, AssertFails}
 use Rattle.pgo_model.specs.System.{Words}
 use Rattle.pgo_sections.specs.Code.{Code, Skip, Let, Pick, Become, Set, Await, Assert, Print, If, Either, Seq, Goto, Yield, Read, Write, Codes, no_codes, more_codes, value_name}
+use Rattle.pgo_sections.specs.Blocks.{AreBlocks, AllAreBlocks, IsBlock, HasBlocks}
 use Rattle.pgo_sections.specs.Context.{Context, content, put_content, put_new, content_state, new_content}
-use Rattle.pgo_sections.specs.Exec.{Gives, Stops, read_end, write_end, used_up, if_gives, touching, looking, becoming, count, exec, exec_arm}
+use Rattle.pgo_sections.specs.Exec.{Gives, Stops, read_end, write_end, used_up, if_gives, touching, looking, becoming, count, Reads as ReadsBlock, Writes as WritesBlock, exec_with, exec_arm_with}
 use Rattle.pgo_sections.specs.Held.{held, value_under}
+use Rattle.pgo_sections.specs.Macros.{no_reads, no_writes, exec_block, block_read, block_write, exec}
 use Rattle.pgo_sections.specs.Run.{Run, begun, printed, picked_number, chosen, Out, Go, Jump, Gave, Stop, with_value, if_true, picked, go_on}
 use Rattle.pgo_sections.proofs.May.{block_of, left_content, left_is, May, SomeMay, never, never_at}
 
@@ -74,63 +76,73 @@ module _ (P : Vars → Type 0) (J : Name → Vars → Type 0) (Y : Data → Vars
   true_or_false (Some (set z)) run a b A B f g h = absurd h
   true_or_false (Some (function z)) run a b A B f g h = absurd h
 
-mutual
-  -- what it does, it may do
-  pub may_from : (k : Context) (c : Code) (env : Names) (d : Words) (run : Run) (P : Vars → Type 0) (J : Name → Vars → Type 0) (Y : Data → Vars → Type 0) → Holds P J Y (exec k c env d run) → May k c env run.changes P J Y
-  may_from k Skip env d run P J Y h = h
-  may_from k (Let b w e c) env d run P J Y h =
-      let x = value_holds P J Y _ _ _ h in (x.0, x.1, may_from k c ((w, Some x.0) ∷ env) d (looking k e run) P J Y x.2)
-  may_from k (Pick b w e c) env d run P J Y h =
-      let x = value_holds P J Y _ _ _ h in
-      let y = picked_holds P J Y x.0 _ _ _ x.2 in
-      (y.0, x.0, x.1, y.1, may_from k c ((w, Some y.0) ∷ env) d (chosen (looking k e run)) P J Y y.2)
-  may_from k (Become p w) env d run P J Y h = value_holds P J Y _ _ _ h
-  may_from k (Set b p e) env d run P J Y h = value_holds P J Y _ _ _ h
-  may_from k (Await e) env d run P J Y h = only_true P J Y _ _ _ _ (P run.changes) (λ a. a) (λ a. a) h
-  may_from k (Assert e) env d run P J Y h = only_true P J Y _ _ _ _ (P run.changes) (λ a. a) (λ a. a) h
-  may_from k (Print e) env d run P J Y h = value_holds P J Y _ _ _ h
-  may_from k (If e a b) env d run P J Y h =
-      true_or_false P J Y _ _ _ _ (May k a env run.changes P J Y) (May k b env run.changes P J Y) (λ x. may_from k a env d (looking k e run) P J Y x) (λ x. may_from k b env d (looking k e run) P J Y x) h
-  may_from k (Either cs) env d run P J Y h = may_from_arm k cs (picked_number d run (count cs)) env d (chosen run) P J Y h
-  may_from k (Seq a b) env d run P J Y h =
-      may_from k a env d run (λ st'. May k b env st' P J Y) J Y (go_holds P J Y (exec k a env d run) _ (λ st'. May k b env st' P J Y) (λ now x. may_from k b env d now P J Y x) h)
-  may_from k (Goto l) env d run P J Y h = h
-  may_from k (Yield e) env d run P J Y h = value_holds P J Y _ _ _ h
-  may_from k (Read w g i m c) env d run P J Y h =
-      let x = value_holds P J Y _ _ _ h in
-      let y = value_holds P J Y _ _ _ x.2 in (
-        x.0,
-        y.0,
-        x.1,
-        y.1,
-        may_from (block_of k) m [] d (begun (content_state y.0) run.used) never never_at _ (read_holds P J Y (exec (block_of k) m [] d (begun (content_state y.0) run.used)) (touching k g x.0 run) _ (λ v mem. (st' : Vars) × (left_content k g x.0 mem run.changes ≡ Some st') × May k c ((w, Some v) ∷ env) st' P J Y) (λ v block new is z.
-            let q = value_holds P J Y _ _ _ z in (
-              q.0,
-              left_is k g x.0 block.changes run.changes ∙ ap (option_and_then (λ new. put_new k g x.0 new run.changes)) is ∙ q.1,
-              may_from k c ((w, Some v) ∷ env) d (record (used_up block.used (touching k g x.0 run)) { changes = q.0 }) P J Y q.2,
-            )) y.2),
-      )
-  may_from k (Write g i w m) env d run P J Y h =
-      let x = value_holds P J Y _ _ _ h in
-      let y = value_holds P J Y _ _ _ x.2 in
-      let z = value_holds P J Y _ _ _ y.2 in
-      let own = (value_name, Some z.0) ∷ [] in
-      let begun' = begun (content_state y.0) run.used in (
-        x.0,
-        y.0,
-        x.1,
-        y.1,
-        (
-          z.0,
-          z.1,
-          may_from (block_of k) m own d begun' never never_at _ (write_holds P J Y (exec (block_of k) m own d begun') (touching k g x.0 run) _ (λ v mem. (st' : Vars) × (put_content k g x.0 (Some v) run.changes ≡ Some st') × P st') (λ v block q. value_holds P J Y _ _ _ q) z.2),
-        ),
-      )
+-- what is asked of reads and writes by blocks that meet B: what they do, the block may do
+abbrev ReadsMay : (Code → Type 0) → ReadsBlock → Type 1
+ReadsMay B rd = (m : Code) → B m → (k : Context) (old : Data) (d : Words) (u : ℕ) (now : Run) (P : Vars → Type 0) (J : Name → Vars → Type 0) (Y : Data → Vars → Type 0) (f : Data × Option Data → Run → Out) (Q : Data → Vars → Type 0) → ((v : Data) (block : Run) (new : Option Data) → new_content block.changes ≡ Some new → Holds P J Y (f (v, new) (used_up block.used now)) → Q v block.changes)
+    → Holds P J Y (if_gives (rd m k.defs k.id old d u) now f) → May (block_of k) m [] (content_state old) never never_at Q
 
-  may_from_arm : (k : Context) (cs : Codes) (i : ℕ) (env : Names) (d : Words) (run : Run) (P : Vars → Type 0) (J : Name → Vars → Type 0) (Y : Data → Vars → Type 0) → Holds P J Y (exec_arm k cs i env d run) → SomeMay k cs env run.changes P J Y
-  may_from_arm k no_codes i env d run P J Y h = absurd h
-  may_from_arm k (more_codes c cs) zero env d run P J Y h = inl (may_from k c env d run P J Y h)
-  may_from_arm k (more_codes c cs) (suc i) env d run P J Y h = inr (may_from_arm k cs i env d run P J Y h)
+abbrev WritesMay : (Code → Type 0) → WritesBlock → Type 1
+WritesMay B wr = (m : Code) → B m → (k : Context) (old value : Data) (d : Words) (u : ℕ) (now : Run) (P : Vars → Type 0) (J : Name → Vars → Type 0) (Y : Data → Vars → Type 0) (f : Data → Run → Out) (Q : Data → Vars → Type 0) → ((v : Data) (block : Run) → Holds P J Y (f v (used_up block.used now)) → Q v block.changes)
+    → Holds P J Y (if_gives (wr m k.defs k.id old value d u) now f) → May (block_of k) m ((value_name, Some value) ∷ []) (content_state old) never never_at Q
+
+module _ (B : Code → Type 0) (rd : ReadsBlock) (wr : WritesBlock) (reads_may : ReadsMay B rd) (writes_may : WritesMay B wr) where
+  mutual
+    -- what code does, it may do
+    may_with : (k : Context) (c : Code) (env : Names) (d : Words) (run : Run) (P : Vars → Type 0) (J : Name → Vars → Type 0) (Y : Data → Vars → Type 0) → AreBlocks B c → Holds P J Y (exec_with rd wr k c env d run) → May k c env run.changes P J Y
+    may_with k Skip env d run P J Y bl h = h
+    may_with k (Let b w e c) env d run P J Y bl h =
+        let x = value_holds P J Y _ _ _ h in (x.0, x.1, may_with k c ((w, Some x.0) ∷ env) d (looking k e run) P J Y bl x.2)
+    may_with k (Pick b w e c) env d run P J Y bl h =
+        let x = value_holds P J Y _ _ _ h in
+        let y = picked_holds P J Y x.0 _ _ _ x.2 in
+        (y.0, x.0, x.1, y.1, may_with k c ((w, Some y.0) ∷ env) d (chosen (looking k e run)) P J Y bl y.2)
+    may_with k (Become p w) env d run P J Y bl h = value_holds P J Y _ _ _ h
+    may_with k (Set b p e) env d run P J Y bl h = value_holds P J Y _ _ _ h
+    may_with k (Await e) env d run P J Y bl h = only_true P J Y _ _ _ _ (P run.changes) (λ a. a) (λ a. a) h
+    may_with k (Assert e) env d run P J Y bl h = only_true P J Y _ _ _ _ (P run.changes) (λ a. a) (λ a. a) h
+    may_with k (Print e) env d run P J Y bl h = value_holds P J Y _ _ _ h
+    may_with k (If e a b) env d run P J Y bl h =
+        true_or_false P J Y _ _ _ _ (May k a env run.changes P J Y) (May k b env run.changes P J Y) (λ x. may_with k a env d (looking k e run) P J Y bl.0 x) (λ x. may_with k b env d (looking k e run) P J Y bl.1 x) h
+    may_with k (Either cs) env d run P J Y bl h = may_with_arm k cs (picked_number d run (count cs)) env d (chosen run) P J Y bl h
+    may_with k (Seq a b) env d run P J Y bl h =
+        may_with k a env d run (λ st'. May k b env st' P J Y) J Y bl.0 (go_holds P J Y (exec_with rd wr k a env d run) _ (λ st'. May k b env st' P J Y) (λ now x. may_with k b env d now P J Y bl.1 x) h)
+    may_with k (Goto l) env d run P J Y bl h = h
+    may_with k (Yield e) env d run P J Y bl h = value_holds P J Y _ _ _ h
+    may_with k (Read w g i m c) env d run P J Y bl h =
+        let x = value_holds P J Y _ _ _ h in
+        let y = value_holds P J Y _ _ _ x.2 in
+        let now = touching k g x.0 run in (
+          x.0,
+          y.0,
+          x.1,
+          y.1,
+          reads_may m bl.0 k y.0 d run.used now P J Y _ (λ v mem. (st' : Vars) × (left_content k g x.0 mem run.changes ≡ Some st') × May k c ((w, Some v) ∷ env) st' P J Y) (λ v block new is z.
+              let q = value_holds P J Y _ _ _ z in (
+                q.0,
+                left_is k g x.0 block.changes run.changes ∙ ap (option_and_then (λ new. put_new k g x.0 new run.changes)) is ∙ q.1,
+                may_with k c ((w, Some v) ∷ env) d (record (used_up block.used now) { changes = q.0 }) P J Y bl.1 q.2,
+              )) y.2,
+        )
+    may_with k (Write g i w m) env d run P J Y bl h =
+        let x = value_holds P J Y _ _ _ h in
+        let y = value_holds P J Y _ _ _ x.2 in
+        let z = value_holds P J Y _ _ _ y.2 in
+        (x.0, y.0, x.1, y.1, (z.0, z.1, writes_may m bl k y.0 z.0 d run.used (touching k g x.0 run) P J Y _ (λ v mem. (st' : Vars) × (put_content k g x.0 (Some v) run.changes ≡ Some st') × P st') (λ v block q. value_holds P J Y _ _ _ q) z.2))
+
+    may_with_arm : (k : Context) (cs : Codes) (i : ℕ) (env : Names) (d : Words) (run : Run) (P : Vars → Type 0) (J : Name → Vars → Type 0) (Y : Data → Vars → Type 0) → AllAreBlocks B cs → Holds P J Y (exec_arm_with rd wr k cs i env d run) → SomeMay k cs env run.changes P J Y
+    may_with_arm k no_codes i env d run P J Y bl h = absurd h
+    may_with_arm k (more_codes c cs) zero env d run P J Y bl h = inl (may_with k c env d run P J Y bl.0 h)
+    may_with_arm k (more_codes c cs) (suc i) env d run P J Y bl h = inr (may_with_arm k cs i env d run P J Y bl.1 h)
+
+may_block : (k : Context) (c : Code) (env : Names) (d : Words) (run : Run) (P : Vars → Type 0) (J : Name → Vars → Type 0) (Y : Data → Vars → Type 0) → IsBlock c → Holds P J Y (exec_block k c env d run) → May k c env run.changes P J Y
+may_block =
+    may_with (λ b. ⊥) no_reads no_writes (λ m b k old d u now P J Y f Q step h. absurd b) (λ m b k old value d u now P J Y f Q step h. absurd b)
+
+pub may_from : (k : Context) (c : Code) (env : Names) (d : Words) (run : Run) (P : Vars → Type 0) (J : Name → Vars → Type 0) (Y : Data → Vars → Type 0) → HasBlocks c → Holds P J Y (exec k c env d run) → May k c env run.changes P J Y
+may_from =
+    may_with IsBlock block_read block_write (λ m b k old d u now P J Y f Q step h.
+    may_block (block_of k) m [] d (begun (content_state old) u) never never_at Q b (read_holds P J Y (exec_block (block_of k) m [] d (begun (content_state old) u)) now f Q step h)) (λ m b k old value d u now P J Y f Q step h.
+    may_block (block_of k) m ((value_name, Some value) ∷ []) d (begun (content_state old) u) never never_at Q b (write_holds P J Y (exec_block (block_of k) m ((value_name, Some value) ∷ []) d (begun (content_state old) u)) now f Q step h))
 
 -- d has these words from place u on
 abbrev pub Reads : Words → ℕ → List ℕ → Type 0
@@ -252,71 +264,91 @@ new_is : (o : Option (Option Data)) (f : Option Data → Option Vars) (s : Vars)
 new_is None f s h = absurd (grind (arith, h))
 new_is (Some new) f s h = (new, refl, h)
 
--- the number of an arm that ends so
-record ArmEnds (k : Context) (cs : Codes) (env : Names) (run : Run) (P : Vars → Type 0) (J : Name → Vars → Type 0) (Y : Data → Vars → Type 0) : Type 0 where
-  number : ℕ
-  few : number < count cs
-  arm : Ends (λ d. exec_arm k cs number env d run) run.used P J Y
+-- what is asked of reads and writes by blocks that meet B: what the block may do, they do for some words
+abbrev ReadsEnd : (Code → Type 0) → ReadsBlock → Type 1
+ReadsEnd B rd = (m : Code) → B m → (k : Context) (old : Data) (u : ℕ) (now : Run) (P : Vars → Type 0) (J : Name → Vars → Type 0) (Y : Data → Vars → Type 0) (f : Words → Data × Option Data → Run → Out) (Q : Data → Vars → Type 0) → ((v : Data) (block : Run) → Q v block.changes → (new : Option Data) × (new_content block.changes ≡ Some new) × Ends (λ d. f d (v, new) (used_up block.used now)) block.used P J Y)
+    → May (block_of k) m [] (content_state old) never never_at Q → Ends (λ d. if_gives (rd m k.defs k.id old d u) now (f d)) u P J Y
 
-mutual
-  pub ends_from : (k : Context) (c : Code) (env : Names) (run : Run) (P : Vars → Type 0) (J : Name → Vars → Type 0) (Y : Data → Vars → Type 0) → May k c env run.changes P J Y → Ends (λ d. exec k c env d run) run.used P J Y
-  ends_from k Skip env run P J Y h = ends_now run.used P J Y (Go run) refl h
-  ends_from k (Let b w e c) env run P J Y h =
-      let now = looking k e run in
-      value_ends run.used P J Y _ now h.0 (λ d v. exec k c ((w, Some v) ∷ env) d now) h.1 (ends_from k c ((w, Some h.0) ∷ env) now P J Y h.2)
-  ends_from k (Pick b w e c) env run P J Y h =
-      let q = picked_by h.1 h.0 h.3 in
-      let now = looking k e run in
-      value_ends run.used P J Y _ now h.1 (λ d ms. picked ms d now (λ v. exec k c ((w, Some v) ∷ env) d (chosen now))) h.2 (ends_after run.used P J Y q.0 (λ d. exec k c ((w, Some h.0) ∷ env) d (chosen now)) _ (λ d r.
-      q.1 d now (λ v. exec k c ((w, Some v) ∷ env) d (chosen now)) r) (ends_from k c ((w, Some h.0) ∷ env) (chosen now) P J Y h.4))
-  ends_from k (Become p w) env run P J Y h =
-      value_ends run.used P J Y _ run h.0 (λ d v. Go (becoming p v run)) h.1 (ends_now run.used P J Y (Go (becoming p h.0 run)) refl h.2)
-  ends_from k (Set b p e) env run P J Y h =
-      let now = looking k e run in
-      value_ends run.used P J Y _ now h.0 (λ d v. Go (becoming p v now)) h.1 (ends_now run.used P J Y (Go (becoming p h.0 now)) refl h.2)
-  ends_from k (Await e) env run P J Y h =
-      let now = looking k e run in
-      ends_as run.used P J Y (λ d. Go now) _ (λ d. ap (λ o. if_true (truth_of o) now (Go now) (Stop Blocked now)) h.0) (ends_now run.used P J Y (Go now) refl h.1)
-  ends_from k (Assert e) env run P J Y h =
-      let now = looking k e run in
-      ends_as run.used P J Y (λ d. Go now) _ (λ d. ap (λ o. if_true (truth_of o) now (Go now) (Stop AssertFails now)) h.0) (ends_now run.used P J Y (Go now) refl h.1)
-  ends_from k (Print e) env run P J Y h =
-      let now = looking k e run in
-      value_ends run.used P J Y _ now h.0 (λ d v. Go (printed v now)) h.1 (ends_now run.used P J Y (Go (printed h.0 now)) refl h.2)
-  ends_from k (If e a b) env run P J Y (inl h) =
-      let now = looking k e run in
-      ends_as run.used P J Y (λ d. exec k a env d now) _ (λ d. ap (λ o. if_true (truth_of o) now (exec k a env d now) (exec k b env d now)) h.0) (ends_from k a env now P J Y h.1)
-  ends_from k (If e a b) env run P J Y (inr h) =
-      let now = looking k e run in
-      ends_as run.used P J Y (λ d. exec k b env d now) _ (λ d. ap (λ o. if_true (truth_of o) now (exec k a env d now) (exec k b env d now)) h.0) (ends_from k b env now P J Y h.1)
-  ends_from k (Either cs) env run P J Y h =
-      let x = arm_from k cs env (chosen run) P J Y h in
-      ends_after run.used P J Y x.number (λ d. exec_arm k cs x.number env d (chosen run)) _ (λ d r.
-      ap (λ n. exec_arm k cs (n % count cs) env d (chosen run)) r ∙ ap (λ n. exec_arm k cs n env d (chosen run)) (mod-eq_of_lt x.few)) x.arm
-  ends_from k (Seq a b) env run P J Y h =
-      seq_ends P J Y run.used (λ d. exec k a env d run) (λ d now. exec k b env d now) (λ st'. May k b env st' P J Y) (ends_from k a env run (λ st'. May k b env st' P J Y) J Y h) (λ now x. ends_from k b env now P J Y x)
-  ends_from k (Goto l) env run P J Y h = ends_now run.used P J Y (Jump l run) refl h
-  ends_from k (Yield e) env run P J Y h =
-      value_ends run.used P J Y _ run h.0 (λ d v. Gave v run) h.1 (ends_now run.used P J Y (Gave h.0 run) refl h.2)
-  ends_from k (Read w g i m c) env run P J Y h =
-      let rest = λ (j : Option Data) (d : Words) (r : Data × Option Data) (then' : Run). with_value (put_new k g j r.1 run.changes) then' (λ ch. exec k c ((w, Some r.0) ∷ env) d (record then' { changes = ch })) in
-      let block = λ (old : Data) (d : Words). exec (block_of k) m [] d (begun (content_state old) run.used) in
-      let now = touching k g h.0 run in
-      value_ends run.used P J Y _ run h.0 (λ d j. with_value (held (content k g j run.changes)) (touching k g j run) (λ old. if_gives (read_end (block old d)) (touching k g j run) (rest j d))) h.2 (value_ends run.used P J Y _ now h.1 (λ d old. if_gives (read_end (block old d)) now (rest h.0 d)) h.3 (read_ends P J Y run.used now (block h.1) (rest h.0) (λ v mem. (st' : Vars) × (left_content k g h.0 mem run.changes ≡ Some st') × May k c ((w, Some v) ∷ env) st' P J Y) (ends_from (block_of k) m [] (begun (content_state h.1) run.used) never never_at _ h.4) (λ v b z.
-      let new = new_is (new_content b.changes) (λ n. put_new k g h.0 n run.changes) z.0 (sym (left_is k g h.0 b.changes run.changes) ∙ z.1) in
-      let then' = used_up b.used now in
-      (new.0, new.1, value_ends b.used P J Y _ then' z.0 (λ d ch. exec k c ((w, Some v) ∷ env) d (record then' { changes = ch })) new.2 (ends_from k c ((w, Some v) ∷ env) (record then' { changes = z.0 }) P J Y z.2)))))
-  ends_from k (Write g i w m) env run P J Y h =
-      let rest = λ (j : Option Data) (d : Words) (v : Data) (then' : Run). with_value (put_content k g j (Some v) run.changes) then' (λ ch. Go (record then' { changes = ch })) in
-      let block = λ (old value : Data) (d : Words). exec (block_of k) m ((value_name, Some value) ∷ []) d (begun (content_state old) run.used) in
-      let now = touching k g h.0 run in
-      let x = h.4 in
-      value_ends run.used P J Y _ run h.0 (λ d j. with_value (held (content k g j run.changes)) (touching k g j run) (λ old. with_value (value_under w env) (touching k g j run) (λ value. if_gives (write_end (block old value d)) (touching k g j run) (rest j d)))) h.2 (value_ends run.used P J Y _ now h.1 (λ d old. with_value (value_under w env) now (λ value. if_gives (write_end (block old value d)) now (rest h.0 d))) h.3 (value_ends run.used P J Y _ now x.0 (λ d value. if_gives (write_end (block h.1 value d)) now (rest h.0 d)) x.1 (write_ends P J Y run.used now (block h.1 x.0) (rest h.0) (λ v mem. (st' : Vars) × (put_content k g h.0 (Some v) run.changes ≡ Some st') × P st') (ends_from (block_of k) m ((value_name, Some x.0) ∷ []) (begun (content_state h.1) run.used) never never_at _ x.2) (λ v b z.
-      let then' = used_up b.used now in
-      value_ends b.used P J Y _ then' z.0 (λ d ch. Go (record then' { changes = ch })) z.1 (ends_now b.used P J Y (Go (record then' { changes = z.0 })) refl z.2)))))
+abbrev WritesEnd : (Code → Type 0) → WritesBlock → Type 1
+WritesEnd B wr = (m : Code) → B m → (k : Context) (old value : Data) (u : ℕ) (now : Run) (P : Vars → Type 0) (J : Name → Vars → Type 0) (Y : Data → Vars → Type 0) (f : Words → Data → Run → Out) (Q : Data → Vars → Type 0) → ((v : Data) (block : Run) → Q v block.changes → Ends (λ d. f d v (used_up block.used now)) block.used P J Y)
+    → May (block_of k) m ((value_name, Some value) ∷ []) (content_state old) never never_at Q → Ends (λ d. if_gives (wr m k.defs k.id old value d u) now (f d)) u P J Y
 
-  arm_from : (k : Context) (cs : Codes) (env : Names) (run : Run) (P : Vars → Type 0) (J : Name → Vars → Type 0) (Y : Data → Vars → Type 0) → SomeMay k cs env run.changes P J Y → ArmEnds k cs env run P J Y
-  arm_from k no_codes env run P J Y h = absurd h
-  arm_from k (more_codes c cs) env run P J Y (inl h) = record { number = 0; few = omega arith; arm = ends_from k c env run P J Y h }
-  arm_from k (more_codes c cs) env run P J Y (inr h) =
-      let x = arm_from k cs env run P J Y h in record { number = suc x.number; few = omega (arith, x.few); arm = x.arm }
+module _ (B : Code → Type 0) (rd : ReadsBlock) (wr : WritesBlock) (reads_end : ReadsEnd B rd) (writes_end : WritesEnd B wr) where
+  -- the number of an arm that ends so
+  record ArmEnds (k : Context) (cs : Codes) (env : Names) (run : Run) (P : Vars → Type 0) (J : Name → Vars → Type 0) (Y : Data → Vars → Type 0) : Type 0 where
+    number : ℕ
+    few : number < count cs
+    arm : Ends (λ d. exec_arm_with rd wr k cs number env d run) run.used P J Y
+
+  mutual
+    ends_with : (k : Context) (c : Code) (env : Names) (run : Run) (P : Vars → Type 0) (J : Name → Vars → Type 0) (Y : Data → Vars → Type 0) → AreBlocks B c → May k c env run.changes P J Y → Ends (λ d. exec_with rd wr k c env d run) run.used P J Y
+    ends_with k Skip env run P J Y bl h = ends_now run.used P J Y (Go run) refl h
+    ends_with k (Let b w e c) env run P J Y bl h =
+        let now = looking k e run in
+        value_ends run.used P J Y _ now h.0 (λ d v. exec_with rd wr k c ((w, Some v) ∷ env) d now) h.1 (ends_with k c ((w, Some h.0) ∷ env) now P J Y bl h.2)
+    ends_with k (Pick b w e c) env run P J Y bl h =
+        let q = picked_by h.1 h.0 h.3 in
+        let now = looking k e run in
+        value_ends run.used P J Y _ now h.1 (λ d ms. picked ms d now (λ v. exec_with rd wr k c ((w, Some v) ∷ env) d (chosen now))) h.2 (ends_after run.used P J Y q.0 (λ d. exec_with rd wr k c ((w, Some h.0) ∷ env) d (chosen now)) _ (λ d r.
+        q.1 d now (λ v. exec_with rd wr k c ((w, Some v) ∷ env) d (chosen now)) r) (ends_with k c ((w, Some h.0) ∷ env) (chosen now) P J Y bl h.4))
+    ends_with k (Become p w) env run P J Y bl h =
+        value_ends run.used P J Y _ run h.0 (λ d v. Go (becoming p v run)) h.1 (ends_now run.used P J Y (Go (becoming p h.0 run)) refl h.2)
+    ends_with k (Set b p e) env run P J Y bl h =
+        let now = looking k e run in
+        value_ends run.used P J Y _ now h.0 (λ d v. Go (becoming p v now)) h.1 (ends_now run.used P J Y (Go (becoming p h.0 now)) refl h.2)
+    ends_with k (Await e) env run P J Y bl h =
+        let now = looking k e run in
+        ends_as run.used P J Y (λ d. Go now) _ (λ d. ap (λ o. if_true (truth_of o) now (Go now) (Stop Blocked now)) h.0) (ends_now run.used P J Y (Go now) refl h.1)
+    ends_with k (Assert e) env run P J Y bl h =
+        let now = looking k e run in
+        ends_as run.used P J Y (λ d. Go now) _ (λ d. ap (λ o. if_true (truth_of o) now (Go now) (Stop AssertFails now)) h.0) (ends_now run.used P J Y (Go now) refl h.1)
+    ends_with k (Print e) env run P J Y bl h =
+        let now = looking k e run in
+        value_ends run.used P J Y _ now h.0 (λ d v. Go (printed v now)) h.1 (ends_now run.used P J Y (Go (printed h.0 now)) refl h.2)
+    ends_with k (If e a b) env run P J Y bl (inl h) =
+        let now = looking k e run in
+        ends_as run.used P J Y (λ d. exec_with rd wr k a env d now) _ (λ d. ap (λ o. if_true (truth_of o) now (exec_with rd wr k a env d now) (exec_with rd wr k b env d now)) h.0) (ends_with k a env now P J Y bl.0 h.1)
+    ends_with k (If e a b) env run P J Y bl (inr h) =
+        let now = looking k e run in
+        ends_as run.used P J Y (λ d. exec_with rd wr k b env d now) _ (λ d. ap (λ o. if_true (truth_of o) now (exec_with rd wr k a env d now) (exec_with rd wr k b env d now)) h.0) (ends_with k b env now P J Y bl.1 h.1)
+    ends_with k (Either cs) env run P J Y bl h =
+        let x = arm_with k cs env (chosen run) P J Y bl h in
+        ends_after run.used P J Y x.number (λ d. exec_arm_with rd wr k cs x.number env d (chosen run)) _ (λ d r.
+        ap (λ n. exec_arm_with rd wr k cs (n % count cs) env d (chosen run)) r ∙ ap (λ n. exec_arm_with rd wr k cs n env d (chosen run)) (mod-eq_of_lt x.few)) x.arm
+    ends_with k (Seq a b) env run P J Y bl h =
+        seq_ends P J Y run.used (λ d. exec_with rd wr k a env d run) (λ d now. exec_with rd wr k b env d now) (λ st'. May k b env st' P J Y) (ends_with k a env run (λ st'. May k b env st' P J Y) J Y bl.0 h) (λ now x. ends_with k b env now P J Y bl.1 x)
+    ends_with k (Goto l) env run P J Y bl h = ends_now run.used P J Y (Jump l run) refl h
+    ends_with k (Yield e) env run P J Y bl h =
+        value_ends run.used P J Y _ run h.0 (λ d v. Gave v run) h.1 (ends_now run.used P J Y (Gave h.0 run) refl h.2)
+    ends_with k (Read w g i m c) env run P J Y bl h =
+        let rest = λ (j : Option Data) (d : Words) (r : Data × Option Data) (then' : Run). with_value (put_new k g j r.1 run.changes) then' (λ ch. exec_with rd wr k c ((w, Some r.0) ∷ env) d (record then' { changes = ch })) in
+        let block = λ (old : Data) (d : Words). rd m k.defs k.id old d run.used in
+        let now = touching k g h.0 run in
+        value_ends run.used P J Y _ run h.0 (λ d j. with_value (held (content k g j run.changes)) (touching k g j run) (λ old. if_gives (block old d) (touching k g j run) (rest j d))) h.2 (value_ends run.used P J Y _ now h.1 (λ d old. if_gives (block old d) now (rest h.0 d)) h.3 (reads_end m bl.0 k h.1 run.used now P J Y (rest h.0) (λ v mem. (st' : Vars) × (left_content k g h.0 mem run.changes ≡ Some st') × May k c ((w, Some v) ∷ env) st' P J Y) (λ v b z.
+        let new = new_is (new_content b.changes) (λ n. put_new k g h.0 n run.changes) z.0 (sym (left_is k g h.0 b.changes run.changes) ∙ z.1) in
+        let then' = used_up b.used now in
+        (new.0, new.1, value_ends b.used P J Y _ then' z.0 (λ d ch. exec_with rd wr k c ((w, Some v) ∷ env) d (record then' { changes = ch })) new.2 (ends_with k c ((w, Some v) ∷ env) (record then' { changes = z.0 }) P J Y bl.1 z.2))) h.4))
+    ends_with k (Write g i w m) env run P J Y bl h =
+        let rest = λ (j : Option Data) (d : Words) (v : Data) (then' : Run). with_value (put_content k g j (Some v) run.changes) then' (λ ch. Go (record then' { changes = ch })) in
+        let block = λ (old value : Data) (d : Words). wr m k.defs k.id old value d run.used in
+        let now = touching k g h.0 run in
+        let x = h.4 in
+        value_ends run.used P J Y _ run h.0 (λ d j. with_value (held (content k g j run.changes)) (touching k g j run) (λ old. with_value (value_under w env) (touching k g j run) (λ value. if_gives (block old value d) (touching k g j run) (rest j d)))) h.2 (value_ends run.used P J Y _ now h.1 (λ d old. with_value (value_under w env) now (λ value. if_gives (block old value d) now (rest h.0 d))) h.3 (value_ends run.used P J Y _ now x.0 (λ d value. if_gives (block h.1 value d) now (rest h.0 d)) x.1 (writes_end m bl k h.1 x.0 run.used now P J Y (rest h.0) (λ v mem. (st' : Vars) × (put_content k g h.0 (Some v) run.changes ≡ Some st') × P st') (λ v b z.
+        let then' = used_up b.used now in
+        value_ends b.used P J Y _ then' z.0 (λ d ch. Go (record then' { changes = ch })) z.1 (ends_now b.used P J Y (Go (record then' { changes = z.0 })) refl z.2)) x.2)))
+
+    arm_with : (k : Context) (cs : Codes) (env : Names) (run : Run) (P : Vars → Type 0) (J : Name → Vars → Type 0) (Y : Data → Vars → Type 0) → AllAreBlocks B cs → SomeMay k cs env run.changes P J Y → ArmEnds k cs env run P J Y
+    arm_with k no_codes env run P J Y bl h = absurd h
+    arm_with k (more_codes c cs) env run P J Y bl (inl h) = record { number = 0; few = omega arith; arm = ends_with k c env run P J Y bl.0 h }
+    arm_with k (more_codes c cs) env run P J Y bl (inr h) =
+        let x = arm_with k cs env run P J Y bl.1 h in record { number = suc x.number; few = omega (arith, x.few); arm = x.arm }
+
+ends_block : (k : Context) (c : Code) (env : Names) (run : Run) (P : Vars → Type 0) (J : Name → Vars → Type 0) (Y : Data → Vars → Type 0) → IsBlock c → May k c env run.changes P J Y → Ends (λ d. exec_block k c env d run) run.used P J Y
+ends_block =
+    ends_with (λ b. ⊥) no_reads no_writes (λ m b k old u now P J Y f Q step h. absurd b) (λ m b k old value u now P J Y f Q step h. absurd b)
+
+pub ends_from : (k : Context) (c : Code) (env : Names) (run : Run) (P : Vars → Type 0) (J : Name → Vars → Type 0) (Y : Data → Vars → Type 0) → HasBlocks c → May k c env run.changes P J Y → Ends (λ d. exec k c env d run) run.used P J Y
+ends_from =
+    ends_with IsBlock block_read block_write (λ m b k old u now P J Y f Q step h.
+    read_ends P J Y u now (λ d. exec_block (block_of k) m [] d (begun (content_state old) u)) f Q (ends_block (block_of k) m [] (begun (content_state old) u) never never_at Q b h) step) (λ m b k old value u now P J Y f Q step h.
+    write_ends P J Y u now (λ d. exec_block (block_of k) m ((value_name, Some value) ∷ []) d (begun (content_state old) u)) f Q (ends_block (block_of k) m ((value_name, Some value) ∷ []) (begun (content_state old) u) never never_at Q b h) step)

@@ -75,6 +75,16 @@ abbrev pub if_whole : Option Mapped → Option Mapped
 if_whole None = None
 if_whole (Some m) = if m.by_element then None else Some m
 
+-- the index that comes before a read, and then what f makes of the name that it stands under
+abbrev pub read_first : Option (Name × Tree) → (Option Name → Code) → Code
+read_first None f = f None
+read_first (Some i) f = Let at_base i.0 i.1 (f (Some i.0))
+
+-- these reads, and then c
+abbrev pub after : List Before → Code → Code
+after [] c = c
+after (b ∷ bs) c = read_first b.index (λ i. Read b.value b.mapped.global i b.mapped.reads (after bs c))
+
 module _ (mapped : MappedNames) where
   -- the mapped parameter whose element an index on this expression reads
   abbrev pub element_of : Tree → Option Mapped
@@ -140,14 +150,6 @@ module _ (mapped : MappedNames) where
         then_pull (pulled_all ps k) (λ ps' k1. then_pull (pulled e k1) (λ e' k2. then_pull (pulled_paths us k2) (λ us' k3. pure k3 (more_paths ps' e' us'))))
 
   -- the reads of e, and then what f makes of what is left
-  abbrev pub read_first : Option (Name × Tree) → (Option Name → Code) → Code
-  read_first None f = f None
-  read_first (Some i) f = Let at_base i.0 i.1 (f (Some i.0))
-
-  abbrev pub after : List Before → Code → Code
-  after [] c = c
-  after (b ∷ bs) c = read_first b.index (λ i. Read b.value b.mapped.global i b.mapped.reads (after bs c))
-
   abbrev pub evaluated : Tree → ℕ → (Tree → ℕ → Code) → Code
   evaluated e k f = let p = pulled e k in after p.reads (f p.rest p.used)
 

@@ -5,6 +5,7 @@ use Rattle.pgo_base.specs.Lookup.{Name, Vars, same_name, find}
 use Rattle.pgo_model.specs.State.{is_shallow}
 use Rattle.pgo_model.specs.Val.{meanings, call_def}
 use Rattle.pgo_model.specs.Written.{self_name}
+use Rattle.pgo_sections.specs.Blocks.{HasBlocks}
 use Rattle.pgo_sections.specs.Code.{Place, Whole, Own, variable_of, Code}
 use Rattle.pgo_sections.specs.Context.{Context}
 use Rattle.pgo_sections.specs.Section.{Reaches}
@@ -46,6 +47,7 @@ pub record Fit (a : Around) (k : Context) (t : Vars) : Type 0 where
 abbrev pub Agrees : Around → Context → Code → Vars → Type 0
 Agrees a k c t = Path a (expansion k.places c) ((self_name, Some a.id) ∷ []) k.start t ↔ Reaches k c t
 
--- for all code with well-formed names that binds fewer than 2^64 names: past 10^64 made names are not told apart
+-- for all code that reads and writes by blocks, has well-formed names and binds fewer than 2^64 names: past 10^64 made names
+-- are not told apart
 abbrev pub SectionsAgree : Type 0
-SectionsAgree = (a : Around) (k : Context) (c : Code) (t : Vars) → Fit a k t → PlainCode a.variables k.globals k.places [] c → most_made c < 2 ^ 64 → Agrees a k c t
+SectionsAgree = (a : Around) (k : Context) (c : Code) (t : Vars) → Fit a k t → HasBlocks c → PlainCode a.variables k.globals k.places [] c → most_made c < 2 ^ 64 → Agrees a k c t

@@ -1,8 +1,5 @@
--- What code does on a state, with words of choice: the meaning of sections, and of the blocks of mapping macros.
---
--- A mapping macro's block is code without mapped parameters. What it does on a content is `block_read` and `block_write`; a
--- section's reads and writes of mapped parameters are these, written out since they stand in the same recursion; Macros has
--- them by name.
+-- What code does on a state, with words of choice, where it is given what reads and writes of mapped parameters do. Macros
+-- gives these: so this is the meaning of the blocks of mapping macros, which have no mapped parameters, and of sections.
 use Rattle.std.specs.Prelude.{ℕ, zero, suc, Bool, true, false, List, [], ◌∷◌, Option, Some, None, option_and_then}
 use Rattle.pgo_base.specs.Data.{Data}
 use Rattle.pgo_base.specs.Lookup.{Name, Names}
@@ -11,11 +8,12 @@ use Rattle.pgo_model.specs.Operators.{members_of, truth_of}
 use Rattle.pgo_model.specs.Options.{on}
 use Rattle.pgo_model.specs.Outcome.{Kind, Blocked, NoValue, AssertFails}
 use Rattle.pgo_model.specs.System.{Words, Touched}
+use Rattle.pgo_model.specs.Val.{Meaning}
 use Rattle.pgo_sections.specs.Access.{looks, touched_whole}
-use Rattle.pgo_sections.specs.Code.{Place, variable_of, Code, Skip, Let, Pick, Become, Set, Await, Assert, Print, If, Either, Seq, Goto, Yield, Read, Write, Codes, no_codes, more_codes, value_name}
-use Rattle.pgo_sections.specs.Context.{Context, block_context, content, put_content, put_new, content_state, new_content, value_of, index_value}
+use Rattle.pgo_sections.specs.Code.{Place, variable_of, Code, Skip, Let, Pick, Become, Set, Await, Assert, Print, If, Either, Seq, Goto, Yield, Read, Write, Codes, no_codes, more_codes}
+use Rattle.pgo_sections.specs.Context.{Context, content, put_content, put_new, new_content, value_of, index_value}
 use Rattle.pgo_sections.specs.Held.{held, value_under}
-use Rattle.pgo_sections.specs.Run.{Run, begun, changed, seen, printed, picked_number, chosen, Out, Go, Jump, Gave, Stop, with_value, if_true, picked, go_on}
+use Rattle.pgo_sections.specs.Run.{Run, changed, seen, printed, picked_number, chosen, Out, Go, Jump, Gave, Stop, with_value, if_true, picked, go_on}
 
 -- how a macro's block ends: with what it gives, or stopped; and how many words of choice are used then
 pub data MacroEnd (A : Type 0) : Type 0 where
@@ -65,48 +63,57 @@ abbrev pub count : Codes → ℕ
 count no_codes = 0
 count (more_codes c cs) = suc (count cs)
 
-abbrev mutual
-  pub exec : Context → Code → Names → Words → Run → Out
-  exec k Skip env d run = Go run
-  exec k (Let b w e c) env d run =
-      let now = looking k e run in with_value (held (value_of k e env run.changes)) now (λ v. exec k c ((w, Some v) ∷ env) d now)
-  exec k (Pick b w e c) env d run =
-      let now = looking k e run in
-      with_value (option_and_then members_of (value_of k e env run.changes)) now (λ ms.
-      picked ms d now (λ v. exec k c ((w, Some v) ∷ env) d (chosen now)))
-  exec k (Become p w) env d run = with_value (value_under w env) run (λ v. Go (becoming p v run))
-  exec k (Set b p e) env d run =
-      let now = looking k e run in with_value (held (value_of k e env run.changes)) now (λ v. Go (becoming p v now))
-  exec k (Await e) env d run =
-      let now = looking k e run in if_true (truth_of (value_of k e env run.changes)) now (Go now) (Stop Blocked now)
-  exec k (Assert e) env d run =
-      let now = looking k e run in if_true (truth_of (value_of k e env run.changes)) now (Go now) (Stop AssertFails now)
-  exec k (Print e) env d run =
-      let now = looking k e run in with_value (value_of k e env run.changes) now (λ v. Go (printed v now))
-  exec k (If e a b) env d run =
-      let now = looking k e run in
-      if_true (truth_of (value_of k e env run.changes)) now (exec k a env d now) (exec k b env d now)
-  exec k (Either cs) env d run = exec_arm k cs (picked_number d run (count cs)) env d (chosen run)
-  exec k (Seq a b) env d run = go_on (exec k a env d run) (λ now. exec k b env d now)
-  exec k (Goto l) env d run = Jump l run
-  exec k (Yield e) env d run = with_value (held (value_of k e env run.changes)) run (λ v. Gave v run)
-  exec k (Read w g i block c) env d run =
-      with_value (index_value i env) run (λ j.
-      let now = touching k g j run in
-      with_value (held (content k g j run.changes)) now (λ old.
-      if_gives (read_end (exec (block_context k.defs k.id) block [] d (begun (content_state old) run.used))) now (λ r then'.
-      with_value (put_new k g j r.1 run.changes) then' (λ ch.
-      exec k c ((w, Some r.0) ∷ env) d (record then' { changes = ch })))))
-  exec k (Write g i w block) env d run =
-      with_value (index_value i env) run (λ j.
-      let now = touching k g j run in
-      with_value (held (content k g j run.changes)) now (λ old.
-      with_value (value_under w env) now (λ v.
-      if_gives (write_end (exec (block_context k.defs k.id) block ((value_name, Some v) ∷ []) d (begun (content_state old) run.used))) now (λ new then'.
-      with_value (put_content k g j (Some new) run.changes) then' (λ ch.
-      Go (record then' { changes = ch }))))))
+-- what reads and writes of mapped parameters do, by the macro's block, the definitions, `self`, the old content, for a write the
+-- value, and the words of choice from number `used` on
+abbrev pub Reads : Type 0
+Reads = (block : Code) → (defs : List Meaning) → (id old : Data) → Words → (used : ℕ) → MacroEnd (Data × Option Data)
 
-  pub exec_arm : Context → Codes → ℕ → Names → Words → Run → Out
-  exec_arm k no_codes i env d run = Stop NoValue run
-  exec_arm k (more_codes c cs) zero env d run = exec k c env d run
-  exec_arm k (more_codes c cs) (suc i) env d run = exec_arm k cs i env d run
+abbrev pub Writes : Type 0
+Writes = (block : Code) → (defs : List Meaning) → (id old v : Data) → Words → (used : ℕ) → MacroEnd Data
+
+module _ (reads : Reads) (writes : Writes) where
+  abbrev mutual
+    pub exec_with : Context → Code → Names → Words → Run → Out
+    exec_with k Skip env d run = Go run
+    exec_with k (Let b w e c) env d run =
+        let now = looking k e run in with_value (held (value_of k e env run.changes)) now (λ v. exec_with k c ((w, Some v) ∷ env) d now)
+    exec_with k (Pick b w e c) env d run =
+        let now = looking k e run in
+        with_value (option_and_then members_of (value_of k e env run.changes)) now (λ ms.
+        picked ms d now (λ v. exec_with k c ((w, Some v) ∷ env) d (chosen now)))
+    exec_with k (Become p w) env d run = with_value (value_under w env) run (λ v. Go (becoming p v run))
+    exec_with k (Set b p e) env d run =
+        let now = looking k e run in with_value (held (value_of k e env run.changes)) now (λ v. Go (becoming p v now))
+    exec_with k (Await e) env d run =
+        let now = looking k e run in if_true (truth_of (value_of k e env run.changes)) now (Go now) (Stop Blocked now)
+    exec_with k (Assert e) env d run =
+        let now = looking k e run in if_true (truth_of (value_of k e env run.changes)) now (Go now) (Stop AssertFails now)
+    exec_with k (Print e) env d run =
+        let now = looking k e run in with_value (value_of k e env run.changes) now (λ v. Go (printed v now))
+    exec_with k (If e a b) env d run =
+        let now = looking k e run in
+        if_true (truth_of (value_of k e env run.changes)) now (exec_with k a env d now) (exec_with k b env d now)
+    exec_with k (Either cs) env d run = exec_arm_with k cs (picked_number d run (count cs)) env d (chosen run)
+    exec_with k (Seq a b) env d run = go_on (exec_with k a env d run) (λ now. exec_with k b env d now)
+    exec_with k (Goto l) env d run = Jump l run
+    exec_with k (Yield e) env d run = with_value (held (value_of k e env run.changes)) run (λ v. Gave v run)
+    exec_with k (Read w g i block c) env d run =
+        with_value (index_value i env) run (λ j.
+        let now = touching k g j run in
+        with_value (held (content k g j run.changes)) now (λ old.
+        if_gives (reads block k.defs k.id old d run.used) now (λ r then'.
+        with_value (put_new k g j r.1 run.changes) then' (λ ch.
+        exec_with k c ((w, Some r.0) ∷ env) d (record then' { changes = ch })))))
+    exec_with k (Write g i w block) env d run =
+        with_value (index_value i env) run (λ j.
+        let now = touching k g j run in
+        with_value (held (content k g j run.changes)) now (λ old.
+        with_value (value_under w env) now (λ v.
+        if_gives (writes block k.defs k.id old v d run.used) now (λ new then'.
+        with_value (put_content k g j (Some new) run.changes) then' (λ ch.
+        Go (record then' { changes = ch }))))))
+
+    pub exec_arm_with : Context → Codes → ℕ → Names → Words → Run → Out
+    exec_arm_with k no_codes i env d run = Stop NoValue run
+    exec_arm_with k (more_codes c cs) zero env d run = exec_with k c env d run
+    exec_arm_with k (more_codes c cs) (suc i) env d run = exec_arm_with k cs i env d run

@@ -1,5 +1,6 @@
 pub mod Among
 pub mod Code
+pub mod Blocks
 pub mod Access
 pub mod Held
 pub mod Context

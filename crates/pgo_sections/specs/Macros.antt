@@ -1,23 +1,38 @@
--- What a mapping macro's block does on a content: the reads and writes that sections use for their mapped parameters.
-use Rattle.std.specs.Prelude.{◌≡◌, ℕ, List, [], ◌∷◌, Option, Some}
+-- What a mapping macro's block does on a content, and so what code does that reads and writes mapped parameters by such blocks.
+use Rattle.std.specs.Prelude.{◌≡◌, [], ◌∷◌, Option, Some}
 use Rattle.pgo_base.specs.Data.{Data}
 use Rattle.pgo_base.specs.Lookup.{Name, Names, Vars}
+use Rattle.pgo_model.specs.Outcome.{NoValue}
 use Rattle.pgo_model.specs.System.{Words}
-use Rattle.pgo_model.specs.Val.{Meaning}
 use Rattle.pgo_sections.specs.Code.{Code, value_name}
 use Rattle.pgo_sections.specs.Context.{Context, block_context, content, content_state, index_value, put_content, put_new}
-use Rattle.pgo_sections.specs.Exec.{MacroEnd, read_end, write_end, exec}
+use Rattle.pgo_sections.specs.Exec.{Stops, read_end, write_end, Reads, Writes, exec_with}
 use Rattle.pgo_sections.specs.Held.{held}
 use Rattle.pgo_sections.specs.Run.{Run, begun, Out, Go, with_value}
 
--- a `read` block on the old content, with these definitions and this `self`, and the words of choice from number `used` on
-abbrev pub block_read : Code → List Meaning → Data → Data → Words → ℕ → MacroEnd (Data × Option Data)
-block_read block defs id old d used = read_end (exec (block_context defs id) block [] d (begun (content_state old) used))
+-- a block has no mapped parameters
+abbrev pub no_reads : Reads
+no_reads block defs id old d used = Stops NoValue used
+
+abbrev pub no_writes : Writes
+no_writes block defs id old v d used = Stops NoValue used
+
+abbrev pub exec_block : Context → Code → Names → Words → Run → Out
+exec_block = exec_with no_reads no_writes
+
+-- a `read` block on the old content
+abbrev pub block_read : Reads
+block_read block defs id old d used =
+    read_end (exec_block (block_context defs id) block [] d (begun (content_state old) used))
 
 -- a `write` block, with the value that is written besides
-abbrev pub block_write : Code → List Meaning → Data → Data → Data → Words → ℕ → MacroEnd Data
+abbrev pub block_write : Writes
 block_write block defs id old v d used =
-    write_end (exec (block_context defs id) block ((value_name, Some v) ∷ []) d (begun (content_state old) used))
+    write_end (exec_block (block_context defs id) block ((value_name, Some v) ∷ []) d (begun (content_state old) used))
+
+-- what the code of a section does
+abbrev pub exec : Context → Code → Names → Words → Run → Out
+exec = exec_with block_read block_write
 
 -- what follows a read: w stands for its value in c, and a new content is put back
 abbrev pub after_read : Context → Name → Name → Option Data → Code → Names → Words → Vars → Data × Option Data → Run → Out

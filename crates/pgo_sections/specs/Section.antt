@@ -12,8 +12,8 @@ use Rattle.pgo_model.specs.Written.{pc}
 use Rattle.pgo_sections.specs.Among.{is_among}
 use Rattle.pgo_sections.specs.Code.{Code}
 use Rattle.pgo_sections.specs.Context.{Context}
-use Rattle.pgo_sections.specs.Exec.{exec}
 use Rattle.pgo_sections.specs.Held.{put_part, value_put}
+use Rattle.pgo_sections.specs.Macros.{exec}
 use Rattle.pgo_sections.specs.Run.{Run, begun, Out, Go, Jump, Gave, Stop}
 
 -- what a variable becomes where the section ends at this written label with these changes

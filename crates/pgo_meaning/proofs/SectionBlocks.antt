@@ -1,0 +1,348 @@
+-- Sections read and write mapped parameters by the blocks of mapping macros, which have no mapped parameters.
+use Rattle.std.proofs.Common.{◌≡◌, ℕ, suc, Bool, true, false, if◌then◌else◌, List, [], ◌∷◌, ◌++◌, Option, Some, None, refl, ap, subst}
+use Rattle.std.specs.List.{AllByRecursion}
+use Rattle.pgo_base.specs.Lookup.{Name, same_name, find}
+use Rattle.pgo_base.specs.Tree.{Tree, name, primed, number, text, truth, at, word, unary, binary, product, cond_of, case_of, case_other, let_in, quantified, choose, tuple, set_of, filter_of, image, fun_of, fun_set, record_of, record_set, except, index, field, call, unchanged, Trees, no_trees, more_trees, NamedTrees, no_named, more_named, TreePairs, no_arms, more_arms, BoundTrees, no_bound, more_bound, PathTrees, no_paths, more_paths}
+use Rattle.pgo_model.specs.Options.{on}
+use Rattle.pgo_model.specs.Written.{done}
+use Rattle.pgo_syntax.specs.Statement.{Statement, skip, assign, if_then, if_else, while_do, either_of, await_that, with_in, print_out, assert_that, go_to, call_macro, yield_as, block, Statements, no_statements, more_statements, LabeledStatements, no_labeled, more_labeled, GuardedStatements, no_guarded, more_guarded, labeled}
+use Rattle.pgo_syntax.specs.declared.archetype.Archetype.{Archetype}
+use Rattle.pgo_syntax.specs.declared.assignment.Assignment.{Assignment}
+use Rattle.pgo_syntax.specs.declared.assignment.Step.{Step}
+use Rattle.pgo_syntax.specs.declared.assignment.Step.TheVariants as step
+use Rattle.pgo_syntax.specs.declared.binding.Origin.{Origin}
+use Rattle.pgo_syntax.specs.declared.binding.Origin.TheVariants.{Equals, In}
+use Rattle.pgo_syntax.specs.declared.binding.WithName.{WithName}
+use Rattle.pgo_syntax.specs.declared.bound.Binding.{Binding}
+use Rattle.pgo_syntax.specs.declared.bound.Mapping.{Mapping}
+use Rattle.pgo_syntax.specs.declared.bound.Mapping.TheVariants as mappings
+use Rattle.pgo_syntax.specs.declared.bound.Target.{Target}
+use Rattle.pgo_syntax.specs.declared.bound.Target.TheVariants as targets
+use Rattle.pgo_syntax.specs.declared.macros.Macro.{Macro}
+use Rattle.pgo_syntax.specs.declared.name.PlacedName.{PlacedName}
+use Rattle.pgo_sections.specs.Access.{Mapped, MappedNames, Before, Pulled, pure, then_pull, place, name_alone, if_element, if_whole, element_of, index_tree, read_whole, read_element, pulled, pulled_all, pulled_arms, pulled_named, pulled_bound, pulled_paths, read_first, after, evaluated}
+use Rattle.pgo_sections.specs.Blocks.{AreBlocks, AllAreBlocks, IsBlock, HasBlocks}
+use Rattle.pgo_sections.specs.Code.{Place, Whole, Code, Skip, Let, Pick, Become, Set, Await, Assert, Print, If, Seq, Goto, Read, Write, in_turn, content_name, at_base, old_base, val_base}
+use Rattle.pgo_meaning.specs.Labels.{own, labelled, within, within_branches, within_arms, within_order}
+use Rattle.pgo_meaning.specs.MacrosPlaced.{unmarked, placed_among, bodies}
+use Rattle.pgo_meaning.specs.Parameters.{block_setting, block_code, reads_by, writes_by, by_element, mapped_of, all_mapped, setting_of}
+use Rattle.pgo_meaning.specs.Sections.{sections_of}
+use Rattle.pgo_meaning.specs.Statements.{Setting, Part, Index, Field, label_of, alone, index_of, to_variable, assigned, steps, assign_all, assignment_code, bind_name, bind_names, code, branches, arms, in_order}
+
+-- ---- what is read before an expression are mapped parameters
+module _ (mapped : MappedNames) (P : Mapped → Type 0) (from : (x : Name) (m : Mapped) → find x mapped ≡ Some m → P m) where
+  abbrev All : List Before → Type 0
+  All bs = AllByRecursion (λ b. P b.mapped) bs
+
+  two : (xs ys : List Before) → All xs → All ys → All (xs ++ ys)
+  two [] ys f g = g
+  two (x ∷ xs) ys f g = (f.0, two xs ys f.1 g)
+
+  abbrev AllOf : {A : Type 0} → Pulled A → Type 0
+  AllOf p = All p.reads
+
+  next : {A B : Type 0} (p : Pulled A) (f : A → ℕ → Pulled B) → AllOf p → ((a : A) (k : ℕ) → AllOf (f a k)) → AllOf (then_pull p f)
+  next p f h g = two p.reads (f p.rest p.used).reads h (g p.rest p.used)
+
+  none : {A : Type 0} (k : ℕ) (a : A) → AllOf (pure k a)
+  none k a = tt
+
+  -- one part, and two
+  one_part : {A B : Type 0} (p : Pulled A) (f : A → B) → AllOf p → AllOf (then_pull p (λ a k. pure k (f a)))
+  one_part p f h = next p (λ a k. pure k (f a)) h (λ a k. tt)
+
+  two_parts : {A B C : Type 0} (p : Pulled A) (q : ℕ → Pulled B) (f : A → B → C) → AllOf p → ((k : ℕ) → AllOf (q k)) → AllOf (then_pull p (λ a k1. then_pull (q k1) (λ b k2. pure k2 (f a b))))
+  two_parts p q f h g =
+      next p (λ a k1. then_pull (q k1) (λ b k2. pure k2 (f a b))) h (λ a k1. one_part (q k1) (f a) (g k1))
+
+  three_parts : {A B C D : Type 0} (p : Pulled A) (q : ℕ → Pulled B) (r : ℕ → Pulled C) (f : A → B → C → D) → AllOf p → ((k : ℕ) → AllOf (q k)) → ((k : ℕ) → AllOf (r k)) → AllOf (then_pull p (λ a k1. then_pull (q k1) (λ b k2. then_pull (r k2) (λ c k3. pure k3 (f a b c)))))
+  three_parts p q r f h g i =
+      next p (λ a k1. then_pull (q k1) (λ b k2. then_pull (r k2) (λ c k3. pure k3 (f a b c)))) h (λ a k1. two_parts (q k1) r (f a) (g k1) i)
+
+  whole_there : (x : Name) (o : Option Mapped) → find x mapped ≡ o → (m : Mapped) → if_whole o ≡ Some m → P m
+  whole_there x None e m h = absurd (cc)
+  whole_there x (Some q) e m h = go q.by_element h
+    where
+      go : (b : Bool) → (if b then None else Some q) ≡ Some m → P m
+      go true h = absurd (cc)
+      go false h = let same : q ≡ m = ap (λ o. elim o [ None ↦ q | Some z ↦ z ]) h in subst P same (from x q e)
+
+  element_there : (x : Name) (o : Option Mapped) → find x mapped ≡ o → (m : Mapped) → if_element o ≡ Some m → P m
+  element_there x None e m h = absurd (cc)
+  element_there x (Some q) e m h = go q.by_element h
+    where
+      go : (b : Bool) → (if b then Some q else None) ≡ Some m → P m
+      go false h = absurd (cc)
+      go true h = let same : q ≡ m = ap (λ o. elim o [ None ↦ q | Some z ↦ z ]) h in subst P same (from x q e)
+
+  alone_there : (o : Option Name) (m : Mapped) → on None o (λ x. if_element (find x mapped)) ≡ Some m → P m
+  alone_there None m h = absurd (cc)
+  alone_there (Some x) m h = element_there x (find x mapped) refl m h
+
+  name_all : (x : Name) (k : ℕ) (o : Option Mapped) → ((m : Mapped) → o ≡ Some m → P m) → AllOf (on (pure k (name x)) o (λ m. read_whole m k))
+  name_all x k None h = tt
+  name_all x k (Some m) h = (h m refl, tt)
+
+  index_all : (t i : Tree) (k : ℕ) (o : Option Mapped) → ((m : Mapped) → o ≡ Some m → P m) → AllOf (on (pure k t) o (λ m. read_element m i k))
+  index_all t i k None h = tt
+  index_all t i k (Some m) h = (h m refl, tt)
+
+  mutual
+    tree_all : (e : Tree) (k : ℕ) → AllOf (pulled mapped e k)
+    tree_all (name x) k = name_all x k (if_whole (find x mapped)) (λ m h. whole_there x (find x mapped) refl m h)
+    tree_all (primed x) k = tt
+    tree_all (number z) k = tt
+    tree_all (text s) k = tt
+    tree_all (truth b) k = tt
+    tree_all at k = tt
+    tree_all (word w) k = tt
+    tree_all (unary o a) k = one_part (pulled mapped a k) (unary o) (tree_all a k)
+    tree_all (binary o a b) k = two_parts (pulled mapped a k) (pulled mapped b) (binary o) (tree_all a k) (tree_all b)
+    tree_all (product ts) k = one_part (pulled_all mapped ts k) product (trees_all ts k)
+    tree_all (cond_of p a b) k =
+        three_parts (pulled mapped p k) (pulled mapped a) (pulled mapped b) cond_of (tree_all p k) (tree_all a) (tree_all b)
+    tree_all (case_of gs) k = one_part (pulled_arms mapped gs k) case_of (arms_all gs k)
+    tree_all (case_other gs e) k =
+        two_parts (pulled_arms mapped gs k) (pulled mapped e) case_other (arms_all gs k) (tree_all e)
+    tree_all (let_in ds e) k = two_parts (pulled_named mapped ds k) (pulled mapped e) let_in (named_all ds k) (tree_all e)
+    tree_all (quantified q bs p) k =
+        two_parts (pulled_bound mapped bs k) (pulled mapped p) (quantified q) (bound_all bs k) (tree_all p)
+    tree_all (choose x r p) k = two_parts (pulled mapped r k) (pulled mapped p) (choose x) (tree_all r k) (tree_all p)
+    tree_all (tuple ts) k = one_part (pulled_all mapped ts k) tuple (trees_all ts k)
+    tree_all (set_of ts) k = one_part (pulled_all mapped ts k) set_of (trees_all ts k)
+    tree_all (filter_of x r p) k = two_parts (pulled mapped r k) (pulled mapped p) (filter_of x) (tree_all r k) (tree_all p)
+    tree_all (image e x r) k =
+        two_parts (pulled mapped e k) (pulled mapped r) (λ e r. image e x r) (tree_all e k) (tree_all r)
+    tree_all (fun_of bs e) k = two_parts (pulled_bound mapped bs k) (pulled mapped e) fun_of (bound_all bs k) (tree_all e)
+    tree_all (fun_set a b) k = two_parts (pulled mapped a k) (pulled mapped b) fun_set (tree_all a k) (tree_all b)
+    tree_all (record_of ds) k = one_part (pulled_named mapped ds k) record_of (named_all ds k)
+    tree_all (record_set ds) k = one_part (pulled_named mapped ds k) record_set (named_all ds k)
+    tree_all (except f us) k = two_parts (pulled mapped f k) (pulled_paths mapped us) except (tree_all f k) (paths_all us)
+    tree_all (index f ts) k =
+        let last = λ (g : Tree) (us : Trees) (k2 : ℕ). on (pure k2 (index g us)) (element_of mapped f) (λ m. read_element m (index_tree us) k2) in
+        next (pulled mapped f k) (λ g k1. then_pull (pulled_all mapped ts k1) (λ us k2. last g us k2)) (tree_all f k) (λ g k1.
+        next (pulled_all mapped ts k1) (λ us k2. last g us k2) (trees_all ts k1) (λ us k2.
+        index_all (index g us) (index_tree us) k2 (element_of mapped f) (λ m h. alone_there (name_alone f) m h)))
+    tree_all (field r x) k = one_part (pulled mapped r k) (λ r. field r x) (tree_all r k)
+    tree_all (call x ts) k = one_part (pulled_all mapped ts k) (call x) (trees_all ts k)
+    tree_all (unchanged xs) k = tt
+
+    trees_all : (ts : Trees) (k : ℕ) → AllOf (pulled_all mapped ts k)
+    trees_all no_trees k = tt
+    trees_all (more_trees t ts) k =
+        two_parts (pulled mapped t k) (pulled_all mapped ts) more_trees (tree_all t k) (trees_all ts)
+
+    arms_all : (gs : TreePairs) (k : ℕ) → AllOf (pulled_arms mapped gs k)
+    arms_all no_arms k = tt
+    arms_all (more_arms g e gs) k =
+        three_parts (pulled mapped g k) (pulled mapped e) (pulled_arms mapped gs) more_arms (tree_all g k) (tree_all e) (arms_all gs)
+
+    named_all : (ds : NamedTrees) (k : ℕ) → AllOf (pulled_named mapped ds k)
+    named_all no_named k = tt
+    named_all (more_named x t ts) k =
+        two_parts (pulled mapped t k) (pulled_named mapped ts) (more_named x) (tree_all t k) (named_all ts)
+
+    bound_all : (bs : BoundTrees) (k : ℕ) → AllOf (pulled_bound mapped bs k)
+    bound_all no_bound k = tt
+    bound_all (more_bound xs r bs) k =
+        two_parts (pulled mapped r k) (pulled_bound mapped bs) (more_bound xs) (tree_all r k) (bound_all bs)
+
+    paths_all : (us : PathTrees) (k : ℕ) → AllOf (pulled_paths mapped us k)
+    paths_all no_paths k = tt
+    paths_all (more_paths ps e us) k =
+        three_parts (pulled_all mapped ps k) (pulled mapped e) (pulled_paths mapped us) more_paths (trees_all ps k) (tree_all e) (paths_all us)
+
+-- ---- statements
+module _ (s : Setting) (B : Code → Type 0) (from : (x : Name) (m : Mapped) → find x s.mapped ≡ Some m → B m.reads × B m.writes) where
+  abbrev Good : Code → Type 0
+  Good c = AreBlocks B c
+
+  first_good : (i : Option (Name × Tree)) (f : Option Name → Code) → ((j : Option Name) → Good (f j)) → Good (read_first i f)
+  first_good None f h = h None
+  first_good (Some i) f h = h (Some i.0)
+
+  after_good : (bs : List Before) (c : Code) → AllByRecursion (λ b. B b.mapped.reads × B b.mapped.writes) bs → Good c → Good (after bs c)
+  after_good [] c h g = g
+  after_good (b ∷ bs) c h g =
+      first_good b.index (λ i. Read b.value b.mapped.global i b.mapped.reads (after bs c)) (λ i. (h.0.0, after_good bs c h.1 g))
+
+  evaluated_good : (e : Tree) (k : ℕ) (f : Tree → ℕ → Code) → ((e : Tree) (k : ℕ) → Good (f e k)) → Good (evaluated s.mapped e k f)
+  evaluated_good e k f h =
+      let p = pulled s.mapped e k in
+      after_good p.reads (f p.rest p.used) (tree_all s.mapped (λ m. B m.reads × B m.writes) from e k) (h p.rest p.used)
+
+  variable_good : (x : Name) (path : List Part) (w : Name) (p : Place) → Good (to_variable s x path w p)
+  variable_good x [] w p = go s.is_block
+    where
+      go : (b : Bool) → Good (if b then Set old_base p (name w) else Become p w)
+      go true = tt
+      go false = tt
+  variable_good x (i ∷ path) w p = tt
+
+  assigned_good : (x : Name) (path : List Part) (w : Name) → Good (assigned s x path w)
+  assigned_good x path w = go (find x s.mapped) refl (find x s.places)
+    where
+      place_good : (o : Option Place) → Good (on Skip o (to_variable s x path w))
+      place_good None = tt
+      place_good (Some p) = variable_good x path w p
+
+      go : (o : Option Mapped) → find x s.mapped ≡ o → (q : Option Place) → Good (on (on Skip q (to_variable s x path w)) o (λ m. Write m.global (index_of path) w m.writes))
+      go None e q = place_good q
+      go (Some m) e q = (from x m e).1
+
+  steps_good : (path : List Step) (k : ℕ) (f : List Part → ℕ → Code) → ((ps : List Part) (k : ℕ) → Good (f ps k)) → Good (steps s path k f)
+  steps_good [] k f h = h [] k
+  steps_good (step.Index e ∷ path) k f h =
+      evaluated_good e k (λ e' k'. Let at_base (place k') e' (steps s path (suc k') (λ parts. f (Index (place k') ∷ parts)))) (λ e' k'. steps_good path (suc k') (λ parts. f (Index (place k') ∷ parts)) (λ ps j. h (Index (place k') ∷ ps) j))
+  steps_good (step.Field x ∷ path) k f h = steps_good path k (λ parts. f (Field x ∷ parts)) (λ ps j. h (Field x ∷ ps) j)
+
+  in_turn_good : (cs : List Code) → AllByRecursion Good cs → Good (in_turn cs)
+  in_turn_good [] h = tt
+  in_turn_good (c ∷ cs) h = (h.0, in_turn_good cs h.1)
+
+  last_good : (cs : List Code) (c : Code) → AllByRecursion Good cs → Good c → AllByRecursion Good (cs ++ c ∷ [])
+  last_good [] c h g = (g, tt)
+  last_good (d ∷ cs) c h g = (h.0, last_good cs c h.1 g)
+
+  all_good : (as' : List Assignment) (k : ℕ) (then' : List Code) → AllByRecursion Good then' → Good (assign_all s as' k then')
+  all_good [] k then' h = in_turn_good then' h
+  all_good (a ∷ as') k then' h =
+      let end = λ (path : List Part) (e : Tree) (k2 : ℕ). Let val_base (place k2) e (assign_all s as' (suc k2) (then' ++ assigned s a.left.name.name path (place k2) ∷ [])) in
+      steps_good a.left.path k (λ path k1. evaluated s.mapped a.right k1 (end path)) (λ path k1.
+      evaluated_good a.right k1 (end path) (λ e k2.
+      all_good as' (suc k2) (then' ++ assigned s a.left.name.name path (place k2) ∷ []) (last_good then' (assigned s a.left.name.name path (place k2)) h (assigned_good a.left.name.name path (place k2)))))
+
+  assignment_good : (as' : List Assignment) → Good (assignment_code s as')
+  assignment_good as' = go (if s.is_block then alone as' else None)
+    where
+      go : (o : Option Tree) → Good (on (assign_all s as' 0 []) o (λ e. Set old_base (Whole content_name) e))
+      go None = all_good as' 0 [] tt
+      go (Some e) = tt
+
+  name_good : (x : Name) (o : Origin) (c : Code) → Good c → Good (bind_name s x o c)
+  name_good x (Equals e) c h = evaluated_good e 0 (λ e' k. Let (unmarked x) x e' c) (λ e' k. h)
+  name_good x (In e) c h = evaluated_good e 0 (λ e' k. Pick (unmarked x) x e' c) (λ e' k. h)
+
+  names_good : (ws : List WithName) (c : Code) → Good c → Good (bind_names s ws c)
+  names_good [] c h = h
+  names_good (w ∷ ws) c h = name_good w.name.name w.origin (bind_names s ws c) (names_good ws c h)
+
+  mutual
+    code_good : (t : Statement) (l : Name) → Good (code s l t)
+    code_good (skip p) l = tt
+    code_good (assign p as') l = assignment_good as'
+    code_good (if_then p bs) l = branches_good bs l Skip tt
+    code_good (if_else p bs t) l = branches_good bs l (code s l t) (code_good t l)
+    code_good (while_do p e t) l =
+        evaluated_good e 0 (λ e' k. If e' (Seq (code s l t) (Goto l)) Skip) (λ e' k. ((code_good t l, tt), tt))
+    code_good (either_of p ts) l = arms_good ts l
+    code_good (await_that p e) l = evaluated_good e 0 (λ e' k. Await e') (λ e' k. tt)
+    code_good (with_in p ws t) l = names_good ws (code s l t) (code_good t l)
+    code_good (print_out p e) l = evaluated_good e 0 (λ e' k. Print e') (λ e' k. tt)
+    code_good (assert_that p e) l = evaluated_good e 0 (λ e' k. Assert e') (λ e' k. tt)
+    code_good (go_to p x) l = tt
+    code_good (call_macro p m es) l = tt
+    code_good (yield_as p e) l = tt
+    code_good (block p ls) l = order_good ls l
+
+    branches_good : (bs : GuardedStatements) (l : Name) (c : Code) → Good c → Good (branches s l bs c)
+    branches_good no_guarded l c h = h
+    branches_good (more_guarded p e t bs) l c h =
+        evaluated_good e 0 (λ e' k. If e' (code s l t) (branches s l bs c)) (λ e' k. (code_good t l, branches_good bs l c h))
+
+    arms_good : (ts : Statements) (l : Name) → AllAreBlocks B (arms s l ts)
+    arms_good no_statements l = tt
+    arms_good (more_statements t ts) l = (code_good t l, arms_good ts l)
+
+    order_good : (ls : LabeledStatements) (l : Name) → Good (in_order s l ls)
+    order_good no_labeled l = tt
+    order_good (more_labeled None t ls) l = (code_good t l, order_good ls l)
+    order_good (more_labeled (Some y) t ls) l = tt
+
+  -- ---- sections
+  abbrev AllGood : List (Name × Code) → Type 0
+  AllGood cs = AllByRecursion (λ c. Good c.1) cs
+
+  joined : (cs ds : List (Name × Code)) → AllGood cs → AllGood ds → AllGood (cs ++ ds)
+  joined [] ds h g = g
+  joined (c ∷ cs) ds h g = (h.0, joined cs ds h.1 g)
+
+  own_good : (x : Option PlacedName) (t : Statement) (c : Code) → Good c → AllGood (own s x t c)
+  own_good None t c h = tt
+  own_good (Some x) t c h = ((code_good t (label_of s.process x.name), h), tt)
+
+  mutual
+    within_good : (t : Statement) (l : Name) (c : Code) → Good c → AllGood (within s l t c)
+    within_good (skip p) l c h = tt
+    within_good (assign p as') l c h = tt
+    within_good (if_then p bs) l c h = within_branches_good bs l c h
+    within_good (if_else p bs t) l c h =
+        joined (within_branches s l bs c) (within s l t c) (within_branches_good bs l c h) (within_good t l c h)
+    within_good (while_do p e t) l c h = within_good t l (Goto l) tt
+    within_good (either_of p ts) l c h = within_arms_good ts l c h
+    within_good (await_that p e) l c h = tt
+    within_good (with_in p ws t) l c h = within_good t l c h
+    within_good (print_out p e) l c h = tt
+    within_good (assert_that p e) l c h = tt
+    within_good (go_to p x) l c h = tt
+    within_good (call_macro p m es) l c h = tt
+    within_good (yield_as p e) l c h = tt
+    within_good (block p ls) l c h = within_order_good ls l c h
+
+    within_branches_good : (bs : GuardedStatements) (l : Name) (c : Code) → Good c → AllGood (within_branches s l bs c)
+    within_branches_good no_guarded l c h = tt
+    within_branches_good (more_guarded p e t bs) l c h =
+        joined (within s l t c) (within_branches s l bs c) (within_good t l c h) (within_branches_good bs l c h)
+
+    within_arms_good : (ts : Statements) (l : Name) (c : Code) → Good c → AllGood (within_arms s l ts c)
+    within_arms_good no_statements l c h = tt
+    within_arms_good (more_statements t ts) l c h =
+        joined (within s l t c) (within_arms s l ts c) (within_good t l c h) (within_arms_good ts l c h)
+
+    within_order_good : (ls : LabeledStatements) (l : Name) (c : Code) → Good c → AllGood (within_order s l ls c)
+    within_order_good no_labeled l c h = tt
+    within_order_good (more_labeled x t ls) l c h =
+        let rest = Seq (in_order s l ls) c in
+        joined (own s x t rest ++ within s (labelled s l x) t rest) (within_order s l ls c) (joined (own s x t rest) (within s (labelled s l x) t rest) (own_good x t rest (order_good ls l, h)) (within_good t (labelled s l x) rest (order_good ls l, h))) (within_order_good ls l c h)
+
+-- ---- the blocks of mapping macros
+block_good : (b : List (Option PlacedName × Statement)) → IsBlock (block_code b)
+block_good b = order_good block_setting (λ c. ⊥) (λ x m h. absurd (let e : None ≡ Some m = h in cc)) (labeled b) []
+
+reads_good : (m : Mapping) → IsBlock (reads_by m)
+reads_good mappings.Identity = tt
+reads_good (mappings.Macro m) = block_good m.read
+
+writes_good : (m : Mapping) → IsBlock (writes_by m)
+writes_good mappings.Identity = tt
+writes_good (mappings.Macro m) = block_good m.write
+
+mapped_good : (bs : List Binding) (x : Name) (m : Mapped) → find x (all_mapped bs) ≡ Some m → IsBlock m.reads × IsBlock m.writes
+mapped_good [] x m h = absurd (cc)
+mapped_good (b ∷ bs) x m h = target b.target h (λ k. mapped_good bs x m k)
+  where
+    target : (t : Target) → find x (mapped_of b.parameter t (all_mapped bs)) ≡ Some m → (find x (all_mapped bs) ≡ Some m → IsBlock m.reads × IsBlock m.writes) → IsBlock m.reads × IsBlock m.writes
+    target (targets.Value e) h more = more h
+    target (targets.Global g e None) h more = more h
+    target (targets.Global g e (Some q)) h more = go (same_name x b.parameter) h
+      where
+        here : Mapped
+        here = record { global = g; by_element = by_element e; reads = reads_by q; writes = writes_by q }
+
+        go : (c : Bool) → (if c then Some here else find x (all_mapped bs)) ≡ Some m → IsBlock m.reads × IsBlock m.writes
+        go true h =
+            let same : here ≡ m = ap (λ o. elim o [ None ↦ here | Some z ↦ z ]) h in
+            subst (λ (z : Mapped). IsBlock z.reads × IsBlock z.writes) same (reads_good q, writes_good q)
+        go false h = more h
+
+found_good : (cs : List (Name × Code)) (l : Name) (c : Code) → AllByRecursion (λ c. HasBlocks c.1) cs → find l cs ≡ Some c → HasBlocks c
+found_good [] l c h e = absurd (cc)
+found_good (x ∷ cs) l c h e = go (same_name l x.0) e (λ k. found_good cs l c h.1 k)
+  where
+    go : (b : Bool) → (if b then Some x.1 else find l cs) ≡ Some c → (find l cs ≡ Some c → HasBlocks c) → HasBlocks c
+    go true e more = let same : x.1 ≡ c = ap (λ o. elim o [ None ↦ x.1 | Some z ↦ z ]) e in subst HasBlocks same h.0
+    go false e more = more e
+
+pub section_has_blocks : (ms : List Macro) (p : Name) (a : Archetype) (bs : List Binding) (l : Name) (c : Code) → find l (sections_of ms p a bs) ≡ Some c → HasBlocks c
+section_has_blocks ms p a bs l c h =
+    found_good (sections_of ms p a bs) l c (within_order_good (setting_of p a bs) IsBlock (mapped_good bs) (placed_among (bodies ms) (labeled a.body)) [] (Goto done) tt) h
