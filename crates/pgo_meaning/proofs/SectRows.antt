@@ -1,4 +1,4 @@
--- What sections do is what the reference says.
+-- What the sections of these specifications do on states with words of choice, as the same reading worked it out.
 use Rattle.std.specs.Prelude.{◌≡◌, pos, negsuc, [], ◌∷◌, Some, None, codes, refl}
 use Rattle.pgo_base.specs.declared.expr.Infix.TheVariants as infixs
 use Rattle.pgo_base.specs.Data.{integer, string, model, function, pairs}
@@ -128,5 +128,3 @@ row_whole_mapped_0 = refl
 row_whole_mapped_1 : row_of ([]) (codes "P") (archetype (codes "A") ([]) (((Some (placed_name (codes "l"))), (assign 0 ((assignment (codes "v") ([]) (number (pos 7))) ∷ []))) ∷ [])) ((binding (codes "v") (targets.Global (codes "x") extents.Whole (Some (Macro (mapping (codes "Log") ((None, (yield_as 0 (name (codes "$variable")))) ∷ []) ((None, (yield_as 0 (call (codes "Append") (trees ((name (codes "$variable")) ∷ (name (codes "$value")) ∷ []))))) ∷ [])))))) ∷ []) ((codes "x") ∷ []) ([]) ((Given (codes "defaultInitValue") (model (codes "defaultInitValue"))) ∷ []) (integer (pos 1)) (((codes "x"), (function (pairs ([])))) ∷ ((codes "pc"), (function (pairs (((integer (pos 1)), (string (codes "P_l"))) ∷ [])))) ∷ []) (codes "P_l") (860 ∷ 476 ∷ 794 ∷ 965 ∷ 255 ∷ 664 ∷ [])
     ≡ Some (record { trace = (((codes "x"), None) ∷ []); end = (Next (((codes "x"), (function (pairs (((integer (pos 1)), (integer (pos 7))) ∷ [])))) ∷ ((codes "pc"), (function (pairs (((integer (pos 1)), (string (codes "Done"))) ∷ [])))) ∷ []) ([])) })
 row_whole_mapped_1 = refl
-
--- 29 rows

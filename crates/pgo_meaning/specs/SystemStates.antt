@@ -23,8 +23,8 @@ IsDeclared b g = (n : ℕ) × (d : Declaration) × (nth b.spec.globals n ≡ Som
 abbrev pub HasWhole : Bound → Name → Type 0
 HasWhole b g = (n : ℕ) × (r : Resource) × (nth b.resources n ≡ Some r) × (r.global ≡ g) × (index_in r ≡ None)
 
--- what the instances are bound to and what the resources are of are declared globals; of a global that is bound as a whole there is a
--- resource as a whole, of one that is bound by element there is none, and of one that is not bound there is no resource
+-- what the instances are bound to and what the resources are of are declared globals; of a global that is bound as a whole there
+-- is a resource as a whole, of one that is bound by element there is none, and of one that is not bound there is no resource
 pub record GlobalsBound (b : Bound) : Type 0 where
   pub bound : (k n : ℕ) (i : Instance) (g : Name) → nth b.instances k ≡ Some i → nth (globals_in i.bindings) n ≡ Some g → IsDeclared b g
   pub shared : (n : ℕ) (r : Resource) → nth b.resources n ≡ Some r → IsDeclared b r.global
