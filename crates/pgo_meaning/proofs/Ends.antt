@@ -70,7 +70,7 @@ module _ (b : Bound) (k : ℕ) (i : Instance) (s : Vars) (d : Words) (t : Vars) 
   end_of_code None e = absurd (grind (arith, e))
   end_of_code (Some c) e = (c, refl, e)
 
-  end_at : (o : Option Data) (c : Code) → code_at b i o ≡ Some c → (l : Name) × (find l (sections_at b i) ≡ Some c)
+  pub end_at : (o : Option Data) (c : Code) → code_at b i o ≡ Some c → (l : Name) × (find l (sections_at b i) ≡ Some c)
   end_at None c e = absurd (grind (arith, e))
   end_at (Some (string l)) c e = (l, e)
   end_at (Some (boolean z)) c e = absurd (grind (arith, e))

@@ -2,10 +2,11 @@ pub mod RowTools
 mod Rows
 mod SectRows
 mod StepRows
-pub mod SectionBlocks
+pub mod SectionCode
 pub mod Trees
 pub mod SystemStates
 pub mod BoundKinds
 pub mod LabelSections
 pub mod MacroUse
 pub mod Ends
+pub mod Traces

@@ -53,7 +53,7 @@ target_bound g (targets.Global x e m) f h = go (same_name g x) refl h
     go false q k = absurd (grind (arith, k))
 
 module _ (b : Bound) where
-  bound_kind : (i : Instance) (g : Name) → IsAmong i b.instances → IsAmong g (globals_in i.bindings) → kind_in b g ≡ Unbound → ⊥
+  pub bound_kind : (i : Instance) (g : Name) → IsAmong i b.instances → IsAmong g (globals_in i.bindings) → kind_in b g ≡ Unbound → ⊥
   bound_kind i g hi hg =
       let x = from_filter_map (λ x. global_in x.target) g i.bindings hg in
       let e = target_binds g x.0.target x.2 in

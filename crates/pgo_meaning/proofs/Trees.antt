@@ -24,7 +24,7 @@ use Rattle.pgo_sections.specs.Expansion.{Path}
 use Rattle.pgo_meaning.specs.TreesAgree.{Named, TreesAgree, AllTreesAgree, sections_at, expansions_at}
 use Rattle.pgo_meaning.specs.Sect.{context_of, code_at, nothing, Sect, Allows}
 use Rattle.pgo_meaning.specs.TreeAllows.{around, TreeAllows}
-use Rattle.pgo_meaning.proofs.SectionBlocks.{section_has_blocks}
+use Rattle.pgo_meaning.proofs.SectionCode.{section_has_blocks}
 
 find_map : {A B : Type 0} → (f : A → B) (l : List (Name × A)) (x : Name) → find x (map (λ c. (c.0, f c.1)) l) ≡ option_map f (find x l)
 find_map f [] x = refl

@@ -2,7 +2,8 @@
 // system that runs.
 #![tactic(auto)]
 
-ghost use Rattle.std.specs.Prelude.{◌≡◌, ◌↔◌, ℕ, List, map, Option, Some, None};
+ghost use Rattle.std.specs.Prelude.{◌≡◌, ◌↔◌, ℕ, true, List, map, Option, Some, None};
+ghost use Rattle.std.specs.List.{AllByRecursion};
 ghost use Rattle.pgo_base.specs.Data.{Data, string};
 ghost use Rattle.pgo_base.specs.Lookup.{Name, Names, Vars, find};
 ghost use Rattle.pgo_base.specs.declared.module.Defined.{Defined};
@@ -10,6 +11,7 @@ ghost use Rattle.pgo_model.specs.Machine.{nth};
 ghost use Rattle.pgo_model.specs.Outcome.{Next};
 ghost use Rattle.pgo_model.specs.State.{AllValues};
 ghost use Rattle.pgo_model.specs.System.{Words};
+ghost use Rattle.pgo_model.specs.SystemFits.{AreOfResources};
 ghost use Rattle.pgo_model.specs.SystemState.{IsSystemState};
 ghost use Rattle.pgo_model.specs.Written.{pc};
 ghost use Rattle.pgo_syntax.specs.Statement.{labeled};
@@ -22,6 +24,7 @@ ghost use Rattle.pgo_bound.specs.BoundOf.{bound_of};
 ghost use Rattle.pgo_bound.specs.Declares.{value_in};
 ghost use Rattle.pgo_bound.specs.Sound.{Sound, IsLabel, labels_among};
 ghost use Rattle.pgo_bound.specs.State.{IsState, IsStateOnDomains, id_of};
+ghost use Rattle.pgo_sections.specs.Among.{is_among};
 ghost use Rattle.pgo_sections.specs.Code.{Code, Read, Write};
 ghost use Rattle.pgo_sections.specs.Exec.{Gives, if_gives, touching};
 ghost use Rattle.pgo_sections.specs.Held.{held, value_under};
@@ -34,12 +37,12 @@ ghost use Rattle.pgo_meaning.specs.Macros.{MacRead, MacWrite};
 ghost use Rattle.pgo_meaning.specs.Parameters.{reads_by, writes_by};
 ghost use Rattle.pgo_meaning.specs.Sect.{context_of, Sect, Allows};
 ghost use Rattle.pgo_meaning.specs.Statements.{label_of};
-ghost use Rattle.pgo_meaning.specs.System.{system_of};
+ghost use Rattle.pgo_meaning.specs.System.{globals_in, system_of};
 ghost use Rattle.pgo_meaning.specs.SystemStates.{GlobalsBound, RefsDeclared};
 ghost use Rattle.pgo_meaning.specs.TreeAllows.{TreeAllows};
 ghost use Rattle.pgo_meaning.specs.TreesAgree.{Named, OwnLabels, sections_at, expansions_at};
 
-use pgo_sections::{ends_keep, sections_agree};
+use pgo_sections::{sections_agree, sections_keep};
 
 /// The law of the expansions of a bound specification, over all states.
 ///
@@ -98,7 +101,23 @@ pub fn ends_are_states()
     ensures state { (b : Bound) (k : ℕ) (i : Instance) (s t : Vars) (d : Words) (prints : List Data) → nth b.instances k ≡ Some i → KeepsElements b i → IsState b s → (Sect b k s d).end ≡ Next t prints → AllValues t → IsState b t }
     ensures domains { (b : Bound) (k : ℕ) (i : Instance) (s t : Vars) (d : Words) (prints : List Data) → nth b.instances k ≡ Some i → KeepsElements b i → IsStateOnDomains b s → (Sect b k s d).end ≡ Next t prints → AllValues t → IsStateOnDomains b t }
 {
-    ends_keep();
+    sections_keep();
+}
+
+/// What sections read and write.
+///
+/// - `resources`: on a state in which each element-bound global has the domain that it starts with, resources alone.
+/// - `bound`: nothing but globals that the instance is bound to.
+///
+/// The premises are that the bound specification is sound, and what the rules on names and binding give (`KeepsElements`,
+/// `GlobalsBound`).
+///
+/// Source: this project's choice.
+pub fn sections_touch()
+    ensures resources { (b : Bound) (k : ℕ) (i : Instance) (s : Vars) (d : Words) → nth b.instances k ≡ Some i → Sound b → GlobalsBound b → KeepsElements b i → IsStateOnDomains b s → AreOfResources (system_of b).resources (Sect b k s d).trace }
+    ensures bound { (b : Bound) (k : ℕ) (i : Instance) (s : Vars) (d : Words) → nth b.instances k ≡ Some i → KeepsElements b i → AllByRecursion (λ c. is_among c.0 (globals_in i.bindings) ≡ true) (Sect b k s d).trace }
+{
+    sections_keep();
 }
 
 /// A state of a bound specification, with the domains that element-bound globals start with, is a state of its system, and

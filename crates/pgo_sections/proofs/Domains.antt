@@ -21,7 +21,7 @@ use Rattle.pgo_sections.specs.Agrees.{keys as names_of}
 use Rattle.pgo_sections.specs.Among.{is_among}
 use Rattle.pgo_sections.specs.Code.{Whole, variable_of, Code, Skip, Let, Pick, Become, Set, Await, Assert, Print, If, Either, Seq, Goto, Yield, Read, Write, Codes, no_codes, more_codes}
 use Rattle.pgo_sections.specs.Context.{Context, content, index_value, put_content, put_new, value_now, value_of, with_content}
-use Rattle.pgo_sections.specs.Domains.{HasIndex, ByElements, AllByElements, KeepsDomain, place, own, elements}
+use Rattle.pgo_sections.specs.Domains.{AllUse, HasIndex, ByElements, KeepsDomain, place, own, elements}
 use Rattle.pgo_sections.specs.Exec.{MacroEnd, Gives, Stops, used_up, if_gives, touching, looking, becoming, count, exec_arm_with}
 use Rattle.pgo_sections.specs.Macros.{block_read, block_write, exec}
 use Rattle.pgo_sections.specs.Held.{held, value_under, put_part, value_put}
@@ -31,7 +31,7 @@ use Rattle.pgo_sections.proofs.Closing.{closed_at, closed_keys, found_among, not
 use Rattle.pgo_sections.proofs.Iff.{some_is}
 
 -- ---- EXCEPT keeps the domain
-same_of : (x y : Data) → same_data x y ≡ true → x ≡ y
+pub same_of : (x y : Data) → same_data x y ≡ true → x ≡ y
 same_of x y h = go (data_cmp x y) refl h
   where
     go : (o : Ordering) → data_cmp x y ≡ o → is_eq o ≡ true → x ≡ y
@@ -80,7 +80,7 @@ part_keeps ks i f (Some w) g h e =
     subst (λ ks. IsFunctionOn ks (Some g)) h.2 (put_keeps i w h.0 g at_f)
 
 -- ---- along a section
-held_is : (o : Option Data) (v : Data) → held o ≡ Some v → o ≡ Some v
+pub held_is : (o : Option Data) (v : Data) → held o ≡ Some v → o ≡ Some v
 held_is None v h = absurd (grind (arith, h))
 held_is (Some w) v h = go (set_from (w ∷ [])) h
   where
@@ -89,14 +89,14 @@ held_is (Some w) v h = go (set_from (w ∷ [])) h
     go (Some s) h = h
 
 module _ (k : Context) where
-  abbrev Starts : Name → List Data → Type 0
+  abbrev pub Starts : Name → List Data → Type 0
   Starts g ks = IsFunctionOn ks (find g k.start)
 
   -- a global that is bound by element has the domain of its start
-  abbrev Kept : Vars → Type 0
+  abbrev pub Kept : Vars → Type 0
   Kept ch = (g : Name) (ks : List Data) (v : Data) → k.by_element g ≡ true → Starts g ks → find g ch ≡ Some v → IsFunctionOn ks (Some v)
 
-  abbrev KeptBy : Out → Type 0
+  abbrev pub KeptBy : Out → Type 0
   KeptBy (Go run) = Kept run.changes
   KeptBy (Jump l run) = Kept run.changes
   KeptBy (Gave v run) = Unit {0}
@@ -141,14 +141,14 @@ module _ (k : Context) where
       go true e q = subst (IsFunctionOn ks) q (same ks (subst (λ z. Starts z ks) (same_name-is g x e) starts))
       go false e q = h g ks v by starts q
 
-  now_on : (g : Name) (ks : List Data) (ch : Vars) → k.by_element g ≡ true → Starts g ks → Kept ch → IsFunctionOn ks (value_now k (Whole g) ch)
+  pub now_on : (g : Name) (ks : List Data) (ch : Vars) → k.by_element g ≡ true → Starts g ks → Kept ch → IsFunctionOn ks (value_now k (Whole g) ch)
   now_on g ks ch by starts h = go (find g ch) refl
     where
       go : (o : Option Data) → find g ch ≡ o → IsFunctionOn ks (on (find g k.start) o (λ v. Some v))
       go None e = starts
       go (Some v) e = h g ks v by starts e
 
-  put_kept : (g : Name) (i : Option Name) (j : Option Data) (env : Names) (v : Option Data) (ch ch' : Vars) → HasIndex k.by_element g i → index_value i env ≡ Some j → Kept ch → put_content k g j v ch ≡ Some ch' → Kept ch'
+  pub put_kept : (g : Name) (i : Option Name) (j : Option Data) (env : Names) (v : Option Data) (ch ch' : Vars) → HasIndex k.by_element g i → index_value i env ≡ Some j → Kept ch → put_content k g j v ch ≡ Some ch' → Kept ch'
   put_kept g i j env v ch ch' has at_j h e = go (held (with_content k g j v ch)) refl e
     where
       by_element : (w : Data) (i : Option Name) (j : Option Data) → HasIndex k.by_element g i → index_value i env ≡ Some j → held (with_content k g j v ch) ≡ Some w → (b : Bool) → k.by_element g ≡ b → Kept ((g, w) ∷ ch)
@@ -166,12 +166,12 @@ module _ (k : Context) where
       go None q e = absurd (grind (arith, e))
       go (Some w) q e = subst Kept (some_is ((g, w) ∷ ch) ch' e) (by_element w i j has at_j q (k.by_element g) refl)
 
-  new_kept : (g : Name) (i : Option Name) (j : Option Data) (env : Names) (v : Option Data) (ch ch' : Vars) → HasIndex k.by_element g i → index_value i env ≡ Some j → Kept ch → put_new k g j v ch ≡ Some ch' → Kept ch'
+  pub new_kept : (g : Name) (i : Option Name) (j : Option Data) (env : Names) (v : Option Data) (ch ch' : Vars) → HasIndex k.by_element g i → index_value i env ≡ Some j → Kept ch → put_new k g j v ch ≡ Some ch' → Kept ch'
   new_kept g i j env None ch ch' has at_j h e = subst Kept (some_is ch ch' e) h
   new_kept g i j env (Some v) ch ch' has at_j h e = put_kept g i j env (Some v) ch ch' has at_j h e
 
   mutual
-    kept_by : (c : Code) (env : Names) (d : Words) (run : Run) → ByElements k.by_element c → Kept run.changes → KeptBy (exec k c env d run)
+    pub kept_by : (c : Code) (env : Names) (d : Words) (run : Run) → ByElements k.by_element c → Kept run.changes → KeptBy (exec k c env d run)
     kept_by Skip env d run b h = h
     kept_by (Let x w e c) env d run b h =
         let now = looking k e run in
@@ -221,7 +221,7 @@ module _ (k : Context) where
         value_kept (put_content k g j (Some new) run.changes) then' (end then') (λ ch put.
         put_kept g i j env (Some new) run.changes ch b at_j h put)))))
 
-    kept_by_arm : (cs : Codes) (i : ℕ) (env : Names) (d : Words) (run : Run) → AllByElements k.by_element cs → Kept run.changes → KeptBy (exec_arm_with block_read block_write k cs i env d run)
+    kept_by_arm : (cs : Codes) (i : ℕ) (env : Names) (d : Words) (run : Run) → AllUse (λ p. k.by_element (variable_of p) ≡ false) (HasIndex k.by_element) cs → Kept run.changes → KeptBy (exec_arm_with block_read block_write k cs i env d run)
     kept_by_arm no_codes i env d run b h = tt
     kept_by_arm (more_codes c cs) zero env d run b h = kept_by c env d run b.0 h
     kept_by_arm (more_codes c cs) (suc i) env d run b h = kept_by_arm cs i env d run b.1 h
@@ -310,7 +310,7 @@ module _ (k : Context) where
       go false among =
           subst (IsFunctionOn ks) (sym now.1) (own_keeps l x ks ch (function starts.0) now.0 among (subst (IsFunctionOn ks) starts.1 starts) at_t)
 
-  begins_kept : Kept []
+  pub begins_kept : Kept []
   begins_kept g ks v by starts found = absurd (grind (arith, found))
 
   pub variables_kept : (c : Code) (d : Words) (t : Vars) (prints : List Data) → (section k c d).end ≡ Next t prints → (names_of t ≡ names_of k.start) × (is_shallow t ≡ true)

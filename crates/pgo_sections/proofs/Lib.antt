@@ -12,3 +12,4 @@ pub mod Closed
 pub mod PlainTest
 pub mod Macros
 pub mod Domains
+pub mod Traces

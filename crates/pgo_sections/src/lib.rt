@@ -2,6 +2,7 @@
 #![tactic(auto)]
 
 ghost use Rattle.std.specs.Prelude.{◌≡◌, ◌<◌, ◌^◌, ◌↔◌, true, false, ℕ, List, [], ◌∷◌, Option, Some, None};
+ghost use Rattle.std.specs.List.{AllByRecursion};
 ghost use Rattle.pgo_base.specs.Data.{Data};
 ghost use Rattle.pgo_base.specs.Lookup.{Name, Names, Vars, find};
 ghost use Rattle.pgo_model.specs.Outcome.{Next};
@@ -16,7 +17,7 @@ ghost use Rattle.pgo_sections.specs.Blocks.{HasBlocks};
 ghost use Rattle.pgo_sections.specs.Closed.{AreClosed};
 ghost use Rattle.pgo_sections.specs.Code.{Code, Place, Read, Write};
 ghost use Rattle.pgo_sections.specs.Context.{Context};
-ghost use Rattle.pgo_sections.specs.Domains.{ByElements, KeepsDomain};
+ghost use Rattle.pgo_sections.specs.Domains.{ByElements, IsEvent, KeepsDomain, UsesOnly};
 ghost use Rattle.pgo_sections.specs.Exec.{if_gives, touching};
 ghost use Rattle.pgo_sections.specs.Expand.{expansion};
 ghost use Rattle.pgo_sections.specs.Expansion.{Around, Path};
@@ -45,16 +46,19 @@ pub fn sections_agree()
     ensures writes { (k : Context) (w g : Name) (i : Option Name) (block : Code) (env : Names) (d : Words) (run : Run) (j : Option Data) (old v : Data) → IsMapped k g i env run.changes j old → value_under w env ≡ Some v → exec k (Write g i w block) env d run ≡ if_gives (block_write block k.defs k.id old v d run.used) (touching k g j run) (after_write k g j run.changes) }
 {}
 
-/// What of a state the end of a section keeps.
+/// What of a state the end of a section keeps, and what a section reads and writes.
 ///
 /// - `variables`: it has the variables of the start, in their order, and none of their values is more than 256 deep.
 /// - `domains`: a variable that is a function stays one on its domain, if it is `pc`, or no global, or a global that is bound
 ///   by element, where the code changes these by their elements alone (`ByElements`).
+/// - `traces`: where the code's parameters are of given globals (`UsesOnly`), each read and write is of one of these: as a
+///   whole, or, of a global that is bound by element, of an element in its domain.
 ///
 /// Source: this project's choice.
-pub fn ends_keep()
+pub fn sections_keep()
     ensures variables { (k : Context) (c : Code) (d : Words) (t : Vars) (prints : List Data) → (section k c d).end ≡ Next t prints → (keys t ≡ keys k.start) × (is_shallow t ≡ true) }
     ensures domains { (k : Context) (c : Code) (d : Words) (t : Vars) (prints : List Data) (x : Name) (ids : List Data) → ByElements k.by_element c → (section k c d).end ≡ Next t prints → KeepsDomain k x → IsFunctionOn ids (find x k.start) → IsFunctionOn ids (find x t) }
+    ensures traces { (k : Context) (gs : List Name) (c : Code) (d : Words) → UsesOnly k gs c → ByElements k.by_element c → AllByRecursion (IsEvent k gs) (section k c d).trace }
 {}
 
 /// The tests for well-formed names, which compute, say no more than holds.

@@ -1,4 +1,4 @@
--- Sections read and write mapped parameters by the blocks of mapping macros, which have no mapped parameters.
+-- What holds of the code of statements, where it holds of its parts; so of the sections of a process.
 use Rattle.std.proofs.Common.{◌≡◌, ℕ, suc, Bool, true, false, if◌then◌else◌, List, [], ◌∷◌, ◌++◌, Option, Some, None, refl, ap, subst}
 use Rattle.std.specs.List.{AllByRecursion}
 use Rattle.pgo_base.specs.Lookup.{Name, same_name, find}
@@ -22,12 +22,12 @@ use Rattle.pgo_syntax.specs.declared.macros.Macro.{Macro}
 use Rattle.pgo_syntax.specs.declared.name.PlacedName.{PlacedName}
 use Rattle.pgo_sections.specs.Access.{Mapped, MappedNames, Before, Pulled, pure, then_pull, place, name_alone, if_element, if_whole, element_of, index_tree, read_whole, read_element, pulled, pulled_all, pulled_arms, pulled_named, pulled_bound, pulled_paths, read_first, after, evaluated}
 use Rattle.pgo_sections.specs.Blocks.{AreBlocks, AllAreBlocks, IsBlock, HasBlocks}
-use Rattle.pgo_sections.specs.Code.{Place, Whole, Code, Skip, Let, Pick, Become, Set, Await, Assert, Print, If, Seq, Goto, Read, Write, in_turn, content_name, at_base, old_base, val_base}
+use Rattle.pgo_sections.specs.Code.{Place, Whole, variable_of, Code, Skip, Let, Pick, Become, Set, Await, Assert, Print, If, Either, Seq, Goto, Yield, Read, Write, Codes, no_codes, more_codes, in_turn, content_name, at_base, old_base, val_base}
 use Rattle.pgo_meaning.specs.Labels.{own, labelled, within, within_branches, within_arms, within_order}
 use Rattle.pgo_meaning.specs.MacrosPlaced.{unmarked, placed_among, bodies}
 use Rattle.pgo_meaning.specs.Parameters.{block_setting, block_code, reads_by, writes_by, by_element, mapped_of, all_mapped, setting_of}
 use Rattle.pgo_meaning.specs.Sections.{sections_of}
-use Rattle.pgo_meaning.specs.Statements.{Setting, Part, Index, Field, label_of, alone, index_of, to_variable, assigned, steps, assign_all, assignment_code, bind_name, bind_names, code, branches, arms, in_order}
+use Rattle.pgo_meaning.specs.Statements.{Setting, Part, Index, Field, changed, label_of, alone, index_of, to_variable, assigned, steps, assign_all, assignment_code, bind_name, bind_names, code, branches, arms, in_order}
 
 -- ---- what is read before an expression are mapped parameters
 module _ (mapped : MappedNames) (P : Mapped → Type 0) (from : (x : Name) (m : Mapped) → find x mapped ≡ Some m → P m) where
@@ -153,52 +153,76 @@ module _ (mapped : MappedNames) (P : Mapped → Type 0) (from : (x : Name) (m : 
         three_parts (pulled_all mapped ps k) (pulled mapped e) (pulled_paths mapped us) more_paths (trees_all ps k) (tree_all e) (paths_all us)
 
 -- ---- statements
-module _ (s : Setting) (B : Code → Type 0) (from : (x : Name) (m : Mapped) → find x s.mapped ≡ Some m → B m.reads × B m.writes) where
-  abbrev Good : Code → Type 0
-  Good c = AreBlocks B c
+
+-- what is shown of all code that statements make
+pub record Holds (s : Setting) (Good : Code → Type 0) (Arms : Codes → Type 0) : Type 0 where
+  pub skips : Good Skip
+  pub lets : (b w : Name) (e : Tree) (c : Code) → Good c → Good (Let b w e c)
+  pub picks : (b w : Name) (e : Tree) (c : Code) → Good c → Good (Pick b w e c)
+  pub becomes : (x : Name) (p : Place) (w : Name) → find x s.places ≡ Some p → Good (Become p w)
+  pub sets : (b x : Name) (p : Place) (e : Tree) → find x s.places ≡ Some p → Good (Set b p e)
+  pub contents : s.is_block ≡ true → (e : Tree) → Good (Set old_base (Whole content_name) e)
+  pub awaits : (e : Tree) → Good (Await e)
+  pub asserts : (e : Tree) → Good (Assert e)
+  pub prints : (e : Tree) → Good (Print e)
+  pub ifs : (e : Tree) (c d : Code) → Good c → Good d → Good (If e c d)
+  pub eithers : (cs : Codes) → Arms cs → Good (Either cs)
+  pub seqs : (c d : Code) → Good c → Good d → Good (Seq c d)
+  pub gotos : (l : Name) → Good (Goto l)
+  pub yields : (e : Tree) → Good (Yield e)
+  pub reads : (x : Name) (m : Mapped) (w : Name) (i : Option Name) (c : Code) → find x s.mapped ≡ Some m → Good c → Good (Read w m.global i m.reads c)
+  pub writes : (x : Name) (m : Mapped) (i : Option Name) (w : Name) → find x s.mapped ≡ Some m → Good (Write m.global i w m.writes)
+  pub no_arms : Arms no_codes
+  pub more_arms : (c : Code) (cs : Codes) → Good c → Arms cs → Arms (more_codes c cs)
+
+module _ (s : Setting) (Good : Code → Type 0) (Arms : Codes → Type 0) (holds : Holds s Good Arms) where
+  abbrev Here : Mapped → Type 0
+  Here m = (x : Name) × (find x s.mapped ≡ Some m)
 
   first_good : (i : Option (Name × Tree)) (f : Option Name → Code) → ((j : Option Name) → Good (f j)) → Good (read_first i f)
   first_good None f h = h None
-  first_good (Some i) f h = h (Some i.0)
+  first_good (Some i) f h = holds.lets at_base i.0 i.1 (f (Some i.0)) (h (Some i.0))
 
-  after_good : (bs : List Before) (c : Code) → AllByRecursion (λ b. B b.mapped.reads × B b.mapped.writes) bs → Good c → Good (after bs c)
+  after_good : (bs : List Before) (c : Code) → AllByRecursion (λ b. Here b.mapped) bs → Good c → Good (after bs c)
   after_good [] c h g = g
   after_good (b ∷ bs) c h g =
-      first_good b.index (λ i. Read b.value b.mapped.global i b.mapped.reads (after bs c)) (λ i. (h.0.0, after_good bs c h.1 g))
+      first_good b.index (λ i. Read b.value b.mapped.global i b.mapped.reads (after bs c)) (λ i. holds.reads h.0.0 b.mapped b.value i (after bs c) h.0.1 (after_good bs c h.1 g))
 
   evaluated_good : (e : Tree) (k : ℕ) (f : Tree → ℕ → Code) → ((e : Tree) (k : ℕ) → Good (f e k)) → Good (evaluated s.mapped e k f)
   evaluated_good e k f h =
       let p = pulled s.mapped e k in
-      after_good p.reads (f p.rest p.used) (tree_all s.mapped (λ m. B m.reads × B m.writes) from e k) (h p.rest p.used)
+      after_good p.reads (f p.rest p.used) (tree_all s.mapped Here (λ x m h. (x, h)) e k) (h p.rest p.used)
 
-  variable_good : (x : Name) (path : List Part) (w : Name) (p : Place) → Good (to_variable s x path w p)
-  variable_good x [] w p = go s.is_block
+  variable_good : (x : Name) (path : List Part) (w : Name) (p : Place) → find x s.places ≡ Some p → Good (to_variable s x path w p)
+  variable_good x [] w p h = go s.is_block
     where
       go : (b : Bool) → Good (if b then Set old_base p (name w) else Become p w)
-      go true = tt
-      go false = tt
-  variable_good x (i ∷ path) w p = tt
+      go true = holds.sets old_base x p (name w) h
+      go false = holds.becomes x p w h
+  variable_good x (i ∷ path) w p h =
+      holds.sets (if s.is_block then old_base else variable_of p) x p (changed x (i ∷ path) w) h
 
   assigned_good : (x : Name) (path : List Part) (w : Name) → Good (assigned s x path w)
-  assigned_good x path w = go (find x s.mapped) refl (find x s.places)
+  assigned_good x path w = go (find x s.mapped) refl (find x s.places) refl
     where
-      place_good : (o : Option Place) → Good (on Skip o (to_variable s x path w))
-      place_good None = tt
-      place_good (Some p) = variable_good x path w p
+      place_good : (o : Option Place) → find x s.places ≡ o → Good (on Skip o (to_variable s x path w))
+      place_good None e = holds.skips
+      place_good (Some p) e = variable_good x path w p e
 
-      go : (o : Option Mapped) → find x s.mapped ≡ o → (q : Option Place) → Good (on (on Skip q (to_variable s x path w)) o (λ m. Write m.global (index_of path) w m.writes))
-      go None e q = place_good q
-      go (Some m) e q = (from x m e).1
+      go : (o : Option Mapped) → find x s.mapped ≡ o → (q : Option Place) → find x s.places ≡ q → Good (on (on Skip q (to_variable s x path w)) o (λ m. Write m.global (index_of path) w m.writes))
+      go None e q f = place_good q f
+      go (Some m) e q f = holds.writes x m (index_of path) w e
 
   steps_good : (path : List Step) (k : ℕ) (f : List Part → ℕ → Code) → ((ps : List Part) (k : ℕ) → Good (f ps k)) → Good (steps s path k f)
   steps_good [] k f h = h [] k
   steps_good (step.Index e ∷ path) k f h =
-      evaluated_good e k (λ e' k'. Let at_base (place k') e' (steps s path (suc k') (λ parts. f (Index (place k') ∷ parts)))) (λ e' k'. steps_good path (suc k') (λ parts. f (Index (place k') ∷ parts)) (λ ps j. h (Index (place k') ∷ ps) j))
+      evaluated_good e k (λ e' k'. Let at_base (place k') e' (steps s path (suc k') (λ parts. f (Index (place k') ∷ parts)))) (λ e' k'.
+      holds.lets at_base (place k') e' (steps s path (suc k') (λ parts. f (Index (place k') ∷ parts))) (steps_good path (suc k') (λ parts. f (Index (place k') ∷ parts)) (λ ps j. h (Index (place k') ∷ ps) j)))
   steps_good (step.Field x ∷ path) k f h = steps_good path k (λ parts. f (Field x ∷ parts)) (λ ps j. h (Field x ∷ ps) j)
 
   in_turn_good : (cs : List Code) → AllByRecursion Good cs → Good (in_turn cs)
-  in_turn_good [] h = tt
-  in_turn_good (c ∷ cs) h = (h.0, in_turn_good cs h.1)
+  in_turn_good [] h = holds.skips
+  in_turn_good (c ∷ cs) h = holds.seqs c (in_turn cs) h.0 (in_turn_good cs h.1)
 
   last_good : (cs : List Code) (c : Code) → AllByRecursion Good cs → Good c → AllByRecursion Good (cs ++ c ∷ [])
   last_good [] c h g = (g, tt)
@@ -210,18 +234,23 @@ module _ (s : Setting) (B : Code → Type 0) (from : (x : Name) (m : Mapped) →
       let end = λ (path : List Part) (e : Tree) (k2 : ℕ). Let val_base (place k2) e (assign_all s as' (suc k2) (then' ++ assigned s a.left.name.name path (place k2) ∷ [])) in
       steps_good a.left.path k (λ path k1. evaluated s.mapped a.right k1 (end path)) (λ path k1.
       evaluated_good a.right k1 (end path) (λ e k2.
-      all_good as' (suc k2) (then' ++ assigned s a.left.name.name path (place k2) ∷ []) (last_good then' (assigned s a.left.name.name path (place k2)) h (assigned_good a.left.name.name path (place k2)))))
+      let then2 = then' ++ assigned s a.left.name.name path (place k2) ∷ [] in
+      holds.lets val_base (place k2) e (assign_all s as' (suc k2) then2) (all_good as' (suc k2) then2 (last_good then' (assigned s a.left.name.name path (place k2)) h (assigned_good a.left.name.name path (place k2))))))
 
   assignment_good : (as' : List Assignment) → Good (assignment_code s as')
-  assignment_good as' = go (if s.is_block then alone as' else None)
+  assignment_good as' = go s.is_block refl
     where
-      go : (o : Option Tree) → Good (on (assign_all s as' 0 []) o (λ e. Set old_base (Whole content_name) e))
-      go None = all_good as' 0 [] tt
-      go (Some e) = tt
+      one : (o : Option Tree) → s.is_block ≡ true → Good (on (assign_all s as' 0 []) o (λ e. Set old_base (Whole content_name) e))
+      one None e = all_good as' 0 [] tt
+      one (Some r) e = holds.contents e r
+
+      go : (b : Bool) → s.is_block ≡ b → Good (on (assign_all s as' 0 []) (if b then alone as' else None) (λ e. Set old_base (Whole content_name) e))
+      go true e = one (alone as') e
+      go false e = all_good as' 0 [] tt
 
   name_good : (x : Name) (o : Origin) (c : Code) → Good c → Good (bind_name s x o c)
-  name_good x (Equals e) c h = evaluated_good e 0 (λ e' k. Let (unmarked x) x e' c) (λ e' k. h)
-  name_good x (In e) c h = evaluated_good e 0 (λ e' k. Pick (unmarked x) x e' c) (λ e' k. h)
+  name_good x (Equals e) c h = evaluated_good e 0 (λ e' k. Let (unmarked x) x e' c) (λ e' k. holds.lets (unmarked x) x e' c h)
+  name_good x (In e) c h = evaluated_good e 0 (λ e' k. Pick (unmarked x) x e' c) (λ e' k. holds.picks (unmarked x) x e' c h)
 
   names_good : (ws : List WithName) (c : Code) → Good c → Good (bind_names s ws c)
   names_good [] c h = h
@@ -229,38 +258,40 @@ module _ (s : Setting) (B : Code → Type 0) (from : (x : Name) (m : Mapped) →
 
   mutual
     code_good : (t : Statement) (l : Name) → Good (code s l t)
-    code_good (skip p) l = tt
+    code_good (skip p) l = holds.skips
     code_good (assign p as') l = assignment_good as'
-    code_good (if_then p bs) l = branches_good bs l Skip tt
+    code_good (if_then p bs) l = branches_good bs l Skip holds.skips
     code_good (if_else p bs t) l = branches_good bs l (code s l t) (code_good t l)
     code_good (while_do p e t) l =
-        evaluated_good e 0 (λ e' k. If e' (Seq (code s l t) (Goto l)) Skip) (λ e' k. ((code_good t l, tt), tt))
-    code_good (either_of p ts) l = arms_good ts l
-    code_good (await_that p e) l = evaluated_good e 0 (λ e' k. Await e') (λ e' k. tt)
+        evaluated_good e 0 (λ e' k. If e' (Seq (code s l t) (Goto l)) Skip) (λ e' k.
+        holds.ifs e' (Seq (code s l t) (Goto l)) Skip (holds.seqs (code s l t) (Goto l) (code_good t l) (holds.gotos l)) holds.skips)
+    code_good (either_of p ts) l = holds.eithers (arms s l ts) (arms_good ts l)
+    code_good (await_that p e) l = evaluated_good e 0 (λ e' k. Await e') (λ e' k. holds.awaits e')
     code_good (with_in p ws t) l = names_good ws (code s l t) (code_good t l)
-    code_good (print_out p e) l = evaluated_good e 0 (λ e' k. Print e') (λ e' k. tt)
-    code_good (assert_that p e) l = evaluated_good e 0 (λ e' k. Assert e') (λ e' k. tt)
-    code_good (go_to p x) l = tt
-    code_good (call_macro p m es) l = tt
-    code_good (yield_as p e) l = tt
+    code_good (print_out p e) l = evaluated_good e 0 (λ e' k. Print e') (λ e' k. holds.prints e')
+    code_good (assert_that p e) l = evaluated_good e 0 (λ e' k. Assert e') (λ e' k. holds.asserts e')
+    code_good (go_to p x) l = holds.gotos (label_of s.process x.name)
+    code_good (call_macro p m es) l = holds.skips
+    code_good (yield_as p e) l = holds.yields e
     code_good (block p ls) l = order_good ls l
 
     branches_good : (bs : GuardedStatements) (l : Name) (c : Code) → Good c → Good (branches s l bs c)
     branches_good no_guarded l c h = h
     branches_good (more_guarded p e t bs) l c h =
-        evaluated_good e 0 (λ e' k. If e' (code s l t) (branches s l bs c)) (λ e' k. (code_good t l, branches_good bs l c h))
+        evaluated_good e 0 (λ e' k. If e' (code s l t) (branches s l bs c)) (λ e' k.
+        holds.ifs e' (code s l t) (branches s l bs c) (code_good t l) (branches_good bs l c h))
 
-    arms_good : (ts : Statements) (l : Name) → AllAreBlocks B (arms s l ts)
-    arms_good no_statements l = tt
-    arms_good (more_statements t ts) l = (code_good t l, arms_good ts l)
+    arms_good : (ts : Statements) (l : Name) → Arms (arms s l ts)
+    arms_good no_statements l = holds.no_arms
+    arms_good (more_statements t ts) l = holds.more_arms (code s l t) (arms s l ts) (code_good t l) (arms_good ts l)
 
-    order_good : (ls : LabeledStatements) (l : Name) → Good (in_order s l ls)
-    order_good no_labeled l = tt
-    order_good (more_labeled None t ls) l = (code_good t l, order_good ls l)
-    order_good (more_labeled (Some y) t ls) l = tt
+    pub order_good : (ls : LabeledStatements) (l : Name) → Good (in_order s l ls)
+    order_good no_labeled l = holds.skips
+    order_good (more_labeled None t ls) l = holds.seqs (code s l t) (in_order s l ls) (code_good t l) (order_good ls l)
+    order_good (more_labeled (Some y) t ls) l = holds.gotos (label_of s.process y.name)
 
   -- ---- sections
-  abbrev AllGood : List (Name × Code) → Type 0
+  abbrev pub AllGood : List (Name × Code) → Type 0
   AllGood cs = AllByRecursion (λ c. Good c.1) cs
 
   joined : (cs ds : List (Name × Code)) → AllGood cs → AllGood ds → AllGood (cs ++ ds)
@@ -269,7 +300,8 @@ module _ (s : Setting) (B : Code → Type 0) (from : (x : Name) (m : Mapped) →
 
   own_good : (x : Option PlacedName) (t : Statement) (c : Code) → Good c → AllGood (own s x t c)
   own_good None t c h = tt
-  own_good (Some x) t c h = ((code_good t (label_of s.process x.name), h), tt)
+  own_good (Some x) t c h =
+      (holds.seqs (code s (label_of s.process x.name) t) c (code_good t (label_of s.process x.name)) h, tt)
 
   mutual
     within_good : (t : Statement) (l : Name) (c : Code) → Good c → AllGood (within s l t c)
@@ -278,7 +310,7 @@ module _ (s : Setting) (B : Code → Type 0) (from : (x : Name) (m : Mapped) →
     within_good (if_then p bs) l c h = within_branches_good bs l c h
     within_good (if_else p bs t) l c h =
         joined (within_branches s l bs c) (within s l t c) (within_branches_good bs l c h) (within_good t l c h)
-    within_good (while_do p e t) l c h = within_good t l (Goto l) tt
+    within_good (while_do p e t) l c h = within_good t l (Goto l) (holds.gotos l)
     within_good (either_of p ts) l c h = within_arms_good ts l c h
     within_good (await_that p e) l c h = tt
     within_good (with_in p ws t) l c h = within_good t l c h
@@ -299,15 +331,52 @@ module _ (s : Setting) (B : Code → Type 0) (from : (x : Name) (m : Mapped) →
     within_arms_good (more_statements t ts) l c h =
         joined (within s l t c) (within_arms s l ts c) (within_good t l c h) (within_arms_good ts l c h)
 
-    within_order_good : (ls : LabeledStatements) (l : Name) (c : Code) → Good c → AllGood (within_order s l ls c)
+    pub within_order_good : (ls : LabeledStatements) (l : Name) (c : Code) → Good c → AllGood (within_order s l ls c)
     within_order_good no_labeled l c h = tt
     within_order_good (more_labeled x t ls) l c h =
         let rest = Seq (in_order s l ls) c in
-        joined (own s x t rest ++ within s (labelled s l x) t rest) (within_order s l ls c) (joined (own s x t rest) (within s (labelled s l x) t rest) (own_good x t rest (order_good ls l, h)) (within_good t (labelled s l x) rest (order_good ls l, h))) (within_order_good ls l c h)
+        let rest_good = holds.seqs (in_order s l ls) c (order_good ls l) h in
+        joined (own s x t rest ++ within s (labelled s l x) t rest) (within_order s l ls c) (joined (own s x t rest) (within s (labelled s l x) t rest) (own_good x t rest rest_good) (within_good t (labelled s l x) rest rest_good)) (within_order_good ls l c h)
 
--- ---- the blocks of mapping macros
+-- of every section of a process
+found_good : (Good : Code → Type 0) (cs : List (Name × Code)) (l : Name) (c : Code) → AllByRecursion (λ c. Good c.1) cs → find l cs ≡ Some c → Good c
+found_good Good [] l c h e = absurd (cc)
+found_good Good (x ∷ cs) l c h e = go (same_name l x.0) e (λ k. found_good Good cs l c h.1 k)
+  where
+    go : (b : Bool) → (if b then Some x.1 else find l cs) ≡ Some c → (find l cs ≡ Some c → Good c) → Good c
+    go true e more = let same : x.1 ≡ c = ap (λ o. elim o [ None ↦ x.1 | Some z ↦ z ]) e in subst Good same h.0
+    go false e more = more e
+
+pub section_good : (Good : Code → Type 0) (Arms : Codes → Type 0) (ms : List Macro) (p : Name) (a : Archetype) (bs : List Binding) → Holds (setting_of p a bs) Good Arms → (l : Name) (c : Code) → find l (sections_of ms p a bs) ≡ Some c → Good c
+section_good Good Arms ms p a bs h l c e =
+    found_good Good (sections_of ms p a bs) l c (within_order_good (setting_of p a bs) Good Arms h (placed_among (bodies ms) (labeled a.body)) [] (Goto done) (h.gotos done)) e
+
+-- ---- sections read and write mapped parameters by blocks, which have no mapped parameters
+blocks_hold : (s : Setting) (B : Code → Type 0) → ((x : Name) (m : Mapped) → find x s.mapped ≡ Some m → B m.reads × B m.writes) → Holds s (AreBlocks B) (AllAreBlocks B)
+blocks_hold s B from = record {
+  skips = tt;
+  lets = λ b w e c h. h;
+  picks = λ b w e c h. h;
+  becomes = λ x p w h. tt;
+  sets = λ b x p e h. tt;
+  contents = λ h e. tt;
+  awaits = λ e. tt;
+  asserts = λ e. tt;
+  prints = λ e. tt;
+  ifs = λ e c d h g. (h, g);
+  eithers = λ cs h. h;
+  seqs = λ c d h g. (h, g);
+  gotos = λ l. tt;
+  yields = λ e. tt;
+  reads = λ x m w i c f h. ((from x m f).0, h);
+  writes = λ x m i w f. (from x m f).1;
+  no_arms = tt;
+  more_arms = λ c cs h g. (h, g);
+}
+
 block_good : (b : List (Option PlacedName × Statement)) → IsBlock (block_code b)
-block_good b = order_good block_setting (λ c. ⊥) (λ x m h. absurd (let e : None ≡ Some m = h in cc)) (labeled b) []
+block_good b =
+    order_good block_setting (AreBlocks (λ c. ⊥)) (AllAreBlocks (λ c. ⊥)) (blocks_hold block_setting (λ c. ⊥) (λ x m h. absurd (let e : None ≡ Some m = h in cc))) (labeled b) []
 
 reads_good : (m : Mapping) → IsBlock (reads_by m)
 reads_good mappings.Identity = tt
@@ -335,14 +404,6 @@ mapped_good (b ∷ bs) x m h = target b.target h (λ k. mapped_good bs x m k)
             subst (λ (z : Mapped). IsBlock z.reads × IsBlock z.writes) same (reads_good q, writes_good q)
         go false h = more h
 
-found_good : (cs : List (Name × Code)) (l : Name) (c : Code) → AllByRecursion (λ c. HasBlocks c.1) cs → find l cs ≡ Some c → HasBlocks c
-found_good [] l c h e = absurd (cc)
-found_good (x ∷ cs) l c h e = go (same_name l x.0) e (λ k. found_good cs l c h.1 k)
-  where
-    go : (b : Bool) → (if b then Some x.1 else find l cs) ≡ Some c → (find l cs ≡ Some c → HasBlocks c) → HasBlocks c
-    go true e more = let same : x.1 ≡ c = ap (λ o. elim o [ None ↦ x.1 | Some z ↦ z ]) e in subst HasBlocks same h.0
-    go false e more = more e
-
 pub section_has_blocks : (ms : List Macro) (p : Name) (a : Archetype) (bs : List Binding) (l : Name) (c : Code) → find l (sections_of ms p a bs) ≡ Some c → HasBlocks c
 section_has_blocks ms p a bs l c h =
-    found_good (sections_of ms p a bs) l c (within_order_good (setting_of p a bs) IsBlock (mapped_good bs) (placed_among (bodies ms) (labeled a.body)) [] (Goto done) tt) h
+    section_good HasBlocks (AllAreBlocks IsBlock) ms p a bs (blocks_hold (setting_of p a bs) IsBlock (mapped_good bs)) l c h
