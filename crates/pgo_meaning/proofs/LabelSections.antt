@@ -1,11 +1,14 @@
 -- The sections of a process are those of its labels, in the order of the text.
 use Rattle.std.proofs.Common.{◌≡◌, ℕ, Bool, true, false, if◌then◌else◌, List, [], ◌∷◌, ◌++◌, map, Option, Some, None, refl, ap, sym, ◌∙◌, subst, inl, inr}
 use Rattle.std.specs.List.{AllByRecursion}
-use Rattle.pgo_base.specs.Lookup.{Name, same_name, find}
+use Rattle.pgo_base.specs.Data.{Data, boolean, integer, string, model, set, function}
+use Rattle.pgo_base.specs.Lookup.{Name, Vars, same_name, find}
 use Rattle.pgo_base.specs.Tree.{Tree}
+use Rattle.pgo_model.specs.Machine.{nth}
 use Rattle.pgo_model.specs.Names.{same_name-self, same_name-is}
 use Rattle.pgo_model.specs.Options.{on}
-use Rattle.pgo_model.specs.Written.{done, written}
+use Rattle.pgo_model.specs.System.{Words}
+use Rattle.pgo_model.specs.Written.{done, pc, written}
 use Rattle.pgo_syntax.specs.Statement.{Statement, skip, assign, if_then, if_else, while_do, either_of, await_that, with_in, print_out, assert_that, go_to, call_macro, yield_as, block, Statements, no_statements, more_statements, LabeledStatements, no_labeled, more_labeled, GuardedStatements, no_guarded, more_guarded, labeled}
 use Rattle.pgo_syntax.specs.declared.archetype.Archetype.{Archetype}
 use Rattle.pgo_syntax.specs.declared.bound.Binding.{Binding}
@@ -14,13 +17,17 @@ use Rattle.pgo_syntax.specs.declared.bound.Instance.{Instance}
 use Rattle.pgo_syntax.specs.declared.macros.Macro.{Macro}
 use Rattle.pgo_syntax.specs.declared.name.PlacedName.{PlacedName}
 use Rattle.pgo_bound.specs.Among.{IsAmong, among_map, from_map, among_nth, nth_among}
+use Rattle.pgo_bound.specs.Declares.{value_in}
 use Rattle.pgo_bound.specs.Sound.{labels_in, labels_each, labels_among, labels_guarded, IsLabel}
+use Rattle.pgo_bound.specs.State.{id_of}
 use Rattle.pgo_bound.specs.StartNames.{map-append}
 use Rattle.pgo_sections.specs.Code.{Code, Seq, Goto}
 use Rattle.pgo_meaning.specs.LabelSections.{AreUnlabelled, NoneIsDone}
 use Rattle.pgo_meaning.specs.Labels.{own, labelled, within, within_branches, within_arms, within_order}
 use Rattle.pgo_meaning.specs.MacrosPlaced.{Arguments, put, put_each, put_among, put_guarded, under_names, Body, Bodies, handed, placed, placed_each, placed_among, placed_guarded, bodies_with, bodies}
 use Rattle.pgo_meaning.specs.Parameters.{setting_of}
+use Rattle.pgo_sections.specs.Section.{section}
+use Rattle.pgo_meaning.specs.Sect.{context_of, code_at, nothing, Sect}
 use Rattle.pgo_meaning.specs.Sections.{sections_of}
 use Rattle.pgo_meaning.specs.Statements.{Setting, label_of, in_order}
 use Rattle.pgo_meaning.specs.TreesAgree.{sections_at}
@@ -200,3 +207,22 @@ module _ (b : Bound) (i : Instance) (u : AreUnlabelled b.spec.macros) (n : NoneI
       let m = from_map (label_of i.process) l there (subst (λ xs. IsAmong l xs) (sections_are b.spec.macros i.process i.archetype i.bindings u) (there_found (sections_at b i) l c h)) in
       let k = nth_among m.0 there m.1 in
       (k.0, m.0, k.1, m.2 ∙ label_is i.process m.0 (n k.0 m.0 k.1))
+
+  -- at no label there is no section
+  no_section : (o : Option Data) → ((l : Name) → o ≡ Some (string l) → IsLabel i l → ⊥) → code_at b i o ≡ None
+  no_section None h = refl
+  no_section (Some (string l)) h = none (find l (sections_at b i)) refl
+    where
+      none : (q : Option Code) → find l (sections_at b i) ≡ q → find l (sections_at b i) ≡ None
+      none None e = e
+      none (Some c) e = absurd (h l refl (section_label l c e))
+  no_section (Some (boolean z)) h = refl
+  no_section (Some (integer z)) h = refl
+  no_section (Some (model z)) h = refl
+  no_section (Some (set z)) h = refl
+  no_section (Some (function z)) h = refl
+
+  pub nowhere : (k : ℕ) (s : Vars) (d : Words) → nth b.instances k ≡ Some i → ((l : Name) → value_in s pc (id_of i) ≡ Some (string l) → IsLabel i l → ⊥) → Sect b k s d ≡ nothing
+  nowhere k s d at_k h =
+      ap (λ o. on nothing o (λ i. on nothing (code_at b i (value_in s pc (id_of i))) (λ c. section (context_of b i s) c d))) at_k
+      ∙ ap (λ o. on nothing o (λ c. section (context_of b i s) c d)) (no_section (value_in s pc (id_of i)) h)

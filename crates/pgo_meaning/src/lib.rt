@@ -35,7 +35,7 @@ ghost use Rattle.pgo_meaning.specs.Expansions.{trees_of};
 ghost use Rattle.pgo_meaning.specs.LabelSections.{AreUnlabelled, NoneIsDone};
 ghost use Rattle.pgo_meaning.specs.Macros.{MacRead, MacWrite};
 ghost use Rattle.pgo_meaning.specs.Parameters.{reads_by, writes_by};
-ghost use Rattle.pgo_meaning.specs.Sect.{context_of, Sect, Allows};
+ghost use Rattle.pgo_meaning.specs.Sect.{context_of, nothing, Sect, Allows};
 ghost use Rattle.pgo_meaning.specs.Statements.{label_of};
 ghost use Rattle.pgo_meaning.specs.System.{globals_in, system_of};
 ghost use Rattle.pgo_meaning.specs.SystemStates.{GlobalsBound, RefsDeclared};
@@ -81,12 +81,14 @@ pub fn macros_run()
 ///
 /// - `labels`: they stand in the order of the text, by their written labels.
 /// - `each`, `only`: so each label has a section, and what has a section is a label, where none has the name `Done`.
+/// - `nowhere`: where an instance is at no label of its process, there is no outcome and nothing is read or written.
 ///
 /// Source: A PlusCal User's Manual.
 pub fn sections_of_labels()
     ensures labels { (b : Bound) (i : Instance) → AreUnlabelled b.spec.macros → map (λ c. c.0) (sections_at b i) ≡ map (label_of i.process) (labels_among (labeled i.archetype.body)) }
     ensures each { (b : Bound) (i : Instance) (l : Name) → AreUnlabelled b.spec.macros → NoneIsDone i → IsLabel i l → (c : Code) × (find l (sections_at b i) ≡ Some c) }
     ensures only { (b : Bound) (i : Instance) (l : Name) (c : Code) → AreUnlabelled b.spec.macros → NoneIsDone i → find l (sections_at b i) ≡ Some c → IsLabel i l }
+    ensures nowhere { (b : Bound) (k : ℕ) (i : Instance) (s : Vars) (d : Words) → AreUnlabelled b.spec.macros → NoneIsDone i → nth b.instances k ≡ Some i → ((l : Name) → value_in s pc (id_of i) ≡ Some (string l) → IsLabel i l → ⊥) → Sect b k s d ≡ nothing }
 {}
 
 /// A section leads from a state to a state, if the values of its end are values.

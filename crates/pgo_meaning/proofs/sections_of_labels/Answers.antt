@@ -9,3 +9,6 @@ returns-clause-each c b i l u n h = sections.label_section b i u n l h
 
 pub returns-clause-only : goal.returns-clause-only
 returns-clause-only c b i l code u n h = sections.section_label b i u n l code h
+
+pub returns-clause-nowhere : goal.returns-clause-nowhere
+returns-clause-nowhere c b k i s d u n at_k h = sections.nowhere b i u n k s d at_k h
