@@ -2,6 +2,7 @@ pub mod RowTools
 mod Rows
 mod SectRows
 mod StepRows
+mod BoundNameRows
 pub mod SectionCode
 pub mod Trees
 pub mod SystemStates

@@ -20,7 +20,9 @@ use Rattle.pgo_syntax.specs.declared.bound.Target.{Target}
 use Rattle.pgo_syntax.specs.declared.bound.Target.TheVariants as targets
 use Rattle.pgo_syntax.specs.declared.macros.Macro.{Macro}
 use Rattle.pgo_syntax.specs.declared.name.PlacedName.{PlacedName}
-use Rattle.pgo_sections.specs.Access.{Mapped, MappedNames, Before, Pulled, pure, then_pull, place, name_alone, if_element, if_whole, element_of, index_tree, read_whole, read_element, pulled, pulled_all, pulled_arms, pulled_named, pulled_bound, pulled_paths, read_first, after, evaluated}
+use Rattle.pgo_sections.specs.Access.{Mapped, MappedNames, Before, Pulled, pure, then_pull, place, name_alone, if_element, if_whole, mapped_under, element_of, index_tree, read_whole, read_element, pulled, pulled_all, pulled_arms, pulled_fields, pulled_let, pulled_bound, pulled_paths, read_first, after, evaluated}
+use Rattle.pgo_sections.specs.Among.{is_among}
+use Rattle.pgo_sections.specs.Bound.{names_of, names_bound, below}
 use Rattle.pgo_sections.specs.Blocks.{AreBlocks, AllAreBlocks, IsBlock, HasBlocks}
 use Rattle.pgo_sections.specs.Code.{Place, Whole, variable_of, Code, Skip, Let, Pick, Become, Set, Await, Assert, Print, If, Either, Seq, Goto, Yield, Read, Write, Codes, no_codes, more_codes, in_turn, content_name, at_base, old_base, val_base}
 use Rattle.pgo_meaning.specs.Labels.{own, labelled, within, within_branches, within_arms, within_order}
@@ -59,25 +61,30 @@ module _ (mapped : MappedNames) (P : Mapped → Type 0) (from : (x : Name) (m : 
   three_parts p q r f h g i =
       next p (λ a k1. then_pull (q k1) (λ b k2. then_pull (r k2) (λ c k3. pure k3 (f a b c)))) h (λ a k1. two_parts (q k1) r (f a) (g k1) i)
 
-  whole_there : (x : Name) (o : Option Mapped) → find x mapped ≡ o → (m : Mapped) → if_whole o ≡ Some m → P m
-  whole_there x None e m h = absurd (cc)
-  whole_there x (Some q) e m h = go q.by_element h
+  -- a name that is not bound around is one of the mapped parameters
+  found : (x : Name) (b : Bool) (m : Mapped) → (if b then None else find x mapped) ≡ Some m → find x mapped ≡ Some m
+  found x true m h = absurd (cc)
+  found x false m h = h
+
+  whole_there : (x : Name) (under : List Name) (o : Option Mapped) → mapped_under mapped under x ≡ o → (m : Mapped) → if_whole o ≡ Some m → P m
+  whole_there x under None e m h = absurd (cc)
+  whole_there x under (Some q) e m h = go q.by_element h
     where
       go : (b : Bool) → (if b then None else Some q) ≡ Some m → P m
       go true h = absurd (cc)
-      go false h = let same : q ≡ m = ap (λ o. elim o [ None ↦ q | Some z ↦ z ]) h in subst P same (from x q e)
+      go false h = let same : q ≡ m = ap (λ o. elim o [ None ↦ q | Some z ↦ z ]) h in subst P same (from x q (found x (is_among x under) q e))
 
-  element_there : (x : Name) (o : Option Mapped) → find x mapped ≡ o → (m : Mapped) → if_element o ≡ Some m → P m
-  element_there x None e m h = absurd (cc)
-  element_there x (Some q) e m h = go q.by_element h
+  element_there : (x : Name) (under : List Name) (o : Option Mapped) → mapped_under mapped under x ≡ o → (m : Mapped) → if_element o ≡ Some m → P m
+  element_there x under None e m h = absurd (cc)
+  element_there x under (Some q) e m h = go q.by_element h
     where
       go : (b : Bool) → (if b then Some q else None) ≡ Some m → P m
       go false h = absurd (cc)
-      go true h = let same : q ≡ m = ap (λ o. elim o [ None ↦ q | Some z ↦ z ]) h in subst P same (from x q e)
+      go true h = let same : q ≡ m = ap (λ o. elim o [ None ↦ q | Some z ↦ z ]) h in subst P same (from x q (found x (is_among x under) q e))
 
-  alone_there : (o : Option Name) (m : Mapped) → on None o (λ x. if_element (find x mapped)) ≡ Some m → P m
-  alone_there None m h = absurd (cc)
-  alone_there (Some x) m h = element_there x (find x mapped) refl m h
+  alone_there : (under : List Name) (o : Option Name) (m : Mapped) → on None o (λ x. if_element (mapped_under mapped under x)) ≡ Some m → P m
+  alone_there under None m h = absurd (cc)
+  alone_there under (Some x) m h = element_there x under (mapped_under mapped under x) refl m h
 
   name_all : (x : Name) (k : ℕ) (o : Option Mapped) → ((m : Mapped) → o ≡ Some m → P m) → AllOf (on (pure k (name x)) o (λ m. read_whole m k))
   name_all x k None h = tt
@@ -88,69 +95,74 @@ module _ (mapped : MappedNames) (P : Mapped → Type 0) (from : (x : Name) (m : 
   index_all t i k (Some m) h = (h m refl, tt)
 
   mutual
-    tree_all : (e : Tree) (k : ℕ) → AllOf (pulled mapped e k)
-    tree_all (name x) k = name_all x k (if_whole (find x mapped)) (λ m h. whole_there x (find x mapped) refl m h)
-    tree_all (primed x) k = tt
-    tree_all (number z) k = tt
-    tree_all (text s) k = tt
-    tree_all (truth b) k = tt
-    tree_all at k = tt
-    tree_all (word w) k = tt
-    tree_all (unary o a) k = one_part (pulled mapped a k) (unary o) (tree_all a k)
-    tree_all (binary o a b) k = two_parts (pulled mapped a k) (pulled mapped b) (binary o) (tree_all a k) (tree_all b)
-    tree_all (product ts) k = one_part (pulled_all mapped ts k) product (trees_all ts k)
-    tree_all (cond_of p a b) k =
-        three_parts (pulled mapped p k) (pulled mapped a) (pulled mapped b) cond_of (tree_all p k) (tree_all a) (tree_all b)
-    tree_all (case_of gs) k = one_part (pulled_arms mapped gs k) case_of (arms_all gs k)
-    tree_all (case_other gs e) k =
-        two_parts (pulled_arms mapped gs k) (pulled mapped e) case_other (arms_all gs k) (tree_all e)
-    tree_all (let_in ds e) k = two_parts (pulled_named mapped ds k) (pulled mapped e) let_in (named_all ds k) (tree_all e)
-    tree_all (quantified q bs p) k =
-        two_parts (pulled_bound mapped bs k) (pulled mapped p) (quantified q) (bound_all bs k) (tree_all p)
-    tree_all (choose x r p) k = two_parts (pulled mapped r k) (pulled mapped p) (choose x) (tree_all r k) (tree_all p)
-    tree_all (tuple ts) k = one_part (pulled_all mapped ts k) tuple (trees_all ts k)
-    tree_all (set_of ts) k = one_part (pulled_all mapped ts k) set_of (trees_all ts k)
-    tree_all (filter_of x r p) k = two_parts (pulled mapped r k) (pulled mapped p) (filter_of x) (tree_all r k) (tree_all p)
-    tree_all (image e x r) k =
-        two_parts (pulled mapped e k) (pulled mapped r) (λ e r. image e x r) (tree_all e k) (tree_all r)
-    tree_all (fun_of bs e) k = two_parts (pulled_bound mapped bs k) (pulled mapped e) fun_of (bound_all bs k) (tree_all e)
-    tree_all (fun_set a b) k = two_parts (pulled mapped a k) (pulled mapped b) fun_set (tree_all a k) (tree_all b)
-    tree_all (record_of ds) k = one_part (pulled_named mapped ds k) record_of (named_all ds k)
-    tree_all (record_set ds) k = one_part (pulled_named mapped ds k) record_set (named_all ds k)
-    tree_all (except f us) k = two_parts (pulled mapped f k) (pulled_paths mapped us) except (tree_all f k) (paths_all us)
-    tree_all (index f ts) k =
-        let last = λ (g : Tree) (us : Trees) (k2 : ℕ). on (pure k2 (index g us)) (element_of mapped f) (λ m. read_element m (index_tree us) k2) in
-        next (pulled mapped f k) (λ g k1. then_pull (pulled_all mapped ts k1) (λ us k2. last g us k2)) (tree_all f k) (λ g k1.
-        next (pulled_all mapped ts k1) (λ us k2. last g us k2) (trees_all ts k1) (λ us k2.
-        index_all (index g us) (index_tree us) k2 (element_of mapped f) (λ m h. alone_there (name_alone f) m h)))
-    tree_all (field r x) k = one_part (pulled mapped r k) (λ r. field r x) (tree_all r k)
-    tree_all (call x ts) k = one_part (pulled_all mapped ts k) (call x) (trees_all ts k)
-    tree_all (unchanged xs) k = tt
+    tree_all : (under : List Name) (e : Tree) (k : ℕ) → AllOf (pulled mapped under e k)
+    tree_all under (name x) k = name_all x k (if_whole (mapped_under mapped under x)) (λ m h. whole_there x under (mapped_under mapped under x) refl m h)
+    tree_all under (primed x) k = tt
+    tree_all under (number z) k = tt
+    tree_all under (text s) k = tt
+    tree_all under (truth b) k = tt
+    tree_all under at k = tt
+    tree_all under (word w) k = tt
+    tree_all under (unary o a) k = one_part (pulled mapped under a k) (unary o) (tree_all under a k)
+    tree_all under (binary o a b) k = two_parts (pulled mapped under a k) (pulled mapped under b) (binary o) (tree_all under a k) (tree_all under b)
+    tree_all under (product ts) k = one_part (pulled_all mapped under ts k) product (trees_all under ts k)
+    tree_all under (cond_of p a b) k =
+        three_parts (pulled mapped under p k) (pulled mapped under a) (pulled mapped under b) cond_of (tree_all under p k) (tree_all under a) (tree_all under b)
+    tree_all under (case_of gs) k = one_part (pulled_arms mapped under gs k) case_of (arms_all under gs k)
+    tree_all under (case_other gs e) k =
+        two_parts (pulled_arms mapped under gs k) (pulled mapped under e) case_other (arms_all under gs k) (tree_all under e)
+    tree_all under (let_in ds e) k = two_parts (pulled_let mapped under ds k) (pulled mapped (below (names_of ds) under) e) let_in (let_all under ds k) (tree_all (below (names_of ds) under) e)
+    tree_all under (quantified q bs p) k =
+        two_parts (pulled_bound mapped under bs k) (pulled mapped (below (names_bound bs) under) p) (quantified q) (bound_all under bs k) (tree_all (below (names_bound bs) under) p)
+    tree_all under (choose x r p) k = two_parts (pulled mapped under r k) (pulled mapped (x ∷ under) p) (choose x) (tree_all under r k) (tree_all (x ∷ under) p)
+    tree_all under (tuple ts) k = one_part (pulled_all mapped under ts k) tuple (trees_all under ts k)
+    tree_all under (set_of ts) k = one_part (pulled_all mapped under ts k) set_of (trees_all under ts k)
+    tree_all under (filter_of x r p) k = two_parts (pulled mapped under r k) (pulled mapped (x ∷ under) p) (filter_of x) (tree_all under r k) (tree_all (x ∷ under) p)
+    tree_all under (image e x r) k =
+        two_parts (pulled mapped (x ∷ under) e k) (pulled mapped under r) (λ e r. image e x r) (tree_all (x ∷ under) e k) (tree_all under r)
+    tree_all under (fun_of bs e) k = two_parts (pulled_bound mapped under bs k) (pulled mapped (below (names_bound bs) under) e) fun_of (bound_all under bs k) (tree_all (below (names_bound bs) under) e)
+    tree_all under (fun_set a b) k = two_parts (pulled mapped under a k) (pulled mapped under b) fun_set (tree_all under a k) (tree_all under b)
+    tree_all under (record_of ds) k = one_part (pulled_fields mapped under ds k) record_of (fields_all under ds k)
+    tree_all under (record_set ds) k = one_part (pulled_fields mapped under ds k) record_set (fields_all under ds k)
+    tree_all under (except f us) k = two_parts (pulled mapped under f k) (pulled_paths mapped under us) except (tree_all under f k) (paths_all under us)
+    tree_all under (index f ts) k =
+        let last = λ (g : Tree) (us : Trees) (k2 : ℕ). on (pure k2 (index g us)) (element_of mapped under f) (λ m. read_element m (index_tree us) k2) in
+        next (pulled mapped under f k) (λ g k1. then_pull (pulled_all mapped under ts k1) (λ us k2. last g us k2)) (tree_all under f k) (λ g k1.
+        next (pulled_all mapped under ts k1) (λ us k2. last g us k2) (trees_all under ts k1) (λ us k2.
+        index_all (index g us) (index_tree us) k2 (element_of mapped under f) (λ m h. alone_there under (name_alone f) m h)))
+    tree_all under (field r x) k = one_part (pulled mapped under r k) (λ r. field r x) (tree_all under r k)
+    tree_all under (call x ts) k = one_part (pulled_all mapped under ts k) (call x) (trees_all under ts k)
+    tree_all under (unchanged xs) k = tt
 
-    trees_all : (ts : Trees) (k : ℕ) → AllOf (pulled_all mapped ts k)
-    trees_all no_trees k = tt
-    trees_all (more_trees t ts) k =
-        two_parts (pulled mapped t k) (pulled_all mapped ts) more_trees (tree_all t k) (trees_all ts)
+    trees_all : (under : List Name) (ts : Trees) (k : ℕ) → AllOf (pulled_all mapped under ts k)
+    trees_all under no_trees k = tt
+    trees_all under (more_trees t ts) k =
+        two_parts (pulled mapped under t k) (pulled_all mapped under ts) more_trees (tree_all under t k) (trees_all under ts)
 
-    arms_all : (gs : TreePairs) (k : ℕ) → AllOf (pulled_arms mapped gs k)
-    arms_all no_arms k = tt
-    arms_all (more_arms g e gs) k =
-        three_parts (pulled mapped g k) (pulled mapped e) (pulled_arms mapped gs) more_arms (tree_all g k) (tree_all e) (arms_all gs)
+    arms_all : (under : List Name) (gs : TreePairs) (k : ℕ) → AllOf (pulled_arms mapped under gs k)
+    arms_all under no_arms k = tt
+    arms_all under (more_arms g e gs) k =
+        three_parts (pulled mapped under g k) (pulled mapped under e) (pulled_arms mapped under gs) more_arms (tree_all under g k) (tree_all under e) (arms_all under gs)
 
-    named_all : (ds : NamedTrees) (k : ℕ) → AllOf (pulled_named mapped ds k)
-    named_all no_named k = tt
-    named_all (more_named x t ts) k =
-        two_parts (pulled mapped t k) (pulled_named mapped ts) (more_named x) (tree_all t k) (named_all ts)
+    fields_all : (under : List Name) (ds : NamedTrees) (k : ℕ) → AllOf (pulled_fields mapped under ds k)
+    fields_all under no_named k = tt
+    fields_all under (more_named x t ts) k =
+        two_parts (pulled mapped under t k) (pulled_fields mapped under ts) (more_named x) (tree_all under t k) (fields_all under ts)
 
-    bound_all : (bs : BoundTrees) (k : ℕ) → AllOf (pulled_bound mapped bs k)
-    bound_all no_bound k = tt
-    bound_all (more_bound xs r bs) k =
-        two_parts (pulled mapped r k) (pulled_bound mapped bs) (more_bound xs) (tree_all r k) (bound_all bs)
+    let_all : (under : List Name) (ds : NamedTrees) (k : ℕ) → AllOf (pulled_let mapped under ds k)
+    let_all under no_named k = tt
+    let_all under (more_named x t ts) k =
+        two_parts (pulled mapped under t k) (pulled_let mapped (x ∷ under) ts) (more_named x) (tree_all under t k) (let_all (x ∷ under) ts)
 
-    paths_all : (us : PathTrees) (k : ℕ) → AllOf (pulled_paths mapped us k)
-    paths_all no_paths k = tt
-    paths_all (more_paths ps e us) k =
-        three_parts (pulled_all mapped ps k) (pulled mapped e) (pulled_paths mapped us) more_paths (trees_all ps k) (tree_all e) (paths_all us)
+    bound_all : (under : List Name) (bs : BoundTrees) (k : ℕ) → AllOf (pulled_bound mapped under bs k)
+    bound_all under no_bound k = tt
+    bound_all under (more_bound xs r bs) k =
+        two_parts (pulled mapped under r k) (pulled_bound mapped under bs) (more_bound xs) (tree_all under r k) (bound_all under bs)
+
+    paths_all : (under : List Name) (us : PathTrees) (k : ℕ) → AllOf (pulled_paths mapped under us k)
+    paths_all under no_paths k = tt
+    paths_all under (more_paths ps e us) k =
+        three_parts (pulled_all mapped under ps k) (pulled mapped under e) (pulled_paths mapped under us) more_paths (trees_all under ps k) (tree_all under e) (paths_all under us)
 
 -- ---- statements
 
@@ -190,8 +202,8 @@ module _ (s : Setting) (Good : Code → Type 0) (Arms : Codes → Type 0) (holds
 
   evaluated_good : (e : Tree) (k : ℕ) (f : Tree → ℕ → Code) → ((e : Tree) (k : ℕ) → Good (f e k)) → Good (evaluated s.mapped e k f)
   evaluated_good e k f h =
-      let p = pulled s.mapped e k in
-      after_good p.reads (f p.rest p.used) (tree_all s.mapped Here (λ x m h. (x, h)) e k) (h p.rest p.used)
+      let p = pulled s.mapped [] e k in
+      after_good p.reads (f p.rest p.used) (tree_all s.mapped Here (λ x m h. (x, h)) [] e k) (h p.rest p.used)
 
   variable_good : (x : Name) (path : List Part) (w : Name) (p : Place) → find x s.places ≡ Some p → Good (to_variable s x path w p)
   variable_good x [] w p h = go s.is_block

@@ -8,7 +8,8 @@ use Rattle.pgo_model.specs.Val.{or_else, Meaning, val, plain, call_def, name_val
 use Rattle.pgo_sections.specs.Closed.{Apart, IsClosed, AreClosed}
 use Rattle.pgo_sections.specs.Among.{is_among}
 use Rattle.pgo_sections.specs.Plain.{Plain}
-use Rattle.pgo_sections.specs.Replaced.{replaced, replaced_all, replaced_arms, replaced_fields, replaced_let, replaced_bound, replaced_paths, names_of, names_bound, below}
+use Rattle.pgo_sections.specs.Bound.{names_of, names_bound, below}
+use Rattle.pgo_sections.specs.Replaced.{replaced, replaced_all, replaced_arms, replaced_fields, replaced_let, replaced_bound, replaced_paths}
 use Rattle.pgo_sections.proofs.Under.{under, NamesAgree, CallsAgree}
 
 -- names in the place of themselves

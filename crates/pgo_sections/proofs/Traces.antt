@@ -6,7 +6,8 @@ use Rattle.pgo_base.specs.Data.{Data, graph, keys}
 use Rattle.pgo_base.specs.Lookup.{Name, Names, Vars, find}
 use Rattle.pgo_base.specs.Tree.{Tree}
 use Rattle.pgo_model.specs.Machine.{nth}
-use Rattle.pgo_model.specs.Occurrences.{names_in, first_occurrences}
+use Rattle.pgo_model.specs.Occurrences.{first_occurrences}
+use Rattle.pgo_sections.specs.FreeNames.{free_names}
 use Rattle.pgo_model.specs.Operators.{apply, members_of, truth_of, same_data, lookup}
 use Rattle.pgo_model.specs.Outcome.{Blocked, AssertFails}
 use Rattle.pgo_model.specs.System.{Words, Touched}
@@ -52,7 +53,7 @@ module _ (k : Context) (gs : List Name) (places_in : (x : Name) (p : Place) → 
   names_all (x ∷ xs) = found_all x (find x k.places) refl (looks_of k.places xs) (names_all xs)
 
   looks_all : (e : Tree) (run : Run) → All run.trace → All (looking k e run).trace
-  looks_all e run h = joined run.trace (looks k.places e) h (names_all (first_occurrences (names_in e)))
+  looks_all e run h = joined run.trace (looks k.places e) h (names_all (first_occurrences (free_names [] e)))
 
   becoming_all : (p : Place) (v : Data) (run : Run) → PlaceIn k gs p → All run.trace → All (becoming p v run).trace
   becoming_all p v run h r = joined run.trace (touched_whole (Some p) []) r (place_all p [] h tt)

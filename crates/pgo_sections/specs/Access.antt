@@ -3,15 +3,19 @@
 -- Before an expression is evaluated, its mapped occurrences are read in textual order, each index before its occurrence; then
 -- each unmapped parameter that stands in what is left is read once, in the order of first occurrence; then what is left is
 -- evaluated. The first of these is `pulled`: a mapped read is an effect of its own, and its value stands in the place of the
--- occurrence. The second says no more than that a resource is read, and is `looks`.
+-- occurrence. The second says no more than that a resource is read, and is `looks`. A name that the expression itself binds is no
+-- parameter where it is bound.
 --
 -- Source: this project's choice.
 use Rattle.std.specs.Prelude.{ℕ, suc, Bool, if◌then◌else◌, List, [], ◌∷◌, ◌++◌, replicate, Option, Some, None}
 use Rattle.pgo_base.specs.Lookup.{Name, find}
 use Rattle.pgo_base.specs.Tree.{Tree, name, primed, number, text, truth, at, word, unary, binary, product, cond_of, case_of, case_other, let_in, quantified, choose, tuple, set_of, filter_of, image, fun_of, fun_set, record_of, record_set, except, index, field, call, unchanged, Trees, no_trees, more_trees, NamedTrees, no_named, more_named, TreePairs, no_arms, more_arms, BoundTrees, no_bound, more_bound, PathTrees, no_paths, more_paths}
 use Rattle.pgo_model.specs.Options.{on}
-use Rattle.pgo_model.specs.Occurrences.{names_in, first_occurrences}
+use Rattle.pgo_model.specs.Occurrences.{first_occurrences}
 use Rattle.pgo_model.specs.System.{Touched}
+use Rattle.pgo_sections.specs.Among.{is_among}
+use Rattle.pgo_sections.specs.Bound.{names_of, names_bound, below}
+use Rattle.pgo_sections.specs.FreeNames.{free_names}
 use Rattle.pgo_sections.specs.Code.{Place, Whole, Own, Code, Let, Read, at_base}
 
 -- ---- mapped reads
@@ -86,72 +90,81 @@ after [] c = c
 after (b ∷ bs) c = read_first b.index (λ i. Read b.value b.mapped.global i b.mapped.reads (after bs c))
 
 module _ (mapped : MappedNames) where
+  -- the mapped parameter that a name is, where these names are bound around it within the expression
+  abbrev pub mapped_under : List Name → Name → Option Mapped
+  mapped_under under x = if is_among x under then None else find x mapped
+
   -- the mapped parameter whose element an index on this expression reads
-  abbrev pub element_of : Tree → Option Mapped
-  element_of f = on None (name_alone f) (λ x. if_element (find x mapped))
+  abbrev pub element_of : List Name → Tree → Option Mapped
+  element_of under f = on None (name_alone f) (λ x. if_element (mapped_under under x))
 
   abbrev mutual
-    pub pulled : Tree → ℕ → Pulled Tree
-    pulled (name x) k = on (pure k (name x)) (if_whole (find x mapped)) (λ m. read_whole m k)
-    pulled (primed x) k = pure k (primed x)
-    pulled (number z) k = pure k (number z)
-    pulled (text s) k = pure k (text s)
-    pulled (truth b) k = pure k (truth b)
-    pulled at k = pure k at
-    pulled (word w) k = pure k (word w)
-    pulled (unary o a) k = then_pull (pulled a k) (λ a' k1. pure k1 (unary o a'))
-    pulled (binary o a b) k = then_pull (pulled a k) (λ a' k1. then_pull (pulled b k1) (λ b' k2. pure k2 (binary o a' b')))
-    pulled (product ts) k = then_pull (pulled_all ts k) (λ us k1. pure k1 (product us))
-    pulled (cond_of p a b) k =
-        then_pull (pulled p k) (λ p' k1. then_pull (pulled a k1) (λ a' k2. then_pull (pulled b k2) (λ b' k3. pure k3 (cond_of p' a' b'))))
-    pulled (case_of gs) k = then_pull (pulled_arms gs k) (λ gs' k1. pure k1 (case_of gs'))
-    pulled (case_other gs e) k = then_pull (pulled_arms gs k) (λ gs' k1. then_pull (pulled e k1) (λ e' k2. pure k2 (case_other gs' e')))
-    pulled (let_in ds e) k = then_pull (pulled_named ds k) (λ ds' k1. then_pull (pulled e k1) (λ e' k2. pure k2 (let_in ds' e')))
-    pulled (quantified q bs p) k =
-        then_pull (pulled_bound bs k) (λ bs' k1. then_pull (pulled p k1) (λ p' k2. pure k2 (quantified q bs' p')))
-    pulled (choose x r p) k = then_pull (pulled r k) (λ r' k1. then_pull (pulled p k1) (λ p' k2. pure k2 (choose x r' p')))
-    pulled (tuple ts) k = then_pull (pulled_all ts k) (λ us k1. pure k1 (tuple us))
-    pulled (set_of ts) k = then_pull (pulled_all ts k) (λ us k1. pure k1 (set_of us))
-    pulled (filter_of x r p) k = then_pull (pulled r k) (λ r' k1. then_pull (pulled p k1) (λ p' k2. pure k2 (filter_of x r' p')))
-    pulled (image e x r) k = then_pull (pulled e k) (λ e' k1. then_pull (pulled r k1) (λ r' k2. pure k2 (image e' x r')))
-    pulled (fun_of bs e) k = then_pull (pulled_bound bs k) (λ bs' k1. then_pull (pulled e k1) (λ e' k2. pure k2 (fun_of bs' e')))
-    pulled (fun_set a b) k = then_pull (pulled a k) (λ a' k1. then_pull (pulled b k1) (λ b' k2. pure k2 (fun_set a' b')))
-    pulled (record_of ds) k = then_pull (pulled_named ds k) (λ ds' k1. pure k1 (record_of ds'))
-    pulled (record_set ds) k = then_pull (pulled_named ds k) (λ ds' k1. pure k1 (record_set ds'))
-    pulled (except f us) k = then_pull (pulled f k) (λ f' k1. then_pull (pulled_paths us k1) (λ us' k2. pure k2 (except f' us')))
-    pulled (index f ts) k =
-        then_pull (pulled f k) (λ f' k1. then_pull (pulled_all ts k1) (λ us k2.
-        on (pure k2 (index f' us)) (element_of f) (λ m. read_element m (index_tree us) k2)))
-    pulled (field r x) k = then_pull (pulled r k) (λ r' k1. pure k1 (field r' x))
-    pulled (call x ts) k = then_pull (pulled_all ts k) (λ us k1. pure k1 (call x us))
-    pulled (unchanged xs) k = pure k (unchanged xs)
+    pub pulled : List Name → Tree → ℕ → Pulled Tree
+    pulled under (name x) k = on (pure k (name x)) (if_whole (mapped_under under x)) (λ m. read_whole m k)
+    pulled under (primed x) k = pure k (primed x)
+    pulled under (number z) k = pure k (number z)
+    pulled under (text s) k = pure k (text s)
+    pulled under (truth b) k = pure k (truth b)
+    pulled under at k = pure k at
+    pulled under (word w) k = pure k (word w)
+    pulled under (unary o a) k = then_pull (pulled under a k) (λ a' k1. pure k1 (unary o a'))
+    pulled under (binary o a b) k = then_pull (pulled under a k) (λ a' k1. then_pull (pulled under b k1) (λ b' k2. pure k2 (binary o a' b')))
+    pulled under (product ts) k = then_pull (pulled_all under ts k) (λ us k1. pure k1 (product us))
+    pulled under (cond_of p a b) k =
+        then_pull (pulled under p k) (λ p' k1. then_pull (pulled under a k1) (λ a' k2. then_pull (pulled under b k2) (λ b' k3. pure k3 (cond_of p' a' b'))))
+    pulled under (case_of gs) k = then_pull (pulled_arms under gs k) (λ gs' k1. pure k1 (case_of gs'))
+    pulled under (case_other gs e) k = then_pull (pulled_arms under gs k) (λ gs' k1. then_pull (pulled under e k1) (λ e' k2. pure k2 (case_other gs' e')))
+    pulled under (let_in ds e) k = then_pull (pulled_let under ds k) (λ ds' k1. then_pull (pulled (below (names_of ds) under) e k1) (λ e' k2. pure k2 (let_in ds' e')))
+    pulled under (quantified q bs p) k =
+        then_pull (pulled_bound under bs k) (λ bs' k1. then_pull (pulled (below (names_bound bs) under) p k1) (λ p' k2. pure k2 (quantified q bs' p')))
+    pulled under (choose x r p) k = then_pull (pulled under r k) (λ r' k1. then_pull (pulled (x ∷ under) p k1) (λ p' k2. pure k2 (choose x r' p')))
+    pulled under (tuple ts) k = then_pull (pulled_all under ts k) (λ us k1. pure k1 (tuple us))
+    pulled under (set_of ts) k = then_pull (pulled_all under ts k) (λ us k1. pure k1 (set_of us))
+    pulled under (filter_of x r p) k = then_pull (pulled under r k) (λ r' k1. then_pull (pulled (x ∷ under) p k1) (λ p' k2. pure k2 (filter_of x r' p')))
+    pulled under (image e x r) k = then_pull (pulled (x ∷ under) e k) (λ e' k1. then_pull (pulled under r k1) (λ r' k2. pure k2 (image e' x r')))
+    pulled under (fun_of bs e) k = then_pull (pulled_bound under bs k) (λ bs' k1. then_pull (pulled (below (names_bound bs) under) e k1) (λ e' k2. pure k2 (fun_of bs' e')))
+    pulled under (fun_set a b) k = then_pull (pulled under a k) (λ a' k1. then_pull (pulled under b k1) (λ b' k2. pure k2 (fun_set a' b')))
+    pulled under (record_of ds) k = then_pull (pulled_fields under ds k) (λ ds' k1. pure k1 (record_of ds'))
+    pulled under (record_set ds) k = then_pull (pulled_fields under ds k) (λ ds' k1. pure k1 (record_set ds'))
+    pulled under (except f us) k = then_pull (pulled under f k) (λ f' k1. then_pull (pulled_paths under us k1) (λ us' k2. pure k2 (except f' us')))
+    pulled under (index f ts) k =
+        then_pull (pulled under f k) (λ f' k1. then_pull (pulled_all under ts k1) (λ us k2.
+        on (pure k2 (index f' us)) (element_of under f) (λ m. read_element m (index_tree us) k2)))
+    pulled under (field r x) k = then_pull (pulled under r k) (λ r' k1. pure k1 (field r' x))
+    pulled under (call x ts) k = then_pull (pulled_all under ts k) (λ us k1. pure k1 (call x us))
+    pulled under (unchanged xs) k = pure k (unchanged xs)
 
-    pub pulled_all : Trees → ℕ → Pulled Trees
-    pulled_all no_trees k = pure k no_trees
-    pulled_all (more_trees t ts) k = then_pull (pulled t k) (λ t' k1. then_pull (pulled_all ts k1) (λ us k2. pure k2 (more_trees t' us)))
+    pub pulled_all : List Name → Trees → ℕ → Pulled Trees
+    pulled_all under no_trees k = pure k no_trees
+    pulled_all under (more_trees t ts) k = then_pull (pulled under t k) (λ t' k1. then_pull (pulled_all under ts k1) (λ us k2. pure k2 (more_trees t' us)))
 
-    pub pulled_arms : TreePairs → ℕ → Pulled TreePairs
-    pulled_arms no_arms k = pure k no_arms
-    pulled_arms (more_arms g e gs) k =
-        then_pull (pulled g k) (λ g' k1. then_pull (pulled e k1) (λ e' k2. then_pull (pulled_arms gs k2) (λ gs' k3. pure k3 (more_arms g' e' gs'))))
+    pub pulled_arms : List Name → TreePairs → ℕ → Pulled TreePairs
+    pulled_arms under no_arms k = pure k no_arms
+    pulled_arms under (more_arms g e gs) k =
+        then_pull (pulled under g k) (λ g' k1. then_pull (pulled under e k1) (λ e' k2. then_pull (pulled_arms under gs k2) (λ gs' k3. pure k3 (more_arms g' e' gs'))))
 
-    pub pulled_named : NamedTrees → ℕ → Pulled NamedTrees
-    pulled_named no_named k = pure k no_named
-    pulled_named (more_named x t ts) k = then_pull (pulled t k) (λ t' k1. then_pull (pulled_named ts k1) (λ us k2. pure k2 (more_named x t' us)))
+    pub pulled_fields : List Name → NamedTrees → ℕ → Pulled NamedTrees
+    pulled_fields under no_named k = pure k no_named
+    pulled_fields under (more_named x t ts) k = then_pull (pulled under t k) (λ t' k1. then_pull (pulled_fields under ts k1) (λ us k2. pure k2 (more_named x t' us)))
 
-    pub pulled_bound : BoundTrees → ℕ → Pulled BoundTrees
-    pulled_bound no_bound k = pure k no_bound
-    pulled_bound (more_bound xs r bs) k =
-        then_pull (pulled r k) (λ r' k1. then_pull (pulled_bound bs k1) (λ bs' k2. pure k2 (more_bound xs r' bs')))
+    -- the expression of a LET name sees the names before it
+    pub pulled_let : List Name → NamedTrees → ℕ → Pulled NamedTrees
+    pulled_let under no_named k = pure k no_named
+    pulled_let under (more_named x t ts) k = then_pull (pulled under t k) (λ t' k1. then_pull (pulled_let (x ∷ under) ts k1) (λ us k2. pure k2 (more_named x t' us)))
 
-    pub pulled_paths : PathTrees → ℕ → Pulled PathTrees
-    pulled_paths no_paths k = pure k no_paths
-    pulled_paths (more_paths ps e us) k =
-        then_pull (pulled_all ps k) (λ ps' k1. then_pull (pulled e k1) (λ e' k2. then_pull (pulled_paths us k2) (λ us' k3. pure k3 (more_paths ps' e' us'))))
+    pub pulled_bound : List Name → BoundTrees → ℕ → Pulled BoundTrees
+    pulled_bound under no_bound k = pure k no_bound
+    pulled_bound under (more_bound xs r bs) k =
+        then_pull (pulled under r k) (λ r' k1. then_pull (pulled_bound under bs k1) (λ bs' k2. pure k2 (more_bound xs r' bs')))
+
+    pub pulled_paths : List Name → PathTrees → ℕ → Pulled PathTrees
+    pulled_paths under no_paths k = pure k no_paths
+    pulled_paths under (more_paths ps e us) k =
+        then_pull (pulled_all under ps k) (λ ps' k1. then_pull (pulled under e k1) (λ e' k2. then_pull (pulled_paths under us k2) (λ us' k3. pure k3 (more_paths ps' e' us'))))
 
   -- the reads of e, and then what f makes of what is left
   abbrev pub evaluated : Tree → ℕ → (Tree → ℕ → Code) → Code
-  evaluated e k f = let p = pulled e k in after p.reads (f p.rest p.used)
+  evaluated e k f = let p = pulled [] e k in after p.reads (f p.rest p.used)
 
 -- ---- unmapped reads
 
@@ -166,4 +179,4 @@ looks_of places [] = []
 looks_of places (x ∷ xs) = touched_whole (find x places) (looks_of places xs)
 
 abbrev pub looks : List (Name × Place) → Tree → List Touched
-looks places e = looks_of places (first_occurrences (names_in e))
+looks places e = looks_of places (first_occurrences (free_names [] e))

@@ -1,6 +1,8 @@
 pub mod Among
 pub mod Code
 pub mod Blocks
+pub mod Bound
+pub mod FreeNames
 pub mod Access
 pub mod Held
 pub mod Context
