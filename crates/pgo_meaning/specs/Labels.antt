@@ -7,17 +7,19 @@ use Rattle.pgo_sections.specs.Code.{Code, Seq, Goto}
 use Rattle.pgo_meaning.specs.Statements.{Setting, label_of, code, in_order}
 
 module _ (s : Setting) where
-  -- a label's own section, where c follows its statement
+  -- the section of a label, where c follows its statement; none where there is no label
   abbrev pub own : Option PlacedName → Statement → Code → List (Name × Code)
   own None t c = []
   own (Some x) t c = (label_of s.process x.name, Seq (code s (label_of s.process x.name) t) c) ∷ []
 
+  -- the label, or else that of the last one above
   abbrev pub labelled : Name → Option PlacedName → Name
   labelled l None = l
   labelled l (Some x) = label_of s.process x.name
 
   abbrev mutual
-    -- the sections of the labels in a statement; c is what follows it, and l its label
+    -- the sections of the labels in a statement; c is what follows it, and l the label of the last one above, which is that of a
+    -- `while`
     pub within : Name → Statement → Code → List (Name × Code)
     within l (skip p) c = []
     within l (assign p as') c = []

@@ -47,12 +47,13 @@ code_at b i _ = None
 abbrev pub nothing : Section Touched Vars
 nothing = record { trace = []; end = Nowhere }
 
--- the section of instance k on s, with the words d of choice
+-- The section of instance k on s, with the words d of choice. Of its end the depth alone is tested: where s is a state, the end is
+-- one too, if its values are values (`ends_are_states`). Where s is none, the end may be none.
 abbrev pub Sect : Bound → ℕ → Vars → Words → Section Touched Vars
 Sect b k s d =
     on nothing (nth b.instances k) (λ i. on nothing (code_at b i (value_in s pc (id_of i))) (λ c. section (context_of b i s) c d))
 
--- some words of choice lead from s to t
+-- some words of choice lead from s to t, which are meant to be states
 pub record Allows (b : Bound) (k : ℕ) (s t : Vars) : Type 0 where
   pub words : List ℕ
   pub prints : List Data

@@ -55,7 +55,8 @@ module _ (s : Setting) where
   to_variable x [] w p = if s.is_block then Set old_base p (name w) else Become p w
   to_variable x (i ∷ path) w p = Set (if s.is_block then old_base else variable_of p) p (changed x (i ∷ path) w)
 
-  -- the variable x, with this path, becomes what w stands for
+  -- the variable x, with this path, becomes what w stands for. By the rules on names x is a mapped parameter or has a place; of
+  -- another name nothing is done
   abbrev pub assigned : Name → List Part → Name → Code
   assigned x path w =
       on (on Skip (find x s.places) (to_variable x path w)) (find x s.mapped) (λ m. Write m.global (index_of path) w m.writes)
@@ -88,7 +89,8 @@ module _ (s : Setting) where
   bind_names (w ∷ ws) c = bind_name w.name.name w.origin (bind_names ws c)
 
   abbrev mutual
-    -- a statement up to the labels in it; l is the label of the last one above, which is that of a `while`
+    -- A statement up to the labels in it; l is the label of the last one above, which is that of a `while`. Macros are in the place
+    -- of their calls before, so no call is left where each macro is declared; of a call that is left nothing is done.
     pub code : Name → Statement → Code
     code l (skip p) = Skip
     code l (assign p as') = assignment_code as'

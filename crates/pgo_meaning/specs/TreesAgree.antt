@@ -48,7 +48,8 @@ abbrev pub TreesAgree : Type 0
 TreesAgree = (b : Bound) (k : ℕ) (i : Instance) (l : Name) (s t : Vars) → nth b.instances k ≡ Some i → Named b i → IsState b s → IsState b t
     → value_in s pc (id_of i) ≡ Some (string l) → TreeAllows (expansions_at b i) b l (id_of i) s t ↔ Allows b k s t
 
--- no other process has a label of this written name, since written names differ
+-- The trees of the whole specification have the instance's expansion at each label that has a section: so its bindings and its
+-- archetype are those of its process in the specification, and no process before that has a label of this written name.
 abbrev pub OwnLabels : Bound → Instance → Type 0
 OwnLabels b i = (l : Name) (c : Code) → find l (sections_at b i) ≡ Some c → find l (trees_of b.spec) ≡ find l (expansions_at b i)
 

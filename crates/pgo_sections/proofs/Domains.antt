@@ -26,7 +26,7 @@ use Rattle.pgo_sections.specs.Exec.{MacroEnd, Gives, Stops, used_up, if_gives, t
 use Rattle.pgo_sections.specs.Macros.{block_read, block_write, exec}
 use Rattle.pgo_sections.specs.Held.{held, value_under, put_part, value_put}
 use Rattle.pgo_sections.specs.Run.{Run, begun, printed, picked_number, chosen, Out, Go, Jump, Gave, Stop, with_value, if_true, picked, go_on}
-use Rattle.pgo_sections.specs.Section.{closed_value, closed, if_state, end_of, section}
+use Rattle.pgo_sections.specs.Section.{closed_value, closed, if_shallow, end_of, section}
 use Rattle.pgo_sections.proofs.Closing.{closed_at, closed_keys, found_among, not_among}
 use Rattle.pgo_sections.proofs.Iff.{some_is}
 
@@ -243,7 +243,7 @@ module _ (k : Context) where
       next_is t' ps ps' true s e = (ap (λ o. elim o as (λ o. Vars) [ Next q p ↦ q | Stuck q ↦ t | Nowhere ↦ t ]) e, s)
       next_is t' ps ps' false s e = absurd (grind (arith, e))
 
-      jumped : (q : Option Vars) → closed k l run.changes k.start ≡ q → on (Stuck NoValue) q (if_state run.prints) ≡ Next t prints → EndedAt (Jump l run) t
+      jumped : (q : Option Vars) → closed k l run.changes k.start ≡ q → on (Stuck NoValue) q (if_shallow run.prints) ≡ Next t prints → EndedAt (Jump l run) t
       jumped None c e = absurd (grind (arith, e))
       jumped (Some t') c e =
           let n = next_is t' run.prints prints (is_shallow t') refl e in

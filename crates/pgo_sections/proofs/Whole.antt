@@ -16,7 +16,7 @@ use Rattle.pgo_sections.specs.Code.{Place, Whole, Own, Code}
 use Rattle.pgo_sections.specs.Macros.{exec}
 use Rattle.pgo_sections.specs.Context.{Context, value_before}
 use Rattle.pgo_sections.specs.Run.{Run, begun, Out, Go, Jump, Gave, Stop}
-use Rattle.pgo_sections.specs.Section.{closed_value, closed, end_of, if_state, Reaches}
+use Rattle.pgo_sections.specs.Section.{closed_value, closed, end_of, if_shallow, Reaches}
 use Rattle.pgo_model.specs.Choice.{word_at}
 use Rattle.pgo_sections.specs.Among.{is_among}
 use Rattle.pgo_sections.specs.Held.{put_part, value_put, value_under}
@@ -70,7 +70,7 @@ module _ (a : Around) (k : Context) (t : Vars) (f : Fit a k t) where
       ended_next : (o : Out) → Holds never J no_gift o → (prints : List Data) × (end_of k o ≡ Next t prints)
       ended_next (Go run) h = absurd h
       ended_next (Jump l run) h =
-          (run.prints, ap (λ q. on (Stuck NoValue) q (if_state run.prints)) h ∙ ap (λ b. if b then Next t run.prints else Stuck NoValue) f.shallow)
+          (run.prints, ap (λ q. on (Stuck NoValue) q (if_shallow run.prints)) h ∙ ap (λ b. if b then Next t run.prints else Stuck NoValue) f.shallow)
       ended_next (Gave v run) h = absurd h
       ended_next (Stop kind run) h = absurd h
 
@@ -84,7 +84,7 @@ module _ (a : Around) (k : Context) (t : Vars) (f : Fit a k t) where
       next_is t' prints prints' true e = ap (λ o. elim o as (λ o. Vars) [ Next q p ↦ q | Stuck q ↦ t | Nowhere ↦ t ]) e
       next_is t' prints prints' false e = absurd (grind (arith, e))
 
-      jumped : (l : Name) (run : Run) (q : Option Vars) → closed k l run.changes k.start ≡ q → (prints : List Data) → on (Stuck NoValue) q (if_state run.prints) ≡ Next t prints → J l run.changes
+      jumped : (l : Name) (run : Run) (q : Option Vars) → closed k l run.changes k.start ≡ q → (prints : List Data) → on (Stuck NoValue) q (if_shallow run.prints) ≡ Next t prints → J l run.changes
       jumped l run None e prints g = absurd (grind (arith, g))
       jumped l run (Some t') e prints g = e ∙ ap (λ z. Some z) (next_is t' run.prints prints (is_shallow t') g)
 

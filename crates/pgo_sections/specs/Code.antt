@@ -1,5 +1,5 @@
--- A section as its effects, one after another: label-free, macros in place, each mapped occurrence read before the statement
--- in which it stands.
+-- A section as a tree of effects: label-free, macros in place, each mapped occurrence read before the expression in which it
+-- stands.
 use Rattle.std.specs.Prelude.{List, [], ◌∷◌, Option, codes}
 use Rattle.pgo_base.specs.Tree.{Tree}
 use Rattle.pgo_base.specs.Lookup.{Name}

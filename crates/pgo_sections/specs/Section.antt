@@ -26,13 +26,14 @@ abbrev pub closed : Context → Name → Vars → Vars → Option Vars
 closed k l ch [] = Some []
 closed k l ch (p ∷ s) = both (λ v t. Some ((p.0, v) ∷ t)) (closed_value k l ch p.0 p.1) (closed k l ch s)
 
--- the end is a state, or there is no value: of what makes a state only the depth can fail, where the section began in one
-abbrev pub if_state : List Data → Vars → Outcome Vars
-if_state prints t = if is_shallow t then Next t prints else Stuck NoValue
+-- No value is more than 256 deep at the end, or there is no value. Nothing else that makes a state is looked at: what did not
+-- change is as it was at the start, and the rest is a law on sections that begin in a state (`ends_are_states` of pgo_meaning).
+abbrev pub if_shallow : List Data → Vars → Outcome Vars
+if_shallow prints t = if is_shallow t then Next t prints else Stuck NoValue
 
 abbrev pub end_of : Context → Out → Outcome Vars
 end_of k (Go run) = Nowhere
-end_of k (Jump l run) = on (Stuck NoValue) (closed k l run.changes k.start) (if_state run.prints)
+end_of k (Jump l run) = on (Stuck NoValue) (closed k l run.changes k.start) (if_shallow run.prints)
 end_of k (Gave v run) = Nowhere
 end_of k (Stop kind run) = Stuck kind
 
