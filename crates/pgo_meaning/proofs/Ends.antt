@@ -19,7 +19,7 @@ use Rattle.pgo_bound.specs.Among.{IsAmong, all_at, among_map, among_flat_map, am
 use Rattle.pgo_bound.specs.Declares.{value_in}
 use Rattle.pgo_bound.specs.State.{AreDifferent, IsState, IsStateOnDomains, id_of, kind_in, own_names, variables_of}
 use Rattle.pgo_bound.specs.declared.kinds.Kind.TheVariants.{ByElement}
-use Rattle.pgo_sections.specs.Agrees.{keys as names_of}
+use Rattle.pgo_sections.specs.SectionsAgree.{keys as names_of}
 use Rattle.pgo_sections.specs.Among.{is_among}
 use Rattle.pgo_sections.specs.Code.{Code}
 use Rattle.pgo_sections.specs.Context.{Context}

@@ -7,14 +7,14 @@ use Rattle.pgo_model.specs.System.{Words}
 use Rattle.pgo_syntax.specs.declared.bound.Mapping.TheVariants.{Identity}
 use Rattle.pgo_sections.specs.Context.{content_state}
 use Rattle.pgo_sections.specs.Exec.{Gives, read_end, write_end}
-use Rattle.pgo_sections.specs.Held.{held}
-use Rattle.pgo_sections.specs.Run.{begun, Gave, with_value}
+use Rattle.pgo_sections.specs.BoundValues.{bindable}
+use Rattle.pgo_sections.specs.SectionRun.{begun, Yielded, with_value}
 use Rattle.pgo_meaning.specs.Macros.{MacRead, MacWrite}
 
-pub identity_reads : (ds : List Defined) (id old : Data) (d : Words) (used : ℕ) → held (Some old) ≡ Some old → MacRead Identity ds id old d used ≡ Gives (old, None) used
+pub identity_reads : (ds : List Defined) (id old : Data) (d : Words) (used : ℕ) → bindable (Some old) ≡ Some old → MacRead Identity ds id old d used ≡ Gives (old, None) used
 identity_reads ds id old d used h =
-    ap (λ o. read_end (with_value o (begun (content_state old) used) (λ v. Gave v (begun (content_state old) used)))) h
+    ap (λ o. read_end (with_value o (begun (content_state old) used) (λ v. Yielded v (begun (content_state old) used)))) h
 
-pub identity_writes : (ds : List Defined) (id old v : Data) (d : Words) (used : ℕ) → held (Some v) ≡ Some v → MacWrite Identity ds id old v d used ≡ Gives v used
+pub identity_writes : (ds : List Defined) (id old v : Data) (d : Words) (used : ℕ) → bindable (Some v) ≡ Some v → MacWrite Identity ds id old v d used ≡ Gives v used
 identity_writes ds id old v d used h =
-    ap (λ o. write_end (with_value o (begun (content_state old) used) (λ v. Gave v (begun (content_state old) used)))) h
+    ap (λ o. write_end (with_value o (begun (content_state old) used) (λ v. Yielded v (begun (content_state old) used)))) h

@@ -20,7 +20,7 @@ use Rattle.pgo_syntax.specs.declared.bound.Target.{Target}
 use Rattle.pgo_syntax.specs.declared.bound.Target.TheVariants as targets
 use Rattle.pgo_syntax.specs.declared.macros.Macro.{Macro}
 use Rattle.pgo_syntax.specs.declared.name.PlacedName.{PlacedName}
-use Rattle.pgo_sections.specs.Access.{Mapped, MappedNames, Before, Pulled, pure, then_pull, place, name_alone, if_element, if_whole, mapped_under, element_of, index_tree, read_whole, read_element, pulled, pulled_all, pulled_arms, pulled_fields, pulled_let, pulled_bound, pulled_paths, read_first, after, evaluated}
+use Rattle.pgo_sections.specs.Access.{Mapped, MappedNames, MappedRead, Hoisted, pure, then_hoist, place, name_alone, if_element, if_whole, mapped_under, element_of, index_tree, read_whole, read_element, hoisted, hoisted_all, hoisted_arms, hoisted_fields, hoisted_let, hoisted_bound, hoisted_paths, read_first, after, evaluated}
 use Rattle.pgo_sections.specs.Among.{is_among}
 use Rattle.pgo_sections.specs.Bound.{names_of, names_bound, below}
 use Rattle.pgo_sections.specs.Blocks.{AreBlocks, AllAreBlocks, IsBlock, HasBlocks}
@@ -33,33 +33,33 @@ use Rattle.pgo_meaning.specs.Statements.{Setting, Part, Index, Field, changed, l
 
 -- ---- what is read before an expression are mapped parameters
 module _ (mapped : MappedNames) (P : Mapped → Type 0) (from : (x : Name) (m : Mapped) → find x mapped ≡ Some m → P m) where
-  abbrev All : List Before → Type 0
+  abbrev All : List MappedRead → Type 0
   All bs = AllByRecursion (λ b. P b.mapped) bs
 
-  two : (xs ys : List Before) → All xs → All ys → All (xs ++ ys)
+  two : (xs ys : List MappedRead) → All xs → All ys → All (xs ++ ys)
   two [] ys f g = g
   two (x ∷ xs) ys f g = (f.0, two xs ys f.1 g)
 
-  abbrev AllOf : {A : Type 0} → Pulled A → Type 0
+  abbrev AllOf : {A : Type 0} → Hoisted A → Type 0
   AllOf p = All p.reads
 
-  next : {A B : Type 0} (p : Pulled A) (f : A → ℕ → Pulled B) → AllOf p → ((a : A) (k : ℕ) → AllOf (f a k)) → AllOf (then_pull p f)
+  next : {A B : Type 0} (p : Hoisted A) (f : A → ℕ → Hoisted B) → AllOf p → ((a : A) (k : ℕ) → AllOf (f a k)) → AllOf (then_hoist p f)
   next p f h g = two p.reads (f p.rest p.used).reads h (g p.rest p.used)
 
   none : {A : Type 0} (k : ℕ) (a : A) → AllOf (pure k a)
   none k a = tt
 
   -- one part, and two
-  one_part : {A B : Type 0} (p : Pulled A) (f : A → B) → AllOf p → AllOf (then_pull p (λ a k. pure k (f a)))
+  one_part : {A B : Type 0} (p : Hoisted A) (f : A → B) → AllOf p → AllOf (then_hoist p (λ a k. pure k (f a)))
   one_part p f h = next p (λ a k. pure k (f a)) h (λ a k. tt)
 
-  two_parts : {A B C : Type 0} (p : Pulled A) (q : ℕ → Pulled B) (f : A → B → C) → AllOf p → ((k : ℕ) → AllOf (q k)) → AllOf (then_pull p (λ a k1. then_pull (q k1) (λ b k2. pure k2 (f a b))))
+  two_parts : {A B C : Type 0} (p : Hoisted A) (q : ℕ → Hoisted B) (f : A → B → C) → AllOf p → ((k : ℕ) → AllOf (q k)) → AllOf (then_hoist p (λ a k1. then_hoist (q k1) (λ b k2. pure k2 (f a b))))
   two_parts p q f h g =
-      next p (λ a k1. then_pull (q k1) (λ b k2. pure k2 (f a b))) h (λ a k1. one_part (q k1) (f a) (g k1))
+      next p (λ a k1. then_hoist (q k1) (λ b k2. pure k2 (f a b))) h (λ a k1. one_part (q k1) (f a) (g k1))
 
-  three_parts : {A B C D : Type 0} (p : Pulled A) (q : ℕ → Pulled B) (r : ℕ → Pulled C) (f : A → B → C → D) → AllOf p → ((k : ℕ) → AllOf (q k)) → ((k : ℕ) → AllOf (r k)) → AllOf (then_pull p (λ a k1. then_pull (q k1) (λ b k2. then_pull (r k2) (λ c k3. pure k3 (f a b c)))))
+  three_parts : {A B C D : Type 0} (p : Hoisted A) (q : ℕ → Hoisted B) (r : ℕ → Hoisted C) (f : A → B → C → D) → AllOf p → ((k : ℕ) → AllOf (q k)) → ((k : ℕ) → AllOf (r k)) → AllOf (then_hoist p (λ a k1. then_hoist (q k1) (λ b k2. then_hoist (r k2) (λ c k3. pure k3 (f a b c)))))
   three_parts p q r f h g i =
-      next p (λ a k1. then_pull (q k1) (λ b k2. then_pull (r k2) (λ c k3. pure k3 (f a b c)))) h (λ a k1. two_parts (q k1) r (f a) (g k1) i)
+      next p (λ a k1. then_hoist (q k1) (λ b k2. then_hoist (r k2) (λ c k3. pure k3 (f a b c)))) h (λ a k1. two_parts (q k1) r (f a) (g k1) i)
 
   -- a name that is not bound around is one of the mapped parameters
   found : (x : Name) (b : Bool) (m : Mapped) → (if b then None else find x mapped) ≡ Some m → find x mapped ≡ Some m
@@ -95,7 +95,7 @@ module _ (mapped : MappedNames) (P : Mapped → Type 0) (from : (x : Name) (m : 
   index_all t i k (Some m) h = (h m refl, tt)
 
   mutual
-    tree_all : (under : List Name) (e : Tree) (k : ℕ) → AllOf (pulled mapped under e k)
+    tree_all : (under : List Name) (e : Tree) (k : ℕ) → AllOf (hoisted mapped under e k)
     tree_all under (name x) k = name_all x k (if_whole (mapped_under mapped under x)) (λ m h. whole_there x under (mapped_under mapped under x) refl m h)
     tree_all under (primed x) k = tt
     tree_all under (number z) k = tt
@@ -103,66 +103,66 @@ module _ (mapped : MappedNames) (P : Mapped → Type 0) (from : (x : Name) (m : 
     tree_all under (truth b) k = tt
     tree_all under at k = tt
     tree_all under (word w) k = tt
-    tree_all under (unary o a) k = one_part (pulled mapped under a k) (unary o) (tree_all under a k)
-    tree_all under (binary o a b) k = two_parts (pulled mapped under a k) (pulled mapped under b) (binary o) (tree_all under a k) (tree_all under b)
-    tree_all under (product ts) k = one_part (pulled_all mapped under ts k) product (trees_all under ts k)
+    tree_all under (unary o a) k = one_part (hoisted mapped under a k) (unary o) (tree_all under a k)
+    tree_all under (binary o a b) k = two_parts (hoisted mapped under a k) (hoisted mapped under b) (binary o) (tree_all under a k) (tree_all under b)
+    tree_all under (product ts) k = one_part (hoisted_all mapped under ts k) product (trees_all under ts k)
     tree_all under (cond_of p a b) k =
-        three_parts (pulled mapped under p k) (pulled mapped under a) (pulled mapped under b) cond_of (tree_all under p k) (tree_all under a) (tree_all under b)
-    tree_all under (case_of gs) k = one_part (pulled_arms mapped under gs k) case_of (arms_all under gs k)
+        three_parts (hoisted mapped under p k) (hoisted mapped under a) (hoisted mapped under b) cond_of (tree_all under p k) (tree_all under a) (tree_all under b)
+    tree_all under (case_of gs) k = one_part (hoisted_arms mapped under gs k) case_of (arms_all under gs k)
     tree_all under (case_other gs e) k =
-        two_parts (pulled_arms mapped under gs k) (pulled mapped under e) case_other (arms_all under gs k) (tree_all under e)
-    tree_all under (let_in ds e) k = two_parts (pulled_let mapped under ds k) (pulled mapped (below (names_of ds) under) e) let_in (let_all under ds k) (tree_all (below (names_of ds) under) e)
+        two_parts (hoisted_arms mapped under gs k) (hoisted mapped under e) case_other (arms_all under gs k) (tree_all under e)
+    tree_all under (let_in ds e) k = two_parts (hoisted_let mapped under ds k) (hoisted mapped (below (names_of ds) under) e) let_in (let_all under ds k) (tree_all (below (names_of ds) under) e)
     tree_all under (quantified q bs p) k =
-        two_parts (pulled_bound mapped under bs k) (pulled mapped (below (names_bound bs) under) p) (quantified q) (bound_all under bs k) (tree_all (below (names_bound bs) under) p)
-    tree_all under (choose x r p) k = two_parts (pulled mapped under r k) (pulled mapped (x ∷ under) p) (choose x) (tree_all under r k) (tree_all (x ∷ under) p)
-    tree_all under (tuple ts) k = one_part (pulled_all mapped under ts k) tuple (trees_all under ts k)
-    tree_all under (set_of ts) k = one_part (pulled_all mapped under ts k) set_of (trees_all under ts k)
-    tree_all under (filter_of x r p) k = two_parts (pulled mapped under r k) (pulled mapped (x ∷ under) p) (filter_of x) (tree_all under r k) (tree_all (x ∷ under) p)
+        two_parts (hoisted_bound mapped under bs k) (hoisted mapped (below (names_bound bs) under) p) (quantified q) (bound_all under bs k) (tree_all (below (names_bound bs) under) p)
+    tree_all under (choose x r p) k = two_parts (hoisted mapped under r k) (hoisted mapped (x ∷ under) p) (choose x) (tree_all under r k) (tree_all (x ∷ under) p)
+    tree_all under (tuple ts) k = one_part (hoisted_all mapped under ts k) tuple (trees_all under ts k)
+    tree_all under (set_of ts) k = one_part (hoisted_all mapped under ts k) set_of (trees_all under ts k)
+    tree_all under (filter_of x r p) k = two_parts (hoisted mapped under r k) (hoisted mapped (x ∷ under) p) (filter_of x) (tree_all under r k) (tree_all (x ∷ under) p)
     tree_all under (image e x r) k =
-        two_parts (pulled mapped (x ∷ under) e k) (pulled mapped under r) (λ e r. image e x r) (tree_all (x ∷ under) e k) (tree_all under r)
-    tree_all under (fun_of bs e) k = two_parts (pulled_bound mapped under bs k) (pulled mapped (below (names_bound bs) under) e) fun_of (bound_all under bs k) (tree_all (below (names_bound bs) under) e)
-    tree_all under (fun_set a b) k = two_parts (pulled mapped under a k) (pulled mapped under b) fun_set (tree_all under a k) (tree_all under b)
-    tree_all under (record_of ds) k = one_part (pulled_fields mapped under ds k) record_of (fields_all under ds k)
-    tree_all under (record_set ds) k = one_part (pulled_fields mapped under ds k) record_set (fields_all under ds k)
-    tree_all under (except f us) k = two_parts (pulled mapped under f k) (pulled_paths mapped under us) except (tree_all under f k) (paths_all under us)
+        two_parts (hoisted mapped (x ∷ under) e k) (hoisted mapped under r) (λ e r. image e x r) (tree_all (x ∷ under) e k) (tree_all under r)
+    tree_all under (fun_of bs e) k = two_parts (hoisted_bound mapped under bs k) (hoisted mapped (below (names_bound bs) under) e) fun_of (bound_all under bs k) (tree_all (below (names_bound bs) under) e)
+    tree_all under (fun_set a b) k = two_parts (hoisted mapped under a k) (hoisted mapped under b) fun_set (tree_all under a k) (tree_all under b)
+    tree_all under (record_of ds) k = one_part (hoisted_fields mapped under ds k) record_of (fields_all under ds k)
+    tree_all under (record_set ds) k = one_part (hoisted_fields mapped under ds k) record_set (fields_all under ds k)
+    tree_all under (except f us) k = two_parts (hoisted mapped under f k) (hoisted_paths mapped under us) except (tree_all under f k) (paths_all under us)
     tree_all under (index f ts) k =
         let last = λ (g : Tree) (us : Trees) (k2 : ℕ). on (pure k2 (index g us)) (element_of mapped under f) (λ m. read_element m (index_tree us) k2) in
-        next (pulled mapped under f k) (λ g k1. then_pull (pulled_all mapped under ts k1) (λ us k2. last g us k2)) (tree_all under f k) (λ g k1.
-        next (pulled_all mapped under ts k1) (λ us k2. last g us k2) (trees_all under ts k1) (λ us k2.
+        next (hoisted mapped under f k) (λ g k1. then_hoist (hoisted_all mapped under ts k1) (λ us k2. last g us k2)) (tree_all under f k) (λ g k1.
+        next (hoisted_all mapped under ts k1) (λ us k2. last g us k2) (trees_all under ts k1) (λ us k2.
         index_all (index g us) (index_tree us) k2 (element_of mapped under f) (λ m h. alone_there under (name_alone f) m h)))
-    tree_all under (field r x) k = one_part (pulled mapped under r k) (λ r. field r x) (tree_all under r k)
-    tree_all under (call x ts) k = one_part (pulled_all mapped under ts k) (call x) (trees_all under ts k)
+    tree_all under (field r x) k = one_part (hoisted mapped under r k) (λ r. field r x) (tree_all under r k)
+    tree_all under (call x ts) k = one_part (hoisted_all mapped under ts k) (call x) (trees_all under ts k)
     tree_all under (unchanged xs) k = tt
 
-    trees_all : (under : List Name) (ts : Trees) (k : ℕ) → AllOf (pulled_all mapped under ts k)
+    trees_all : (under : List Name) (ts : Trees) (k : ℕ) → AllOf (hoisted_all mapped under ts k)
     trees_all under no_trees k = tt
     trees_all under (more_trees t ts) k =
-        two_parts (pulled mapped under t k) (pulled_all mapped under ts) more_trees (tree_all under t k) (trees_all under ts)
+        two_parts (hoisted mapped under t k) (hoisted_all mapped under ts) more_trees (tree_all under t k) (trees_all under ts)
 
-    arms_all : (under : List Name) (gs : TreePairs) (k : ℕ) → AllOf (pulled_arms mapped under gs k)
+    arms_all : (under : List Name) (gs : TreePairs) (k : ℕ) → AllOf (hoisted_arms mapped under gs k)
     arms_all under no_arms k = tt
     arms_all under (more_arms g e gs) k =
-        three_parts (pulled mapped under g k) (pulled mapped under e) (pulled_arms mapped under gs) more_arms (tree_all under g k) (tree_all under e) (arms_all under gs)
+        three_parts (hoisted mapped under g k) (hoisted mapped under e) (hoisted_arms mapped under gs) more_arms (tree_all under g k) (tree_all under e) (arms_all under gs)
 
-    fields_all : (under : List Name) (ds : NamedTrees) (k : ℕ) → AllOf (pulled_fields mapped under ds k)
+    fields_all : (under : List Name) (ds : NamedTrees) (k : ℕ) → AllOf (hoisted_fields mapped under ds k)
     fields_all under no_named k = tt
     fields_all under (more_named x t ts) k =
-        two_parts (pulled mapped under t k) (pulled_fields mapped under ts) (more_named x) (tree_all under t k) (fields_all under ts)
+        two_parts (hoisted mapped under t k) (hoisted_fields mapped under ts) (more_named x) (tree_all under t k) (fields_all under ts)
 
-    let_all : (under : List Name) (ds : NamedTrees) (k : ℕ) → AllOf (pulled_let mapped under ds k)
+    let_all : (under : List Name) (ds : NamedTrees) (k : ℕ) → AllOf (hoisted_let mapped under ds k)
     let_all under no_named k = tt
     let_all under (more_named x t ts) k =
-        two_parts (pulled mapped under t k) (pulled_let mapped (x ∷ under) ts) (more_named x) (tree_all under t k) (let_all (x ∷ under) ts)
+        two_parts (hoisted mapped under t k) (hoisted_let mapped (x ∷ under) ts) (more_named x) (tree_all under t k) (let_all (x ∷ under) ts)
 
-    bound_all : (under : List Name) (bs : BoundTrees) (k : ℕ) → AllOf (pulled_bound mapped under bs k)
+    bound_all : (under : List Name) (bs : BoundTrees) (k : ℕ) → AllOf (hoisted_bound mapped under bs k)
     bound_all under no_bound k = tt
     bound_all under (more_bound xs r bs) k =
-        two_parts (pulled mapped under r k) (pulled_bound mapped under bs) (more_bound xs) (tree_all under r k) (bound_all under bs)
+        two_parts (hoisted mapped under r k) (hoisted_bound mapped under bs) (more_bound xs) (tree_all under r k) (bound_all under bs)
 
-    paths_all : (under : List Name) (us : PathTrees) (k : ℕ) → AllOf (pulled_paths mapped under us k)
+    paths_all : (under : List Name) (us : PathTrees) (k : ℕ) → AllOf (hoisted_paths mapped under us k)
     paths_all under no_paths k = tt
     paths_all under (more_paths ps e us) k =
-        three_parts (pulled_all mapped under ps k) (pulled mapped under e) (pulled_paths mapped under us) more_paths (trees_all under ps k) (tree_all under e) (paths_all under us)
+        three_parts (hoisted_all mapped under ps k) (hoisted mapped under e) (hoisted_paths mapped under us) more_paths (trees_all under ps k) (tree_all under e) (paths_all under us)
 
 -- ---- statements
 
@@ -195,14 +195,14 @@ module _ (s : Setting) (Good : Code → Type 0) (Arms : Codes → Type 0) (holds
   first_good None f h = h None
   first_good (Some i) f h = holds.lets at_base i.0 i.1 (f (Some i.0)) (h (Some i.0))
 
-  after_good : (bs : List Before) (c : Code) → AllByRecursion (λ b. Here b.mapped) bs → Good c → Good (after bs c)
+  after_good : (bs : List MappedRead) (c : Code) → AllByRecursion (λ b. Here b.mapped) bs → Good c → Good (after bs c)
   after_good [] c h g = g
   after_good (b ∷ bs) c h g =
       first_good b.index (λ i. Read b.value b.mapped.global i b.mapped.reads (after bs c)) (λ i. holds.reads h.0.0 b.mapped b.value i (after bs c) h.0.1 (after_good bs c h.1 g))
 
   evaluated_good : (e : Tree) (k : ℕ) (f : Tree → ℕ → Code) → ((e : Tree) (k : ℕ) → Good (f e k)) → Good (evaluated s.mapped e k f)
   evaluated_good e k f h =
-      let p = pulled s.mapped [] e k in
+      let p = hoisted s.mapped [] e k in
       after_good p.reads (f p.rest p.used) (tree_all s.mapped Here (λ x m h. (x, h)) [] e k) (h p.rest p.used)
 
   variable_good : (x : Name) (path : List Part) (w : Name) (p : Place) → find x s.places ≡ Some p → Good (to_variable s x path w p)

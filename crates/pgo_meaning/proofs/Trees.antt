@@ -12,7 +12,7 @@ use Rattle.pgo_syntax.specs.declared.bound.Bound.{Bound}
 use Rattle.pgo_syntax.specs.declared.bound.Instance.{Instance}
 use Rattle.pgo_bound.specs.Declares.{value_in}
 use Rattle.pgo_bound.specs.State.{AreDifferent, IsState, id_of, own_names, variables_of}
-use Rattle.pgo_sections.specs.Agrees.{keys, Distinct, IsPlace, Fit, SectionsAgree}
+use Rattle.pgo_sections.specs.SectionsAgree.{keys, Distinct, IsPlace, Fit, SectionsAgree}
 use Rattle.pgo_sections.specs.Closed.{ClosedAlike}
 use Rattle.pgo_sections.specs.Code.{Place, Whole, Own, Code}
 use Rattle.pgo_sections.specs.Section.{section}
@@ -23,7 +23,7 @@ use Rattle.pgo_sections.specs.Expand.{expansion}
 use Rattle.pgo_sections.specs.Expansion.{Path}
 use Rattle.pgo_meaning.specs.TreesAgree.{Named, TreesAgree, AllTreesAgree, sections_at, expansions_at}
 use Rattle.pgo_meaning.specs.Sect.{context_of, code_at, nothing, Sect, Allows}
-use Rattle.pgo_meaning.specs.TreeAllows.{around, TreeAllows}
+use Rattle.pgo_meaning.specs.TreeAllows.{path_context, TreeAllows}
 use Rattle.pgo_meaning.proofs.SectionCode.{section_has_blocks}
 
 find_map : {A B : Type 0} → (f : A → B) (l : List (Name × A)) (x : Name) → find x (map (λ c. (c.0, f c.1)) l) ≡ option_map f (find x l)
@@ -63,7 +63,7 @@ not_there (p ∷ s) x h = go (same_name x p.0) refl h (λ k. not_there s x k)
     go false e k more = ap (λ b. if b then Some p.1 else find x s) e ∙ more k
 
 module _ (sections_agree : SectionsAgree) (alike : ClosedAlike) (b : Bound) (k : ℕ) (i : Instance) (l : Name) (s t : Vars) (at_k : nth b.instances k ≡ Some i) (n : Named b i) (is_s : IsState b s) (is_t : IsState b t) (at_l : value_in s pc (id_of i) ≡ Some (string l)) where
-  fit : Fit (around b (id_of i)) (context_of b i s) t
+  fit : Fit (path_context b (id_of i)) (context_of b i s) t
   fit = record {
     id = refl;
     globals = refl;
@@ -102,11 +102,11 @@ module _ (sections_agree : SectionsAgree) (alike : ClosedAlike) (b : Bound) (k :
         absurd (let q : Nowhere ≡ Next t h.prints = sym (ap (λ x. x.end) (sect_is None e (word_at h.words))) ∙ h.leads in grind (arith, q)),
   )
   cases (Some c) e =
-      let agree = sections_agree (around b (id_of i)) (context_of b i s) c t fit (section_has_blocks b.spec.macros i.process i.archetype i.bindings l c e) (n.plain l c e) (n.few l c e) in
+      let agree = sections_agree (path_context b (id_of i)) (context_of b i s) c t fit (section_has_blocks b.spec.macros i.process i.archetype i.bindings l c e) (n.plain l c e) (n.few l c e) in
       let there = tree_is ∙ ap (option_map (expansion (places_of i.process i.archetype i.bindings))) e in (
         λ h.
             (let same = got _ _ (sym there ∙ h.1) in
-            let r = agree.0 (subst (λ x. Path (around b (id_of i)) x ((self_name, Some (id_of i)) ∷ []) s t) (sym same) h.2.1) in
+            let r = agree.0 (subst (λ x. Path (path_context b (id_of i)) x ((self_name, Some (id_of i)) ∷ []) s t) (sym same) h.2.1) in
             record { words = r.words; prints = r.prints; leads = ap (λ x. x.end) (sect_is (Some c) e (word_at r.words)) ∙ r.leads }),
         λ h.
             (expansion (places_of i.process i.archetype i.bindings) c, there, (is_t, agree.1 (record { words = h.words; prints = h.prints; leads = sym (ap (λ x. x.end) (sect_is (Some c) e (word_at h.words))) ∙ h.leads }))),

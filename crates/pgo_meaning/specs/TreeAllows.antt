@@ -6,10 +6,10 @@ use Rattle.pgo_model.specs.ModuleView.{defined_view}
 use Rattle.pgo_model.specs.Written.{self_name}
 use Rattle.pgo_syntax.specs.declared.bound.Bound.{Bound}
 use Rattle.pgo_bound.specs.State.{IsState, variables_of}
-use Rattle.pgo_sections.specs.Expansion.{Expansion, Around, Path}
+use Rattle.pgo_sections.specs.Expansion.{Expansion, PathContext, Path}
 
-abbrev pub around : Bound → Data → Around
-around b id = record {
+abbrev pub path_context : Bound → Data → PathContext
+path_context b id = record {
   defs = map defined_view b.defs;
   variables = variables_of b.spec;
   globals = map (λ d. d.name.name) b.spec.globals;
@@ -18,7 +18,7 @@ around b id = record {
 
 -- the expansion allows the step, where `self` is this identifier; what it ends in is a state
 abbrev pub Leads : Bound → Data → Expansion → Vars → Vars → Type 0
-Leads b id x s t = IsState b t × Path (around b id) x ((self_name, Some id) ∷ []) s t
+Leads b id x s t = IsState b t × Path (path_context b id) x ((self_name, Some id) ∷ []) s t
 
 -- of these expansions by their written labels, that of label a allows the step
 abbrev pub TreeAllows : List (Name × Expansion) → Bound → Name → Data → Vars → Vars → Type 0

@@ -9,7 +9,7 @@ use Rattle.pgo_syntax.specs.declared.bound.Bound.{Bound}
 use Rattle.pgo_syntax.specs.declared.bound.Instance.{Instance}
 use Rattle.pgo_bound.specs.Declares.{value_in}
 use Rattle.pgo_bound.specs.State.{AreDifferent, IsState, id_of, variables_of}
-use Rattle.pgo_sections.specs.Agrees.{IsPlace}
+use Rattle.pgo_sections.specs.SectionsAgree.{IsPlace}
 use Rattle.pgo_sections.specs.Closed.{AreClosed}
 use Rattle.pgo_sections.specs.Code.{Place, variable_of, Code}
 use Rattle.pgo_sections.specs.Expansion.{Expansion}

@@ -5,7 +5,7 @@ use Rattle.pgo_base.specs.Lookup.{Name, Vars, same_name, find}
 use Rattle.pgo_model.specs.Machine.{nth}
 use Rattle.pgo_model.specs.Names.{same_name-self, same_name-is}
 use Rattle.pgo_model.specs.Operators.{both}
-use Rattle.pgo_sections.specs.Agrees.{keys, Distinct}
+use Rattle.pgo_sections.specs.SectionsAgree.{keys, Distinct}
 use Rattle.pgo_sections.specs.Context.{Context}
 use Rattle.pgo_sections.specs.Section.{closed_value, closed}
 use Rattle.pgo_sections.specs.Among.{is_among}

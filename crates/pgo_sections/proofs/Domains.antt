@@ -17,15 +17,15 @@ use Rattle.pgo_model.specs.State.{is_shallow}
 use Rattle.pgo_model.specs.System.{Words}
 use Rattle.pgo_model.specs.Variables.{IsFunctionOn}
 use Rattle.pgo_model.specs.Written.{pc}
-use Rattle.pgo_sections.specs.Agrees.{keys as names_of}
+use Rattle.pgo_sections.specs.SectionsAgree.{keys as names_of}
 use Rattle.pgo_sections.specs.Among.{is_among}
 use Rattle.pgo_sections.specs.Code.{Whole, variable_of, Code, Skip, Let, Pick, Become, Set, Await, Assert, Print, If, Either, Seq, Goto, Yield, Read, Write, Codes, no_codes, more_codes}
 use Rattle.pgo_sections.specs.Context.{Context, content, index_value, put_content, put_new, value_now, value_of, with_content}
 use Rattle.pgo_sections.specs.Domains.{AllUse, HasIndex, ByElements, KeepsDomain, place, own, elements}
-use Rattle.pgo_sections.specs.Exec.{MacroEnd, Gives, Stops, used_up, if_gives, touching, looking, becoming, count, exec_arm_with}
+use Rattle.pgo_sections.specs.Exec.{MacroEnd, Gives, Stops, used_up, if_gives, touching, read_unmapped, becoming, count, exec_arm_with}
 use Rattle.pgo_sections.specs.Macros.{block_read, block_write, exec}
-use Rattle.pgo_sections.specs.Held.{held, value_under, put_part, value_put}
-use Rattle.pgo_sections.specs.Run.{Run, begun, printed, picked_number, chosen, Out, Go, Jump, Gave, Stop, with_value, if_true, picked, go_on}
+use Rattle.pgo_sections.specs.BoundValues.{bindable, value_under, put_part, value_put}
+use Rattle.pgo_sections.specs.SectionRun.{SectionRun, begun, printed, picked_number, chosen, Out, Go, Jump, Yielded, Stop, with_value, if_true, picked, go_on}
 use Rattle.pgo_sections.specs.Section.{closed_value, closed, if_shallow, end_of, section}
 use Rattle.pgo_sections.proofs.Closing.{closed_at, closed_keys, found_among, not_among}
 use Rattle.pgo_sections.proofs.Iff.{some_is}
@@ -80,9 +80,9 @@ part_keeps ks i f (Some w) g h e =
     subst (λ ks. IsFunctionOn ks (Some g)) h.2 (put_keeps i w h.0 g at_f)
 
 -- ---- along a section
-pub held_is : (o : Option Data) (v : Data) → held o ≡ Some v → o ≡ Some v
-held_is None v h = absurd (grind (arith, h))
-held_is (Some w) v h = go (set_from (w ∷ [])) h
+pub bindable_is : (o : Option Data) (v : Data) → bindable o ≡ Some v → o ≡ Some v
+bindable_is None v h = absurd (grind (arith, h))
+bindable_is (Some w) v h = go (set_from (w ∷ [])) h
   where
     go : (o : Option Data) → option_map (λ x. w) o ≡ Some v → Some w ≡ Some v
     go None h = absurd (grind (arith, h))
@@ -99,29 +99,29 @@ module _ (k : Context) where
   abbrev pub KeptBy : Out → Type 0
   KeptBy (Go run) = Kept run.changes
   KeptBy (Jump l run) = Kept run.changes
-  KeptBy (Gave v run) = Unit {0}
+  KeptBy (Yielded v run) = Unit {0}
   KeptBy (Stop kind run) = Unit {0}
 
-  value_kept : {A : Type 0} (o : Option A) (run : Run) (f : A → Out) → ((v : A) → o ≡ Some v → KeptBy (f v)) → KeptBy (with_value o run f)
+  value_kept : {A : Type 0} (o : Option A) (run : SectionRun) (f : A → Out) → ((v : A) → o ≡ Some v → KeptBy (f v)) → KeptBy (with_value o run f)
   value_kept None run f h = tt
   value_kept (Some v) run f h = h v refl
 
-  picked_kept : (ms : List Data) (d : Words) (run : Run) (f : Data → Out) → ((v : Data) → KeptBy (f v)) → KeptBy (picked ms d run f)
+  picked_kept : (ms : List Data) (d : Words) (run : SectionRun) (f : Data → Out) → ((v : Data) → KeptBy (f v)) → KeptBy (picked ms d run f)
   picked_kept [] d run f h = tt
   picked_kept (m ∷ ms) d run f h = h (get_or (m ∷ ms) (picked_number d run (length (m ∷ ms))) m)
 
-  true_kept : (o : Option Bool) (run : Run) (a b : Out) → KeptBy a → KeptBy b → KeptBy (if_true o run a b)
+  true_kept : (o : Option Bool) (run : SectionRun) (a b : Out) → KeptBy a → KeptBy b → KeptBy (if_true o run a b)
   true_kept (Some true) run a b h g = h
   true_kept (Some false) run a b h g = g
   true_kept None run a b h g = tt
 
-  go_kept : (o : Out) (f : Run → Out) → KeptBy o → ((run : Run) → Kept run.changes → KeptBy (f run)) → KeptBy (go_on o f)
+  go_kept : (o : Out) (f : SectionRun → Out) → KeptBy o → ((run : SectionRun) → Kept run.changes → KeptBy (f run)) → KeptBy (go_on o f)
   go_kept (Go run) f h g = g run h
   go_kept (Jump l run) f h g = h
-  go_kept (Gave v run) f h g = tt
+  go_kept (Yielded v run) f h g = tt
   go_kept (Stop kind run) f h g = tt
 
-  gives_kept : {A : Type 0} (m : MacroEnd A) (run : Run) (f : A → Run → Out) → ((a : A) (then' : Run) → KeptBy (f a then')) → KeptBy (if_gives m run f)
+  gives_kept : {A : Type 0} (m : MacroEnd A) (run : SectionRun) (f : A → SectionRun → Out) → ((a : A) (then' : SectionRun) → KeptBy (f a then')) → KeptBy (if_gives m run f)
   gives_kept (Gives a n) run f h = h a (used_up n run)
   gives_kept (Stops kind n) run f h = tt
 
@@ -149,9 +149,9 @@ module _ (k : Context) where
       go (Some v) e = h g ks v by starts e
 
   pub put_kept : (g : Name) (i : Option Name) (j : Option Data) (env : Names) (v : Option Data) (ch ch' : Vars) → HasIndex k.by_element g i → index_value i env ≡ Some j → Kept ch → put_content k g j v ch ≡ Some ch' → Kept ch'
-  put_kept g i j env v ch ch' has at_j h e = go (held (with_content k g j v ch)) refl e
+  put_kept g i j env v ch ch' has at_j h e = go (bindable (with_content k g j v ch)) refl e
     where
-      by_element : (w : Data) (i : Option Name) (j : Option Data) → HasIndex k.by_element g i → index_value i env ≡ Some j → held (with_content k g j v ch) ≡ Some w → (b : Bool) → k.by_element g ≡ b → Kept ((g, w) ∷ ch)
+      by_element : (w : Data) (i : Option Name) (j : Option Data) → HasIndex k.by_element g i → index_value i env ≡ Some j → bindable (with_content k g j v ch) ≡ Some w → (b : Bool) → k.by_element g ≡ b → Kept ((g, w) ∷ ch)
       by_element w i j has at_j e false by = other_kept g w ch by h
       by_element w None j has at_j e true by = absurd (let z : true ≡ false = sym by ∙ has in grind (arith, z))
       by_element w (Some x) None has at_j e true by = absurd (indexed (value_under x env) at_j)
@@ -160,9 +160,9 @@ module _ (k : Context) where
           indexed None h = grind (arith, h)
           indexed (Some z) h = grind (arith, h)
       by_element w (Some x) (Some i) has at_j e true by =
-          same_kept g w ch (λ ks starts. part_keeps ks i (value_now k (Whole g) ch) v w (now_on g ks ch by starts h) (held_is _ w e)) h
+          same_kept g w ch (λ ks starts. part_keeps ks i (value_now k (Whole g) ch) v w (now_on g ks ch by starts h) (bindable_is _ w e)) h
 
-      go : (o : Option Data) → held (with_content k g j v ch) ≡ o → option_map (λ w. (g, w) ∷ ch) o ≡ Some ch' → Kept ch'
+      go : (o : Option Data) → bindable (with_content k g j v ch) ≡ o → option_map (λ w. (g, w) ∷ ch) o ≡ Some ch' → Kept ch'
       go None q e = absurd (grind (arith, e))
       go (Some w) q e = subst Kept (some_is ((g, w) ∷ ch) ch' e) (by_element w i j has at_j q (k.by_element g) refl)
 
@@ -171,57 +171,57 @@ module _ (k : Context) where
   new_kept g i j env (Some v) ch ch' has at_j h e = put_kept g i j env (Some v) ch ch' has at_j h e
 
   mutual
-    pub kept_by : (c : Code) (env : Names) (d : Words) (run : Run) → ByElements k.by_element c → Kept run.changes → KeptBy (exec k c env d run)
+    pub kept_by : (c : Code) (env : Names) (d : Words) (run : SectionRun) → ByElements k.by_element c → Kept run.changes → KeptBy (exec k c env d run)
     kept_by Skip env d run b h = h
     kept_by (Let x w e c) env d run b h =
-        let now = looking k e run in
-        value_kept (held (value_of k e env run.changes)) now (λ v. exec k c ((w, Some v) ∷ env) d now) (λ v _. kept_by c ((w, Some v) ∷ env) d now b h)
+        let now = read_unmapped k e run in
+        value_kept (bindable (value_of k e env run.changes)) now (λ v. exec k c ((w, Some v) ∷ env) d now) (λ v _. kept_by c ((w, Some v) ∷ env) d now b h)
     kept_by (Pick x w e c) env d run b h =
-        let now = looking k e run in
+        let now = read_unmapped k e run in
         let f = λ (v : Data). exec k c ((w, Some v) ∷ env) d (chosen now) in
         value_kept (option_and_then members_of (value_of k e env run.changes)) now (λ ms. picked ms d now f) (λ ms _. picked_kept ms d now f (λ v. kept_by c ((w, Some v) ∷ env) d (chosen now) b h))
     kept_by (Become p w) env d run b h =
         value_kept (value_under w env) run (λ v. Go (becoming p v run)) (λ v _. other_kept (variable_of p) v run.changes b h)
     kept_by (Set x p e) env d run b h =
-        let now = looking k e run in
-        value_kept (held (value_of k e env run.changes)) now (λ v. Go (becoming p v now)) (λ v _. other_kept (variable_of p) v run.changes b h)
+        let now = read_unmapped k e run in
+        value_kept (bindable (value_of k e env run.changes)) now (λ v. Go (becoming p v now)) (λ v _. other_kept (variable_of p) v run.changes b h)
     kept_by (Await e) env d run b h =
-        let now = looking k e run in true_kept (truth_of (value_of k e env run.changes)) now (Go now) (Stop Blocked now) h tt
+        let now = read_unmapped k e run in true_kept (truth_of (value_of k e env run.changes)) now (Go now) (Stop Blocked now) h tt
     kept_by (Assert e) env d run b h =
-        let now = looking k e run in true_kept (truth_of (value_of k e env run.changes)) now (Go now) (Stop AssertFails now) h tt
+        let now = read_unmapped k e run in true_kept (truth_of (value_of k e env run.changes)) now (Go now) (Stop AssertFails now) h tt
     kept_by (Print e) env d run b h =
-        let now = looking k e run in value_kept (value_of k e env run.changes) now (λ v. Go (printed v now)) (λ v _. h)
+        let now = read_unmapped k e run in value_kept (value_of k e env run.changes) now (λ v. Go (printed v now)) (λ v _. h)
     kept_by (If e x y) env d run b h =
-        let now = looking k e run in
+        let now = read_unmapped k e run in
         true_kept (truth_of (value_of k e env run.changes)) now (exec k x env d now) (exec k y env d now) (kept_by x env d now b.0 h) (kept_by y env d now b.1 h)
     kept_by (Either cs) env d run b h = kept_by_arm cs (picked_number d run (count cs)) env d (chosen run) b h
     kept_by (Seq x y) env d run b h =
         go_kept (exec k x env d run) (λ now. exec k y env d now) (kept_by x env d run b.0 h) (λ now g. kept_by y env d now b.1 g)
     kept_by (Goto l) env d run b h = h
-    kept_by (Yield e) env d run b h = value_kept (held (value_of k e env run.changes)) run (λ v. Gave v run) (λ v _. tt)
+    kept_by (Yield e) env d run b h = value_kept (bindable (value_of k e env run.changes)) run (λ v. Yielded v run) (λ v _. tt)
     kept_by (Read w g i block c) env d run b h =
         let m = λ (old : Data). block_read block k.defs k.id old d run.used in
-        let end = λ (r : Data × Option Data) (then' : Run) (ch : Vars). exec k c ((w, Some r.0) ∷ env) d (record then' { changes = ch }) in
-        let rest = λ (j : Option Data) (r : Data × Option Data) (then' : Run). with_value (put_new k g j r.1 run.changes) then' (end r then') in
-        value_kept (index_value i env) run (λ j. with_value (held (content k g j run.changes)) (touching k g j run) (λ old. if_gives (m old) (touching k g j run) (rest j))) (λ j at_j.
+        let end = λ (r : Data × Option Data) (then' : SectionRun) (ch : Vars). exec k c ((w, Some r.0) ∷ env) d (record then' { changes = ch }) in
+        let rest = λ (j : Option Data) (r : Data × Option Data) (then' : SectionRun). with_value (put_new k g j r.1 run.changes) then' (end r then') in
+        value_kept (index_value i env) run (λ j. with_value (bindable (content k g j run.changes)) (touching k g j run) (λ old. if_gives (m old) (touching k g j run) (rest j))) (λ j at_j.
         let now = touching k g j run in
-        value_kept (held (content k g j run.changes)) now (λ old. if_gives (m old) now (rest j)) (λ old _.
+        value_kept (bindable (content k g j run.changes)) now (λ old. if_gives (m old) now (rest j)) (λ old _.
         gives_kept (m old) now (rest j) (λ r then'.
         value_kept (put_new k g j r.1 run.changes) then' (end r then') (λ ch put.
         kept_by c ((w, Some r.0) ∷ env) d (record then' { changes = ch }) b.1 (new_kept g i j env r.1 run.changes ch b.0 at_j h put)))))
     kept_by (Write g i w block) env d run b h =
         let m = λ (old v : Data). block_write block k.defs k.id old v d run.used in
-        let end = λ (then' : Run) (ch : Vars). Go (record then' { changes = ch }) in
-        let rest = λ (j : Option Data) (new : Data) (then' : Run). with_value (put_content k g j (Some new) run.changes) then' (end then') in
-        value_kept (index_value i env) run (λ j. with_value (held (content k g j run.changes)) (touching k g j run) (λ old. with_value (value_under w env) (touching k g j run) (λ v. if_gives (m old v) (touching k g j run) (rest j)))) (λ j at_j.
+        let end = λ (then' : SectionRun) (ch : Vars). Go (record then' { changes = ch }) in
+        let rest = λ (j : Option Data) (new : Data) (then' : SectionRun). with_value (put_content k g j (Some new) run.changes) then' (end then') in
+        value_kept (index_value i env) run (λ j. with_value (bindable (content k g j run.changes)) (touching k g j run) (λ old. with_value (value_under w env) (touching k g j run) (λ v. if_gives (m old v) (touching k g j run) (rest j)))) (λ j at_j.
         let now = touching k g j run in
-        value_kept (held (content k g j run.changes)) now (λ old. with_value (value_under w env) now (λ v. if_gives (m old v) now (rest j))) (λ old _.
+        value_kept (bindable (content k g j run.changes)) now (λ old. with_value (value_under w env) now (λ v. if_gives (m old v) now (rest j))) (λ old _.
         value_kept (value_under w env) now (λ v. if_gives (m old v) now (rest j)) (λ v _.
         gives_kept (m old v) now (rest j) (λ new then'.
         value_kept (put_content k g j (Some new) run.changes) then' (end then') (λ ch put.
         put_kept g i j env (Some new) run.changes ch b at_j h put)))))
 
-    kept_by_arm : (cs : Codes) (i : ℕ) (env : Names) (d : Words) (run : Run) → AllUse (λ p. k.by_element (variable_of p) ≡ false) (HasIndex k.by_element) cs → Kept run.changes → KeptBy (exec_arm_with block_read block_write k cs i env d run)
+    kept_by_arm : (cs : Codes) (i : ℕ) (env : Names) (d : Words) (run : SectionRun) → AllUse (λ p. k.by_element (variable_of p) ≡ false) (HasIndex k.by_element) cs → Kept run.changes → KeptBy (exec_arm_with block_read block_write k cs i env d run)
     kept_by_arm no_codes i env d run b h = tt
     kept_by_arm (more_codes c cs) zero env d run b h = kept_by c env d run b.0 h
     kept_by_arm (more_codes c cs) (suc i) env d run b h = kept_by_arm cs i env d run b.1 h
@@ -230,7 +230,7 @@ module _ (k : Context) where
   -- an end is closed at a label, and shallow
   pub record EndedAt (o : Out) (t : Vars) : Type 0 where
     pub label : Name
-    pub run : Run
+    pub run : SectionRun
     pub out : o ≡ Jump label run
     pub is_end : closed k label run.changes k.start ≡ Some t
     pub shallow : is_shallow t ≡ true
@@ -248,7 +248,7 @@ module _ (k : Context) where
       jumped (Some t') c e =
           let n = next_is t' run.prints prints (is_shallow t') refl e in
           record { label = l; run = run; out = refl; is_end = c ∙ ap Some n.0; shallow = subst (λ t. is_shallow t ≡ true) n.0 n.1 }
-  ended_at (Gave v run) t prints e = absurd (grind (arith, e))
+  ended_at (Yielded v run) t prints e = absurd (grind (arith, e))
   ended_at (Stop kind run) t prints e = absurd (grind (arith, e))
 
   -- such a variable keeps its domain

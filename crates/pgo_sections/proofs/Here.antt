@@ -8,7 +8,7 @@ use Rattle.pgo_model.specs.Options.{on}
 use Rattle.pgo_model.specs.Sequences.{operators}
 use Rattle.pgo_model.specs.Val.{or_else, Meaning, Scope, sem, val, plain, call_def, value_of_name, value_of_call}
 use Rattle.pgo_model.specs.Written.{made, self_name}
-use Rattle.pgo_sections.specs.Agrees.{IsPlace}
+use Rattle.pgo_sections.specs.SectionsAgree.{IsPlace}
 use Rattle.pgo_sections.specs.Code.{Place, Whole, Own, variable_of, content_name}
 use Rattle.pgo_sections.specs.Context.{Context, value_before, value_now, view, value_of, content_state}
 use Rattle.pgo_sections.specs.Among.{is_among}

@@ -4,7 +4,7 @@ use Rattle.pgo_base.specs.Data.{Data, boolean}
 use Rattle.pgo_base.specs.Lookup.{Name, Names, Vars, find}
 use Rattle.pgo_model.specs.Operators.{members_of}
 use Rattle.pgo_sections.specs.Code.{variable_of, Code, Skip, Let, Pick, Become, Set, Await, Assert, Print, If, Either, Seq, Goto, Yield, Read, Write, Codes, no_codes, more_codes, content_name, value_name}
-use Rattle.pgo_sections.specs.Held.{held, value_under}
+use Rattle.pgo_sections.specs.BoundValues.{bindable, value_under}
 use Rattle.pgo_sections.specs.Context.{Context, block_context, content, put_content, put_new, content_state, new_content, index_value, is_assigned, value_of}
 
 -- where the blocks of a section's mapping macros run
@@ -38,12 +38,12 @@ abbrev mutual
   -- some choices end behind it in P, at a jump in J, or at a yield in Y
   pub May : Context → Code → Names → Vars → (Vars → Type 0) → (Name → Vars → Type 0) → (Data → Vars → Type 0) → Type 0
   May k Skip env st P J Y = P st
-  May k (Let b w e c) env st P J Y = (v : Data) × (held (value_of k e env st) ≡ Some v) × May k c ((w, Some v) ∷ env) st P J Y
+  May k (Let b w e c) env st P J Y = (v : Data) × (bindable (value_of k e env st) ≡ Some v) × May k c ((w, Some v) ∷ env) st P J Y
   May k (Pick b w e c) env st P J Y =
       (v : Data) × (ms : List Data) × (option_and_then members_of (value_of k e env st) ≡ Some ms) × Contains ms v
       × May k c ((w, Some v) ∷ env) st P J Y
   May k (Become p w) env st P J Y = (v : Data) × (value_under w env ≡ Some v) × P ((variable_of p, v) ∷ st)
-  May k (Set b p e) env st P J Y = (v : Data) × (held (value_of k e env st) ≡ Some v) × P ((variable_of p, v) ∷ st)
+  May k (Set b p e) env st P J Y = (v : Data) × (bindable (value_of k e env st) ≡ Some v) × P ((variable_of p, v) ∷ st)
   May k (Await e) env st P J Y = (value_of k e env st ≡ Some (boolean true)) × P st
   May k (Assert e) env st P J Y = (value_of k e env st ≡ Some (boolean true)) × P st
   May k (Print e) env st P J Y = (v : Data) × (value_of k e env st ≡ Some v) × P st
@@ -53,13 +53,13 @@ abbrev mutual
   May k (Either cs) env st P J Y = SomeMay k cs env st P J Y
   May k (Seq a b) env st P J Y = May k a env st (λ st'. May k b env st' P J Y) J Y
   May k (Goto l) env st P J Y = J l st
-  May k (Yield e) env st P J Y = (v : Data) × (held (value_of k e env st) ≡ Some v) × Y v st
+  May k (Yield e) env st P J Y = (v : Data) × (bindable (value_of k e env st) ≡ Some v) × Y v st
   May k (Read w g i m c) env st P J Y =
-      (j : Option Data) × (old : Data) × (index_value i env ≡ Some j) × (held (content k g j st) ≡ Some old)
+      (j : Option Data) × (old : Data) × (index_value i env ≡ Some j) × (bindable (content k g j st) ≡ Some old)
       × May (block_of k) m [] (content_state old) never never_at (λ v mem.
       (st' : Vars) × (left_content k g j mem st ≡ Some st') × May k c ((w, Some v) ∷ env) st' P J Y)
   May k (Write g i w m) env st P J Y =
-      (j : Option Data) × (old : Data) × (index_value i env ≡ Some j) × (held (content k g j st) ≡ Some old)
+      (j : Option Data) × (old : Data) × (index_value i env ≡ Some j) × (bindable (content k g j st) ≡ Some old)
       × ((value : Data) × (value_under w env ≡ Some value)
       × May (block_of k) m ((value_name, Some value) ∷ []) (content_state old) never never_at (λ v mem.
       (st' : Vars) × (put_content k g j (Some v) st ≡ Some st') × P st'))

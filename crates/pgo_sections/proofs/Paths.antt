@@ -9,13 +9,13 @@ use Rattle.pgo_model.specs.Operators.{apply, both, members_of, put_at, lookup, g
 use Rattle.pgo_model.specs.Options.{on}
 use Rattle.pgo_model.specs.Val.{or_else, Scope, sem, plain, call_def, meanings, index_of}
 use Rattle.pgo_model.specs.Written.{made}
-use Rattle.pgo_sections.specs.Agrees.{IsPlace}
+use Rattle.pgo_sections.specs.SectionsAgree.{IsPlace}
 use Rattle.pgo_sections.specs.Code.{Place, Whole, variable_of, Code, Skip, Let, Pick, Become, Set, Await, Assert, Print, If, Either, Seq, Goto, Yield, Read, Write, Codes, no_codes, more_codes, content_name, value_name, old_base, val_base, new_base}
 use Rattle.pgo_sections.specs.Context.{Context, value_now, content, with_content, put_content, content_state, index_value, is_assigned}
-use Rattle.pgo_sections.specs.Held.{held, value_under, put_part}
+use Rattle.pgo_sections.specs.BoundValues.{bindable, value_under, put_part}
 use Rattle.pgo_sections.specs.Among.{is_among}
 use Rattle.pgo_sections.specs.Expand.{Renames, Current, current, current_tree, content_tree, content_put, becoming, content_now, value_handed, OnGo, OnJump, OnYield, no_go, no_jump, content_places, put_back, left_behind, expand, expand_arms}
-use Rattle.pgo_sections.specs.Expansion.{Expansion, With, Around, Path, SomePath, value_on}
+use Rattle.pgo_sections.specs.Expansion.{Expansion, With, PathContext, Path, SomePath, value_on}
 use Rattle.pgo_sections.specs.WellFormed.{PlainCode, PlainCodes, KnownIndex, most_made, most_made_by}
 use Rattle.pgo_sections.proofs.Here.{sim_ext, sources, among_found, on_path, Fits, SimName, Changed, Here, here_ext, here_with, here_set, fits_block, here_block, tree_is}
 use Rattle.pgo_sections.proofs.Iff.{iff_same, iff_then, sum_iff, with_iff, guard_iff, pick_iff, known_iff, map_iff, iff_along, read_iff, some_is}
@@ -47,7 +47,7 @@ on_some : {A : Type 0} → (o : Option A) → on None o (λ v. Some v) ≡ o
 on_some None = refl
 on_some (Some a) = refl
 
-module _ (vs : List Name) (L : ℕ) (apart : (b b' : Name) (m m' : ℕ) → m ≤ L → m' ≤ L → same_name (made b m) (made b' m') ≡ true → m ≡ m') (a : Around) (s t : Vars) (not_there : (x : Name) → is_among x vs ≡ false → find x s ≡ None) where
+module _ (vs : List Name) (L : ℕ) (apart : (b b' : Name) (m m' : ℕ) → m ≤ L → m' ≤ L → same_name (made b m) (made b' m') ≡ true → m ≡ m') (a : PathContext) (s t : Vars) (not_there : (x : Name) → is_among x vs ≡ false → find x s ≡ None) where
   abbrev pub ThePath : Option Data → Names → Scope
   ThePath part env = on_path vs L apart s t (meanings a.defs s (Some t)) not_there part env
 
@@ -67,7 +67,7 @@ module _ (vs : List Name) (L : ℕ) (apart : (b b' : Name) (m m' : ℕ) → m �
   pub record Ways (k : Context) (n top : ℕ) (env : Names) (go : OnGo) (jump : OnJump) (yield : OnYield) (P : Vars → Type 0) (J : Name → Vars → Type 0) (Y : Data → Vars → Type 0) : Type 0 where
     pub on_go : (cur : Current) (n' : ℕ) (env' : Names) (ch : Vars) → n ≤ n' → n' ≤ top → Ext vs L apart n env env' → Valued k n' cur env' ch → Change n' cur env' ch → Path a (go cur n') env' s t ↔ P ch
     pub on_jump : (l : Name) (cur : Current) (n' : ℕ) (env' : Names) (ch : Vars) → n ≤ n' → n' ≤ top → Ext vs L apart n env env' → Valued k n' cur env' ch → Change n' cur env' ch → Path a (jump l cur n') env' s t ↔ J l ch
-    pub on_yield : (e : Tree) (cur : Current) (n' : ℕ) (env' : Names) (ch : Vars) → n ≤ n' → n' ≤ top → Ext vs L apart n env env' → Valued k n' cur env' ch → Change n' cur env' ch → Path a (yield e cur n') env' s t ↔ ((v : Data) × (held (value_on a e env' s t) ≡ Some v) × Y v ch)
+    pub on_yield : (e : Tree) (cur : Current) (n' : ℕ) (env' : Names) (ch : Vars) → n ≤ n' → n' ≤ top → Ext vs L apart n env env' → Valued k n' cur env' ch → Change n' cur env' ch → Path a (yield e cur n') env' s t ↔ ((v : Data) × (bindable (value_on a e env' s t) ≡ Some v) × Y v ch)
 
   ways_ext : (k : Context) (n n1 top top1 : ℕ) (env env1 : Names) (go : OnGo) (jump : OnJump) (yield : OnYield) (P : Vars → Type 0) (J : Name → Vars → Type 0) (Y : Data → Vars → Type 0) → n ≤ n1 → top1 ≤ top → Ext vs L apart n env env1 → Ways k n top env go jump yield P J Y → Ways k n1 top1 env1 go jump yield P J Y
   ways_ext k n n1 top top1 env env1 go jump yield P J Y le less x w = record {
@@ -141,7 +141,7 @@ module _ (vs : List Name) (L : ℕ) (apart : (b b' : Name) (m m' : ℕ) → m �
       go None = put_none j (value_now k (Whole g) ch)
       go (Some w) = refl
 
-  no_ways : (k : Context) (n top : ℕ) (env : Names) (yield : OnYield) (Y : Data → Vars → Type 0) → ((e : Tree) (cur : Current) (n' : ℕ) (env' : Names) (ch : Vars) → n ≤ n' → n' ≤ top → Ext vs L apart n env env' → Valued k n' cur env' ch → Change n' cur env' ch → Path a (yield e cur n') env' s t ↔ ((v : Data) × (held (value_on a e env' s t) ≡ Some v) × Y v ch)) → Ways k n top env no_go no_jump yield never never_at Y
+  no_ways : (k : Context) (n top : ℕ) (env : Names) (yield : OnYield) (Y : Data → Vars → Type 0) → ((e : Tree) (cur : Current) (n' : ℕ) (env' : Names) (ch : Vars) → n ≤ n' → n' ≤ top → Ext vs L apart n env env' → Valued k n' cur env' ch → Change n' cur env' ch → Path a (yield e cur n') env' s t ↔ ((v : Data) × (bindable (value_on a e env' s t) ≡ Some v) × Y v ch)) → Ways k n top env no_go no_jump yield never never_at Y
   no_ways k n top env yield Y h = record {
     on_go = λ cur n' env' ch l m x v long. iff_same;
     on_jump = λ q cur n' env' ch l m x v long. iff_same;
@@ -195,7 +195,7 @@ module _ (vs : List Name) (L : ℕ) (apart : (b b' : Name) (m m' : ℕ) → m �
   -- g has a new content, and what follows agrees
   put_may : (k : Context) (n : ℕ) (ren : Renames) (cur : Current) (env wenv : Names) (ch : Vars) (g : Name) (i : Option Name) (j : Option Data) (e : Tree) (o : Option Data) (rest : Expansion) (B : Vars → Type 0) → is_among g k.globals ≡ true → IsHere k n ren cur env wenv ch → IndexIs n ren env wenv i j → ((part : Option Data) → sem e (ThePath part env) ≡ plain o) → ((v : Data) → Path a rest ((made g (suc n), Some v) ∷ env) s t ↔ B ((g, v) ∷ ch)) → Path a (With (made g (suc n)) (content_put ren cur g i e) rest) env s t ↔ ((ch' : Vars) × (put_content k g j o ch ≡ Some ch') × B ch')
   put_may k n ren cur env wenv ch g i j e o rest B is h x e_is next =
-      map_iff (held (value_on a (content_put ren cur g i e) env s t)) (held (with_content k g j o ch)) (λ v. (g, v) ∷ ch) (λ v. Path a rest ((made g (suc n), Some v) ∷ env) s t) B (ap held (put_is k n ren cur env wenv ch g i j e o is h x e_is)) next
+      map_iff (bindable (value_on a (content_put ren cur g i e) env s t)) (bindable (with_content k g j o ch)) (λ v. (g, v) ∷ ch) (λ v. Path a rest ((made g (suc n), Some v) ∷ env) s t) B (ap bindable (put_is k n ren cur env wenv ch g i j e o is h x e_is)) next
 
   -- behind the block of a read
   behind_may : (x g : Name) (i : Option Name) (c : Code) → Agree c → (k : Context) (f : Fit k) (n n' : ℕ) (j : Option Data) (v : Data) (ren : Renames) (cur cur' : Current) (env env' wenv : Names) (ch mem : Vars) (go : OnGo) (jump : OnJump) (yield : OnYield) (P : Vars → Type 0) (J : Name → Vars → Type 0) (Y : Data → Vars → Type 0) → is_among g k.globals ≡ true → PlainCode vs k.globals k.places (x ∷ sources ren) c → n ≤ n' → suc (suc n') + most_made c ≤ L → Ext vs L apart n env env' → IsHere k n ren cur env wenv ch → IndexIs n ren env wenv i j → Valued (block_of k) n' cur' env' mem → Change n' cur' env' mem → Ways k n (suc (suc n') + most_made c) env go jump yield P J Y → Path a (left_behind (is_assigned cur') ren cur g i (current cur' (Whole content_name)) (suc n') (λ cur2 n2. expand k.places c ((x, made val_base (suc n')) ∷ ren) cur2 n2 go jump yield)) ((made val_base (suc n'), Some v) ∷ env') s t ↔ ((ch' : Vars) × (left_content k g j mem ch ≡ Some ch') × May k c ((x, Some v) ∷ wenv) ch' P J Y)
@@ -239,7 +239,7 @@ module _ (vs : List Name) (L : ℕ) (apart : (b b' : Name) (m m' : ℕ) → m �
   read_may : (x g : Name) (i : Option Name) (m c : Code) → Agree m → Agree c → (k : Context) (f : Fit k) (n : ℕ) (ren : Renames) (cur : Current) (env wenv : Names) (ch : Vars) (go : OnGo) (jump : OnJump) (yield : OnYield) (P : Vars → Type 0) (J : Name → Vars → Type 0) (Y : Data → Vars → Type 0) → PlainCode vs k.globals k.places (sources ren) (Read x g i m c) → n + most_made (Read x g i m c) ≤ L → IsHere k n ren cur env wenv ch → Ways k n (n + most_made (Read x g i m c)) env go jump yield P J Y → Path a (expand k.places (Read x g i m c) ren cur n go jump yield) env s t ↔ May k (Read x g i m c) wenv ch P J Y
   read_may x g i m c am ac k f n ren cur env wenv ch go jump yield P J Y pl top h w =
       let q = known_index k n ren cur env wenv ch i h pl.1 in
-      read_iff (index_value i wenv) q.0 (held (value_on a (content_tree ren cur g i) env s t)) (λ j. held (content k g j ch)) _ (λ j old. May (block_of k) m [] (content_state old) never never_at (λ v mem. (ch' : Vars) × (left_content k g j mem ch ≡ Some ch') × May k c ((x, Some v) ∷ wenv) ch' P J Y)) q.1 (ap held (content_is k n ren cur env wenv ch g i q.0 pl.0 h q.2)) (λ old.
+      read_iff (index_value i wenv) q.0 (bindable (value_on a (content_tree ren cur g i) env s t)) (λ j. bindable (content k g j ch)) _ (λ j old. May (block_of k) m [] (content_state old) never never_at (λ v mem. (ch' : Vars) × (left_content k g j mem ch ≡ Some ch') × May k c ((x, Some v) ∷ wenv) ch' P J Y)) q.1 (ap bindable (content_is k n ren cur env wenv ch g i q.0 pl.0 h q.2)) (λ old.
       let top1 : suc n ≤ L = omega (arith, top) in
       let env1 = (made old_base (suc n), Some old) ∷ env in
       let x1 = ext_more vs L apart n old_base (suc n) (Some old) env env (omega arith) top1 (ext_same vs L apart n env) in
@@ -274,7 +274,7 @@ module _ (vs : List Name) (L : ℕ) (apart : (b b' : Name) (m m' : ℕ) → m �
   write_may : (g : Name) (i : Option Name) (x : Name) (m : Code) → Agree m → (k : Context) (f : Fit k) (n : ℕ) (ren : Renames) (cur : Current) (env wenv : Names) (ch : Vars) (go : OnGo) (jump : OnJump) (yield : OnYield) (P : Vars → Type 0) (J : Name → Vars → Type 0) (Y : Data → Vars → Type 0) → PlainCode vs k.globals k.places (sources ren) (Write g i x m) → n + most_made (Write g i x m) ≤ L → IsHere k n ren cur env wenv ch → Ways k n (n + most_made (Write g i x m)) env go jump yield P J Y → Path a (expand k.places (Write g i x m) ren cur n go jump yield) env s t ↔ May k (Write g i x m) wenv ch P J Y
   write_may g i x m am k f n ren cur env wenv ch go jump yield P J Y pl top h w =
       let q = known_index k n ren cur env wenv ch i h pl.1 in
-      read_iff (index_value i wenv) q.0 (held (value_on a (content_tree ren cur g i) env s t)) (λ j. held (content k g j ch)) _ (λ j old. (value : Data) × (value_under x wenv ≡ Some value) × May (block_of k) m ((value_name, Some value) ∷ []) (content_state old) never never_at (λ v mem. (ch' : Vars) × (put_content k g j (Some v) ch ≡ Some ch') × P ch')) q.1 (ap held (content_is k n ren cur env wenv ch g i q.0 pl.0 h q.2)) (λ old.
+      read_iff (index_value i wenv) q.0 (bindable (value_on a (content_tree ren cur g i) env s t)) (λ j. bindable (content k g j ch)) _ (λ j old. (value : Data) × (value_under x wenv ≡ Some value) × May (block_of k) m ((value_name, Some value) ∷ []) (content_state old) never never_at (λ v mem. (ch' : Vars) × (put_content k g j (Some v) ch ≡ Some ch') × P ch')) q.1 (ap bindable (content_is k n ren cur env wenv ch g i q.0 pl.0 h q.2)) (λ old.
       let top1 : suc n ≤ L = omega (arith, top) in
       let env1 = (made old_base (suc n), Some old) ∷ env in
       let x1 = ext_more vs L apart n old_base (suc n) (Some old) env env (omega arith) top1 (ext_same vs L apart n env) in
@@ -289,7 +289,7 @@ module _ (vs : List Name) (L : ℕ) (apart : (b b' : Name) (m m' : ℕ) → m �
     path_may Skip k f n ren cur env wenv ch go jump yield P J Y pl top h w =
         w.on_go cur n env ch (omega arith) (omega arith) (ext_same vs L apart n env) h.valued h.long
     path_may (Let b x e c) k f n ren cur env wenv ch go jump yield P J Y pl top h w =
-        with_iff _ _ _ _ (ap held (tree_is vs L apart s t (meanings a.defs s (Some t)) not_there k f n ren cur env wenv ch h e pl.0)) (λ v _.
+        with_iff _ _ _ _ (ap bindable (tree_is vs L apart s t (meanings a.defs s (Some t)) not_there k f n ren cur env wenv ch h e pl.0)) (λ v _.
         bound c (λ k f n ren cur env wenv ch go jump yield P J Y pl top h w. path_may c k f n ren cur env wenv ch go jump yield P J Y pl top h w) k f b x n v ren cur env wenv ch go jump yield P J Y pl.1 top h w)
     path_may (Pick b x e c) k f n ren cur env wenv ch go jump yield P J Y pl top h w =
         pick_iff _ _ _ _ (ap (option_and_then members_of) (tree_is vs L apart s t (meanings a.defs s (Some t)) not_there k f n ren cur env wenv ch h e pl.0)) (λ v.
@@ -297,7 +297,7 @@ module _ (vs : List Name) (L : ℕ) (apart : (b b' : Name) (m m' : ℕ) → m �
     path_may (Become p x) k f n ren cur env wenv ch go jump yield P J Y pl top h w =
         become_may k p x n (n + 0) ren cur env wenv ch go jump yield P J Y pl (omega arith) h w
     path_may (Set b p e) k f n ren cur env wenv ch go jump yield P J Y pl top h w =
-        with_iff _ _ _ _ (ap held (tree_is vs L apart s t (meanings a.defs s (Some t)) not_there k f n ren cur env wenv ch h e pl)) (λ v _.
+        with_iff _ _ _ _ (ap bindable (tree_is vs L apart s t (meanings a.defs s (Some t)) not_there k f n ren cur env wenv ch h e pl)) (λ v _.
         set_may k p b n v ren cur env wenv ch go jump yield P J Y (omega (arith, top)) h (ways_ext k n n (n + 1) (suc n) env env go jump yield P J Y (omega arith) (omega arith) (ext_same vs L apart n env) w))
     path_may (Await e) k f n ren cur env wenv ch go jump yield P J Y pl top h w =
         guard_iff _ _ (Some (boolean true)) (tree_is vs L apart s t (meanings a.defs s (Some t)) not_there k f n ren cur env wenv ch h e pl) (w.on_go cur n env ch (omega arith) (omega arith) (ext_same vs L apart n env) h.valued h.long)
@@ -321,7 +321,7 @@ module _ (vs : List Name) (L : ℕ) (apart : (b b' : Name) (m m' : ℕ) → m �
     path_may (Goto l) k f n ren cur env wenv ch go jump yield P J Y pl top h w =
         w.on_jump l cur n env ch (omega arith) (omega arith) (ext_same vs L apart n env) h.valued h.long
     path_may (Yield e) k f n ren cur env wenv ch go jump yield P J Y pl top h w =
-        iff_then (w.on_yield (current_tree k.places ren cur e) cur n env ch (omega arith) (omega arith) (ext_same vs L apart n env) h.valued h.long) (with_iff _ _ _ _ (ap held (tree_is vs L apart s t (meanings a.defs s (Some t)) not_there k f n ren cur env wenv ch h e pl)) (λ v _. iff_same))
+        iff_then (w.on_yield (current_tree k.places ren cur e) cur n env ch (omega arith) (omega arith) (ext_same vs L apart n env) h.valued h.long) (with_iff _ _ _ _ (ap bindable (tree_is vs L apart s t (meanings a.defs s (Some t)) not_there k f n ren cur env wenv ch h e pl)) (λ v _. iff_same))
     path_may (Read x g i m c) k f n ren cur env wenv ch go jump yield P J Y pl top h w =
         read_may x g i m c (λ k f n ren cur env wenv ch go jump yield P J Y pl top h w. path_may m k f n ren cur env wenv ch go jump yield P J Y pl top h w) (λ k f n ren cur env wenv ch go jump yield P J Y pl top h w. path_may c k f n ren cur env wenv ch go jump yield P J Y pl top h w) k f n ren cur env wenv ch go jump yield P J Y pl top h w
     path_may (Write g i x m) k f n ren cur env wenv ch go jump yield P J Y pl top h w =

@@ -11,15 +11,15 @@ use Rattle.pgo_sections.specs.FreeNames.{free_names}
 use Rattle.pgo_model.specs.Operators.{apply, members_of, truth_of, same_data, lookup}
 use Rattle.pgo_model.specs.Outcome.{Blocked, AssertFails}
 use Rattle.pgo_model.specs.System.{Words, Touched}
-use Rattle.pgo_sections.specs.Access.{touched_whole, looks_of, looks}
+use Rattle.pgo_sections.specs.Access.{touched_whole, reads_among, unmapped_reads}
 use Rattle.pgo_sections.specs.Among.{is_among}
 use Rattle.pgo_sections.specs.Code.{Place, Whole, Own, variable_of, Code, Skip, Let, Pick, Become, Set, Await, Assert, Print, If, Either, Seq, Goto, Yield, Read, Write, Codes, no_codes, more_codes}
 use Rattle.pgo_sections.specs.Context.{Context, content, index_value, put_content, put_new, value_now, value_of}
 use Rattle.pgo_sections.specs.Domains.{Uses, AllUse, HasIndex, ByElements, PlaceIn, UsesOnly, IsPart, IsEvent}
-use Rattle.pgo_sections.specs.Exec.{MacroEnd, Gives, Stops, used_up, if_gives, touched, touching, looking, becoming, count, exec_arm_with}
-use Rattle.pgo_sections.specs.Held.{held, value_under}
+use Rattle.pgo_sections.specs.Exec.{MacroEnd, Gives, Stops, used_up, if_gives, touched, touching, read_unmapped, becoming, count, exec_arm_with}
+use Rattle.pgo_sections.specs.BoundValues.{bindable, value_under}
 use Rattle.pgo_sections.specs.Macros.{block_read, block_write, exec}
-use Rattle.pgo_sections.specs.Run.{Run, begun, printed, picked_number, chosen, Out, Go, Jump, Gave, Stop, with_value, if_true, picked, go_on}
+use Rattle.pgo_sections.specs.SectionRun.{SectionRun, begun, printed, picked_number, chosen, Out, Go, Jump, Yielded, Stop, with_value, if_true, picked, go_on}
 use Rattle.pgo_sections.specs.Section.{run_of, section}
 use Rattle.pgo_sections.proofs.Domains.{same_of, Kept, KeptBy, now_on, new_kept, kept_by, begins_kept}
 
@@ -48,14 +48,14 @@ module _ (k : Context) (gs : List Name) (places_in : (x : Name) (p : Place) → 
   found_all x None e rest r = r
   found_all x (Some p) e rest r = place_all p rest (places_in x p e) r
 
-  names_all : (xs : List Name) → All (looks_of k.places xs)
+  names_all : (xs : List Name) → All (reads_among k.places xs)
   names_all [] = tt
-  names_all (x ∷ xs) = found_all x (find x k.places) refl (looks_of k.places xs) (names_all xs)
+  names_all (x ∷ xs) = found_all x (find x k.places) refl (reads_among k.places xs) (names_all xs)
 
-  looks_all : (e : Tree) (run : Run) → All run.trace → All (looking k e run).trace
-  looks_all e run h = joined run.trace (looks k.places e) h (names_all (first_occurrences (free_names [] e)))
+  unmapped_all : (e : Tree) (run : SectionRun) → All run.trace → All (read_unmapped k e run).trace
+  unmapped_all e run h = joined run.trace (unmapped_reads k.places e) h (names_all (first_occurrences (free_names [] e)))
 
-  becoming_all : (p : Place) (v : Data) (run : Run) → PlaceIn k gs p → All run.trace → All (becoming p v run).trace
+  becoming_all : (p : Place) (v : Data) (run : SectionRun) → PlaceIn k gs p → All run.trace → All (becoming p v run).trace
   becoming_all p v run h r = joined run.trace (touched_whole (Some p) []) r (place_all p [] h tt)
 
   element_all : (g : Name) (i v : Data) (ch : Vars) → k.by_element g ≡ true → Kept k ch → option_and_then (λ f. apply f i) (value_now k (Whole g) ch) ≡ Some v → IsPart k g (Some i)
@@ -89,90 +89,90 @@ module _ (k : Context) (gs : List Name) (places_in : (x : Name) (p : Place) → 
   abbrev Traced : Out → Type 0
   Traced o = All (run_of o).trace
 
-  value_traced : {A : Type 0} (o : Option A) (run : Run) (f : A → Out) → All run.trace → ((v : A) → o ≡ Some v → Traced (f v)) → Traced (with_value o run f)
+  value_traced : {A : Type 0} (o : Option A) (run : SectionRun) (f : A → Out) → All run.trace → ((v : A) → o ≡ Some v → Traced (f v)) → Traced (with_value o run f)
   value_traced None run f r h = r
   value_traced (Some v) run f r h = h v refl
 
-  picked_traced : (ms : List Data) (d : Words) (run : Run) (f : Data → Out) → All run.trace → ((v : Data) → Traced (f v)) → Traced (picked ms d run f)
+  picked_traced : (ms : List Data) (d : Words) (run : SectionRun) (f : Data → Out) → All run.trace → ((v : Data) → Traced (f v)) → Traced (picked ms d run f)
   picked_traced [] d run f r h = r
   picked_traced (m ∷ ms) d run f r h = h (get_or (m ∷ ms) (picked_number d run (length (m ∷ ms))) m)
 
-  true_traced : (o : Option Bool) (run : Run) (a b : Out) → All run.trace → Traced a → Traced b → Traced (if_true o run a b)
+  true_traced : (o : Option Bool) (run : SectionRun) (a b : Out) → All run.trace → Traced a → Traced b → Traced (if_true o run a b)
   true_traced (Some true) run a b r h g = h
   true_traced (Some false) run a b r h g = g
   true_traced None run a b r h g = r
 
-  go_traced : (o : Out) (f : Run → Out) → Traced o → KeptBy k o → ((run : Run) → Kept k run.changes → All run.trace → Traced (f run)) → Traced (go_on o f)
+  go_traced : (o : Out) (f : SectionRun → Out) → Traced o → KeptBy k o → ((run : SectionRun) → Kept k run.changes → All run.trace → Traced (f run)) → Traced (go_on o f)
   go_traced (Go run) f h q g = g run q h
   go_traced (Jump l run) f h q g = h
-  go_traced (Gave v run) f h q g = h
+  go_traced (Yielded v run) f h q g = h
   go_traced (Stop kind run) f h q g = h
 
-  gives_traced : {A : Type 0} (m : MacroEnd A) (run : Run) (f : A → Run → Out) → All run.trace → ((a : A) (n : ℕ) → Traced (f a (used_up n run))) → Traced (if_gives m run f)
+  gives_traced : {A : Type 0} (m : MacroEnd A) (run : SectionRun) (f : A → SectionRun → Out) → All run.trace → ((a : A) (n : ℕ) → Traced (f a (used_up n run))) → Traced (if_gives m run f)
   gives_traced (Gives a n) run f r h = h a n
   gives_traced (Stops kind n) run f r h = r
 
   mutual
-    traced_by : (c : Code) (env : Names) (d : Words) (run : Run) → Uses (PlaceIn k gs) (λ g i. is_among g gs ≡ true) c → ByElements k.by_element c → Kept k run.changes → All run.trace → Traced (exec k c env d run)
+    traced_by : (c : Code) (env : Names) (d : Words) (run : SectionRun) → Uses (PlaceIn k gs) (λ g i. is_among g gs ≡ true) c → ByElements k.by_element c → Kept k run.changes → All run.trace → Traced (exec k c env d run)
     traced_by Skip env d run u b h r = r
     traced_by (Let x w e c) env d run u b h r =
-        let now = looking k e run in
-        value_traced (held (value_of k e env run.changes)) now (λ v. exec k c ((w, Some v) ∷ env) d now) (looks_all e run r) (λ v _. traced_by c ((w, Some v) ∷ env) d now u b h (looks_all e run r))
+        let now = read_unmapped k e run in
+        value_traced (bindable (value_of k e env run.changes)) now (λ v. exec k c ((w, Some v) ∷ env) d now) (unmapped_all e run r) (λ v _. traced_by c ((w, Some v) ∷ env) d now u b h (unmapped_all e run r))
     traced_by (Pick x w e c) env d run u b h r =
-        let now = looking k e run in
+        let now = read_unmapped k e run in
         let f = λ (v : Data). exec k c ((w, Some v) ∷ env) d (chosen now) in
-        value_traced (option_and_then members_of (value_of k e env run.changes)) now (λ ms. picked ms d now f) (looks_all e run r) (λ ms _.
-        picked_traced ms d now f (looks_all e run r) (λ v. traced_by c ((w, Some v) ∷ env) d (chosen now) u b h (looks_all e run r)))
+        value_traced (option_and_then members_of (value_of k e env run.changes)) now (λ ms. picked ms d now f) (unmapped_all e run r) (λ ms _.
+        picked_traced ms d now f (unmapped_all e run r) (λ v. traced_by c ((w, Some v) ∷ env) d (chosen now) u b h (unmapped_all e run r)))
     traced_by (Become p w) env d run u b h r =
         value_traced (value_under w env) run (λ v. Go (becoming p v run)) r (λ v _. becoming_all p v run u r)
     traced_by (Set x p e) env d run u b h r =
-        let now = looking k e run in
-        value_traced (held (value_of k e env run.changes)) now (λ v. Go (becoming p v now)) (looks_all e run r) (λ v _. becoming_all p v now u (looks_all e run r))
+        let now = read_unmapped k e run in
+        value_traced (bindable (value_of k e env run.changes)) now (λ v. Go (becoming p v now)) (unmapped_all e run r) (λ v _. becoming_all p v now u (unmapped_all e run r))
     traced_by (Await e) env d run u b h r =
-        let now = looking k e run in
-        let seen = looks_all e run r in
+        let now = read_unmapped k e run in
+        let seen = unmapped_all e run r in
         true_traced (truth_of (value_of k e env run.changes)) now (Go now) (Stop Blocked now) seen seen seen
     traced_by (Assert e) env d run u b h r =
-        let now = looking k e run in
-        let seen = looks_all e run r in
+        let now = read_unmapped k e run in
+        let seen = unmapped_all e run r in
         true_traced (truth_of (value_of k e env run.changes)) now (Go now) (Stop AssertFails now) seen seen seen
     traced_by (Print e) env d run u b h r =
-        let now = looking k e run in
-        value_traced (value_of k e env run.changes) now (λ v. Go (printed v now)) (looks_all e run r) (λ v _. looks_all e run r)
+        let now = read_unmapped k e run in
+        value_traced (value_of k e env run.changes) now (λ v. Go (printed v now)) (unmapped_all e run r) (λ v _. unmapped_all e run r)
     traced_by (If e x y) env d run u b h r =
-        let now = looking k e run in
-        let seen = looks_all e run r in
+        let now = read_unmapped k e run in
+        let seen = unmapped_all e run r in
         true_traced (truth_of (value_of k e env run.changes)) now (exec k x env d now) (exec k y env d now) seen (traced_by x env d now u.0 b.0 h seen) (traced_by y env d now u.1 b.1 h seen)
     traced_by (Either cs) env d run u b h r = traced_by_arm cs (picked_number d run (count cs)) env d (chosen run) u b h r
     traced_by (Seq x y) env d run u b h r =
         go_traced (exec k x env d run) (λ now. exec k y env d now) (traced_by x env d run u.0 b.0 h r) (kept_by k x env d run b.0 h) (λ now g q. traced_by y env d now u.1 b.1 g q)
     traced_by (Goto l) env d run u b h r = r
     traced_by (Yield e) env d run u b h r =
-        value_traced (held (value_of k e env run.changes)) run (λ v. Gave v run) r (λ v _. r)
+        value_traced (bindable (value_of k e env run.changes)) run (λ v. Yielded v run) r (λ v _. r)
     traced_by (Read w g i block c) env d run u b h r =
         let m = λ (old : Data). block_read block k.defs k.id old d run.used in
-        let end = λ (r : Data × Option Data) (then' : Run) (ch : Vars). exec k c ((w, Some r.0) ∷ env) d (record then' { changes = ch }) in
-        let rest = λ (j : Option Data) (r : Data × Option Data) (then' : Run). with_value (put_new k g j r.1 run.changes) then' (end r then') in
-        value_traced (index_value i env) run (λ j. with_value (held (content k g j run.changes)) (touching k g j run) (λ old. if_gives (m old) (touching k g j run) (rest j))) r (λ j at_j.
+        let end = λ (r : Data × Option Data) (then' : SectionRun) (ch : Vars). exec k c ((w, Some r.0) ∷ env) d (record then' { changes = ch }) in
+        let rest = λ (j : Option Data) (r : Data × Option Data) (then' : SectionRun). with_value (put_new k g j r.1 run.changes) then' (end r then') in
+        value_traced (index_value i env) run (λ j. with_value (bindable (content k g j run.changes)) (touching k g j run) (λ old. if_gives (m old) (touching k g j run) (rest j))) r (λ j at_j.
         let now = touching k g j run in
         let seen = joined run.trace (touched (k.by_element g) g j (content k g j run.changes)) r (touched_all g i j env run.changes u.0 b.0 at_j h) in
-        value_traced (held (content k g j run.changes)) now (λ old. if_gives (m old) now (rest j)) seen (λ old _.
+        value_traced (bindable (content k g j run.changes)) now (λ old. if_gives (m old) now (rest j)) seen (λ old _.
         gives_traced (m old) now (rest j) seen (λ a n.
         value_traced (put_new k g j a.1 run.changes) (used_up n now) (end a (used_up n now)) seen (λ ch put.
         traced_by c ((w, Some a.0) ∷ env) d (record (used_up n now) { changes = ch }) u.1 b.1 (new_kept k g i j env a.1 run.changes ch b.0 at_j h put) seen))))
     traced_by (Write g i w block) env d run u b h r =
         let m = λ (old v : Data). block_write block k.defs k.id old v d run.used in
-        let end = λ (then' : Run) (ch : Vars). Go (record then' { changes = ch }) in
-        let rest = λ (j : Option Data) (new : Data) (then' : Run). with_value (put_content k g j (Some new) run.changes) then' (end then') in
-        value_traced (index_value i env) run (λ j. with_value (held (content k g j run.changes)) (touching k g j run) (λ old. with_value (value_under w env) (touching k g j run) (λ v. if_gives (m old v) (touching k g j run) (rest j)))) r (λ j at_j.
+        let end = λ (then' : SectionRun) (ch : Vars). Go (record then' { changes = ch }) in
+        let rest = λ (j : Option Data) (new : Data) (then' : SectionRun). with_value (put_content k g j (Some new) run.changes) then' (end then') in
+        value_traced (index_value i env) run (λ j. with_value (bindable (content k g j run.changes)) (touching k g j run) (λ old. with_value (value_under w env) (touching k g j run) (λ v. if_gives (m old v) (touching k g j run) (rest j)))) r (λ j at_j.
         let now = touching k g j run in
         let seen = joined run.trace (touched (k.by_element g) g j (content k g j run.changes)) r (touched_all g i j env run.changes u b at_j h) in
-        value_traced (held (content k g j run.changes)) now (λ old. with_value (value_under w env) now (λ v. if_gives (m old v) now (rest j))) seen (λ old _.
+        value_traced (bindable (content k g j run.changes)) now (λ old. with_value (value_under w env) now (λ v. if_gives (m old v) now (rest j))) seen (λ old _.
         value_traced (value_under w env) now (λ v. if_gives (m old v) now (rest j)) seen (λ v _.
         gives_traced (m old v) now (rest j) seen (λ a n.
         value_traced (put_content k g j (Some a) run.changes) (used_up n now) (end (used_up n now)) seen (λ ch put. seen)))))
 
-    traced_by_arm : (cs : Codes) (i : ℕ) (env : Names) (d : Words) (run : Run) → AllUse (PlaceIn k gs) (λ g i. is_among g gs ≡ true) cs → AllUse (λ p. k.by_element (variable_of p) ≡ false) (HasIndex k.by_element) cs → Kept k run.changes → All run.trace → Traced (exec_arm_with block_read block_write k cs i env d run)
+    traced_by_arm : (cs : Codes) (i : ℕ) (env : Names) (d : Words) (run : SectionRun) → AllUse (PlaceIn k gs) (λ g i. is_among g gs ≡ true) cs → AllUse (λ p. k.by_element (variable_of p) ≡ false) (HasIndex k.by_element) cs → Kept k run.changes → All run.trace → Traced (exec_arm_with block_read block_write k cs i env d run)
     traced_by_arm no_codes i env d run u b h r = r
     traced_by_arm (more_codes c cs) zero env d run u b h r = traced_by c env d run u.0 b.0 h r
     traced_by_arm (more_codes c cs) (suc i) env d run u b h r = traced_by_arm cs i env d run u.1 b.1 h r

@@ -10,18 +10,18 @@ use Rattle.pgo_model.specs.Outcome.{NoValue, Next, Stuck, Nowhere}
 use Rattle.pgo_model.specs.State.{is_shallow}
 use Rattle.pgo_model.specs.Val.{or_else, sem, plain, call_def, meanings, index_of}
 use Rattle.pgo_model.specs.Written.{pc, self_name}
-use Rattle.pgo_sections.specs.Agrees.{Distinct, IsPlace, Fit, Agrees, SectionsAgree}
+use Rattle.pgo_sections.specs.SectionsAgree.{Distinct, IsPlace, Fit, PathAgrees, SectionsAgree}
 use Rattle.pgo_sections.specs.Blocks.{HasBlocks}
 use Rattle.pgo_sections.specs.Code.{Place, Whole, Own, Code}
 use Rattle.pgo_sections.specs.Macros.{exec}
 use Rattle.pgo_sections.specs.Context.{Context, value_before}
-use Rattle.pgo_sections.specs.Run.{Run, begun, Out, Go, Jump, Gave, Stop}
-use Rattle.pgo_sections.specs.Section.{closed_value, closed, end_of, if_shallow, Reaches}
+use Rattle.pgo_sections.specs.SectionRun.{SectionRun, begun, Out, Go, Jump, Yielded, Stop}
+use Rattle.pgo_sections.specs.Section.{closed_value, closed, end_of, if_shallow, SectionReaches}
 use Rattle.pgo_model.specs.Choice.{word_at}
 use Rattle.pgo_sections.specs.Among.{is_among}
-use Rattle.pgo_sections.specs.Held.{put_part, value_put, value_under}
+use Rattle.pgo_sections.specs.BoundValues.{put_part, value_put, value_under}
 use Rattle.pgo_sections.specs.Expand.{Current, untouched, no_go, to_end, no_yield}
-use Rattle.pgo_sections.specs.Expansion.{Around, value_at_end, EndsIn}
+use Rattle.pgo_sections.specs.Expansion.{PathContext, value_at_end, EndsIn}
 use Rattle.pgo_sections.specs.WellFormed.{Bindable, PlainCode, most_made}
 use Rattle.pgo_sections.proofs.Apart.{apart, self_not_made}
 use Rattle.pgo_sections.proofs.Closing.{among_nth, nth_among, found_among, not_among, closed_at, closed_is}
@@ -50,7 +50,7 @@ reads_all front (w ∷ ws) = (read_word front w ws, again (reads_all (front ++ w
         let long : length (front ++ w ∷ []) ≡ suc (length front) = omega (arith, length-append front (w ∷ [])) in
         subst (λ n. Reads (word_at (front ++ w ∷ ws)) n ws) long (subst (λ l. Reads (word_at l) (length (front ++ w ∷ [])) ws) same h)
 
-module _ (a : Around) (k : Context) (t : Vars) (f : Fit a k t) where
+module _ (a : PathContext) (k : Context) (t : Vars) (f : Fit a k t) where
   abbrev J : Name → Vars → Type 0
   J l ch = closed k l ch k.start ≡ Some t
 
@@ -64,17 +64,17 @@ module _ (a : Around) (k : Context) (t : Vars) (f : Fit a k t) where
   there x h = found_among k.start x (ap (λ l. is_among x l) f.before ∙ h)
 
   -- what the section does by words is what it may
-  reaches_may : (c : Code) → HasBlocks c → May k c [] [] never J no_gift ↔ Reaches k c t
+  reaches_may : (c : Code) → HasBlocks c → May k c [] [] never J no_gift ↔ SectionReaches k c t
   reaches_may c bl = (forward, backward)
     where
       ended_next : (o : Out) → Holds never J no_gift o → (prints : List Data) × (end_of k o ≡ Next t prints)
       ended_next (Go run) h = absurd h
       ended_next (Jump l run) h =
           (run.prints, ap (λ q. on (Stuck NoValue) q (if_shallow run.prints)) h ∙ ap (λ b. if b then Next t run.prints else Stuck NoValue) f.shallow)
-      ended_next (Gave v run) h = absurd h
+      ended_next (Yielded v run) h = absurd h
       ended_next (Stop kind run) h = absurd h
 
-      forward : May k c [] [] never J no_gift → Reaches k c t
+      forward : May k c [] [] never J no_gift → SectionReaches k c t
       forward m =
           let x = ends_from k c [] (begun [] 0) never J no_gift bl m in
           let e = ended_next x.out x.holds in
@@ -84,17 +84,17 @@ module _ (a : Around) (k : Context) (t : Vars) (f : Fit a k t) where
       next_is t' prints prints' true e = ap (λ o. elim o as (λ o. Vars) [ Next q p ↦ q | Stuck q ↦ t | Nowhere ↦ t ]) e
       next_is t' prints prints' false e = absurd (grind (arith, e))
 
-      jumped : (l : Name) (run : Run) (q : Option Vars) → closed k l run.changes k.start ≡ q → (prints : List Data) → on (Stuck NoValue) q (if_shallow run.prints) ≡ Next t prints → J l run.changes
+      jumped : (l : Name) (run : SectionRun) (q : Option Vars) → closed k l run.changes k.start ≡ q → (prints : List Data) → on (Stuck NoValue) q (if_shallow run.prints) ≡ Next t prints → J l run.changes
       jumped l run None e prints g = absurd (grind (arith, g))
       jumped l run (Some t') e prints g = e ∙ ap (λ z. Some z) (next_is t' run.prints prints (is_shallow t') g)
 
       holds : (o : Out) (prints : List Data) → end_of k o ≡ Next t prints → Holds never J no_gift o
       holds (Go run) prints e = absurd (grind (arith, e))
       holds (Jump l run) prints e = jumped l run (closed k l run.changes k.start) refl prints e
-      holds (Gave v run) prints e = absurd (grind (arith, e))
+      holds (Yielded v run) prints e = absurd (grind (arith, e))
       holds (Stop kind run) prints e = absurd (grind (arith, e))
 
-      backward : Reaches k c t → May k c [] [] never J no_gift
+      backward : SectionReaches k c t → May k c [] [] never J no_gift
       backward r =
           may_from k c [] (word_at r.words) (begun [] 0) never J no_gift bl (holds (exec k c [] (word_at r.words) (begun [] 0)) r.prints r.leads)
 
@@ -180,7 +180,7 @@ module _ (a : Around) (k : Context) (t : Vars) (f : Fit a k t) where
     long = (refl, λ x. tt);
   }
 
-  pub section_agrees : (c : Code) → HasBlocks c → PlainCode a.variables k.globals k.places [] c → most_made c < 2 ^ 64 → Agrees a k c t
+  pub section_agrees : (c : Code) → HasBlocks c → PlainCode a.variables k.globals k.places [] c → most_made c < 2 ^ 64 → PathAgrees a k c t
   section_agrees c bl pl few =
       iff_then (path_may a.variables L apart a k.start t not_there c k (record { places = f.places; defs = f.defs }) 0 [] [] ((self_name, Some a.id) ∷ []) [] [] no_go to_end no_yield never J no_gift pl (omega (arith, few)) start_here (record {
         on_go = λ cur n env ch l m x v long. iff_same;

@@ -2,9 +2,9 @@
 --
 -- Before an expression is evaluated, its mapped occurrences are read in textual order, each index before its occurrence; then
 -- each unmapped parameter that stands in what is left is read once, in the order of first occurrence; then what is left is
--- evaluated. The first of these is `pulled`: a mapped read is an effect of its own, and its value stands in the place of the
--- occurrence. The second says no more than that a resource is read, and is `looks`. A name that the expression itself binds is no
--- parameter where it is bound.
+-- evaluated. The first of these is `hoisted`: a mapped read is an effect of its own, and its value stands in the place of the
+-- occurrence. The second says no more than that a resource is read, and is `unmapped_reads`. A name that the
+-- expression itself binds is no parameter where it is bound.
 --
 -- Source: this project's choice.
 use Rattle.std.specs.Prelude.{ℕ, suc, Bool, if◌then◌else◌, List, [], ◌∷◌, ◌++◌, replicate, Option, Some, None}
@@ -35,24 +35,25 @@ abbrev pub place : ℕ → Name
 place k = replicate (suc k) 35
 
 -- a read that comes before an expression: of what, at which index and where that stands, and where the value stands
-pub record Before : Type 0 where
+pub record MappedRead : Type 0 where
   pub mapped : Mapped
   pub index : Option (Name × Tree)
   pub value : Name
 
--- the reads before, in order; the expression with their values in the place of the occurrences; how many places are in use
-pub record Pulled (A : Type 0) : Type 0 where
-  pub reads : List Before
+-- an expression, or a part of one, with its mapped reads hoisted out of it: the reads in order; what is left, with their values in
+-- the place of the occurrences; and how many places are in use
+pub record Hoisted (A : Type 0) : Type 0 where
+  pub reads : List MappedRead
   pub rest : A
   pub used : ℕ
 
-abbrev pub pure : {A : Type 0} → ℕ → A → Pulled A
+abbrev pub pure : {A : Type 0} → ℕ → A → Hoisted A
 pure k a = record { reads = []; rest = a; used = k }
 
-abbrev pub then_pull : {A B : Type 0} → Pulled A → (A → ℕ → Pulled B) → Pulled B
-then_pull p f = let q = f p.rest p.used in record { reads = p.reads ++ q.reads; rest = q.rest; used = q.used }
+abbrev pub then_hoist : {A B : Type 0} → Hoisted A → (A → ℕ → Hoisted B) → Hoisted B
+then_hoist p f = let q = f p.rest p.used in record { reads = p.reads ++ q.reads; rest = q.rest; used = q.used }
 
-abbrev pub read_whole : Mapped → ℕ → Pulled Tree
+abbrev pub read_whole : Mapped → ℕ → Hoisted Tree
 read_whole m k = record { reads = record { mapped = m; index = None; value = place k } ∷ []; rest = name (place k); used = suc k }
 
 -- the one index, or the tuple of several
@@ -60,7 +61,7 @@ abbrev pub index_tree : Trees → Tree
 index_tree (more_trees t no_trees) = t
 index_tree ts = tuple ts
 
-abbrev pub read_element : Mapped → Tree → ℕ → Pulled Tree
+abbrev pub read_element : Mapped → Tree → ℕ → Hoisted Tree
 read_element m i k = record {
   reads = record { mapped = m; index = Some (place k, i); value = place (suc k) } ∷ [];
   rest = name (place (suc k));
@@ -85,7 +86,7 @@ read_first None f = f None
 read_first (Some i) f = Let at_base i.0 i.1 (f (Some i.0))
 
 -- these reads, and then c
-abbrev pub after : List Before → Code → Code
+abbrev pub after : List MappedRead → Code → Code
 after [] c = c
 after (b ∷ bs) c = read_first b.index (λ i. Read b.value b.mapped.global i b.mapped.reads (after bs c))
 
@@ -99,72 +100,72 @@ module _ (mapped : MappedNames) where
   element_of under f = on None (name_alone f) (λ x. if_element (mapped_under under x))
 
   abbrev mutual
-    pub pulled : List Name → Tree → ℕ → Pulled Tree
-    pulled under (name x) k = on (pure k (name x)) (if_whole (mapped_under under x)) (λ m. read_whole m k)
-    pulled under (primed x) k = pure k (primed x)
-    pulled under (number z) k = pure k (number z)
-    pulled under (text s) k = pure k (text s)
-    pulled under (truth b) k = pure k (truth b)
-    pulled under at k = pure k at
-    pulled under (word w) k = pure k (word w)
-    pulled under (unary o a) k = then_pull (pulled under a k) (λ a' k1. pure k1 (unary o a'))
-    pulled under (binary o a b) k = then_pull (pulled under a k) (λ a' k1. then_pull (pulled under b k1) (λ b' k2. pure k2 (binary o a' b')))
-    pulled under (product ts) k = then_pull (pulled_all under ts k) (λ us k1. pure k1 (product us))
-    pulled under (cond_of p a b) k =
-        then_pull (pulled under p k) (λ p' k1. then_pull (pulled under a k1) (λ a' k2. then_pull (pulled under b k2) (λ b' k3. pure k3 (cond_of p' a' b'))))
-    pulled under (case_of gs) k = then_pull (pulled_arms under gs k) (λ gs' k1. pure k1 (case_of gs'))
-    pulled under (case_other gs e) k = then_pull (pulled_arms under gs k) (λ gs' k1. then_pull (pulled under e k1) (λ e' k2. pure k2 (case_other gs' e')))
-    pulled under (let_in ds e) k = then_pull (pulled_let under ds k) (λ ds' k1. then_pull (pulled (below (names_of ds) under) e k1) (λ e' k2. pure k2 (let_in ds' e')))
-    pulled under (quantified q bs p) k =
-        then_pull (pulled_bound under bs k) (λ bs' k1. then_pull (pulled (below (names_bound bs) under) p k1) (λ p' k2. pure k2 (quantified q bs' p')))
-    pulled under (choose x r p) k = then_pull (pulled under r k) (λ r' k1. then_pull (pulled (x ∷ under) p k1) (λ p' k2. pure k2 (choose x r' p')))
-    pulled under (tuple ts) k = then_pull (pulled_all under ts k) (λ us k1. pure k1 (tuple us))
-    pulled under (set_of ts) k = then_pull (pulled_all under ts k) (λ us k1. pure k1 (set_of us))
-    pulled under (filter_of x r p) k = then_pull (pulled under r k) (λ r' k1. then_pull (pulled (x ∷ under) p k1) (λ p' k2. pure k2 (filter_of x r' p')))
-    pulled under (image e x r) k = then_pull (pulled (x ∷ under) e k) (λ e' k1. then_pull (pulled under r k1) (λ r' k2. pure k2 (image e' x r')))
-    pulled under (fun_of bs e) k = then_pull (pulled_bound under bs k) (λ bs' k1. then_pull (pulled (below (names_bound bs) under) e k1) (λ e' k2. pure k2 (fun_of bs' e')))
-    pulled under (fun_set a b) k = then_pull (pulled under a k) (λ a' k1. then_pull (pulled under b k1) (λ b' k2. pure k2 (fun_set a' b')))
-    pulled under (record_of ds) k = then_pull (pulled_fields under ds k) (λ ds' k1. pure k1 (record_of ds'))
-    pulled under (record_set ds) k = then_pull (pulled_fields under ds k) (λ ds' k1. pure k1 (record_set ds'))
-    pulled under (except f us) k = then_pull (pulled under f k) (λ f' k1. then_pull (pulled_paths under us k1) (λ us' k2. pure k2 (except f' us')))
-    pulled under (index f ts) k =
-        then_pull (pulled under f k) (λ f' k1. then_pull (pulled_all under ts k1) (λ us k2.
+    pub hoisted : List Name → Tree → ℕ → Hoisted Tree
+    hoisted under (name x) k = on (pure k (name x)) (if_whole (mapped_under under x)) (λ m. read_whole m k)
+    hoisted under (primed x) k = pure k (primed x)
+    hoisted under (number z) k = pure k (number z)
+    hoisted under (text s) k = pure k (text s)
+    hoisted under (truth b) k = pure k (truth b)
+    hoisted under at k = pure k at
+    hoisted under (word w) k = pure k (word w)
+    hoisted under (unary o a) k = then_hoist (hoisted under a k) (λ a' k1. pure k1 (unary o a'))
+    hoisted under (binary o a b) k = then_hoist (hoisted under a k) (λ a' k1. then_hoist (hoisted under b k1) (λ b' k2. pure k2 (binary o a' b')))
+    hoisted under (product ts) k = then_hoist (hoisted_all under ts k) (λ us k1. pure k1 (product us))
+    hoisted under (cond_of p a b) k =
+        then_hoist (hoisted under p k) (λ p' k1. then_hoist (hoisted under a k1) (λ a' k2. then_hoist (hoisted under b k2) (λ b' k3. pure k3 (cond_of p' a' b'))))
+    hoisted under (case_of gs) k = then_hoist (hoisted_arms under gs k) (λ gs' k1. pure k1 (case_of gs'))
+    hoisted under (case_other gs e) k = then_hoist (hoisted_arms under gs k) (λ gs' k1. then_hoist (hoisted under e k1) (λ e' k2. pure k2 (case_other gs' e')))
+    hoisted under (let_in ds e) k = then_hoist (hoisted_let under ds k) (λ ds' k1. then_hoist (hoisted (below (names_of ds) under) e k1) (λ e' k2. pure k2 (let_in ds' e')))
+    hoisted under (quantified q bs p) k =
+        then_hoist (hoisted_bound under bs k) (λ bs' k1. then_hoist (hoisted (below (names_bound bs) under) p k1) (λ p' k2. pure k2 (quantified q bs' p')))
+    hoisted under (choose x r p) k = then_hoist (hoisted under r k) (λ r' k1. then_hoist (hoisted (x ∷ under) p k1) (λ p' k2. pure k2 (choose x r' p')))
+    hoisted under (tuple ts) k = then_hoist (hoisted_all under ts k) (λ us k1. pure k1 (tuple us))
+    hoisted under (set_of ts) k = then_hoist (hoisted_all under ts k) (λ us k1. pure k1 (set_of us))
+    hoisted under (filter_of x r p) k = then_hoist (hoisted under r k) (λ r' k1. then_hoist (hoisted (x ∷ under) p k1) (λ p' k2. pure k2 (filter_of x r' p')))
+    hoisted under (image e x r) k = then_hoist (hoisted (x ∷ under) e k) (λ e' k1. then_hoist (hoisted under r k1) (λ r' k2. pure k2 (image e' x r')))
+    hoisted under (fun_of bs e) k = then_hoist (hoisted_bound under bs k) (λ bs' k1. then_hoist (hoisted (below (names_bound bs) under) e k1) (λ e' k2. pure k2 (fun_of bs' e')))
+    hoisted under (fun_set a b) k = then_hoist (hoisted under a k) (λ a' k1. then_hoist (hoisted under b k1) (λ b' k2. pure k2 (fun_set a' b')))
+    hoisted under (record_of ds) k = then_hoist (hoisted_fields under ds k) (λ ds' k1. pure k1 (record_of ds'))
+    hoisted under (record_set ds) k = then_hoist (hoisted_fields under ds k) (λ ds' k1. pure k1 (record_set ds'))
+    hoisted under (except f us) k = then_hoist (hoisted under f k) (λ f' k1. then_hoist (hoisted_paths under us k1) (λ us' k2. pure k2 (except f' us')))
+    hoisted under (index f ts) k =
+        then_hoist (hoisted under f k) (λ f' k1. then_hoist (hoisted_all under ts k1) (λ us k2.
         on (pure k2 (index f' us)) (element_of under f) (λ m. read_element m (index_tree us) k2)))
-    pulled under (field r x) k = then_pull (pulled under r k) (λ r' k1. pure k1 (field r' x))
-    pulled under (call x ts) k = then_pull (pulled_all under ts k) (λ us k1. pure k1 (call x us))
-    pulled under (unchanged xs) k = pure k (unchanged xs)
+    hoisted under (field r x) k = then_hoist (hoisted under r k) (λ r' k1. pure k1 (field r' x))
+    hoisted under (call x ts) k = then_hoist (hoisted_all under ts k) (λ us k1. pure k1 (call x us))
+    hoisted under (unchanged xs) k = pure k (unchanged xs)
 
-    pub pulled_all : List Name → Trees → ℕ → Pulled Trees
-    pulled_all under no_trees k = pure k no_trees
-    pulled_all under (more_trees t ts) k = then_pull (pulled under t k) (λ t' k1. then_pull (pulled_all under ts k1) (λ us k2. pure k2 (more_trees t' us)))
+    pub hoisted_all : List Name → Trees → ℕ → Hoisted Trees
+    hoisted_all under no_trees k = pure k no_trees
+    hoisted_all under (more_trees t ts) k = then_hoist (hoisted under t k) (λ t' k1. then_hoist (hoisted_all under ts k1) (λ us k2. pure k2 (more_trees t' us)))
 
-    pub pulled_arms : List Name → TreePairs → ℕ → Pulled TreePairs
-    pulled_arms under no_arms k = pure k no_arms
-    pulled_arms under (more_arms g e gs) k =
-        then_pull (pulled under g k) (λ g' k1. then_pull (pulled under e k1) (λ e' k2. then_pull (pulled_arms under gs k2) (λ gs' k3. pure k3 (more_arms g' e' gs'))))
+    pub hoisted_arms : List Name → TreePairs → ℕ → Hoisted TreePairs
+    hoisted_arms under no_arms k = pure k no_arms
+    hoisted_arms under (more_arms g e gs) k =
+        then_hoist (hoisted under g k) (λ g' k1. then_hoist (hoisted under e k1) (λ e' k2. then_hoist (hoisted_arms under gs k2) (λ gs' k3. pure k3 (more_arms g' e' gs'))))
 
-    pub pulled_fields : List Name → NamedTrees → ℕ → Pulled NamedTrees
-    pulled_fields under no_named k = pure k no_named
-    pulled_fields under (more_named x t ts) k = then_pull (pulled under t k) (λ t' k1. then_pull (pulled_fields under ts k1) (λ us k2. pure k2 (more_named x t' us)))
+    pub hoisted_fields : List Name → NamedTrees → ℕ → Hoisted NamedTrees
+    hoisted_fields under no_named k = pure k no_named
+    hoisted_fields under (more_named x t ts) k = then_hoist (hoisted under t k) (λ t' k1. then_hoist (hoisted_fields under ts k1) (λ us k2. pure k2 (more_named x t' us)))
 
     -- the expression of a LET name sees the names before it
-    pub pulled_let : List Name → NamedTrees → ℕ → Pulled NamedTrees
-    pulled_let under no_named k = pure k no_named
-    pulled_let under (more_named x t ts) k = then_pull (pulled under t k) (λ t' k1. then_pull (pulled_let (x ∷ under) ts k1) (λ us k2. pure k2 (more_named x t' us)))
+    pub hoisted_let : List Name → NamedTrees → ℕ → Hoisted NamedTrees
+    hoisted_let under no_named k = pure k no_named
+    hoisted_let under (more_named x t ts) k = then_hoist (hoisted under t k) (λ t' k1. then_hoist (hoisted_let (x ∷ under) ts k1) (λ us k2. pure k2 (more_named x t' us)))
 
-    pub pulled_bound : List Name → BoundTrees → ℕ → Pulled BoundTrees
-    pulled_bound under no_bound k = pure k no_bound
-    pulled_bound under (more_bound xs r bs) k =
-        then_pull (pulled under r k) (λ r' k1. then_pull (pulled_bound under bs k1) (λ bs' k2. pure k2 (more_bound xs r' bs')))
+    pub hoisted_bound : List Name → BoundTrees → ℕ → Hoisted BoundTrees
+    hoisted_bound under no_bound k = pure k no_bound
+    hoisted_bound under (more_bound xs r bs) k =
+        then_hoist (hoisted under r k) (λ r' k1. then_hoist (hoisted_bound under bs k1) (λ bs' k2. pure k2 (more_bound xs r' bs')))
 
-    pub pulled_paths : List Name → PathTrees → ℕ → Pulled PathTrees
-    pulled_paths under no_paths k = pure k no_paths
-    pulled_paths under (more_paths ps e us) k =
-        then_pull (pulled_all under ps k) (λ ps' k1. then_pull (pulled under e k1) (λ e' k2. then_pull (pulled_paths under us k2) (λ us' k3. pure k3 (more_paths ps' e' us'))))
+    pub hoisted_paths : List Name → PathTrees → ℕ → Hoisted PathTrees
+    hoisted_paths under no_paths k = pure k no_paths
+    hoisted_paths under (more_paths ps e us) k =
+        then_hoist (hoisted_all under ps k) (λ ps' k1. then_hoist (hoisted under e k1) (λ e' k2. then_hoist (hoisted_paths under us k2) (λ us' k3. pure k3 (more_paths ps' e' us'))))
 
   -- the reads of e, and then what f makes of what is left
   abbrev pub evaluated : Tree → ℕ → (Tree → ℕ → Code) → Code
-  evaluated e k f = let p = pulled [] e k in after p.reads (f p.rest p.used)
+  evaluated e k f = let p = hoisted [] e k in after p.reads (f p.rest p.used)
 
 -- ---- unmapped reads
 
@@ -174,9 +175,9 @@ touched_whole (Some (Own x)) rest = rest
 touched_whole (Some (Whole x)) rest = (x, None) ∷ rest
 
 -- the names that stand for a global as a whole are the unmapped parameters; a local or a value parameter is no resource
-abbrev pub looks_of : List (Name × Place) → List Name → List Touched
-looks_of places [] = []
-looks_of places (x ∷ xs) = touched_whole (find x places) (looks_of places xs)
+abbrev pub reads_among : List (Name × Place) → List Name → List Touched
+reads_among places [] = []
+reads_among places (x ∷ xs) = touched_whole (find x places) (reads_among places xs)
 
-abbrev pub looks : List (Name × Place) → Tree → List Touched
-looks places e = looks_of places (first_occurrences (free_names [] e))
+abbrev pub unmapped_reads : List (Name × Place) → Tree → List Touched
+unmapped_reads places e = reads_among places (first_occurrences (free_names [] e))

@@ -8,7 +8,7 @@ use Rattle.pgo_model.specs.Options.{on}
 use Rattle.pgo_model.specs.Val.{Meaning, val}
 use Rattle.pgo_model.specs.Written.{self_name}
 use Rattle.pgo_sections.specs.Code.{Place, Whole, Own, variable_of, content_name}
-use Rattle.pgo_sections.specs.Held.{held, value_under, put_part}
+use Rattle.pgo_sections.specs.BoundValues.{bindable, value_under, put_part}
 
 -- the state in which the section began; the instance's identifier; what the names of its variables stand for; the globals, and
 -- the instance's own variables, of which it has the part at its identifier; the definitions; and which globals are bound by
@@ -64,7 +64,7 @@ with_content k g (Some i) v ch = put_part i (value_now k (Whole g) ch) v
 
 -- the changes, and the global with another content
 abbrev pub put_content : Context → Name → Option Data → Option Data → Vars → Option Vars
-put_content k g j v ch = option_map (λ w. (g, w) ∷ ch) (held (with_content k g j v ch))
+put_content k g j v ch = option_map (λ w. (g, w) ∷ ch) (bindable (with_content k g j v ch))
 
 -- the same, where there is a new content
 abbrev pub put_new : Context → Name → Option Data → Option Data → Vars → Option Vars

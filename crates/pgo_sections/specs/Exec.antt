@@ -9,11 +9,11 @@ use Rattle.pgo_model.specs.Options.{on}
 use Rattle.pgo_model.specs.Outcome.{Kind, Blocked, NoValue, AssertFails}
 use Rattle.pgo_model.specs.System.{Words, Touched}
 use Rattle.pgo_model.specs.Val.{Meaning}
-use Rattle.pgo_sections.specs.Access.{looks, touched_whole}
+use Rattle.pgo_sections.specs.Access.{unmapped_reads, touched_whole}
 use Rattle.pgo_sections.specs.Code.{Place, variable_of, Code, Skip, Let, Pick, Become, Set, Await, Assert, Print, If, Either, Seq, Goto, Yield, Read, Write, Codes, no_codes, more_codes}
 use Rattle.pgo_sections.specs.Context.{Context, content, put_content, put_new, new_content, value_of, index_value}
-use Rattle.pgo_sections.specs.Held.{held, value_under}
-use Rattle.pgo_sections.specs.Run.{Run, changed, seen, printed, picked_number, chosen, Out, Go, Jump, Gave, Stop, with_value, if_true, picked, go_on}
+use Rattle.pgo_sections.specs.BoundValues.{bindable, value_under}
+use Rattle.pgo_sections.specs.SectionRun.{SectionRun, changed, seen, printed, picked_number, chosen, Out, Go, Jump, Yielded, Stop, with_value, if_true, picked, go_on}
 
 -- how a macro's block ends: with what it gives, or stopped; and how many words of choice are used then
 pub data MacroEnd (A : Type 0) : Type 0 where
@@ -24,21 +24,21 @@ pub data MacroEnd (A : Type 0) : Type 0 where
 abbrev pub read_end : Out → MacroEnd (Data × Option Data)
 read_end (Go run) = Stops NoValue run.used
 read_end (Jump l run) = Stops NoValue run.used
-read_end (Gave v run) = on (Stops NoValue run.used) (new_content run.changes) (λ new. Gives (v, new) run.used)
+read_end (Yielded v run) = on (Stops NoValue run.used) (new_content run.changes) (λ new. Gives (v, new) run.used)
 read_end (Stop kind run) = Stops kind run.used
 
 -- a write gives the new content
 abbrev pub write_end : Out → MacroEnd Data
 write_end (Go run) = Stops NoValue run.used
 write_end (Jump l run) = Stops NoValue run.used
-write_end (Gave v run) = Gives v run.used
+write_end (Yielded v run) = Gives v run.used
 write_end (Stop kind run) = Stops kind run.used
 
-abbrev pub used_up : ℕ → Run → Run
+abbrev pub used_up : ℕ → SectionRun → SectionRun
 used_up n run = record run { used = n }
 
 -- the section goes on where the block gives something
-abbrev pub if_gives : {A : Type 0} → MacroEnd A → Run → (A → Run → Out) → Out
+abbrev pub if_gives : {A : Type 0} → MacroEnd A → SectionRun → (A → SectionRun → Out) → Out
 if_gives (Gives a n) run f = f a (used_up n run)
 if_gives (Stops kind n) run f = Stop kind (used_up n run)
 
@@ -48,15 +48,15 @@ touched false g i old = (g, None) ∷ []
 touched true g i None = []
 touched true g i (Some old) = (g, i) ∷ []
 
-abbrev pub touching : Context → Name → Option Data → Run → Run
+abbrev pub touching : Context → Name → Option Data → SectionRun → SectionRun
 touching k g i run = seen (touched (k.by_element g) g i (content k g i run.changes)) run
 
 -- an expression's unmapped parameters are read
-abbrev pub looking : Context → Tree → Run → Run
-looking k e run = seen (looks k.places e) run
+abbrev pub read_unmapped : Context → Tree → SectionRun → SectionRun
+read_unmapped k e run = seen (unmapped_reads k.places e) run
 
 -- a place becomes v
-abbrev pub becoming : Place → Data → Run → Run
+abbrev pub becoming : Place → Data → SectionRun → SectionRun
 becoming p v run = changed (variable_of p) v (seen (touched_whole (Some p) []) run)
 
 abbrev pub count : Codes → ℕ
@@ -73,47 +73,47 @@ Writes = (block : Code) → (defs : List Meaning) → (id old v : Data) → Word
 
 module _ (reads : Reads) (writes : Writes) where
   abbrev mutual
-    pub exec_with : Context → Code → Names → Words → Run → Out
+    pub exec_with : Context → Code → Names → Words → SectionRun → Out
     exec_with k Skip env d run = Go run
     exec_with k (Let b w e c) env d run =
-        let now = looking k e run in with_value (held (value_of k e env run.changes)) now (λ v. exec_with k c ((w, Some v) ∷ env) d now)
+        let now = read_unmapped k e run in with_value (bindable (value_of k e env run.changes)) now (λ v. exec_with k c ((w, Some v) ∷ env) d now)
     exec_with k (Pick b w e c) env d run =
-        let now = looking k e run in
+        let now = read_unmapped k e run in
         with_value (option_and_then members_of (value_of k e env run.changes)) now (λ ms.
         picked ms d now (λ v. exec_with k c ((w, Some v) ∷ env) d (chosen now)))
     exec_with k (Become p w) env d run = with_value (value_under w env) run (λ v. Go (becoming p v run))
     exec_with k (Set b p e) env d run =
-        let now = looking k e run in with_value (held (value_of k e env run.changes)) now (λ v. Go (becoming p v now))
+        let now = read_unmapped k e run in with_value (bindable (value_of k e env run.changes)) now (λ v. Go (becoming p v now))
     exec_with k (Await e) env d run =
-        let now = looking k e run in if_true (truth_of (value_of k e env run.changes)) now (Go now) (Stop Blocked now)
+        let now = read_unmapped k e run in if_true (truth_of (value_of k e env run.changes)) now (Go now) (Stop Blocked now)
     exec_with k (Assert e) env d run =
-        let now = looking k e run in if_true (truth_of (value_of k e env run.changes)) now (Go now) (Stop AssertFails now)
+        let now = read_unmapped k e run in if_true (truth_of (value_of k e env run.changes)) now (Go now) (Stop AssertFails now)
     exec_with k (Print e) env d run =
-        let now = looking k e run in with_value (value_of k e env run.changes) now (λ v. Go (printed v now))
+        let now = read_unmapped k e run in with_value (value_of k e env run.changes) now (λ v. Go (printed v now))
     exec_with k (If e a b) env d run =
-        let now = looking k e run in
+        let now = read_unmapped k e run in
         if_true (truth_of (value_of k e env run.changes)) now (exec_with k a env d now) (exec_with k b env d now)
     exec_with k (Either cs) env d run = exec_arm_with k cs (picked_number d run (count cs)) env d (chosen run)
     exec_with k (Seq a b) env d run = go_on (exec_with k a env d run) (λ now. exec_with k b env d now)
     exec_with k (Goto l) env d run = Jump l run
-    exec_with k (Yield e) env d run = with_value (held (value_of k e env run.changes)) run (λ v. Gave v run)
+    exec_with k (Yield e) env d run = with_value (bindable (value_of k e env run.changes)) run (λ v. Yielded v run)
     exec_with k (Read w g i block c) env d run =
         with_value (index_value i env) run (λ j.
         let now = touching k g j run in
-        with_value (held (content k g j run.changes)) now (λ old.
+        with_value (bindable (content k g j run.changes)) now (λ old.
         if_gives (reads block k.defs k.id old d run.used) now (λ r then'.
         with_value (put_new k g j r.1 run.changes) then' (λ ch.
         exec_with k c ((w, Some r.0) ∷ env) d (record then' { changes = ch })))))
     exec_with k (Write g i w block) env d run =
         with_value (index_value i env) run (λ j.
         let now = touching k g j run in
-        with_value (held (content k g j run.changes)) now (λ old.
+        with_value (bindable (content k g j run.changes)) now (λ old.
         with_value (value_under w env) now (λ v.
         if_gives (writes block k.defs k.id old v d run.used) now (λ new then'.
         with_value (put_content k g j (Some new) run.changes) then' (λ ch.
         Go (record then' { changes = ch }))))))
 
-    pub exec_arm_with : Context → Codes → ℕ → Names → Words → Run → Out
+    pub exec_arm_with : Context → Codes → ℕ → Names → Words → SectionRun → Out
     exec_arm_with k no_codes i env d run = Stop NoValue run
     exec_arm_with k (more_codes c cs) zero env d run = exec_with k c env d run
     exec_arm_with k (more_codes c cs) (suc i) env d run = exec_arm_with k cs i env d run

@@ -4,9 +4,9 @@ pub mod Blocks
 pub mod Bound
 pub mod FreeNames
 pub mod Access
-pub mod Held
+pub mod BoundValues
 pub mod Context
-pub mod Run
+pub mod SectionRun
 pub mod Exec
 pub mod Macros
 pub mod Section
@@ -15,7 +15,7 @@ pub mod Expansion
 pub mod Expand
 pub mod Plain
 pub mod WellFormed
-pub mod Agrees
+pub mod SectionsAgree
 pub mod Closed
 pub mod PlainTest
 pub mod Domains

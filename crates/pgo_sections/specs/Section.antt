@@ -12,9 +12,9 @@ use Rattle.pgo_model.specs.Written.{pc}
 use Rattle.pgo_sections.specs.Among.{is_among}
 use Rattle.pgo_sections.specs.Code.{Code}
 use Rattle.pgo_sections.specs.Context.{Context}
-use Rattle.pgo_sections.specs.Held.{put_part, value_put}
+use Rattle.pgo_sections.specs.BoundValues.{put_part, value_put}
 use Rattle.pgo_sections.specs.Macros.{exec}
-use Rattle.pgo_sections.specs.Run.{Run, begun, Out, Go, Jump, Gave, Stop}
+use Rattle.pgo_sections.specs.SectionRun.{SectionRun, begun, Out, Go, Jump, Yielded, Stop}
 
 -- what a variable becomes where the section ends at this written label with these changes
 abbrev pub closed_value : Context → Name → Vars → Name → Data → Option Data
@@ -34,13 +34,13 @@ if_shallow prints t = if is_shallow t then Next t prints else Stuck NoValue
 abbrev pub end_of : Context → Out → Outcome Vars
 end_of k (Go run) = Nowhere
 end_of k (Jump l run) = on (Stuck NoValue) (closed k l run.changes k.start) (if_shallow run.prints)
-end_of k (Gave v run) = Nowhere
+end_of k (Yielded v run) = Nowhere
 end_of k (Stop kind run) = Stuck kind
 
-abbrev pub run_of : Out → Run
+abbrev pub run_of : Out → SectionRun
 run_of (Go run) = run
 run_of (Jump l run) = run
-run_of (Gave v run) = run
+run_of (Yielded v run) = run
 run_of (Stop kind run) = run
 
 -- what code that ended so has read and written, and its end
@@ -51,7 +51,7 @@ abbrev pub section : Context → Code → Words → Section Touched Vars
 section k c d = ended k (exec k c [] d (begun [] 0))
 
 -- some words of choice lead to t
-pub record Reaches (k : Context) (c : Code) (t : Vars) : Type 0 where
+pub record SectionReaches (k : Context) (c : Code) (t : Vars) : Type 0 where
   pub words : List ℕ
   pub prints : List Data
   pub leads : (section k c (word_at words)).end ≡ Next t prints

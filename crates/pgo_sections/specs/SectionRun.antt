@@ -9,61 +9,61 @@ use Rattle.pgo_model.specs.System.{Words, Touched}
 -- each variable that changed with its value, at the identifier where it is the instance's own, the newest first; the reads and
 -- writes of resources, in order; how many words of choice are used; and what was printed. What is to be known of each choice
 -- that was made belongs here
-pub record Run : Type 0 where
+pub record SectionRun : Type 0 where
   pub changes : Vars
   pub trace : List Touched
   pub used : ℕ
   pub prints : List Data
 
-abbrev pub begun : Vars → ℕ → Run
+abbrev pub begun : Vars → ℕ → SectionRun
 begun ch used = record { changes = ch; trace = []; used = used; prints = [] }
 
-abbrev pub changed : Name → Data → Run → Run
+abbrev pub changed : Name → Data → SectionRun → SectionRun
 changed x v run = record run { changes = (x, v) ∷ run.changes }
 
-abbrev pub seen : List Touched → Run → Run
+abbrev pub seen : List Touched → SectionRun → SectionRun
 seen ts run = record run { trace = run.trace ++ ts }
 
-abbrev pub printed : Data → Run → Run
+abbrev pub printed : Data → SectionRun → SectionRun
 printed v run = record run { prints = run.prints ++ v ∷ [] }
 
 -- ---- choices
 
 -- the number that is picked among n
-abbrev pub picked_number : Words → Run → ℕ → ℕ
+abbrev pub picked_number : Words → SectionRun → ℕ → ℕ
 picked_number d run n = pick (d run.used) n
 
-abbrev pub chosen : Run → Run
+abbrev pub chosen : SectionRun → SectionRun
 chosen run = record run { used = suc run.used }
 
 -- ---- how code ends: each way with what went before
 pub data Out : Type 0 where
   -- the section goes on behind it
-  Go : (run : Run) → Out
+  Go : (run : SectionRun) → Out
   -- the section ends at this written label
-  Jump : (label : Name) → (run : Run) → Out
+  Jump : (label : Name) → (run : SectionRun) → Out
   -- the block ends with this value
-  Gave : (v : Data) → (run : Run) → Out
-  Stop : (kind : Kind) → (run : Run) → Out
+  Yielded : (v : Data) → (run : SectionRun) → Out
+  Stop : (kind : Kind) → (run : SectionRun) → Out
 
 -- what comes where there is a value, and NoValue where there is none
-abbrev pub with_value : {A : Type 0} → Option A → Run → (A → Out) → Out
+abbrev pub with_value : {A : Type 0} → Option A → SectionRun → (A → Out) → Out
 with_value None run f = Stop NoValue run
 with_value (Some v) run f = f v
 
 -- a condition
-abbrev pub if_true : Option Bool → Run → Out → Out → Out
+abbrev pub if_true : Option Bool → SectionRun → Out → Out → Out
 if_true (Some true) run a b = a
 if_true (Some false) run a b = b
 if_true None run a b = Stop NoValue run
 
 -- the member that is picked; there is none in an empty set
-abbrev pub picked : List Data → Words → Run → (Data → Out) → Out
+abbrev pub picked : List Data → Words → SectionRun → (Data → Out) → Out
 picked [] d run f = Stop Blocked run
 picked (m ∷ ms) d run f = f (get_or (m ∷ ms) (picked_number d run (length (m ∷ ms))) m)
 
-abbrev pub go_on : Out → (Run → Out) → Out
+abbrev pub go_on : Out → (SectionRun → Out) → Out
 go_on (Go run) f = f run
 go_on (Jump l run) f = Jump l run
-go_on (Gave v run) f = Gave v run
+go_on (Yielded v run) f = Yielded v run
 go_on (Stop kind run) f = Stop kind run

@@ -8,10 +8,10 @@ use Rattle.pgo_model.specs.Written.{self_name}
 use Rattle.pgo_sections.specs.Blocks.{HasBlocks}
 use Rattle.pgo_sections.specs.Code.{Place, Whole, Own, variable_of, Code}
 use Rattle.pgo_sections.specs.Context.{Context}
-use Rattle.pgo_sections.specs.Section.{Reaches}
+use Rattle.pgo_sections.specs.Section.{SectionReaches}
 use Rattle.pgo_sections.specs.Among.{is_among}
 use Rattle.pgo_sections.specs.Expand.{expansion}
-use Rattle.pgo_sections.specs.Expansion.{Around, Path}
+use Rattle.pgo_sections.specs.Expansion.{PathContext, Path}
 use Rattle.pgo_sections.specs.WellFormed.{NotMade, PlainCode, most_made}
 
 abbrev pub keys : {A : Type 0} → List (Name × A) → List Name
@@ -31,7 +31,7 @@ IsPlace k (Own x) = is_among x k.owns ≡ true
 -- A path and a section of the same instance from the same state, and an end. Its premises are what the rules on names give:
 -- the variables have names that differ, and none is a made name or `self`; what the archetype's names stand for is a variable;
 -- and a definition means the same on the path as in the section, since it names no variable.
-pub record Fit (a : Around) (k : Context) (t : Vars) : Type 0 where
+pub record Fit (a : PathContext) (k : Context) (t : Vars) : Type 0 where
   pub id : a.id ≡ k.id
   pub globals : a.globals ≡ k.globals
   pub before : keys k.start ≡ a.variables
@@ -44,10 +44,10 @@ pub record Fit (a : Around) (k : Context) (t : Vars) : Type 0 where
   pub defs : (x : Name) (args : List Data) → call_def x args (meanings a.defs k.start (Some t)) ≡ call_def x args k.defs
 
 -- a path leads there exactly where the section does
-abbrev pub Agrees : Around → Context → Code → Vars → Type 0
-Agrees a k c t = Path a (expansion k.places c) ((self_name, Some a.id) ∷ []) k.start t ↔ Reaches k c t
+abbrev pub PathAgrees : PathContext → Context → Code → Vars → Type 0
+PathAgrees a k c t = Path a (expansion k.places c) ((self_name, Some a.id) ∷ []) k.start t ↔ SectionReaches k c t
 
 -- for all code that reads and writes by blocks, has well-formed names and binds fewer than 2^64 names: past 10^64 made names
 -- are not told apart
 abbrev pub SectionsAgree : Type 0
-SectionsAgree = (a : Around) (k : Context) (c : Code) (t : Vars) → Fit a k t → HasBlocks c → PlainCode a.variables k.globals k.places [] c → most_made c < 2 ^ 64 → Agrees a k c t
+SectionsAgree = (a : PathContext) (k : Context) (c : Code) (t : Vars) → Fit a k t → HasBlocks c → PlainCode a.variables k.globals k.places [] c → most_made c < 2 ^ 64 → PathAgrees a k c t

@@ -6,8 +6,8 @@ use Rattle.pgo_model.specs.Operators.{put_at, set_from}
 
 -- a value that is bound: none where it makes no set by itself, as the module's `\E x \in {e}` asks; so a value of the greatest
 -- depth is not bound
-abbrev pub held : Option Data → Option Data
-held o = option_and_then (λ v. option_map (λ x. v) (set_from (v ∷ []))) o
+abbrev pub bindable : Option Data → Option Data
+bindable o = option_and_then (λ v. option_map (λ x. v) (set_from (v ∷ []))) o
 
 -- what a name in scope stands for
 abbrev pub value_under : Name → Names → Option Data
