@@ -4,6 +4,7 @@
 use Rattle.std.specs.Prelude.{◌≡◌, true, List, pos, [], ◌∷◌, Option, Some, None, codes, refl}
 use Rattle.pgo_base.specs.declared.expr.Infix.TheVariants as infixs
 use Rattle.pgo_base.specs.declared.expr.Quantifier.TheVariants as quantifiers
+use Rattle.pgo_base.specs.declared.value.Value.TheVariants.{Int}
 use Rattle.pgo_base.specs.Data.{Data, boolean, integer, string, set, items, function, pairs}
 use Rattle.pgo_base.specs.Lookup.{Name, Vars}
 use Rattle.pgo_base.specs.Tree.{Tree, name, number, binary, let_in, quantified, choose, tuple, set_of, filter_of, image, fun_of, index, call, trees, named, bound}
@@ -55,41 +56,41 @@ channel = Macro (mapping (codes "Channel")
 abbrev state : Data → Data → Name → Vars
 state y x l = (codes "y", y) ∷ (codes "x", x) ∷ (codes "pc", function (pairs ((integer (pos 1), string l) ∷ []))) ∷ []
 
-abbrev picks : Extent → Option Mapping → List Name → Data → Tree → Option (Section Touched Vars)
-picks extent m by_element y e =
+abbrev picks : Extent → Option Mapping → Data → Tree → Section Touched Vars
+picks extent m y e =
     row_of (macro (codes "pick") (codes "a" ∷ []) ((None, assign 0 (assignment (codes "a") [] e ∷ [])) ∷ []) ∷ [])
       (codes "P") caller
       (binding (codes "i") (targets.Global (codes "y") extent m) ∷ binding (codes "v") (targets.Global (codes "x") extents.Whole None) ∷ [])
-      (codes "y" ∷ codes "x" ∷ []) by_element [] (integer (pos 1)) (state y (integer (pos 7)) (codes "P_l")) (codes "P_l") []
+      (codes "y" ∷ codes "x" ∷ []) [] (Int (pos 1)) (state y (integer (pos 7)) (codes "P_l")) []
 
-abbrev x_becomes : Data → Data → Option (Section Touched Vars)
-x_becomes y v = Some (record { trace = (codes "x", None) ∷ []; end = Next (state y v (codes "Done")) [] })
+abbrev x_becomes : Data → Data → Section Touched Vars
+x_becomes y v = record { trace = (codes "x", None) ∷ []; end = Next (state y v (codes "Done")) [] }
 
 -- i is y as a whole, without a mapping macro
-abbrev unmapped : Tree → Option (Section Touched Vars)
-unmapped e = picks extents.Whole None [] (integer (pos 0)) e
+abbrev unmapped : Tree → Section Touched Vars
+unmapped e = picks extents.Whole None (integer (pos 0)) e
 
-abbrev unmapped_is : Data → Option (Section Touched Vars)
+abbrev unmapped_is : Data → Section Touched Vars
 unmapped_is v = x_becomes (integer (pos 0)) v
 
 -- i is y as a whole, through the channel, which has two messages
 abbrev messages : Data
 messages = function (pairs ((integer (pos 1), integer (pos 5)) ∷ (integer (pos 2), integer (pos 6)) ∷ []))
 
-abbrev by_channel : Tree → Option (Section Touched Vars)
-by_channel e = picks extents.Whole (Some channel) [] messages e
+abbrev by_channel : Tree → Section Touched Vars
+by_channel e = picks extents.Whole (Some channel) messages e
 
-abbrev by_channel_is : Data → Option (Section Touched Vars)
+abbrev by_channel_is : Data → Section Touched Vars
 by_channel_is v = x_becomes messages v
 
 -- i is an element of y, as it is, where y[1] = 5
 abbrev elements : Data
 elements = function (pairs ((integer (pos 1), integer (pos 5)) ∷ []))
 
-abbrev by_element : Tree → Option (Section Touched Vars)
-by_element e = picks extents.Element (Some Identity) (codes "y" ∷ []) elements e
+abbrev by_element : Tree → Section Touched Vars
+by_element e = picks extents.Element (Some Identity) elements e
 
-abbrev by_element_is : Data → Option (Section Touched Vars)
+abbrev by_element_is : Data → Section Touched Vars
 by_element_is v = x_becomes elements v
 
 abbrev some : List Data → Data

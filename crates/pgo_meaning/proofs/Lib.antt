@@ -1,8 +1,16 @@
 pub mod RowTools
 mod Rows
 mod SectRows
-mod StepRows
+pub mod StepRows
+mod TreeRows
 mod BoundNameRows
+mod WholeRows
+mod ExpansionRows
+mod LabelRows
+mod MacroCallRows
+mod ChoiceRows
+mod MappedRows
+mod ParameterRows
 pub mod SectionCode
 pub mod Trees
 pub mod SystemStates

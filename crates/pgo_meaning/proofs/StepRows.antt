@@ -1,12 +1,12 @@
 -- What sections of small specifications do, worked out by hand: each row is a specification with the words of choice, and what
 -- the first instance's section does from the start.
-use Rattle.std.specs.Prelude.{◌≡◌, ℕ, zero, suc, pos, List, [], ◌∷◌, map, Some, None, codes, refl}
-use Rattle.pgo_base.specs.Data.{Data, integer, string, set, function, items, pairs}
+use Rattle.std.proofs.Common.{◌≡◌, ℕ, zero, suc, List, [], ◌∷◌, map, Some, None, codes, refl}
+use Rattle.pgo_base.specs.Data.{Data, string, set, function, items, pairs}
 use Rattle.pgo_base.specs.Lookup.{Name, Vars}
-use Rattle.pgo_base.specs.Tree.{Tree, name, number, binary, tuple, set_of, index, call, trees}
+use Rattle.pgo_base.specs.Tree.{Tree, name, binary, tuple, set_of, index, call, trees}
 use Rattle.pgo_base.specs.declared.expr.Infix.TheVariants as infixs
 use Rattle.pgo_model.specs.Choice.{word_at}
-use Rattle.pgo_model.specs.Outcome.{Kind, Blocked, NoValue, AssertFails, Next, Stuck, Nowhere, Section}
+use Rattle.pgo_model.specs.Outcome.{Blocked, NoValue, AssertFails, Next, Nowhere, Section}
 use Rattle.pgo_model.specs.System.{Touched}
 use Rattle.pgo_model.specs.Written.{pc}
 use Rattle.pgo_syntax.specs.Statement.{Statement, assign, either_of, await_that, with_in, assert_that, yield_as, block, statements, labeled}
@@ -27,23 +27,20 @@ use Rattle.pgo_sections.specs.Exec.{Gives, Stops}
 use Rattle.pgo_meaning.specs.Macros.{MacRead, MacWrite}
 use Rattle.pgo_meaning.specs.Sect.{Sect}
 use Rattle.pgo_meaning.specs.System.{system_of}
-use Rattle.pgo_meaning.proofs.RowTools.{Block, placed_name, assignment, with_name, mapping}
+use Rattle.pgo_meaning.proofs.RowTools.{n, int, stuck, Block, placed_name, assignment, with_name, mapping}
 
 -- ---- specifications of one process, `process (P = 1) == instance A(ref x)`, whose parameter is v
 
-abbrev x : Name
+abbrev pub x : Name
 x = codes "x"
 
-abbrev v : Name
+abbrev pub v : Name
 v = codes "v"
 
-abbrev y : Name
+abbrev pub y : Name
 y = codes "y"
 
-abbrev n : ℕ → Tree
-n k = number (pos k)
-
-abbrev spec_with : Tree → Extent → List Name → List MappingMacro → List MappingClause → Block → Spec
+abbrev pub spec_with : Tree → Extent → List Name → List MappingMacro → List MappingClause → Block → Spec
 spec_with start e locals maps cs body = record {
   name = placed_name (codes "S");
   extends = [];
@@ -70,65 +67,59 @@ spec_with start e locals maps cs body = record {
 }
 
 -- the body is one section, l
-abbrev section_of : List Statement → Block
+abbrev pub section_of : List Statement → Block
 section_of [] = []
 section_of (t ∷ ts) = (Some (placed_name (codes "l")), t) ∷ map (λ t. (None, t)) ts
 
-abbrev plain : Tree → List Statement → Spec
+abbrev pub plain : Tree → List Statement → Spec
 plain start ts = spec_with start Whole [] [] [] (section_of ts)
 
-abbrev on_state : Spec → Vars → List ℕ → Section Touched Vars
+abbrev pub on_state : Spec → Vars → List ℕ → Section Touched Vars
 on_state s t ws = Sect (bound_of s []) 0 t (word_at ws)
 
-abbrev does : Spec → List ℕ → Section Touched Vars
+abbrev pub does : Spec → List ℕ → Section Touched Vars
 does s ws = let b = bound_of s [] in Sect b 0 b.start (word_at ws)
 
-abbrev to : Name → List Tree → Tree → Statement
+abbrev pub to : Name → List Tree → Tree → Statement
 to z path e = assign 0 (assignment z (map step.Index path) e ∷ [])
 
-abbrev at_v : ℕ → Tree
+abbrev pub at_v : ℕ → Tree
 at_v k = index (name v) (trees (n k ∷ []))
 
-abbrev in_block : List Statement → Statement
+abbrev pub in_block : List Statement → Statement
 in_block ts = block 0 (labeled (map (λ t. (None, t)) ts))
 
-abbrev no_value : Tree
+abbrev pub no_value : Tree
 no_value = binary infixs.Divide (n 1) (n 0)
 
 -- ---- what comes of it
 
-abbrev int : ℕ → Data
-int k = integer (pos k)
-
-abbrev seq1 : Data → Data
+abbrev pub seq1 : Data → Data
 seq1 a = function (pairs ((int 1, a) ∷ []))
 
-abbrev seq2 : Data → Data → Data
+abbrev pub seq2 : Data → Data → Data
 seq2 a b = function (pairs ((int 1, a) ∷ (int 2, b) ∷ []))
 
-abbrev at_place : Name → Name × Data
+abbrev pub at_place : Name → Name × Data
 at_place l = (pc, function (pairs ((int 1, string l) ∷ [])))
 
-abbrev state : Data → Name → Vars
+abbrev pub state : Data → Name → Vars
 state a l = (x, a) ∷ at_place l ∷ []
 
-abbrev stuck : List Touched → Kind → Section Touched Vars
-stuck ts kind = record { trace = ts; end = Stuck kind }
-
 -- the section went to Done, with x as this
-abbrev to_done : List Touched → Data → Section Touched Vars
+abbrev pub to_done : List Touched → Data → Section Touched Vars
 to_done ts a = record { trace = ts; end = Next (state a (codes "Done")) [] }
 
-abbrev whole : Touched
+abbrev pub whole : Touched
 whole = (x, None)
 
-abbrev element : ℕ → Touched
+abbrev pub element : ℕ → Touched
 element k = (x, Some (int k))
 
 -- ---- unmapped parameters
 
 -- `v := v + v`: one read, and the write
-abbrev doubled : Spec
+abbrev pub doubled : Spec
 doubled = plain (n 2) (to v [] (binary infixs.Add (name v) (name v)) ∷ [])
 
 read_once : does doubled [] ≡ to_done (whole ∷ whole ∷ []) (int 4)
@@ -149,7 +140,7 @@ no_path = refl
 -- ---- choices
 
 -- `with (w \in {1, 2}) { await w = 2; v := w }`
-abbrev awaited : Spec
+abbrev pub awaited : Spec
 awaited = plain (n 0) (
     with_in 0 (with_name (codes "w") (In (set_of (trees (n 1 ∷ n 2 ∷ [])))) ∷ []) (in_block (await_that 0 (binary infixs.Equal (name (codes "w")) (n 2)) ∷ to v [] (name (codes "w")) ∷ [])) ∷ [])
 
@@ -160,7 +151,7 @@ second_member : does awaited (1 ∷ []) ≡ to_done (whole ∷ []) (int 2)
 second_member = refl
 
 -- `either { v := 1 } or { v := 1 \div 0 } or { assert FALSE }`
-abbrev three_arms : Spec
+abbrev pub three_arms : Spec
 three_arms = plain (n 0) (
     either_of 0 (statements (to v [] (n 1) ∷ to v [] no_value ∷ assert_that 0 (binary infixs.Equal (n 1) (n 2)) ∷ [])) ∷ [])
 
@@ -180,12 +171,12 @@ no_member = refl
 -- ---- states
 
 -- a set in a set, so many times
-abbrev nested : ℕ → Data
+abbrev pub nested : ℕ → Data
 nested zero = set (items [])
 nested (suc k) = set (items (nested k ∷ []))
 
 -- `v := {v}`: a state's value is at most 256 deep
-abbrev deeper : Spec
+abbrev pub deeper : Spec
 deeper = plain (set_of (trees [])) (to v [] (set_of (trees (name v ∷ []))) ∷ [])
 
 deep_enough : on_state deeper (state (nested 254) (codes "P_l")) [] ≡ to_done (whole ∷ whole ∷ []) (nested 255)
@@ -201,33 +192,33 @@ at_done = refl
 
 -- `read { await Len($variable) > 0; with (msg = Head($variable)) { $variable := Tail($variable); yield msg } }
 -- write { await Len($variable) < 2; yield Append($variable, $value) }`
-abbrev content : Tree
+abbrev pub content : Tree
 content = name (codes "$variable")
 
-abbrev to_content : Name → Tree
+abbrev pub to_content : Name → Tree
 to_content o = call o (trees (content ∷ []))
 
-abbrev channel : MappingMacro
+abbrev pub channel : MappingMacro
 channel =
     mapping (codes "Channel")
     ((None, await_that 0 (binary infixs.Greater (to_content (codes "Len")) (n 0))) ∷ (None, with_in 0 (with_name (codes "msg") (Equals (to_content (codes "Head"))) ∷ []) (in_block (to (codes "$variable") [] (to_content (codes "Tail")) ∷ yield_as 0 (name (codes "msg")) ∷ []))) ∷ [])
     ((None, await_that 0 (binary infixs.Less (to_content (codes "Len")) (n 2))) ∷ (None, yield_as 0 (call (codes "Append") (trees (content ∷ name (codes "$value") ∷ [])))) ∷ [])
 
-abbrev via_channel : MappingClause
+abbrev pub via_channel : MappingClause
 via_channel = record { target = clauses.Global (placed_name x) Element; mapping = placed_name (codes "Channel") }
 
 -- `y := v[1] + v[1]; v[1] := y`
-abbrev two_pops : Tree → Spec
+abbrev pub two_pops : Tree → Spec
 two_pops start =
     spec_with start Element (y ∷ []) (channel ∷ []) (via_channel ∷ []) (section_of (to y [] (binary infixs.Add (at_v 1) (at_v 1)) ∷ to v (n 1 ∷ []) (name y) ∷ []))
 
-abbrev with_y : Data → Data → Name → Vars
+abbrev pub with_y : Data → Data → Name → Vars
 with_y a b l = (x, a) ∷ at_place l ∷ (codes "P_y", seq1 b) ∷ []
 
-abbrev popped : Section Touched Vars
+abbrev pub popped : Section Touched Vars
 popped = record { trace = element 1 ∷ element 1 ∷ element 1 ∷ []; end = Next (with_y (seq1 (seq1 (int 7))) (int 7) (codes "Done")) [] }
 
-abbrev queue : List Tree → Tree
+abbrev pub queue : List Tree → Tree
 queue es = tuple (trees (tuple (trees es) ∷ []))
 
 pops : does (two_pops (queue (n 3 ∷ n 4 ∷ []))) [] ≡ popped
@@ -266,7 +257,7 @@ is_full : MacWrite (Macro channel) [] (int 1) (seq2 (int 3) (int 4)) (int 7) (wo
 is_full = refl
 
 -- `read { either { yield 1 } or { yield 1 \div 0 } }`: the word at the place that is reached
-abbrev choosing : MappingMacro
+abbrev pub choosing : MappingMacro
 choosing = mapping (codes "M") ((None, either_of 0 (statements (yield_as 0 (n 1) ∷ yield_as 0 no_value ∷ []))) ∷ []) []
 
 reads_one : MacRead (Macro choosing) [] (int 1) (int 9) (word_at (1 ∷ 0 ∷ [])) 1 ≡ Gives (int 1, None) 2
@@ -280,7 +271,7 @@ identity = refl
 
 -- ---- as a system
 
-abbrev pops_system : Bound
+abbrev pub pops_system : Bound
 pops_system = bound_of (two_pops (queue (n 3 ∷ n 4 ∷ []))) []
 
 members : (system_of pops_system).members ≡ record { id = int 1; globals = x ∷ [] } ∷ []
