@@ -231,6 +231,10 @@ pops_by_other_words = refl
 second_pop_blocked : does (two_pops (queue (n 3 ∷ []))) [] ≡ stuck (element 1 ∷ element 1 ∷ []) Blocked
 second_pop_blocked = refl
 
+-- `v[1] := 7`, into an empty channel
+write_appends : does (spec_with (queue []) Element [] (channel ∷ []) (via_channel ∷ []) (section_of (to v (n 1 ∷ []) (n 7) ∷ []))) [] ≡ to_done (element 1 ∷ []) (seq1 (seq1 (int 7)))
+write_appends = refl
+
 -- `v[9] := 5`, by element: an index outside the domain is no event
 element_outside : does (spec_with (queue []) Element [] (channel ∷ []) (via_channel ∷ []) (section_of (to v (n 9 ∷ []) (n 5) ∷ []))) [] ≡ stuck [] NoValue
 element_outside = refl
@@ -268,6 +272,19 @@ reads_none = refl
 
 identity : MacRead Identity [] (int 1) (int 9) (word_at []) 0 ≡ Gives (int 9, None) 0
 identity = refl
+
+-- a value that is bound must be able to stand in a set by itself, so be at most 2,047 deep
+deepest_content : MacRead Identity [] (int 1) (nested 2046) (word_at []) 0 ≡ Gives (nested 2046, None) 0
+deepest_content = refl
+
+content_too_deep : MacRead Identity [] (int 1) (nested 2047) (word_at []) 0 ≡ Stops NoValue 0
+content_too_deep = refl
+
+deepest_written : MacWrite Identity [] (int 1) (int 9) (nested 2046) (word_at []) 0 ≡ Gives (nested 2046) 0
+deepest_written = refl
+
+written_too_deep : MacWrite Identity [] (int 1) (int 9) (nested 2047) (word_at []) 0 ≡ Stops NoValue 0
+written_too_deep = refl
 
 -- ---- as a system
 
