@@ -24,6 +24,7 @@ use Rattle.pgo_syntax.specs.declared.process.MappingTarget.TheVariants as clause
 use Rattle.pgo_syntax.specs.declared.spec.Spec.{Spec}
 use Rattle.pgo_bound.specs.BoundOf.{bound_of}
 use Rattle.pgo_sections.specs.Exec.{Gives, Stops}
+use Rattle.pgo_sections.specs.SectionRun.{ChoiceMade}
 use Rattle.pgo_meaning.specs.Macros.{MacRead, MacWrite}
 use Rattle.pgo_meaning.specs.Sect.{Sect}
 use Rattle.pgo_meaning.specs.System.{system_of}
@@ -248,42 +249,52 @@ identity_inside = refl
 
 -- ---- mapping macros alone
 
-reads_first : MacRead (Macro channel) [] (int 1) (seq2 (int 3) (int 4)) (word_at []) 0 ≡ Gives (int 3, Some (seq1 (int 4))) 0
+reads_first : MacRead (Macro channel) [] (int 1) (seq2 (int 3) (int 4)) (word_at []) [] ≡ Gives (int 3, Some (seq1 (int 4))) []
 reads_first = refl
 
-reads_nothing : MacRead (Macro channel) [] (int 1) (function (pairs [])) (word_at []) 0 ≡ Stops Blocked 0
+reads_nothing : MacRead (Macro channel) [] (int 1) (function (pairs [])) (word_at []) [] ≡ Stops Blocked []
 reads_nothing = refl
 
-writes_last : MacWrite (Macro channel) [] (int 1) (seq1 (int 3)) (int 7) (word_at []) 0 ≡ Gives (seq2 (int 3) (int 7)) 0
+writes_last : MacWrite (Macro channel) [] (int 1) (seq1 (int 3)) (int 7) (word_at []) [] ≡ Gives (seq2 (int 3) (int 7)) []
 writes_last = refl
 
-is_full : MacWrite (Macro channel) [] (int 1) (seq2 (int 3) (int 4)) (int 7) (word_at []) 0 ≡ Stops Blocked 0
+is_full : MacWrite (Macro channel) [] (int 1) (seq2 (int 3) (int 4)) (int 7) (word_at []) [] ≡ Stops Blocked []
 is_full = refl
 
--- `read { either { yield 1 } or { yield 1 \div 0 } }`: the word at the place that is reached
+-- `read { either { yield 1 } or { yield 1 \div 0 } }`: the word behind those that the choices before have used
 abbrev pub choosing : MappingMacro
 choosing = mapping (codes "M") ((None, either_of 0 (statements (yield_as 0 (n 1) ∷ yield_as 0 no_value ∷ []))) ∷ []) []
 
-reads_one : MacRead (Macro choosing) [] (int 1) (int 9) (word_at (1 ∷ 0 ∷ [])) 1 ≡ Gives (int 1, None) 2
+abbrev pub made_of_two : ℕ → ChoiceMade
+made_of_two i = record { ways = 2; taken = i }
+
+reads_one : MacRead (Macro choosing) [] (int 1) (int 9) (word_at (1 ∷ 0 ∷ [])) (made_of_two 1 ∷ []) ≡ Gives (int 1, None) (made_of_two 0 ∷ made_of_two 1 ∷ [])
 reads_one = refl
 
-reads_none : MacRead (Macro choosing) [] (int 1) (int 9) (word_at (1 ∷ 0 ∷ [])) 0 ≡ Stops NoValue 1
+reads_none : MacRead (Macro choosing) [] (int 1) (int 9) (word_at (1 ∷ 0 ∷ [])) [] ≡ Stops NoValue (made_of_two 1 ∷ [])
 reads_none = refl
 
-identity : MacRead Identity [] (int 1) (int 9) (word_at []) 0 ≡ Gives (int 9, None) 0
+-- `read { with (e \in {4, 5, 6}) { yield e } }`, with the word 5: the third of three
+abbrev pub of_three : MappingMacro
+of_three = mapping (codes "M") ((None, with_in 0 (with_name (codes "e") (In (set_of (trees (n 4 ∷ n 5 ∷ n 6 ∷ [])))) ∷ []) (yield_as 0 (name (codes "e")))) ∷ []) []
+
+reads_third : MacRead (Macro of_three) [] (int 1) (int 9) (word_at (5 ∷ [])) [] ≡ Gives (int 6, None) (record { ways = 3; taken = 2 } ∷ [])
+reads_third = refl
+
+identity : MacRead Identity [] (int 1) (int 9) (word_at []) [] ≡ Gives (int 9, None) []
 identity = refl
 
 -- a value that is bound must be able to stand in a set by itself, so be at most 2,047 deep
-deepest_content : MacRead Identity [] (int 1) (nested 2046) (word_at []) 0 ≡ Gives (nested 2046, None) 0
+deepest_content : MacRead Identity [] (int 1) (nested 2046) (word_at []) [] ≡ Gives (nested 2046, None) []
 deepest_content = refl
 
-content_too_deep : MacRead Identity [] (int 1) (nested 2047) (word_at []) 0 ≡ Stops NoValue 0
+content_too_deep : MacRead Identity [] (int 1) (nested 2047) (word_at []) [] ≡ Stops NoValue []
 content_too_deep = refl
 
-deepest_written : MacWrite Identity [] (int 1) (int 9) (nested 2046) (word_at []) 0 ≡ Gives (nested 2046) 0
+deepest_written : MacWrite Identity [] (int 1) (int 9) (nested 2046) (word_at []) [] ≡ Gives (nested 2046) []
 deepest_written = refl
 
-written_too_deep : MacWrite Identity [] (int 1) (int 9) (nested 2047) (word_at []) 0 ≡ Stops NoValue 0
+written_too_deep : MacWrite Identity [] (int 1) (int 9) (nested 2047) (word_at []) [] ≡ Stops NoValue []
 written_too_deep = refl
 
 -- ---- as a system

@@ -29,7 +29,7 @@ ghost use Rattle.pgo_sections.specs.Code.{Code, Read, Write};
 ghost use Rattle.pgo_sections.specs.Exec.{Gives, if_gives, touching};
 ghost use Rattle.pgo_sections.specs.BoundValues.{bindable, value_under};
 ghost use Rattle.pgo_sections.specs.Macros.{IsMapped, exec, after_read, after_write};
-ghost use Rattle.pgo_sections.specs.SectionRun.{SectionRun};
+ghost use Rattle.pgo_sections.specs.SectionRun.{ChoiceMade, SectionRun};
 ghost use Rattle.pgo_meaning.specs.Ends.{KeepsElements};
 ghost use Rattle.pgo_meaning.specs.Expansions.{trees_of};
 ghost use Rattle.pgo_meaning.specs.LabelSections.{AreUnlabelled, NoneIsDone};
@@ -69,10 +69,10 @@ pub fn trees_agree()
 ///
 /// Source: the Modular PlusCal paper.
 pub fn macros_run()
-    ensures reads { (b : Bound) (i : Instance) (s : Vars) (m : Mapping) (w g : Name) (x : Option Name) (c : Code) (env : Names) (d : Words) (run : SectionRun) (j : Option Data) (old : Data) → IsMapped (context_of b i s) g x env run.changes j old → exec (context_of b i s) (Read w g x (reads_by m) c) env d run ≡ if_gives (MacRead m b.defs (id_of i) old d run.used) (touching (context_of b i s) g j run) (after_read (context_of b i s) w g j c env d run.changes) }
-    ensures writes { (b : Bound) (i : Instance) (s : Vars) (m : Mapping) (w g : Name) (x : Option Name) (env : Names) (d : Words) (run : SectionRun) (j : Option Data) (old v : Data) → IsMapped (context_of b i s) g x env run.changes j old → value_under w env ≡ Some v → exec (context_of b i s) (Write g x w (writes_by m)) env d run ≡ if_gives (MacWrite m b.defs (id_of i) old v d run.used) (touching (context_of b i s) g j run) (after_write (context_of b i s) g j run.changes) }
-    ensures identity_reads { (ds : List Defined) (id old : Data) (d : Words) (used : ℕ) → bindable (Some old) ≡ Some old → MacRead Identity ds id old d used ≡ Gives (old, None) used }
-    ensures identity_writes { (ds : List Defined) (id old v : Data) (d : Words) (used : ℕ) → bindable (Some v) ≡ Some v → MacWrite Identity ds id old v d used ≡ Gives v used }
+    ensures reads { (b : Bound) (i : Instance) (s : Vars) (m : Mapping) (w g : Name) (x : Option Name) (c : Code) (env : Names) (d : Words) (run : SectionRun) (j : Option Data) (old : Data) → IsMapped (context_of b i s) g x env run.changes j old → exec (context_of b i s) (Read w g x (reads_by m) c) env d run ≡ if_gives (MacRead m b.defs (id_of i) old d run.choices) (touching (context_of b i s) g j run) (after_read (context_of b i s) w g j c env d run.changes) }
+    ensures writes { (b : Bound) (i : Instance) (s : Vars) (m : Mapping) (w g : Name) (x : Option Name) (env : Names) (d : Words) (run : SectionRun) (j : Option Data) (old v : Data) → IsMapped (context_of b i s) g x env run.changes j old → value_under w env ≡ Some v → exec (context_of b i s) (Write g x w (writes_by m)) env d run ≡ if_gives (MacWrite m b.defs (id_of i) old v d run.choices) (touching (context_of b i s) g j run) (after_write (context_of b i s) g j run.changes) }
+    ensures identity_reads { (ds : List Defined) (id old : Data) (d : Words) (choices : List ChoiceMade) → bindable (Some old) ≡ Some old → MacRead Identity ds id old d choices ≡ Gives (old, None) choices }
+    ensures identity_writes { (ds : List Defined) (id old v : Data) (d : Words) (choices : List ChoiceMade) → bindable (Some v) ≡ Some v → MacWrite Identity ds id old v d choices ≡ Gives v choices }
 {
     sections_agree();
 }

@@ -22,7 +22,7 @@ use Rattle.pgo_sections.specs.Among.{is_among}
 use Rattle.pgo_sections.specs.Code.{Whole, variable_of, Code, Skip, Let, Pick, Become, Set, Await, Assert, Print, If, Either, Seq, Goto, Yield, Read, Write, Codes, no_codes, more_codes}
 use Rattle.pgo_sections.specs.Context.{Context, content, index_value, put_content, put_new, value_now, value_of, with_content}
 use Rattle.pgo_sections.specs.Domains.{AllUse, HasIndex, ByElements, KeepsDomain, place, own, elements}
-use Rattle.pgo_sections.specs.Exec.{MacroEnd, Gives, Stops, used_up, if_gives, touching, read_unmapped, becoming, count, exec_arm_with}
+use Rattle.pgo_sections.specs.Exec.{MacroEnd, Gives, Stops, with_choices, if_gives, touching, read_unmapped, becoming, count, exec_arm_with}
 use Rattle.pgo_sections.specs.Macros.{block_read, block_write, exec}
 use Rattle.pgo_sections.specs.BoundValues.{bindable, value_under, put_part, value_put}
 use Rattle.pgo_sections.specs.SectionRun.{SectionRun, begun, printed, picked_number, chosen, Out, Go, Jump, Yielded, Stop, with_value, if_true, picked, go_on}
@@ -106,9 +106,9 @@ module _ (k : Context) where
   value_kept None run f h = tt
   value_kept (Some v) run f h = h v refl
 
-  picked_kept : (ms : List Data) (d : Words) (run : SectionRun) (f : Data → Out) → ((v : Data) → KeptBy (f v)) → KeptBy (picked ms d run f)
+  picked_kept : (ms : List Data) (d : Words) (run : SectionRun) (f : Data → SectionRun → Out) → ((v : Data) (n i : ℕ) → KeptBy (f v (chosen n i run))) → KeptBy (picked ms d run f)
   picked_kept [] d run f h = tt
-  picked_kept (m ∷ ms) d run f h = h (get_or (m ∷ ms) (picked_number d run (length (m ∷ ms))) m)
+  picked_kept (m ∷ ms) d run f h = h (get_or (m ∷ ms) (picked_number d run (length (m ∷ ms))) m) (length (m ∷ ms)) (picked_number d run (length (m ∷ ms)))
 
   true_kept : (o : Option Bool) (run : SectionRun) (a b : Out) → KeptBy a → KeptBy b → KeptBy (if_true o run a b)
   true_kept (Some true) run a b h g = h
@@ -122,7 +122,7 @@ module _ (k : Context) where
   go_kept (Stop kind run) f h g = tt
 
   gives_kept : {A : Type 0} (m : MacroEnd A) (run : SectionRun) (f : A → SectionRun → Out) → ((a : A) (then' : SectionRun) → KeptBy (f a then')) → KeptBy (if_gives m run f)
-  gives_kept (Gives a n) run f h = h a (used_up n run)
+  gives_kept (Gives a n) run f h = h a (with_choices n run)
   gives_kept (Stops kind n) run f h = tt
 
   -- one more change, of a variable that is not bound by element
@@ -178,8 +178,8 @@ module _ (k : Context) where
         value_kept (bindable (value_of k e env run.changes)) now (λ v. exec k c ((w, Some v) ∷ env) d now) (λ v _. kept_by c ((w, Some v) ∷ env) d now b h)
     kept_by (Pick x w e c) env d run b h =
         let now = read_unmapped k e run in
-        let f = λ (v : Data). exec k c ((w, Some v) ∷ env) d (chosen now) in
-        value_kept (option_and_then members_of (value_of k e env run.changes)) now (λ ms. picked ms d now f) (λ ms _. picked_kept ms d now f (λ v. kept_by c ((w, Some v) ∷ env) d (chosen now) b h))
+        let f = λ (v : Data) (then' : SectionRun). exec k c ((w, Some v) ∷ env) d then' in
+        value_kept (option_and_then members_of (value_of k e env run.changes)) now (λ ms. picked ms d now f) (λ ms _. picked_kept ms d now f (λ v n i. kept_by c ((w, Some v) ∷ env) d (chosen n i now) b h))
     kept_by (Become p w) env d run b h =
         value_kept (value_under w env) run (λ v. Go (becoming p v run)) (λ v _. other_kept (variable_of p) v run.changes b h)
     kept_by (Set x p e) env d run b h =
@@ -194,13 +194,14 @@ module _ (k : Context) where
     kept_by (If e x y) env d run b h =
         let now = read_unmapped k e run in
         true_kept (truth_of (value_of k e env run.changes)) now (exec k x env d now) (exec k y env d now) (kept_by x env d now b.0 h) (kept_by y env d now b.1 h)
-    kept_by (Either cs) env d run b h = kept_by_arm cs (picked_number d run (count cs)) env d (chosen run) b h
+    kept_by (Either cs) env d run b h =
+        let i = picked_number d run (count cs) in kept_by_arm cs i env d (chosen (count cs) i run) b h
     kept_by (Seq x y) env d run b h =
         go_kept (exec k x env d run) (λ now. exec k y env d now) (kept_by x env d run b.0 h) (λ now g. kept_by y env d now b.1 g)
     kept_by (Goto l) env d run b h = h
     kept_by (Yield e) env d run b h = value_kept (bindable (value_of k e env run.changes)) run (λ v. Yielded v run) (λ v _. tt)
     kept_by (Read w g i block c) env d run b h =
-        let m = λ (old : Data). block_read block k.defs k.id old d run.used in
+        let m = λ (old : Data). block_read block k.defs k.id old d run.choices in
         let end = λ (r : Data × Option Data) (then' : SectionRun) (ch : Vars). exec k c ((w, Some r.0) ∷ env) d (record then' { changes = ch }) in
         let rest = λ (j : Option Data) (r : Data × Option Data) (then' : SectionRun). with_value (put_new k g j r.1 run.changes) then' (end r then') in
         value_kept (index_value i env) run (λ j. with_value (bindable (content k g j run.changes)) (touching k g j run) (λ old. if_gives (m old) (touching k g j run) (rest j))) (λ j at_j.
@@ -210,7 +211,7 @@ module _ (k : Context) where
         value_kept (put_new k g j r.1 run.changes) then' (end r then') (λ ch put.
         kept_by c ((w, Some r.0) ∷ env) d (record then' { changes = ch }) b.1 (new_kept g i j env r.1 run.changes ch b.0 at_j h put)))))
     kept_by (Write g i w block) env d run b h =
-        let m = λ (old v : Data). block_write block k.defs k.id old v d run.used in
+        let m = λ (old v : Data). block_write block k.defs k.id old v d run.choices in
         let end = λ (then' : SectionRun) (ch : Vars). Go (record then' { changes = ch }) in
         let rest = λ (j : Option Data) (new : Data) (then' : SectionRun). with_value (put_content k g j (Some new) run.changes) then' (end then') in
         value_kept (index_value i env) run (λ j. with_value (bindable (content k g j run.changes)) (touching k g j run) (λ old. with_value (value_under w env) (touching k g j run) (λ v. if_gives (m old v) (touching k g j run) (rest j)))) (λ j at_j.
@@ -315,10 +316,10 @@ module _ (k : Context) where
 
   pub variables_kept : (c : Code) (d : Words) (t : Vars) (prints : List Data) → (section k c d).end ≡ Next t prints → (names_of t ≡ names_of k.start) × (is_shallow t ≡ true)
   variables_kept c d t prints e =
-      let x = ended_at (exec k c [] d (begun [] 0)) t prints e in
+      let x = ended_at (exec k c [] d (begun [] [])) t prints e in
       (closed_keys k x.label x.run.changes k.start t x.is_end, x.shallow)
 
   pub domains_kept : (c : Code) (d : Words) (t : Vars) (prints : List Data) (x : Name) (ks : List Data) → ByElements k.by_element c → (section k c d).end ≡ Next t prints → KeepsDomain k x → IsFunctionOn ks (find x k.start) → IsFunctionOn ks (find x t)
   domains_kept c d t prints x ks b e keeps starts =
-      let z = ended_at (exec k c [] d (begun [] 0)) t prints e in
-      domain_kept z.label z.run.changes t x ks z.is_end (subst KeptBy z.out (kept_by c [] d (begun [] 0) b begins_kept)) keeps starts
+      let z = ended_at (exec k c [] d (begun [] [])) t prints e in
+      domain_kept z.label z.run.changes t x ks z.is_end (subst KeptBy z.out (kept_by c [] d (begun [] []) b begins_kept)) keeps starts

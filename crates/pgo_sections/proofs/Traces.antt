@@ -16,10 +16,10 @@ use Rattle.pgo_sections.specs.Among.{is_among}
 use Rattle.pgo_sections.specs.Code.{Place, Whole, Own, variable_of, Code, Skip, Let, Pick, Become, Set, Await, Assert, Print, If, Either, Seq, Goto, Yield, Read, Write, Codes, no_codes, more_codes}
 use Rattle.pgo_sections.specs.Context.{Context, content, index_value, put_content, put_new, value_now, value_of}
 use Rattle.pgo_sections.specs.Domains.{Uses, AllUse, HasIndex, ByElements, PlaceIn, UsesOnly, IsPart, IsEvent}
-use Rattle.pgo_sections.specs.Exec.{MacroEnd, Gives, Stops, used_up, if_gives, touched, touching, read_unmapped, becoming, count, exec_arm_with}
+use Rattle.pgo_sections.specs.Exec.{MacroEnd, Gives, Stops, with_choices, if_gives, touched, touching, read_unmapped, becoming, count, exec_arm_with}
 use Rattle.pgo_sections.specs.BoundValues.{bindable, value_under}
 use Rattle.pgo_sections.specs.Macros.{block_read, block_write, exec}
-use Rattle.pgo_sections.specs.SectionRun.{SectionRun, begun, printed, picked_number, chosen, Out, Go, Jump, Yielded, Stop, with_value, if_true, picked, go_on}
+use Rattle.pgo_sections.specs.SectionRun.{ChoiceMade, SectionRun, begun, printed, picked_number, chosen, Out, Go, Jump, Yielded, Stop, with_value, if_true, picked, go_on}
 use Rattle.pgo_sections.specs.Section.{run_of, section}
 use Rattle.pgo_sections.proofs.Domains.{same_of, Kept, KeptBy, now_on, new_kept, kept_by, begins_kept}
 
@@ -93,9 +93,9 @@ module _ (k : Context) (gs : List Name) (places_in : (x : Name) (p : Place) → 
   value_traced None run f r h = r
   value_traced (Some v) run f r h = h v refl
 
-  picked_traced : (ms : List Data) (d : Words) (run : SectionRun) (f : Data → Out) → All run.trace → ((v : Data) → Traced (f v)) → Traced (picked ms d run f)
+  picked_traced : (ms : List Data) (d : Words) (run : SectionRun) (f : Data → SectionRun → Out) → All run.trace → ((v : Data) (n i : ℕ) → Traced (f v (chosen n i run))) → Traced (picked ms d run f)
   picked_traced [] d run f r h = r
-  picked_traced (m ∷ ms) d run f r h = h (get_or (m ∷ ms) (picked_number d run (length (m ∷ ms))) m)
+  picked_traced (m ∷ ms) d run f r h = h (get_or (m ∷ ms) (picked_number d run (length (m ∷ ms))) m) (length (m ∷ ms)) (picked_number d run (length (m ∷ ms)))
 
   true_traced : (o : Option Bool) (run : SectionRun) (a b : Out) → All run.trace → Traced a → Traced b → Traced (if_true o run a b)
   true_traced (Some true) run a b r h g = h
@@ -108,7 +108,7 @@ module _ (k : Context) (gs : List Name) (places_in : (x : Name) (p : Place) → 
   go_traced (Yielded v run) f h q g = h
   go_traced (Stop kind run) f h q g = h
 
-  gives_traced : {A : Type 0} (m : MacroEnd A) (run : SectionRun) (f : A → SectionRun → Out) → All run.trace → ((a : A) (n : ℕ) → Traced (f a (used_up n run))) → Traced (if_gives m run f)
+  gives_traced : {A : Type 0} (m : MacroEnd A) (run : SectionRun) (f : A → SectionRun → Out) → All run.trace → ((a : A) (n : List ChoiceMade) → Traced (f a (with_choices n run))) → Traced (if_gives m run f)
   gives_traced (Gives a n) run f r h = h a n
   gives_traced (Stops kind n) run f r h = r
 
@@ -120,9 +120,9 @@ module _ (k : Context) (gs : List Name) (places_in : (x : Name) (p : Place) → 
         value_traced (bindable (value_of k e env run.changes)) now (λ v. exec k c ((w, Some v) ∷ env) d now) (unmapped_all e run r) (λ v _. traced_by c ((w, Some v) ∷ env) d now u b h (unmapped_all e run r))
     traced_by (Pick x w e c) env d run u b h r =
         let now = read_unmapped k e run in
-        let f = λ (v : Data). exec k c ((w, Some v) ∷ env) d (chosen now) in
+        let f = λ (v : Data) (then' : SectionRun). exec k c ((w, Some v) ∷ env) d then' in
         value_traced (option_and_then members_of (value_of k e env run.changes)) now (λ ms. picked ms d now f) (unmapped_all e run r) (λ ms _.
-        picked_traced ms d now f (unmapped_all e run r) (λ v. traced_by c ((w, Some v) ∷ env) d (chosen now) u b h (unmapped_all e run r)))
+        picked_traced ms d now f (unmapped_all e run r) (λ v n i. traced_by c ((w, Some v) ∷ env) d (chosen n i now) u b h (unmapped_all e run r)))
     traced_by (Become p w) env d run u b h r =
         value_traced (value_under w env) run (λ v. Go (becoming p v run)) r (λ v _. becoming_all p v run u r)
     traced_by (Set x p e) env d run u b h r =
@@ -143,14 +143,15 @@ module _ (k : Context) (gs : List Name) (places_in : (x : Name) (p : Place) → 
         let now = read_unmapped k e run in
         let seen = unmapped_all e run r in
         true_traced (truth_of (value_of k e env run.changes)) now (exec k x env d now) (exec k y env d now) seen (traced_by x env d now u.0 b.0 h seen) (traced_by y env d now u.1 b.1 h seen)
-    traced_by (Either cs) env d run u b h r = traced_by_arm cs (picked_number d run (count cs)) env d (chosen run) u b h r
+    traced_by (Either cs) env d run u b h r =
+        let i = picked_number d run (count cs) in traced_by_arm cs i env d (chosen (count cs) i run) u b h r
     traced_by (Seq x y) env d run u b h r =
         go_traced (exec k x env d run) (λ now. exec k y env d now) (traced_by x env d run u.0 b.0 h r) (kept_by k x env d run b.0 h) (λ now g q. traced_by y env d now u.1 b.1 g q)
     traced_by (Goto l) env d run u b h r = r
     traced_by (Yield e) env d run u b h r =
         value_traced (bindable (value_of k e env run.changes)) run (λ v. Yielded v run) r (λ v _. r)
     traced_by (Read w g i block c) env d run u b h r =
-        let m = λ (old : Data). block_read block k.defs k.id old d run.used in
+        let m = λ (old : Data). block_read block k.defs k.id old d run.choices in
         let end = λ (r : Data × Option Data) (then' : SectionRun) (ch : Vars). exec k c ((w, Some r.0) ∷ env) d (record then' { changes = ch }) in
         let rest = λ (j : Option Data) (r : Data × Option Data) (then' : SectionRun). with_value (put_new k g j r.1 run.changes) then' (end r then') in
         value_traced (index_value i env) run (λ j. with_value (bindable (content k g j run.changes)) (touching k g j run) (λ old. if_gives (m old) (touching k g j run) (rest j))) r (λ j at_j.
@@ -158,10 +159,10 @@ module _ (k : Context) (gs : List Name) (places_in : (x : Name) (p : Place) → 
         let seen = joined run.trace (touched (k.by_element g) g j (content k g j run.changes)) r (touched_all g i j env run.changes u.0 b.0 at_j h) in
         value_traced (bindable (content k g j run.changes)) now (λ old. if_gives (m old) now (rest j)) seen (λ old _.
         gives_traced (m old) now (rest j) seen (λ a n.
-        value_traced (put_new k g j a.1 run.changes) (used_up n now) (end a (used_up n now)) seen (λ ch put.
-        traced_by c ((w, Some a.0) ∷ env) d (record (used_up n now) { changes = ch }) u.1 b.1 (new_kept k g i j env a.1 run.changes ch b.0 at_j h put) seen))))
+        value_traced (put_new k g j a.1 run.changes) (with_choices n now) (end a (with_choices n now)) seen (λ ch put.
+        traced_by c ((w, Some a.0) ∷ env) d (record (with_choices n now) { changes = ch }) u.1 b.1 (new_kept k g i j env a.1 run.changes ch b.0 at_j h put) seen))))
     traced_by (Write g i w block) env d run u b h r =
-        let m = λ (old v : Data). block_write block k.defs k.id old v d run.used in
+        let m = λ (old v : Data). block_write block k.defs k.id old v d run.choices in
         let end = λ (then' : SectionRun) (ch : Vars). Go (record then' { changes = ch }) in
         let rest = λ (j : Option Data) (new : Data) (then' : SectionRun). with_value (put_content k g j (Some new) run.changes) then' (end then') in
         value_traced (index_value i env) run (λ j. with_value (bindable (content k g j run.changes)) (touching k g j run) (λ old. with_value (value_under w env) (touching k g j run) (λ v. if_gives (m old v) (touching k g j run) (rest j)))) r (λ j at_j.
@@ -170,7 +171,7 @@ module _ (k : Context) (gs : List Name) (places_in : (x : Name) (p : Place) → 
         value_traced (bindable (content k g j run.changes)) now (λ old. with_value (value_under w env) now (λ v. if_gives (m old v) now (rest j))) seen (λ old _.
         value_traced (value_under w env) now (λ v. if_gives (m old v) now (rest j)) seen (λ v _.
         gives_traced (m old v) now (rest j) seen (λ a n.
-        value_traced (put_content k g j (Some a) run.changes) (used_up n now) (end (used_up n now)) seen (λ ch put. seen)))))
+        value_traced (put_content k g j (Some a) run.changes) (with_choices n now) (end (with_choices n now)) seen (λ ch put. seen)))))
 
     traced_by_arm : (cs : Codes) (i : ℕ) (env : Names) (d : Words) (run : SectionRun) → AllUse (PlaceIn k gs) (λ g i. is_among g gs ≡ true) cs → AllUse (λ p. k.by_element (variable_of p) ≡ false) (HasIndex k.by_element) cs → Kept k run.changes → All run.trace → Traced (exec_arm_with block_read block_write k cs i env d run)
     traced_by_arm no_codes i env d run u b h r = r
@@ -178,4 +179,4 @@ module _ (k : Context) (gs : List Name) (places_in : (x : Name) (p : Place) → 
     traced_by_arm (more_codes c cs) (suc i) env d run u b h r = traced_by_arm cs i env d run u.1 b.1 h r
 
 pub traces_are : (k : Context) (gs : List Name) (c : Code) (d : Words) → UsesOnly k gs c → ByElements k.by_element c → AllByRecursion (IsEvent k gs) (section k c d).trace
-traces_are k gs c d u b = traced_by k gs u.places c [] d (begun [] 0) u.code b (begins_kept k) tt
+traces_are k gs c d u b = traced_by k gs u.places c [] d (begun [] []) u.code b (begins_kept k) tt

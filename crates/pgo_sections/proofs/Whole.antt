@@ -76,7 +76,7 @@ module _ (a : PathContext) (k : Context) (t : Vars) (f : Fit a k t) where
 
       forward : May k c [] [] never J no_gift → SectionReaches k c t
       forward m =
-          let x = ends_from k c [] (begun [] 0) never J no_gift bl m in
+          let x = ends_from k c [] (begun [] []) never J no_gift bl m in
           let e = ended_next x.out x.holds in
           record { words = x.words; prints = e.0; leads = ap (end_of k) (x.runs (word_at x.words) (reads_all [] x.words)) ∙ e.1 }
 
@@ -96,7 +96,7 @@ module _ (a : PathContext) (k : Context) (t : Vars) (f : Fit a k t) where
 
       backward : SectionReaches k c t → May k c [] [] never J no_gift
       backward r =
-          may_from k c [] (word_at r.words) (begun [] 0) never J no_gift bl (holds (exec k c [] (word_at r.words) (begun [] 0)) r.prints r.leads)
+          may_from k c [] (word_at r.words) (begun [] []) never J no_gift bl (holds (exec k c [] (word_at r.words) (begun [] [])) r.prints r.leads)
 
   -- the end of the path
   end_value : (n : ℕ) (cur : Current) (env : Names) (ch : Vars) (l x : Name) (old : Data) → Changed a.variables L apart k.start t (meanings a.defs k.start (Some t)) not_there n cur env ch → find x k.start ≡ Some old → value_at_end a env cur l k.start x ≡ option_and_then (closed_value k l ch x) (find x k.start)

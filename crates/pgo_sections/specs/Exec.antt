@@ -13,34 +13,34 @@ use Rattle.pgo_sections.specs.Access.{unmapped_reads, touched_whole}
 use Rattle.pgo_sections.specs.Code.{Place, variable_of, Code, Skip, Let, Pick, Become, Set, Await, Assert, Print, If, Either, Seq, Goto, Yield, Read, Write, Codes, no_codes, more_codes}
 use Rattle.pgo_sections.specs.Context.{Context, content, put_content, put_new, new_content, value_of, index_value}
 use Rattle.pgo_sections.specs.BoundValues.{bindable, value_under}
-use Rattle.pgo_sections.specs.SectionRun.{SectionRun, changed, seen, printed, picked_number, chosen, Out, Go, Jump, Yielded, Stop, with_value, if_true, picked, go_on}
+use Rattle.pgo_sections.specs.SectionRun.{ChoiceMade, SectionRun, changed, seen, printed, picked_number, chosen, Out, Go, Jump, Yielded, Stop, with_value, if_true, picked, go_on}
 
--- how a macro's block ends: with what it gives, or stopped; and how many words of choice are used then
+-- how a macro's block ends: with what it gives, or stopped; and all choices that are made then, the newest first
 pub data MacroEnd (A : Type 0) : Type 0 where
-  Gives : (a : A) → (used : ℕ) → MacroEnd A
-  Stops : (kind : Kind) → (used : ℕ) → MacroEnd A
+  Gives : (a : A) → (choices : List ChoiceMade) → MacroEnd A
+  Stops : (kind : Kind) → (choices : List ChoiceMade) → MacroEnd A
 
 -- a read gives the value, and the new content where the block assigned it
 abbrev pub read_end : Out → MacroEnd (Data × Option Data)
-read_end (Go run) = Stops NoValue run.used
-read_end (Jump l run) = Stops NoValue run.used
-read_end (Yielded v run) = on (Stops NoValue run.used) (new_content run.changes) (λ new. Gives (v, new) run.used)
-read_end (Stop kind run) = Stops kind run.used
+read_end (Go run) = Stops NoValue run.choices
+read_end (Jump l run) = Stops NoValue run.choices
+read_end (Yielded v run) = on (Stops NoValue run.choices) (new_content run.changes) (λ new. Gives (v, new) run.choices)
+read_end (Stop kind run) = Stops kind run.choices
 
 -- a write gives the new content
 abbrev pub write_end : Out → MacroEnd Data
-write_end (Go run) = Stops NoValue run.used
-write_end (Jump l run) = Stops NoValue run.used
-write_end (Yielded v run) = Gives v run.used
-write_end (Stop kind run) = Stops kind run.used
+write_end (Go run) = Stops NoValue run.choices
+write_end (Jump l run) = Stops NoValue run.choices
+write_end (Yielded v run) = Gives v run.choices
+write_end (Stop kind run) = Stops kind run.choices
 
-abbrev pub used_up : ℕ → SectionRun → SectionRun
-used_up n run = record run { used = n }
+abbrev pub with_choices : List ChoiceMade → SectionRun → SectionRun
+with_choices cs run = record run { choices = cs }
 
 -- the section goes on where the block gives something
 abbrev pub if_gives : {A : Type 0} → MacroEnd A → SectionRun → (A → SectionRun → Out) → Out
-if_gives (Gives a n) run f = f a (used_up n run)
-if_gives (Stops kind n) run f = Stop kind (used_up n run)
+if_gives (Gives a cs) run f = f a (with_choices cs run)
+if_gives (Stops kind cs) run f = Stop kind (with_choices cs run)
 
 -- the resource is read or written: of a global that is bound by element an index outside its domain is no resource
 abbrev pub touched : Bool → Name → Option Data → Option Data → List Touched
@@ -64,12 +64,12 @@ count no_codes = 0
 count (more_codes c cs) = suc (count cs)
 
 -- what reads and writes of mapped parameters do, by the macro's block, the definitions, `self`, the old content, for a write the
--- value, and the words of choice from number `used` on
+-- value, the words of choice, and the choices made before, each of which has used a word
 abbrev pub Reads : Type 0
-Reads = (block : Code) → (defs : List Meaning) → (id old : Data) → Words → (used : ℕ) → MacroEnd (Data × Option Data)
+Reads = (block : Code) → (defs : List Meaning) → (id old : Data) → Words → (choices : List ChoiceMade) → MacroEnd (Data × Option Data)
 
 abbrev pub Writes : Type 0
-Writes = (block : Code) → (defs : List Meaning) → (id old v : Data) → Words → (used : ℕ) → MacroEnd Data
+Writes = (block : Code) → (defs : List Meaning) → (id old v : Data) → Words → (choices : List ChoiceMade) → MacroEnd Data
 
 module _ (reads : Reads) (writes : Writes) where
   abbrev mutual
@@ -80,7 +80,7 @@ module _ (reads : Reads) (writes : Writes) where
     exec_with k (Pick b w e c) env d run =
         let now = read_unmapped k e run in
         with_value (option_and_then members_of (value_of k e env run.changes)) now (λ ms.
-        picked ms d now (λ v. exec_with k c ((w, Some v) ∷ env) d (chosen now)))
+        picked ms d now (λ v then'. exec_with k c ((w, Some v) ∷ env) d then'))
     exec_with k (Become p w) env d run = with_value (value_under w env) run (λ v. Go (becoming p v run))
     exec_with k (Set b p e) env d run =
         let now = read_unmapped k e run in with_value (bindable (value_of k e env run.changes)) now (λ v. Go (becoming p v now))
@@ -93,7 +93,8 @@ module _ (reads : Reads) (writes : Writes) where
     exec_with k (If e a b) env d run =
         let now = read_unmapped k e run in
         if_true (truth_of (value_of k e env run.changes)) now (exec_with k a env d now) (exec_with k b env d now)
-    exec_with k (Either cs) env d run = exec_arm_with k cs (picked_number d run (count cs)) env d (chosen run)
+    exec_with k (Either cs) env d run =
+        let i = picked_number d run (count cs) in exec_arm_with k cs i env d (chosen (count cs) i run)
     exec_with k (Seq a b) env d run = go_on (exec_with k a env d run) (λ now. exec_with k b env d now)
     exec_with k (Goto l) env d run = Jump l run
     exec_with k (Yield e) env d run = with_value (bindable (value_of k e env run.changes)) run (λ v. Yielded v run)
@@ -101,7 +102,7 @@ module _ (reads : Reads) (writes : Writes) where
         with_value (index_value i env) run (λ j.
         let now = touching k g j run in
         with_value (bindable (content k g j run.changes)) now (λ old.
-        if_gives (reads block k.defs k.id old d run.used) now (λ r then'.
+        if_gives (reads block k.defs k.id old d run.choices) now (λ r then'.
         with_value (put_new k g j r.1 run.changes) then' (λ ch.
         exec_with k c ((w, Some r.0) ∷ env) d (record then' { changes = ch })))))
     exec_with k (Write g i w block) env d run =
@@ -109,7 +110,7 @@ module _ (reads : Reads) (writes : Writes) where
         let now = touching k g j run in
         with_value (bindable (content k g j run.changes)) now (λ old.
         with_value (value_under w env) now (λ v.
-        if_gives (writes block k.defs k.id old v d run.used) now (λ new then'.
+        if_gives (writes block k.defs k.id old v d run.choices) now (λ new then'.
         with_value (put_content k g j (Some new) run.changes) then' (λ ch.
         Go (record then' { changes = ch }))))))
 

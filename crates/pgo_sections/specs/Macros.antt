@@ -12,23 +12,23 @@ use Rattle.pgo_sections.specs.SectionRun.{SectionRun, begun, Out, Go, with_value
 
 -- a block has no mapped parameters
 abbrev pub no_reads : Reads
-no_reads block defs id old d used = Stops NoValue used
+no_reads block defs id old d choices = Stops NoValue choices
 
 abbrev pub no_writes : Writes
-no_writes block defs id old v d used = Stops NoValue used
+no_writes block defs id old v d choices = Stops NoValue choices
 
 abbrev pub exec_block : Context → Code → Names → Words → SectionRun → Out
 exec_block = exec_with no_reads no_writes
 
 -- a `read` block on the old content
 abbrev pub block_read : Reads
-block_read block defs id old d used =
-    read_end (exec_block (block_context defs id) block [] d (begun (content_state old) used))
+block_read block defs id old d choices =
+    read_end (exec_block (block_context defs id) block [] d (begun (content_state old) choices))
 
 -- a `write` block, with the value that is written besides
 abbrev pub block_write : Writes
-block_write block defs id old v d used =
-    write_end (exec_block (block_context defs id) block ((value_name, Some v) ∷ []) d (begun (content_state old) used))
+block_write block defs id old v d choices =
+    write_end (exec_block (block_context defs id) block ((value_name, Some v) ∷ []) d (begun (content_state old) choices))
 
 -- what the code of a section does
 abbrev pub exec : Context → Code → Names → Words → SectionRun → Out

@@ -48,7 +48,7 @@ abbrev pub ended : Context → Out → Section Touched Vars
 ended k o = record { trace = (run_of o).trace; end = end_of k o }
 
 abbrev pub section : Context → Code → Words → Section Touched Vars
-section k c d = ended k (exec k c [] d (begun [] 0))
+section k c d = ended k (exec k c [] d (begun [] []))
 
 -- some words of choice lead to t
 pub record SectionReaches (k : Context) (c : Code) (t : Vars) : Type 0 where

@@ -1,22 +1,26 @@
 -- What goes along a section, and how code ends.
-use Rattle.std.specs.Prelude.{ℕ, suc, Bool, true, false, List, [], ◌∷◌, ◌++◌, length, get_or, Option, Some, None}
+use Rattle.std.specs.Prelude.{ℕ, Bool, true, false, List, [], ◌∷◌, ◌++◌, length, get_or, Option, Some, None}
 use Rattle.pgo_base.specs.Data.{Data}
 use Rattle.pgo_base.specs.Lookup.{Name, Vars}
 use Rattle.pgo_model.specs.Choice.{pick}
 use Rattle.pgo_model.specs.Outcome.{Kind, Blocked, NoValue}
 use Rattle.pgo_model.specs.System.{Words, Touched}
 
+-- a choice that was made: among how many ways, and the number of the one that was taken
+pub record ChoiceMade : Type 0 where
+  pub ways : ℕ
+  pub taken : ℕ
+
 -- each variable that changed with its value, at the identifier where it is the instance's own, the newest first; the reads and
--- writes of resources, in order; how many words of choice are used; and what was printed. What is to be known of each choice
--- that was made belongs here
+-- writes of resources, in order; the choices that were made, the newest first; and what was printed
 pub record SectionRun : Type 0 where
   pub changes : Vars
   pub trace : List Touched
-  pub used : ℕ
+  pub choices : List ChoiceMade
   pub prints : List Data
 
-abbrev pub begun : Vars → ℕ → SectionRun
-begun ch used = record { changes = ch; trace = []; used = used; prints = [] }
+abbrev pub begun : Vars → List ChoiceMade → SectionRun
+begun ch choices = record { changes = ch; trace = []; choices = choices; prints = [] }
 
 abbrev pub changed : Name → Data → SectionRun → SectionRun
 changed x v run = record run { changes = (x, v) ∷ run.changes }
@@ -29,12 +33,16 @@ printed v run = record run { prints = run.prints ++ v ∷ [] }
 
 -- ---- choices
 
+-- each choice takes one word, so the number of choices is that of the words that are used
+abbrev pub words_used : SectionRun → ℕ
+words_used run = length run.choices
+
 -- the number that is picked among n
 abbrev pub picked_number : Words → SectionRun → ℕ → ℕ
-picked_number d run n = pick (d run.used) n
+picked_number d run n = pick (d (words_used run)) n
 
-abbrev pub chosen : SectionRun → SectionRun
-chosen run = record run { used = suc run.used }
+abbrev pub chosen : ℕ → ℕ → SectionRun → SectionRun
+chosen n i run = record run { choices = record { ways = n; taken = i } ∷ run.choices }
 
 -- ---- how code ends: each way with what went before
 pub data Out : Type 0 where
@@ -57,10 +65,11 @@ if_true (Some true) run a b = a
 if_true (Some false) run a b = b
 if_true None run a b = Stop NoValue run
 
--- the member that is picked; there is none in an empty set
-abbrev pub picked : List Data → Words → SectionRun → (Data → Out) → Out
+-- what comes with the member that is picked; there is none in an empty set
+abbrev pub picked : List Data → Words → SectionRun → (Data → SectionRun → Out) → Out
 picked [] d run f = Stop Blocked run
-picked (m ∷ ms) d run f = f (get_or (m ∷ ms) (picked_number d run (length (m ∷ ms))) m)
+picked (m ∷ ms) d run f =
+    let n = length (m ∷ ms) in let i = picked_number d run n in f (get_or (m ∷ ms) i m) (chosen n i run)
 
 abbrev pub go_on : Out → (SectionRun → Out) → Out
 go_on (Go run) f = f run
