@@ -27,8 +27,7 @@ use Rattle.pgo_sections.specs.Expansion.{Expansion, With, In, Await, Assert, Pri
 use Rattle.pgo_sections.specs.Among.{is_among}
 use Rattle.pgo_model.specs.Choice.{word_at}
 use Rattle.pgo_model.specs.System.{Touched}
-use Rattle.pgo_meaning.specs.Parameters.{places_of, own_places}
-use Rattle.pgo_sections.specs.Code.{variable_of}
+use Rattle.pgo_meaning.specs.Parameters.{places_of, own_variables}
 use Rattle.pgo_sections.specs.PlainTest.{is_plain, plain_code, names_pass}
 use Rattle.pgo_meaning.specs.Expansions.{expansions_of}
 use Rattle.pgo_meaning.specs.Sect.{Sect}
@@ -156,4 +155,4 @@ all_closed vars es = list_all (λ e. is_plain (λ x. not (is_among x vars)) (λ 
 
 -- the names of the variables are as `Fit` asks
 abbrev pub all_named : List Name → List Name → Name → Archetype → List Binding → Bool
-all_named vars globals p a bs = names_pass vars globals (map (λ q. variable_of q.1) (own_places p a bs)) (places_of p a bs)
+all_named vars globals p a bs = names_pass vars globals (own_variables p a bs) (places_of p a bs)

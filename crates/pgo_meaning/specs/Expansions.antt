@@ -8,7 +8,7 @@ use Rattle.pgo_syntax.specs.declared.bound.Binding.{Binding}
 use Rattle.pgo_syntax.specs.declared.macros.Macro.{Macro}
 use Rattle.pgo_syntax.specs.declared.process.Process.{Process}
 use Rattle.pgo_syntax.specs.declared.spec.Spec.{Spec}
-use Rattle.pgo_bound.specs.Runs.{archetype_named, binding_of, handed_from}
+use Rattle.pgo_bound.specs.Runs.{archetype_named, bindings_of, run_with}
 use Rattle.pgo_sections.specs.Expansion.{Expansion}
 use Rattle.pgo_meaning.specs.Parameters.{places_of}
 use Rattle.pgo_sections.specs.Expand.{expansion}
@@ -18,9 +18,9 @@ use Rattle.pgo_meaning.specs.Sections.{sections_of}
 abbrev pub expansions_of : List Macro → Name → Archetype → List Binding → List (Name × Expansion)
 expansions_of ms p a bs = map (λ c. (c.0, expansion (places_of p a bs) c.1)) (sections_of ms p a bs)
 
--- what a process binds its archetype's parameters to
+-- what a process binds its archetype's parameters to, whatever its identifiers are
 abbrev pub process_bindings : Spec → Process → Archetype → List Binding
-process_bindings s p a = map (binding_of s p.clauses) (handed_from 1 a.params p.arguments)
+process_bindings s p a = bindings_of s (run_with [] p a)
 
 abbrev pub process_expansions : Spec → Process → List (Name × Expansion)
 process_expansions s p =

@@ -1,5 +1,6 @@
 -- What the parameters and locals of an archetype are in a process that runs it, and the blocks of its mapping macros.
 use Rattle.std.specs.Prelude.{Bool, true, false, List, [], ◌∷◌, ◌++◌, map, Option, Some, None}
+use Rattle.std.specs.List.{filter_map}
 use Rattle.pgo_base.specs.Lookup.{Name}
 use Rattle.pgo_base.specs.Tree.{name}
 use Rattle.pgo_model.specs.Written.{written}
@@ -15,12 +16,12 @@ use Rattle.pgo_syntax.specs.declared.bound.Target.TheVariants as targets
 use Rattle.pgo_syntax.specs.declared.declaration.Declaration.{Declaration}
 use Rattle.pgo_syntax.specs.declared.name.PlacedName.{PlacedName}
 use Rattle.pgo_sections.specs.Access.{MappedNames}
-use Rattle.pgo_sections.specs.Code.{Place, Whole, Own, Code, Yield, content_name, value_name}
+use Rattle.pgo_sections.specs.Code.{Place, Whole, Own, Code, Yield, content_name, content_places, value_name}
 use Rattle.pgo_meaning.specs.Statements.{Setting, in_order}
 
 -- a mapping macro's block
 abbrev pub block_setting : Setting
-block_setting = record { process = []; mapped = []; places = (content_name, Whole content_name) ∷ []; is_block = true }
+block_setting = record { process = []; mapped = []; places = content_places; is_block = true }
 
 abbrev pub block_code : List (Option PlacedName × Statement) → Code
 block_code b = in_order block_setting [] (labeled b)
@@ -59,20 +60,17 @@ parameter_places p (b ∷ bs) = place_of p b.parameter b.target (parameter_place
 abbrev pub local_places : Name → List Declaration → List (Name × Place)
 local_places p ds = map (λ d. (d.name.name, Own (written p d.name.name))) ds
 
-abbrev pub value_places : Name → List Binding → List (Name × Place)
-value_places p [] = []
-value_places p (b ∷ bs) = elim b.target as (λ t. List (Name × Place)) [
-  | targets.Value e ↦ (b.parameter, Own (written p b.parameter)) ∷ value_places p bs
-  | targets.Global g e m ↦ value_places p bs
-]
-
--- the value parameters and the locals
-abbrev pub own_places : Name → Archetype → List Binding → List (Name × Place)
-own_places p a bs = value_places p bs ++ local_places p a.locals
-
 -- the unmapped parameters, the value parameters and the locals
 abbrev pub places_of : Name → Archetype → List Binding → List (Name × Place)
 places_of p a bs = parameter_places p bs ++ local_places p a.locals
+
+abbrev pub own_name : Place → Option Name
+own_name (Whole x) = None
+own_name (Own x) = Some x
+
+-- the variables of the value parameters and the locals
+abbrev pub own_variables : Name → Archetype → List Binding → List Name
+own_variables p a bs = filter_map (λ q. own_name q.1) (places_of p a bs)
 
 abbrev pub setting_of : Name → Archetype → List Binding → Setting
 setting_of p a bs = record { process = p; mapped = all_mapped bs; places = places_of p a bs; is_block = false }

@@ -15,12 +15,12 @@ use Rattle.pgo_bound.specs.declared.kinds.Kind as kind
 use Rattle.pgo_bound.specs.declared.kinds.Kind.TheVariants as kinds
 use Rattle.pgo_bound.specs.Declares.{value_in}
 use Rattle.pgo_bound.specs.State.{id_of, kind_in}
-use Rattle.pgo_sections.specs.Code.{variable_of, Code}
+use Rattle.pgo_sections.specs.Code.{Code}
 use Rattle.pgo_sections.specs.Context.{Context}
 use Rattle.pgo_model.specs.System.{Words, Touched}
 use Rattle.pgo_sections.specs.Section.{section}
 use Rattle.pgo_model.specs.Choice.{word_at}
-use Rattle.pgo_meaning.specs.Parameters.{places_of, own_places}
+use Rattle.pgo_meaning.specs.Parameters.{places_of, own_variables}
 use Rattle.pgo_meaning.specs.Sections.{sections_of}
 
 abbrev pub is_by_element : kind.Kind → Bool
@@ -34,7 +34,7 @@ context_of b i s = record {
   id = id_of i;
   places = places_of i.process i.archetype i.bindings;
   globals = map (λ d. d.name.name) b.spec.globals;
-  owns = map (λ p. variable_of p.1) (own_places i.process i.archetype i.bindings);
+  owns = own_variables i.process i.archetype i.bindings;
   defs = meanings (map defined_view b.defs) [] None;
   by_element = λ g. is_by_element (kind_in b g);
 }

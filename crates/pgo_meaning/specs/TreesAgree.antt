@@ -11,18 +11,15 @@ use Rattle.pgo_bound.specs.Declares.{value_in}
 use Rattle.pgo_bound.specs.State.{AreDifferent, IsState, id_of, variables_of}
 use Rattle.pgo_sections.specs.SectionsAgree.{IsPlace}
 use Rattle.pgo_sections.specs.Closed.{AreClosed}
-use Rattle.pgo_sections.specs.Code.{Place, variable_of, Code}
+use Rattle.pgo_sections.specs.Code.{Place, Code}
 use Rattle.pgo_sections.specs.Expansion.{Expansion}
 use Rattle.pgo_sections.specs.Among.{is_among}
-use Rattle.pgo_meaning.specs.Parameters.{places_of, own_places}
+use Rattle.pgo_meaning.specs.Parameters.{places_of, own_variables}
 use Rattle.pgo_sections.specs.WellFormed.{NotMade, PlainCode, most_made}
 use Rattle.pgo_meaning.specs.Expansions.{expansions_of, trees_of}
 use Rattle.pgo_meaning.specs.Sect.{context_of, Allows}
 use Rattle.pgo_meaning.specs.Sections.{sections_of}
 use Rattle.pgo_meaning.specs.TreeAllows.{TreeAllows}
-
-abbrev pub own_variables : Instance → List Name
-own_variables i = map (λ p. variable_of p.1) (own_places i.process i.archetype i.bindings)
 
 abbrev pub sections_at : Bound → Instance → List (Name × Code)
 sections_at b i = sections_of b.spec.macros i.process i.archetype i.bindings
@@ -36,7 +33,7 @@ expansions_at b i = expansions_of b.spec.macros i.process i.archetype i.bindings
 pub record Named (b : Bound) (i : Instance) : Type 0 where
   pub differ : AreDifferent (variables_of b.spec)
   pub written : (x : Name) → is_among x (variables_of b.spec) ≡ true → NotMade x × (same_name x self_name ≡ false)
-  pub owns : (x : Name) → is_among x (own_variables i) ≡ true → is_among x (variables_of b.spec) ≡ true
+  pub owns : (x : Name) → is_among x (own_variables i.process i.archetype i.bindings) ≡ true → is_among x (variables_of b.spec) ≡ true
   pub places : (s : Vars) (x : Name) (p : Place) → find x (places_of i.process i.archetype i.bindings) ≡ Some p → IsPlace (context_of b i s) p
   pub closed : AreClosed (variables_of b.spec) (map defined_view b.defs)
   pub plain : (l : Name) (c : Code) → find l (sections_at b i) ≡ Some c

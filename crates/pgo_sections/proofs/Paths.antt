@@ -10,11 +10,11 @@ use Rattle.pgo_model.specs.Options.{on}
 use Rattle.pgo_model.specs.Val.{or_else, Scope, sem, plain, call_def, meanings, index_of}
 use Rattle.pgo_model.specs.Written.{made}
 use Rattle.pgo_sections.specs.SectionsAgree.{IsPlace}
-use Rattle.pgo_sections.specs.Code.{Place, Whole, variable_of, Code, Skip, Let, Pick, Become, Set, Await, Assert, Print, If, Either, Seq, Goto, Yield, Read, Write, Codes, no_codes, more_codes, content_name, value_name, old_base, val_base, new_base}
+use Rattle.pgo_sections.specs.Code.{Place, Whole, variable_of, Code, Skip, Let, Pick, Become, Set, Await, Assert, Print, If, Either, Seq, Goto, Yield, Read, Write, Codes, no_codes, more_codes, content_name, content_places, value_name, old_base, val_base, new_base}
 use Rattle.pgo_sections.specs.Context.{Context, value_now, content, with_content, put_content, content_state, index_value, is_assigned}
 use Rattle.pgo_sections.specs.BoundValues.{bindable, value_under, put_part}
 use Rattle.pgo_sections.specs.Among.{is_among}
-use Rattle.pgo_sections.specs.Expand.{Renames, Current, current, current_tree, content_tree, content_put, becoming, content_now, value_handed, OnGo, OnJump, OnYield, no_go, no_jump, content_places, put_back, left_behind, expand, expand_arms}
+use Rattle.pgo_sections.specs.Expand.{Renames, Current, current, current_tree, content_tree, content_put, becoming, content_now, value_handed, OnGo, OnJump, OnYield, no_go, no_jump, put_back, left_behind, expand, expand_arms}
 use Rattle.pgo_sections.specs.Expansion.{Expansion, With, PathContext, Path, SomePath, value_on}
 use Rattle.pgo_sections.specs.WellFormed.{PlainCode, PlainCodes, KnownIndex, most_made, most_made_by}
 use Rattle.pgo_sections.proofs.Here.{sim_ext, sources, among_found, on_path, Fits, SimName, Changed, Here, here_ext, here_with, here_set, fits_block, here_block, tree_is}

@@ -6,11 +6,11 @@ use Rattle.pgo_base.specs.Tree.{Tree, name, primed, number, text, truth, at, wor
 use Rattle.pgo_model.specs.Names.{same_name-is}
 use Rattle.pgo_model.specs.Written.{made, self_name}
 use Rattle.pgo_sections.specs.SectionsAgree.{Distinct}
-use Rattle.pgo_sections.specs.Code.{Place, Code, Skip, Let, Pick, Become, Set, Await, Assert, Print, If, Either, Seq, Goto, Yield, Read, Write, Codes, no_codes, more_codes, content_name, value_name}
+use Rattle.pgo_sections.specs.Code.{Place, Code, Skip, Let, Pick, Become, Set, Await, Assert, Print, If, Either, Seq, Goto, Yield, Read, Write, Codes, no_codes, more_codes, content_name, content_places, value_name}
 use Rattle.pgo_sections.specs.Among.{is_among}
 use Rattle.pgo_sections.specs.Plain.{All, Plain, PlainAll, PlainArms, PlainFields, PlainLet, PlainBound, PlainPaths}
 use Rattle.pgo_sections.specs.PlainTest.{is_digit_code, all_digit_codes, digits_behind, looks_made, all_names, is_plain, plain_all, plain_arms, plain_fields, plain_let, plain_bound, plain_paths, is_bindable, is_alone, is_applied, plain_tree, known_index, plain_code, plain_codes, distinct_names, is_written, is_place, all_places, NamesTestIsSound}
-use Rattle.pgo_sections.specs.WellFormed.{NotMade, Bindable, Alone, Applied, PlainTree, KnownIndex, block_places, PlainCode, PlainCodes}
+use Rattle.pgo_sections.specs.WellFormed.{NotMade, Bindable, Alone, Applied, PlainTree, KnownIndex, PlainCode, PlainCodes}
 
 and_true : (a b : Bool) → a && b ≡ true → (a ≡ true) × (b ≡ true)
 and_true true b h = (refl, h)
@@ -196,15 +196,15 @@ module _ (vs : List Name) where
     code_sound gs ps ws (Goto l) h = tt
     code_sound gs ps ws (Yield e) h = plain_sound ps ws e h
     code_sound gs ps ws (Read w g i m c) h =
-        let p = and_true (is_among g gs) (known_index vs ws i && (plain_code vs (content_name ∷ []) (block_places vs) [] m && plain_code vs gs ps (w ∷ ws) c)) h in
-        let q = and_true (known_index vs ws i) (plain_code vs (content_name ∷ []) (block_places vs) [] m && plain_code vs gs ps (w ∷ ws) c) p.1 in
-        let r = and_true (plain_code vs (content_name ∷ []) (block_places vs) [] m) (plain_code vs gs ps (w ∷ ws) c) q.1 in
-        (p.0, index_sound ws i q.0, code_sound (content_name ∷ []) (block_places vs) [] m r.0, code_sound gs ps (w ∷ ws) c r.1)
+        let p = and_true (is_among g gs) (known_index vs ws i && (plain_code vs (content_name ∷ []) content_places [] m && plain_code vs gs ps (w ∷ ws) c)) h in
+        let q = and_true (known_index vs ws i) (plain_code vs (content_name ∷ []) content_places [] m && plain_code vs gs ps (w ∷ ws) c) p.1 in
+        let r = and_true (plain_code vs (content_name ∷ []) content_places [] m) (plain_code vs gs ps (w ∷ ws) c) q.1 in
+        (p.0, index_sound ws i q.0, code_sound (content_name ∷ []) content_places [] m r.0, code_sound gs ps (w ∷ ws) c r.1)
     code_sound gs ps ws (Write g i w m) h =
-        let p = and_true (is_among g gs) (known_index vs ws i && (is_among w ws && plain_code vs (content_name ∷ []) (block_places vs) (value_name ∷ []) m)) h in
-        let q = and_true (known_index vs ws i) (is_among w ws && plain_code vs (content_name ∷ []) (block_places vs) (value_name ∷ []) m) p.1 in
-        let r = and_true (is_among w ws) (plain_code vs (content_name ∷ []) (block_places vs) (value_name ∷ []) m) q.1 in
-        (p.0, index_sound ws i q.0, r.0, code_sound (content_name ∷ []) (block_places vs) (value_name ∷ []) m r.1)
+        let p = and_true (is_among g gs) (known_index vs ws i && (is_among w ws && plain_code vs (content_name ∷ []) content_places (value_name ∷ []) m)) h in
+        let q = and_true (known_index vs ws i) (is_among w ws && plain_code vs (content_name ∷ []) content_places (value_name ∷ []) m) p.1 in
+        let r = and_true (is_among w ws) (plain_code vs (content_name ∷ []) content_places (value_name ∷ []) m) q.1 in
+        (p.0, index_sound ws i q.0, r.0, code_sound (content_name ∷ []) content_places (value_name ∷ []) m r.1)
 
     codes_sound : (gs : List Name) (ps : List (Name × Place)) (ws : List Name) (cs : Codes) → plain_codes vs gs ps ws cs ≡ true → PlainCodes vs gs ps ws cs
     codes_sound gs ps ws no_codes h = tt

@@ -53,6 +53,10 @@ in_turn (c ∷ cs) = Seq c (in_turn cs)
 abbrev pub content_name : Name
 content_name = codes "$variable"
 
+-- what names stand for in such a block
+abbrev pub content_places : List (Name × Place)
+content_places = (content_name, Whole content_name) ∷ []
+
 abbrev pub value_name : Name
 value_name = codes "$value"
 

@@ -7,7 +7,7 @@ use Rattle.pgo_model.specs.Operators.{apply}
 use Rattle.pgo_model.specs.Options.{on}
 use Rattle.pgo_model.specs.Val.{Meaning, val}
 use Rattle.pgo_model.specs.Written.{self_name}
-use Rattle.pgo_sections.specs.Code.{Place, Whole, Own, variable_of, content_name}
+use Rattle.pgo_sections.specs.Code.{Place, Whole, Own, variable_of, content_name, content_places}
 use Rattle.pgo_sections.specs.BoundValues.{bindable, value_under, put_part}
 
 -- the state in which the section began; the instance's identifier; what the names of its variables stand for; the globals, and
@@ -27,7 +27,7 @@ abbrev pub block_context : List Meaning → Data → Context
 block_context defs id = record {
   start = [];
   id = id;
-  places = (content_name, Whole content_name) ∷ [];
+  places = content_places;
   globals = content_name ∷ [];
   owns = [];
   defs = defs;

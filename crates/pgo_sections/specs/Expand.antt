@@ -5,7 +5,7 @@ use Rattle.pgo_base.specs.Lookup.{Name, find}
 use Rattle.pgo_base.specs.Tree.{Tree, name, index, except, trees, no_paths, more_paths}
 use Rattle.pgo_model.specs.Options.{on}
 use Rattle.pgo_model.specs.Written.{self_name, made}
-use Rattle.pgo_sections.specs.Code.{Place, Whole, Own, variable_of, Code, Skip, Let, Pick, Become, Set, Await, Assert, Print, If, Either, Seq, Goto, Yield, Read, Write, Codes, no_codes, more_codes, content_name, value_name, old_base, val_base, new_base}
+use Rattle.pgo_sections.specs.Code.{Place, Whole, Own, variable_of, Code, Skip, Let, Pick, Become, Set, Await, Assert, Print, If, Either, Seq, Goto, Yield, Read, Write, Codes, no_codes, more_codes, content_name, content_places, value_name, old_base, val_base, new_base}
 use Rattle.pgo_sections.specs.Context.{is_assigned}
 use Rattle.pgo_sections.specs.Among.{is_among}
 use Rattle.pgo_sections.specs.Expansion.{Expansion, With, In, Await as EAwait, Assert as EAssert, Print as EPrint, If as EIf, Either as EEither, End, Expansions, no_expansions, more_expansions}
@@ -92,9 +92,6 @@ no_jump l cur n = nowhere
 
 abbrev pub no_yield : OnYield
 no_yield e cur n = nowhere
-
-abbrev pub content_places : List (Name × Place)
-content_places = (content_name, Whole content_name) ∷ []
 
 -- the new content is bound under g's name
 abbrev pub put_back : Renames → Current → Name → Option Name → Tree → ℕ → OnGo → Expansion

@@ -4,9 +4,9 @@ use Rattle.pgo_base.specs.Lookup.{Name, same_name, find}
 use Rattle.pgo_base.specs.Tree.{Tree, name, primed, number, text, truth, at, word, unary, binary, product, cond_of, case_of, case_other, let_in, quantified, choose, tuple, set_of, filter_of, image, fun_of, fun_set, record_of, record_set, except, index, field, call, unchanged, Trees, no_trees, more_trees, NamedTrees, no_named, more_named, TreePairs, no_arms, more_arms, BoundTrees, no_bound, more_bound, PathTrees, no_paths, more_paths}
 use Rattle.pgo_model.specs.Written.{self_name}
 use Rattle.pgo_sections.specs.SectionsAgree.{Distinct}
-use Rattle.pgo_sections.specs.Code.{Place, Whole, Own, Code, Skip, Let, Pick, Become, Set, Await, Assert, Print, If, Either, Seq, Goto, Yield, Read, Write, Codes, no_codes, more_codes, content_name, value_name}
+use Rattle.pgo_sections.specs.Code.{Place, Whole, Own, Code, Skip, Let, Pick, Become, Set, Await, Assert, Print, If, Either, Seq, Goto, Yield, Read, Write, Codes, no_codes, more_codes, content_name, content_places, value_name}
 use Rattle.pgo_sections.specs.Among.{is_among}
-use Rattle.pgo_sections.specs.WellFormed.{NotMade, block_places, PlainCode}
+use Rattle.pgo_sections.specs.WellFormed.{NotMade, PlainCode}
 
 abbrev pub is_digit_code : ℕ → Bool
 is_digit_code c = nat_le 48 c && nat_le c 57
@@ -119,9 +119,9 @@ module _ (vs : List Name) where
     plain_code gs ps ws (Goto l) = true
     plain_code gs ps ws (Yield e) = plain_tree ps ws e
     plain_code gs ps ws (Read w g i m c) =
-        is_among g gs && (known_index ws i && (plain_code (content_name ∷ []) (block_places vs) [] m && plain_code gs ps (w ∷ ws) c))
+        is_among g gs && (known_index ws i && (plain_code (content_name ∷ []) content_places [] m && plain_code gs ps (w ∷ ws) c))
     plain_code gs ps ws (Write g i w m) =
-        is_among g gs && (known_index ws i && (is_among w ws && plain_code (content_name ∷ []) (block_places vs) (value_name ∷ []) m))
+        is_among g gs && (known_index ws i && (is_among w ws && plain_code (content_name ∷ []) content_places (value_name ∷ []) m))
 
     pub plain_codes : List Name → List (Name × Place) → List Name → Codes → Bool
     plain_codes gs ps ws no_codes = true

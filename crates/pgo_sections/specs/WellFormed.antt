@@ -3,7 +3,7 @@ use Rattle.std.specs.Prelude.{◌≡◌, ℕ, suc, ◌+◌, true, false, List, [
 use Rattle.pgo_base.specs.Lookup.{Name, same_name, find}
 use Rattle.pgo_base.specs.Tree.{Tree}
 use Rattle.pgo_model.specs.Written.{self_name, made}
-use Rattle.pgo_sections.specs.Code.{Place, Whole, Code, Skip, Let, Pick, Become, Set, Await, Assert, Print, If, Either, Seq, Goto, Yield, Read, Write, Codes, no_codes, more_codes, content_name, value_name}
+use Rattle.pgo_sections.specs.Code.{Place, Code, Skip, Let, Pick, Become, Set, Await, Assert, Print, If, Either, Seq, Goto, Yield, Read, Write, Codes, no_codes, more_codes, content_name, content_places, value_name}
 use Rattle.pgo_sections.specs.Among.{is_among}
 use Rattle.pgo_sections.specs.Plain.{Plain}
 
@@ -35,9 +35,6 @@ module _ (vs : List Name) where
   KnownIndex ws None = Unit {0}
   KnownIndex ws (Some i) = is_among i ws ≡ true
 
-  abbrev pub block_places : List (Name × Place)
-  block_places = (content_name, Whole content_name) ∷ []
-
   abbrev mutual
     pub PlainCode : List Name → List (Name × Place) → List Name → Code → Type 0
     PlainCode gs ps ws Skip = Unit {0}
@@ -54,9 +51,9 @@ module _ (vs : List Name) where
     PlainCode gs ps ws (Goto l) = Unit {0}
     PlainCode gs ps ws (Yield e) = PlainTree ps ws e
     PlainCode gs ps ws (Read w g i m c) =
-        (is_among g gs ≡ true) × KnownIndex ws i × PlainCode (content_name ∷ []) block_places [] m × PlainCode gs ps (w ∷ ws) c
+        (is_among g gs ≡ true) × KnownIndex ws i × PlainCode (content_name ∷ []) content_places [] m × PlainCode gs ps (w ∷ ws) c
     PlainCode gs ps ws (Write g i w m) =
-        (is_among g gs ≡ true) × KnownIndex ws i × (is_among w ws ≡ true) × PlainCode (content_name ∷ []) block_places (value_name ∷ []) m
+        (is_among g gs ≡ true) × KnownIndex ws i × (is_among w ws ≡ true) × PlainCode (content_name ∷ []) content_places (value_name ∷ []) m
 
     pub PlainCodes : List Name → List (Name × Place) → List Name → Codes → Type 0
     PlainCodes gs ps ws no_codes = Unit {0}
