@@ -46,12 +46,15 @@ caller = archetype (codes "A") [] ((Some (placed_name (codes "l")), call_macro 0
 -- a channel, from which a read takes the first
 abbrev channel : Mapping
 channel = Macro (mapping (codes "Channel")
-  ((None, await_that 0 (binary infixs.Greater (call (codes "Len") (trees (content ∷ []))) (number (pos 0))))
-  ∷ (None, with_in 0 (with_name (codes "msg") (Equals (call (codes "Head") (trees (content ∷ [])))) ∷ []) (block 0 (labeled (
-      (None, assign 0 (assignment (codes "$variable") [] (call (codes "Tail") (trees (content ∷ []))) ∷ []))
-      ∷ (None, yield_as 0 (name (codes "msg"))) ∷ []))))
-  ∷ [])
-  ((None, yield_as 0 (name (codes "$value"))) ∷ []))
+    ((None, await_that 0 (binary infixs.Greater (call (codes "Len") (trees (content ∷ []))) (number (pos 0))))
+    ∷ (
+      None,
+      with_in 0 (with_name (codes "msg") (Equals (call (codes "Head") (trees (content ∷ [])))) ∷ []) (block 0 (labeled (
+          (None, assign 0 (assignment (codes "$variable") [] (call (codes "Tail") (trees (content ∷ []))) ∷ []))
+          ∷ (None, yield_as 0 (name (codes "msg"))) ∷ []))),
+    )
+    ∷ [])
+    ((None, yield_as 0 (name (codes "$value"))) ∷ []))
 
 abbrev state : Data → Data → Name → Vars
 state y x l = (codes "y", y) ∷ (codes "x", x) ∷ (codes "pc", function (pairs ((integer (pos 1), string l) ∷ []))) ∷ []
@@ -59,9 +62,9 @@ state y x l = (codes "y", y) ∷ (codes "x", x) ∷ (codes "pc", function (pairs
 abbrev picks : Extent → Option Mapping → Data → Tree → Section Touched Vars
 picks extent m y e =
     row_of (macro (codes "pick") (codes "a" ∷ []) ((None, assign 0 (assignment (codes "a") [] e ∷ [])) ∷ []) ∷ [])
-      (codes "P") caller
-      (binding (codes "i") (targets.Global (codes "y") extent m) ∷ binding (codes "v") (targets.Global (codes "x") extents.Whole None) ∷ [])
-      (codes "y" ∷ codes "x" ∷ []) [] (Int (pos 1)) (state y (integer (pos 7)) (codes "P_l")) []
+    (codes "P") caller
+    (binding (codes "i") (targets.Global (codes "y") extent m) ∷ binding (codes "v") (targets.Global (codes "x") extents.Whole None) ∷ [])
+    (codes "y" ∷ codes "x" ∷ []) [] (Int (pos 1)) (state y (integer (pos 7)) (codes "P_l")) []
 
 abbrev x_becomes : Data → Data → Section Touched Vars
 x_becomes y v = record { trace = (codes "x", None) ∷ []; end = Next (state y v (codes "Done")) [] }

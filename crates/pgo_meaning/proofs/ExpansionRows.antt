@@ -31,5 +31,4 @@ path_of_a_local = refl
 -- `with (a \in net[self]) { print a }; if (v = 0) { v := 1 }; w := v`
 conditions_and_sets : expansions_of [] (codes "P") (archetype (codes "A") [] (((Some (placed_name (codes "l"))), (with_in 0 ((with_name (codes "a") (InSet (index (name (codes "net")) (trees ((name (codes "self")) ∷ []))))) ∷ []) (print_out 0 (name (codes "a"))))) ∷ (None, (if_then 0 (guarded ((0, ((binary infixs.Equal (name (codes "v")) (n 0)), (assign 0 ((assignment (codes "v") [] (n 1)) ∷ [])))) ∷ [])))) ∷ (None, (assign 0 ((assignment (codes "w") [] (name (codes "v"))) ∷ []))) ∷ [])) ((binding (codes "net") (targets.Global (codes "n") extents.Element (Some Identity))) ∷ ref (codes "v") (codes "x") ∷ ref (codes "w") (codes "y") ∷ [])
     ≡ (((codes "P_l"), (With (made (codes "at") 1) (name (codes "self")) (With (made (codes "old") 2) (index (name (codes "n")) (trees ((name (made (codes "at") 1)) ∷ []))) (With (made (codes "val") 3) (name (made (codes "old") 2)) (In (made (codes "a") 4) (name (made (codes "val") 3)) (Print (name (made (codes "a") 4)) (If (binary infixs.Equal (name (codes "x")) (n 0)) (With (made (codes "val") 5) (n 1) (With (made (codes "val") 6) (name (made (codes "val") 5)) (End (((codes "y"), (made (codes "val") 6)) ∷ ((codes "x"), (made (codes "val") 5)) ∷ []) (codes "Done")))) (With (made (codes "val") 5) (name (codes "x")) (End (((codes "y"), (made (codes "val") 5)) ∷ []) (codes "Done")))))))))) ∷ [])
-
 conditions_and_sets = refl

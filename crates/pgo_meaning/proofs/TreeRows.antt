@@ -70,11 +70,13 @@ tree_allows = (doubled_tree, refl, (is_state, (int 4, refl, ends)))
             let no_name : nth [] m ≡ Some z = ap (λ xs. nth xs m) (sym none) ∙ g in
             absurd (cc)
         locals (suc k) m p z h g = absurd (cc)
+
         elements : (k : ℕ) (d : Declaration) → nth doubled.globals k ≡ Some d → kind_in doubled_bound d.name.name ≡ ByElement → (ps : Pairs) × (find d.name.name (state (int 4) (codes "Done")) ≡ Some (function ps))
         elements zero d h g =
             let as_whole : kind_in doubled_bound d.name.name ≡ AsWhole = ap (λ o. elim o [ None ↦ AsWhole | Some q ↦ kind_in doubled_bound q.name.name ]) (sym h) in
             absurd (cc)
         elements (suc k) d h g = absurd (cc)
+
     ends : EndsIn (path_context doubled_bound (int 1)) bound_above ((x, made (codes "val") 1) ∷ []) (codes "Done") (state (int 2) (codes "P_l")) (state (int 4) (codes "Done"))
     ends zero z h = subst IsAssigned (ap found_in h) (sym (new_value (int 4) (at_place (codes "P_l") ∷ [])))
     ends (suc zero) z h = subst IsAssigned (ap found_in h) refl
@@ -86,15 +88,21 @@ no_other h = at_tree h.0 (ap tree_in h.1) h.2.1
   where
     tree_in : Option Expansion → Expansion
     tree_in o = elim o [ None ↦ doubled_tree | Some z ↦ z ]
+
     Ends : Expansion → Type 0
     Ends e = Path (path_context doubled_bound (int 1)) e ((self_name, Some (int 1)) ∷ []) (state (int 2) (codes "P_l")) (state (int 5) (codes "Done")) → ⊥
+
     value_in : Option Data → Data
     value_in o = elim o [ None ↦ int 0 | Some w ↦ w ]
+
     Past : Data → Type 0
     Past w = EndsIn (path_context doubled_bound (int 1)) ((made (codes "val") 1, Some w) ∷ (self_name, Some (int 1)) ∷ []) ((x, made (codes "val") 1) ∷ []) (codes "Done") (state (int 2) (codes "P_l")) (state (int 5) (codes "Done")) → ⊥
+
     past_four : Past (int 4)
     past_four ends = let five : Some (int 5) ≡ Some (int 4) = ends zero x refl ∙ new_value (int 4) (at_place (codes "P_l") ∷ []) in absurd (cc)
+
     other : Ends doubled_tree
     other p = subst Past (ap value_in p.1) past_four p.2
+
     at_tree : (e : Expansion) → doubled_tree ≡ e → Ends e
     at_tree e same = subst Ends same other

@@ -30,11 +30,19 @@ use Rattle.pgo_syntax.specs.declared.bound.Bound.{Bound}
 use Rattle.pgo_bound.specs.BoundOf.{bound_of}
 
 abbrev spec : Spec
-spec = record { name = (placed_name (codes "S")); extends = []; constants = ((placed_name (codes "K")) ∷ []); definitions = []; algorithm = (placed_name (codes "S")); define = None; macros = [];
+spec = record {
+  name = (placed_name (codes "S"));
+  extends = [];
+  constants = ((placed_name (codes "K")) ∷ []);
+  definitions = [];
+  algorithm = (placed_name (codes "S"));
+  define = None;
+  macros = [];
   mappings = ((mapping (codes "Pop") ((None, (await_that 0 (binary infixs.Greater (call (codes "Len") (trees ((name (codes "$variable")) ∷ []))) (n 0)))) ∷ (None, (with_in 0 ((with_name (codes "msg") (Equals (call (codes "Head") (trees ((name (codes "$variable")) ∷ []))))) ∷ []) (block 0 (labeled ((None, (assign 0 ((assignment (codes "$variable") [] (call (codes "Tail") (trees ((name (codes "$variable")) ∷ [])))) ∷ []))) ∷ (None, (yield_as 0 (name (codes "msg")))) ∷ []))))) ∷ []) writes_value) ∷ (mapping (codes "QLen") ((None, (yield_as 0 (call (codes "Len") (trees ((name (codes "$variable")) ∷ []))))) ∷ []) ((None, (yield_as 0 (name (codes "$variable")))) ∷ [])) ∷ []);
   archetypes = ((record { name = (placed_name (codes "A")); params = ((record { name = (placed_name (codes "net")); kind = (kinds.Ref extents.Element) }) ∷ (record { name = (placed_name (codes "bl")); kind = (kinds.Ref extents.Element) }) ∷ (record { name = (placed_name (codes "v")); kind = (kinds.Ref extents.Whole) }) ∷ (record { name = (placed_name (codes "p")); kind = kinds.Value }) ∷ (record { name = (placed_name (codes "z")); kind = (kinds.Ref extents.Element) }) ∷ []); locals = ((record { name = (placed_name (codes "q")); initial = (Some (Equals (n 5))) }) ∷ []); body = (((Some (placed_name (codes "l"))), (assign 0 ((assignment (codes "v") [] (binary infixs.Add (binary infixs.Add (binary infixs.Add (index (name (codes "net")) (trees ((name (codes "self")) ∷ []))) (index (name (codes "bl")) (trees ((name (codes "self")) ∷ [])))) (name (codes "p"))) (name (codes "q")))) ∷ (assignment (codes "z") ((step.Index (n 1)) ∷ []) (name (codes "K"))) ∷ []))) ∷ []) }) ∷ (record { name = (placed_name (codes "B")); params = ((record { name = (placed_name (codes "y")); kind = (kinds.Ref extents.Whole) }) ∷ []); locals = []; body = (((Some (placed_name (codes "l"))), (skip 0)) ∷ []) }) ∷ []);
   globals = ((record { name = (placed_name (codes "n")); initial = (Some (Equals (tuple (trees ((tuple (trees ((n 3) ∷ (n 4) ∷ []))) ∷ (tuple (trees ((n 3) ∷ (n 4) ∷ []))) ∷ []))))) }) ∷ (record { name = (placed_name (codes "x")); initial = (Some (Equals (n 0))) }) ∷ (record { name = (placed_name (codes "y")); initial = (Some (Equals (tuple (trees ((n 0) ∷ []))))) }) ∷ []);
-  processes = ((record { name = (placed_name (codes "P")); ids = (InSet (set_of (trees ((n 1) ∷ (n 2) ∷ [])))); archetype = (placed_name (codes "A")); arguments = ((arguments.Ref (placed_name (codes "n")) extents.Element) ∷ (arguments.Ref (placed_name (codes "n")) extents.Element) ∷ (arguments.Ref (placed_name (codes "x")) extents.Whole) ∷ (arguments.Value 0 (binary infixs.Add (name (codes "self")) (n 10))) ∷ (arguments.Ref (placed_name (codes "y")) extents.Element) ∷ []); clauses = ((record { target = clauses.Global (placed_name (codes "n")) extents.Element; mapping = (placed_name (codes "Pop")) }) ∷ (record { target = clauses.Argument 0 2 extents.Element; mapping = (placed_name (codes "QLen")) }) ∷ []) }) ∷ (record { name = (placed_name (codes "Q")); ids = (Equals (n 3)); archetype = (placed_name (codes "B")); arguments = ((arguments.Ref (placed_name (codes "y")) extents.Whole) ∷ []); clauses = [] }) ∷ []) }
+  processes = ((record { name = (placed_name (codes "P")); ids = (InSet (set_of (trees ((n 1) ∷ (n 2) ∷ [])))); archetype = (placed_name (codes "A")); arguments = ((arguments.Ref (placed_name (codes "n")) extents.Element) ∷ (arguments.Ref (placed_name (codes "n")) extents.Element) ∷ (arguments.Ref (placed_name (codes "x")) extents.Whole) ∷ (arguments.Value 0 (binary infixs.Add (name (codes "self")) (n 10))) ∷ (arguments.Ref (placed_name (codes "y")) extents.Element) ∷ []); clauses = ((record { target = clauses.Global (placed_name (codes "n")) extents.Element; mapping = (placed_name (codes "Pop")) }) ∷ (record { target = clauses.Argument 0 2 extents.Element; mapping = (placed_name (codes "QLen")) }) ∷ []) }) ∷ (record { name = (placed_name (codes "Q")); ids = (Equals (n 3)); archetype = (placed_name (codes "B")); arguments = ((arguments.Ref (placed_name (codes "y")) extents.Whole) ∷ []); clauses = [] }) ∷ []);
+}
 
 abbrev system : Bound
 system = bound_of spec ((codes "K", int 42) ∷ [])

@@ -40,22 +40,23 @@ ghost use Rattle.pgo_meaning.specs.Statements.{label_of};
 ghost use Rattle.pgo_meaning.specs.System.{globals_in, system_of};
 ghost use Rattle.pgo_meaning.specs.SystemStates.{GlobalsBound, RefsDeclared};
 ghost use Rattle.pgo_meaning.specs.TreeAllows.{TreeAllows};
-ghost use Rattle.pgo_meaning.specs.TreesAgree.{Named, OwnLabels, sections_at, expansions_at};
+ghost use Rattle.pgo_meaning.specs.TreesAgree.{Named, OwnLabels, TreesAgree, AllTreesAgree, sections_at};
 
 use pgo_sections::{sections_agree, sections_keep};
 
 /// The law of the expansions of a bound specification, over all states.
 ///
-/// - `instances`: of each instance at a label, the label's expanded tree allows exactly the steps that its section allows.
-/// - `trees`: so do the trees of the whole specification, where the label has a section.
+/// - `instances` (`TreesAgree`): of each instance at a label, the label's expanded tree allows exactly the steps that its section
+///   allows.
+/// - `trees` (`AllTreesAgree`): so do the trees of the whole specification, where the label has a section.
 /// - `labels`: so they do at each label of the instance's process.
 ///
 /// The premises are what the rules on names and labels give (`Named`, `OwnLabels`, `AreUnlabelled`, `NoneIsDone`).
 ///
 /// Source: this project's choice.
 pub fn trees_agree()
-    ensures instances { (b : Bound) (k : ℕ) (i : Instance) (l : Name) (s t : Vars) → nth b.instances k ≡ Some i → Named b i → IsState b s → IsState b t → value_in s pc (id_of i) ≡ Some (string l) → TreeAllows (expansions_at b i) b l (id_of i) s t ↔ Allows b k s t }
-    ensures trees { (b : Bound) (k : ℕ) (i : Instance) (l : Name) (c : Code) (s t : Vars) → nth b.instances k ≡ Some i → Named b i → OwnLabels b i → find l (sections_at b i) ≡ Some c → IsState b s → IsState b t → value_in s pc (id_of i) ≡ Some (string l) → TreeAllows (trees_of b.spec) b l (id_of i) s t ↔ Allows b k s t }
+    ensures instances { TreesAgree }
+    ensures trees { AllTreesAgree }
     ensures labels { (b : Bound) (k : ℕ) (i : Instance) (l : Name) (s t : Vars) → nth b.instances k ≡ Some i → Named b i → OwnLabels b i → AreUnlabelled b.spec.macros → NoneIsDone i → IsLabel i l → IsState b s → IsState b t → value_in s pc (id_of i) ≡ Some (string l) → TreeAllows (trees_of b.spec) b l (id_of i) s t ↔ Allows b k s t }
 {
     sections_agree();

@@ -258,11 +258,13 @@ picked_by : (ms : List Data) (v : Data) → Contains ms v → (w : ℕ) × ((d :
 picked_by [] v h = absurd (omega (arith, h.1))
 picked_by (x ∷ ms) v h =
     let n = length (x ∷ ms) in
-    let lt : h.0 < length (x ∷ ms) = h.1 in
-    (h.0, λ d run f e.
-    ap (λ a. f (get_or (x ∷ ms) (a % n) x) (chosen n (a % n) run)) e
-    ∙ ap (λ i. f (get_or (x ∷ ms) i x) (chosen n i run)) (mod-eq_of_lt lt)
-    ∙ ap (λ z. f z (chosen n h.0 run)) (get_or_default (x ∷ ms) h.0 x v lt ∙ h.2))
+    let lt : h.0 < length (x ∷ ms) = h.1 in (
+      h.0,
+      λ d run f e.
+          ap (λ a. f (get_or (x ∷ ms) (a % n) x) (chosen n (a % n) run)) e
+          ∙ ap (λ i. f (get_or (x ∷ ms) i x) (chosen n i run)) (mod-eq_of_lt lt)
+          ∙ ap (λ z. f z (chosen n h.0 run)) (get_or_default (x ∷ ms) h.0 x v lt ∙ h.2),
+    )
 
 -- the new content that a block left
 new_is : (o : Option (Option Data)) (f : Option Data → Option Vars) (s : Vars) → option_and_then f o ≡ Some s → (new : Option Data) × (o ≡ Some new) × (f new ≡ Some s)

@@ -1,7 +1,7 @@
 // Sections of PlusCal with mapping macros: their code, what it means, its expansion, and that both allow the same.
 #![tactic(auto)]
 
-ghost use Rattle.std.specs.Prelude.{◌≡◌, ◌<◌, ◌^◌, ◌↔◌, true, false, ℕ, List, [], ◌∷◌, Option, Some, None};
+ghost use Rattle.std.specs.Prelude.{◌≡◌, true, false, List, [], Option, Some, None};
 ghost use Rattle.std.specs.List.{AllByRecursion};
 ghost use Rattle.pgo_base.specs.Data.{Data};
 ghost use Rattle.pgo_base.specs.Lookup.{Name, Names, Vars, find};
@@ -10,37 +10,34 @@ ghost use Rattle.pgo_model.specs.State.{is_shallow};
 ghost use Rattle.pgo_model.specs.System.{Words};
 ghost use Rattle.pgo_model.specs.Val.{Defined, meanings, call_def};
 ghost use Rattle.pgo_model.specs.Variables.{IsFunctionOn};
-ghost use Rattle.pgo_model.specs.Written.{self_name};
-ghost use Rattle.pgo_sections.specs.SectionsAgree.{keys, Fit};
+ghost use Rattle.pgo_sections.specs.SectionsAgree.{keys, SectionsAgree};
 ghost use Rattle.pgo_sections.specs.Among.{is_among};
-ghost use Rattle.pgo_sections.specs.Blocks.{HasBlocks};
 ghost use Rattle.pgo_sections.specs.Closed.{AreClosed};
 ghost use Rattle.pgo_sections.specs.Code.{Code, Place, Read, Write};
 ghost use Rattle.pgo_sections.specs.Context.{Context};
 ghost use Rattle.pgo_sections.specs.Domains.{ByElements, IsEvent, KeepsDomain, UsesOnly};
 ghost use Rattle.pgo_sections.specs.Exec.{if_gives, touching};
 ghost use Rattle.pgo_sections.specs.Expand.{expansion};
-ghost use Rattle.pgo_sections.specs.Expansion.{PathContext, Path};
 ghost use Rattle.pgo_sections.specs.BoundValues.{value_under};
 ghost use Rattle.pgo_sections.specs.Macros.{IsMapped, block_read, block_write, exec, after_read, after_write};
 ghost use Rattle.pgo_sections.specs.PlainTest.{plain_code, names_pass, NamesFit};
 ghost use Rattle.pgo_sections.specs.SectionRun.{SectionRun};
-ghost use Rattle.pgo_sections.specs.Section.{section, SectionReaches};
-ghost use Rattle.pgo_sections.specs.WellFormed.{PlainCode, most_made};
+ghost use Rattle.pgo_sections.specs.Section.{section};
+ghost use Rattle.pgo_sections.specs.WellFormed.{PlainCode};
 
 /// The laws of sections, over the definitions alone: for all code, all states, all words of choice.
 ///
-/// - `paths`: some path through the expansion leads from the start to an end that is a state exactly where the code, with
-///   some words of choice, ends there. Its premises are that the path and the section are of one instance and its variables
-///   (`Fit`), that the code reads and writes mapped parameters by blocks that have none (`HasBlocks`), that its names are
-///   well formed (`PlainCode`), and that it binds fewer than 2^64 names.
+/// - `paths` (`SectionsAgree`): some path through the expansion leads from the start to an end that is a state exactly where
+///   the code, with some words of choice, ends there. Its premises are that the path and the section are of one instance and
+///   its variables (`Fit`), that the code reads and writes mapped parameters by blocks that have none (`HasBlocks`), that its
+///   names are well formed (`PlainCode`), and that it binds fewer than 2^64 names.
 /// - `definitions`: definitions whose bodies have no prime and name no variable mean the same over any state.
 /// - `reads`, `writes`: where a mapped parameter has an index and a content, its read, or write, in a section is what its
 ///   macro's block does on that content. The section goes on behind it with the words that are left.
 ///
 /// Source: this project's choice.
 pub fn sections_agree()
-    ensures paths { (a : PathContext) (k : Context) (c : Code) (t : Vars) → Fit a k t → HasBlocks c → PlainCode a.variables k.globals k.places [] c → most_made c < 2 ^ 64 → Path a (expansion k.places c) ((self_name, Some a.id) ∷ []) k.start t ↔ SectionReaches k c t }
+    ensures paths { SectionsAgree }
     ensures definitions { (vs : List Name) (ds : List Defined) (s : Vars) (t : Option Vars) → AreClosed vs ds → ((x : Name) → is_among x vs ≡ false → find x s ≡ None) → (x : Name) (args : List Data) → call_def x args (meanings ds s t) ≡ call_def x args (meanings ds [] None) }
     ensures reads { (k : Context) (w g : Name) (i : Option Name) (block c : Code) (env : Names) (d : Words) (run : SectionRun) (j : Option Data) (old : Data) → IsMapped k g i env run.changes j old → exec k (Read w g i block c) env d run ≡ if_gives (block_read block k.defs k.id old d run.choices) (touching k g j run) (after_read k w g j c env d run.changes) }
     ensures writes { (k : Context) (w g : Name) (i : Option Name) (block : Code) (env : Names) (d : Words) (run : SectionRun) (j : Option Data) (old v : Data) → IsMapped k g i env run.changes j old → value_under w env ≡ Some v → exec k (Write g i w block) env d run ≡ if_gives (block_write block k.defs k.id old v d run.choices) (touching k g j run) (after_write k g j run.changes) }

@@ -4,7 +4,7 @@ use Rattle.pgo_sections.proofs.Whole as whole
 use Rattle.pgo_sections.proofs.sections_agree.Goals as goal
 
 pub returns-clause-paths : goal.returns-clause-paths
-returns-clause-paths c a k code t fit blocks plain few = whole.sections_agree a k code t fit blocks plain few
+returns-clause-paths c = whole.sections_agree
 
 pub returns-clause-definitions : goal.returns-clause-definitions
 returns-clause-definitions c vs ds s t closed not_there x args = defs_same vs s t not_there ds closed x args
