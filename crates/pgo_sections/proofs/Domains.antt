@@ -21,7 +21,7 @@ use Rattle.pgo_sections.specs.SectionsAgree.{keys as names_of}
 use Rattle.pgo_sections.specs.Among.{is_among}
 use Rattle.pgo_sections.specs.Code.{Whole, variable_of, Code, Skip, Let, Pick, Become, Set, Await, Assert, Print, If, Either, Seq, Goto, Yield, Read, Write, Codes, no_codes, more_codes}
 use Rattle.pgo_sections.specs.Context.{Context, content, index_value, put_content, put_new, value_now, value_of, with_content}
-use Rattle.pgo_sections.specs.Domains.{AllUse, HasIndex, ByElements, KeepsDomain, place, own, elements}
+use Rattle.pgo_sections.specs.Domains.{AllUse, HasIndex, HaveDomains, ByElements, KeepsDomain, place, own, elements}
 use Rattle.pgo_sections.specs.Exec.{MacroEnd, Gives, Stops, with_choices, if_gives, touching, read_unmapped, becoming, count, exec_arm_with}
 use Rattle.pgo_sections.specs.Macros.{block_read, block_write, exec}
 use Rattle.pgo_sections.specs.BoundValues.{bindable, value_under, put_part, value_put}
@@ -92,9 +92,8 @@ module _ (k : Context) where
   abbrev pub Starts : Name → List Data → Type 0
   Starts g ks = IsFunctionOn ks (find g k.start)
 
-  -- a global that is bound by element has the domain of its start
   abbrev pub Kept : Vars → Type 0
-  Kept ch = (g : Name) (ks : List Data) (v : Data) → k.by_element g ≡ true → Starts g ks → find g ch ≡ Some v → IsFunctionOn ks (Some v)
+  Kept ch = HaveDomains k ch
 
   abbrev pub KeptBy : Out → Type 0
   KeptBy (Go run) = Kept run.changes

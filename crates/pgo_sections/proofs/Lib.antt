@@ -13,3 +13,4 @@ pub mod PlainTest
 pub mod Macros
 pub mod Domains
 pub mod Traces
+pub mod Elements

@@ -2,7 +2,7 @@
 -- domain stays, and code that reads and writes none but given globals.
 use Rattle.std.specs.Prelude.{◌≡◌, ℕ, Bool, true, false, List, Option, Some, None}
 use Rattle.pgo_base.specs.Data.{Data}
-use Rattle.pgo_base.specs.Lookup.{Name, same_name, find}
+use Rattle.pgo_base.specs.Lookup.{Name, same_name, find, Vars}
 use Rattle.pgo_model.specs.Machine.{nth}
 use Rattle.pgo_model.specs.System.{Touched}
 use Rattle.pgo_model.specs.Variables.{IsFunctionOn}
@@ -44,6 +44,11 @@ HasIndex by_element g (Some i) = Unit {0}
 -- the code changes these globals by their elements alone
 abbrev pub ByElements : (Name → Bool) → Code → Type 0
 ByElements by_element c = Uses (λ p. by_element (variable_of p) ≡ false) (HasIndex by_element) c
+
+-- where a global that is bound by element has changed so, it has the domain of its function at the start
+abbrev pub HaveDomains : Context → Vars → Type 0
+HaveDomains k ch =
+    (g : Name) (ids : List Data) (v : Data) → k.by_element g ≡ true → IsFunctionOn ids (find g k.start) → find g ch ≡ Some v → IsFunctionOn ids (Some v)
 
 -- a variable that a section can't give another domain: `pc`, one that is no global, or a global that is bound by element
 pub data KeepsDomain (k : Context) (x : Name) : Type 0 where

@@ -42,7 +42,8 @@ abbrev pub if_gives : {A : Type 0} → MacroEnd A → SectionRun → (A → Sect
 if_gives (Gives a cs) run f = f a (with_choices cs run)
 if_gives (Stops kind cs) run f = Stop kind (with_choices cs run)
 
--- the resource is read or written: of a global that is bound by element an index outside its domain is no resource
+-- The resource is read or written: of a global that is bound by element an index outside its domain is no resource. `old` is the
+-- current content; that its domain is the one of the start is a law (`sections_keep`).
 abbrev pub touched : Bool → Name → Option Data → Option Data → List Touched
 touched false g i old = (g, None) ∷ []
 touched true g i None = []

@@ -5,6 +5,7 @@ ghost use Rattle.std.specs.Prelude.{◌≡◌, true, false, List, [], Option, So
 ghost use Rattle.std.specs.List.{AllByRecursion};
 ghost use Rattle.pgo_base.specs.Data.{Data};
 ghost use Rattle.pgo_base.specs.Lookup.{Name, Names, Vars, find};
+ghost use Rattle.pgo_model.specs.Operators.{except};
 ghost use Rattle.pgo_model.specs.Outcome.{Next};
 ghost use Rattle.pgo_model.specs.State.{is_shallow};
 ghost use Rattle.pgo_model.specs.System.{Words};
@@ -14,14 +15,14 @@ ghost use Rattle.pgo_sections.specs.SectionsAgree.{keys, SectionsAgree};
 ghost use Rattle.pgo_sections.specs.Among.{is_among};
 ghost use Rattle.pgo_sections.specs.Closed.{AreClosed};
 ghost use Rattle.pgo_sections.specs.Code.{Code, Place, Read, Write};
-ghost use Rattle.pgo_sections.specs.Context.{Context};
-ghost use Rattle.pgo_sections.specs.Domains.{ByElements, IsEvent, KeepsDomain, UsesOnly};
-ghost use Rattle.pgo_sections.specs.Exec.{if_gives, touching};
+ghost use Rattle.pgo_sections.specs.Context.{Context, part_at};
+ghost use Rattle.pgo_sections.specs.Domains.{ByElements, HaveDomains, IsEvent, KeepsDomain, UsesOnly};
+ghost use Rattle.pgo_sections.specs.Exec.{if_gives, touched, touching};
 ghost use Rattle.pgo_sections.specs.Expand.{expansion};
 ghost use Rattle.pgo_sections.specs.BoundValues.{value_under};
 ghost use Rattle.pgo_sections.specs.Macros.{IsMapped, block_read, block_write, exec, after_read, after_write};
 ghost use Rattle.pgo_sections.specs.PlainTest.{plain_code, names_pass, NamesFit};
-ghost use Rattle.pgo_sections.specs.SectionRun.{SectionRun};
+ghost use Rattle.pgo_sections.specs.SectionRun.{SectionRun, Go, seen};
 ghost use Rattle.pgo_sections.specs.Section.{section};
 ghost use Rattle.pgo_sections.specs.WellFormed.{PlainCode};
 
@@ -48,6 +49,9 @@ pub fn sections_agree()
 /// - `variables`: it has the variables of the start, in their order, and none of their values is more than 256 deep.
 /// - `domains`: a variable that is a function stays one on its domain, if it is `pc`, or no global, or a global that is bound
 ///   by element, where the code changes these by their elements alone (`ByElements`).
+/// - `except`: EXCEPT gives a function the domain that it has.
+/// - `changes`: so from changes that leave element-bound globals the domains of the start (`HaveDomains`) code goes on with such.
+/// - `elements`: there an element of such a global is in the trace where it is in the domain of its function at the start.
 /// - `traces`: where the code's parameters are of given globals (`UsesOnly`), each read and write is of one of these: as a
 ///   whole, or, of a global that is bound by element, of an element in its domain.
 ///
@@ -55,6 +59,9 @@ pub fn sections_agree()
 pub fn sections_keep()
     ensures variables { (k : Context) (c : Code) (d : Words) (t : Vars) (prints : List Data) → (section k c d).end ≡ Next t prints → (keys t ≡ keys k.start) × (is_shallow t ≡ true) }
     ensures domains { (k : Context) (c : Code) (d : Words) (t : Vars) (prints : List Data) (x : Name) (ids : List Data) → ByElements k.by_element c → (section k c d).end ≡ Next t prints → KeepsDomain k x → IsFunctionOn ids (find x k.start) → IsFunctionOn ids (find x t) }
+    ensures except { (ids : List Data) (f i v g : Data) → IsFunctionOn ids (Some f) → except f i v ≡ Some g → IsFunctionOn ids (Some g) }
+    ensures changes { (k : Context) (c : Code) (env : Names) (d : Words) (run then' : SectionRun) → ByElements k.by_element c → HaveDomains k run.changes → exec k c env d run ≡ Go then' → HaveDomains k then'.changes }
+    ensures elements { (k : Context) (g : Name) (ids : List Data) (i : Data) (run : SectionRun) → k.by_element g ≡ true → IsFunctionOn ids (find g k.start) → HaveDomains k run.changes → touching k g (Some i) run ≡ seen (touched true g (Some i) (part_at g i k.start)) run }
     ensures traces { (k : Context) (gs : List Name) (c : Code) (d : Words) → UsesOnly k gs c → ByElements k.by_element c → AllByRecursion (IsEvent k gs) (section k c d).trace }
 {}
 
