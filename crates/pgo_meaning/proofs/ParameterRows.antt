@@ -1,15 +1,18 @@
 -- What sections read and write of unmapped parameters, value parameters and locals, worked out by hand.
-use Rattle.std.specs.Prelude.{◌≡◌, true, pos, [], ◌∷◌, Some, None, codes, refl}
+use Rattle.std.specs.Prelude.{◌≡◌, true, false, pos, [], ◌∷◌, Some, None, codes, refl}
 use Rattle.pgo_base.specs.declared.expr.Infix.TheVariants as infixs
 use Rattle.pgo_syntax.specs.declared.assignment.Step.TheVariants as step
 use Rattle.pgo_syntax.specs.declared.bound.Target.TheVariants as targets
 use Rattle.pgo_base.specs.Data.{function, pairs}
-use Rattle.pgo_base.specs.Tree.{truth, name, binary, cond_of, choose, set_of, index, trees}
+use Rattle.pgo_base.specs.Tree.{truth, name, binary, cond_of, choose, set_of, index, trees, Tree, bound, quantified}
 use Rattle.pgo_base.specs.declared.value.Value.TheVariants.{Int}
-use Rattle.pgo_model.specs.Outcome.{NoValue, AssertFails}
+use Rattle.pgo_model.specs.Outcome.{Blocked, NoValue, AssertFails, Section}
 use Rattle.pgo_syntax.specs.Statement.{skip, assign, await_that, with_in, assert_that}
 use Rattle.pgo_syntax.specs.declared.binding.Origin.TheVariants.{Equals, In as InSet}
 use Rattle.pgo_meaning.proofs.RowTools.{n, int, deep, whole, at_label, ref, stuck, leads, placed_name, assignment, with_name, archetype, binding, row_of}
+use Rattle.pgo_model.specs.System.{Touched}
+use Rattle.pgo_base.specs.Lookup.{Vars}
+use Rattle.pgo_base.specs.declared.expr.Quantifier.TheVariants as quantifiers
 
 -- `v := v + w`, both bound to x: a read of each, and the write
 two_of_one_global : row_of [] (codes "P") (archetype (codes "A") [] (((Some (placed_name (codes "l"))), (assign 0 ((assignment (codes "v") [] (binary infixs.Add (name (codes "v")) (name (codes "w")))) ∷ []))) ∷ [])) (ref (codes "v") (codes "x") ∷ ref (codes "w") (codes "x") ∷ []) ((codes "x") ∷ []) [] (Int (pos 1)) ((codes "x", int 3) ∷ at_label (codes "P_l") ∷ []) []
@@ -68,3 +71,20 @@ local_too_deep = refl
 deep_in_between : row_of [] (codes "P") (archetype (codes "A") [] (((Some (placed_name (codes "l"))), (with_in 0 ((with_name (codes "a") (Equals (set_of (trees ((name (codes "v")) ∷ []))))) ∷ []) (assign 0 ((assignment (codes "v") [] (choose (codes "z") (name (codes "a")) (truth true))) ∷ [])))) ∷ [])) (ref (codes "v") (codes "x") ∷ []) ((codes "x") ∷ []) [] (Int (pos 1)) (((codes "x"), (deep 255)) ∷ at_label (codes "P_l") ∷ []) []
     ≡ leads (whole (codes "x") ∷ whole (codes "x") ∷ []) (((codes "x"), (deep 255)) ∷ at_label (codes "Done") ∷ []) []
 deep_in_between = refl
+
+-- `await \A z \in {} : v = z` and `await TRUE \/ v = 0`: what stands in the condition is read, also where its value isn't needed
+abbrev awaits : Tree → Section Touched Vars
+awaits e =
+    row_of [] (codes "P") (archetype (codes "A") [] ((Some (placed_name (codes "l")), await_that 0 e) ∷ [])) (ref (codes "v") (codes "x") ∷ []) (codes "x" ∷ []) [] (Int (pos 1)) ((codes "x", int 7) ∷ at_label (codes "P_l") ∷ []) []
+
+abbrev passes : Section Touched Vars
+passes = leads (whole (codes "x") ∷ []) ((codes "x", int 7) ∷ at_label (codes "Done") ∷ []) []
+
+under_a_binder : awaits (quantified quantifiers.Forall (bound ((codes "z" ∷ [], set_of (trees [])) ∷ [])) (binary infixs.Equal (name (codes "v")) (name (codes "z")))) ≡ passes
+under_a_binder = refl
+
+beside_true : awaits (binary infixs.Or (truth true) (binary infixs.Equal (name (codes "v")) (n 0))) ≡ passes
+beside_true = refl
+
+beside_false : awaits (binary infixs.And (truth false) (binary infixs.Equal (name (codes "v")) (n 0))) ≡ stuck (whole (codes "x") ∷ []) Blocked
+beside_false = refl
