@@ -1,0 +1,14 @@
+pub mod MacrosPlaced
+pub mod Statements
+pub mod Labels
+pub mod Parameters
+pub mod Sections
+pub mod Sect
+pub mod TreeAllows
+pub mod Expansions
+pub mod TreesAgree
+pub mod System
+pub mod SystemStates
+pub mod LabelSections
+pub mod Macros
+pub mod Ends

@@ -1,0 +1,16 @@
+pub mod May
+pub mod Words
+pub mod Under
+pub mod Later
+pub mod Here
+pub mod Iff
+pub mod Paths
+pub mod Apart
+pub mod Closing
+pub mod Whole
+pub mod Closed
+pub mod PlainTest
+pub mod Macros
+pub mod Domains
+pub mod Traces
+pub mod Elements
