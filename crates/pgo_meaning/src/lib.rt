@@ -97,7 +97,7 @@ pub fn sections_of_labels()
 /// - `state`: from a state to a state.
 /// - `domains`: from a state in which each element-bound global has the domain that it starts with to such a state.
 ///
-/// The premises are what the rules on names give (`KeepsElements`).
+/// The premises are what the rules on names, and binding, are to give (`KeepsElements`).
 ///
 /// Source: this project's choice.
 pub fn ends_are_states()

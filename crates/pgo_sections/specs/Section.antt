@@ -27,7 +27,8 @@ closed k l ch [] = Some []
 closed k l ch (p ∷ s) = both (λ v t. Some ((p.0, v) ∷ t)) (closed_value k l ch p.0 p.1) (closed k l ch s)
 
 -- No value is more than 256 deep at the end, or there is no value. Nothing else that makes a state is looked at: what did not
--- change is as it was at the start, and the rest is a law on sections that begin in a state (`ends_are_states` of pgo_meaning).
+-- change is as it was at the start, and the rest is a law on sections that begin in a state, of ends whose values are values
+-- (`ends_are_states` of pgo_meaning).
 abbrev pub if_shallow : List Data → Vars → Outcome Vars
 if_shallow prints t = if is_shallow t then Next t prints else Stuck NoValue
 
