@@ -27,9 +27,11 @@ sections_at b i = sections_of b.spec.macros i.process i.archetype i.bindings
 abbrev pub expansions_at : Bound → Instance → List (Name × Expansion)
 expansions_at b i = expansions_of b.spec.macros i.process i.archetype i.bindings
 
--- What the rules on names and on labels give: the written names of variables differ, and none is a made name or `self`; the
--- instance's own variables are among them; each parameter is a declared global, a value parameter or a local; a definition
--- names no variable; and the names in the sections are well formed and not too many
+-- What the rules on names and on labels are to give, with what the grammar says of a text (an identifier has a letter, and no
+-- specification has a prime): the written names of variables differ, and none is a made name or `self`; the instance's own
+-- variables are among them; each parameter is a declared global, a value parameter or a local; a definition names no variable;
+-- and the names in the sections are well formed. That they are not too many (`few`) no rule gives: 64 macros, each of which
+-- calls the one before it twice, bind 2^64 names. A limit on the expansion has to.
 pub record Named (b : Bound) (i : Instance) : Type 0 where
   pub differ : AreDifferent (variables_of b.spec)
   pub written : (x : Name) → is_among x (variables_of b.spec) ≡ true → NotMade x × (same_name x self_name ≡ false)

@@ -51,7 +51,8 @@ use pgo_sections::{sections_agree, sections_keep};
 /// - `trees` (`AllTreesAgree`): so do the trees of the whole specification, where the label has a section.
 /// - `labels`: so they do at each label of the instance's process.
 ///
-/// The premises are what the rules on names and labels give (`Named`, `OwnLabels`, `AreUnlabelled`, `NoneIsDone`).
+/// The premises are what the grammar and the rules on names and labels are to give (`Named`, `OwnLabels`, `AreUnlabelled`,
+/// `NoneIsDone`), but for `few` of `Named`, which asks for a limit on the expansion.
 ///
 /// Source: this project's choice.
 pub fn trees_agree()
