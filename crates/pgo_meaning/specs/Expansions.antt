@@ -9,14 +9,15 @@ use Rattle.pgo_syntax.specs.declared.macros.Macro.{Macro}
 use Rattle.pgo_syntax.specs.declared.process.Process.{Process}
 use Rattle.pgo_syntax.specs.declared.spec.Spec.{Spec}
 use Rattle.pgo_bound.specs.Runs.{archetype_named, bindings_of, run_with}
+use Rattle.pgo_bound.specs.State.{variables_of}
 use Rattle.pgo_sections.specs.Expansion.{Expansion}
 use Rattle.pgo_meaning.specs.Parameters.{places_of}
 use Rattle.pgo_sections.specs.Expand.{expansion}
 use Rattle.pgo_meaning.specs.Sections.{sections_of}
 
--- each label of a process by its written name, with its expansion, in the order of the text
-abbrev pub expansions_of : List Macro → Name → Archetype → List Binding → List (Name × Expansion)
-expansions_of ms p a bs = map (λ c. (c.0, expansion (places_of p a bs) c.1)) (sections_of ms p a bs)
+-- each label of a process by its written name, with its expansion, in the order of the text; vs: the variables in their order
+abbrev pub expansions_of : List Name → List Macro → Name → Archetype → List Binding → List (Name × Expansion)
+expansions_of vs ms p a bs = map (λ c. (c.0, expansion vs (places_of p a bs) c.1)) (sections_of ms p a bs)
 
 -- what a process binds its archetype's parameters to, whatever its identifiers are
 abbrev pub process_bindings : Spec → Process → Archetype → List Binding
@@ -24,7 +25,7 @@ process_bindings s p a = bindings_of s (run_with [] p a)
 
 abbrev pub process_expansions : Spec → Process → List (Name × Expansion)
 process_expansions s p =
-    on [] (archetype_named p.archetype.name s.archetypes) (λ a. expansions_of s.macros p.name.name a (process_bindings s p a))
+    on [] (archetype_named p.archetype.name s.archetypes) (λ a. expansions_of (variables_of s) s.macros p.name.name a (process_bindings s p a))
 
 -- the expanded trees of a specification, process by process
 abbrev pub trees_of : Spec → List (Name × Expansion)

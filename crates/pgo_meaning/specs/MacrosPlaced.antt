@@ -132,6 +132,10 @@ handed [] ts = []
 handed (x ∷ xs) [] = []
 handed (x ∷ xs) (t ∷ ts) = (x, t) ∷ handed xs ts
 
+-- a macro's body in the place of its call. The `skip` stands for the call, which is counted each time that it is walked
+abbrev pub walked : ℕ → Statement → Statement
+walked p s = block p (more_labeled None (skip p) (more_labeled None s no_labeled))
+
 abbrev mutual
   -- a statement with these macros in the place of their calls
   pub placed : Bodies → Statement → Statement
@@ -146,7 +150,7 @@ abbrev mutual
   placed ms (print_out p e) = print_out p e
   placed ms (assert_that p e) = assert_that p e
   placed ms (go_to p l) = go_to p l
-  placed ms (call_macro p m ts) = on (call_macro p m ts) (find m.name ms) (λ b. put (handed b.parameters ts) b.statement)
+  placed ms (call_macro p m ts) = on (call_macro p m ts) (find m.name ms) (λ b. walked p (put (handed b.parameters ts) b.statement))
   placed ms (yield_as p e) = yield_as p e
   placed ms (block p ls) = block p (placed_among ms ls)
 

@@ -12,7 +12,7 @@ use Rattle.pgo_syntax.specs.declared.binding.Origin.{Origin}
 use Rattle.pgo_syntax.specs.declared.binding.Origin.TheVariants.{Equals, In}
 use Rattle.pgo_syntax.specs.declared.binding.WithName.{WithName}
 use Rattle.pgo_sections.specs.Access.{MappedNames, place, evaluated}
-use Rattle.pgo_sections.specs.Code.{Place, Whole, variable_of, Code, Skip, Let, Pick, Become, Set, Await, Assert, Print, If, Either, Seq, Goto, Yield, Write, Codes, no_codes, more_codes, in_turn, content_name, at_base, old_base, val_base}
+use Rattle.pgo_sections.specs.Code.{Place, Whole, variable_of, Code, Empty, Skip, Let, Pick, Become, Set, Await, Assert, Print, If, Either, Seq, Goto, Yield, Write, Codes, no_codes, more_codes, in_turn, content_name, at_base, old_base, val_base}
 use Rattle.pgo_meaning.specs.MacrosPlaced.{unmarked}
 
 -- what the names of a process's statements are; `is_block`: the statements are a mapping macro's
@@ -59,7 +59,7 @@ module _ (s : Setting) where
   -- another name nothing is done
   abbrev pub assigned : Name → List Part → Name → Code
   assigned x path w =
-      on (on Skip (find x s.places) (to_variable x path w)) (find x s.mapped) (λ m. Write m.global (index_of path) w m.writes)
+      on (on Empty (find x s.places) (to_variable x path w)) (find x s.mapped) (λ m. Write m.global (index_of path) w m.writes)
 
   -- the indices of a path, and then what f makes of it; k values stand already
   abbrev pub steps : List Step → ℕ → (List Part → ℕ → Code) → Code
@@ -94,16 +94,16 @@ module _ (s : Setting) where
     pub code : Name → Statement → Code
     code l (skip p) = Skip
     code l (assign p as') = assignment_code as'
-    code l (if_then p bs) = branches l bs Skip
+    code l (if_then p bs) = branches l bs Empty
     code l (if_else p bs t) = branches l bs (code l t)
-    code l (while_do p e t) = evaluated s.mapped e 0 (λ e' k. If e' (Seq (code l t) (Goto l)) Skip)
+    code l (while_do p e t) = evaluated s.mapped e 0 (λ e' k. If e' (Seq (code l t) (Goto l)) Empty)
     code l (either_of p ts) = Either (arms l ts)
     code l (await_that p e) = evaluated s.mapped e 0 (λ e' k. Await e')
     code l (with_in p ws t) = bind_names ws (code l t)
     code l (print_out p e) = evaluated s.mapped e 0 (λ e' k. Print e')
     code l (assert_that p e) = evaluated s.mapped e 0 (λ e' k. Assert e')
     code l (go_to p x) = Goto (label_of s.process x.name)
-    code l (call_macro p m es) = Skip
+    code l (call_macro p m es) = Empty
     code l (yield_as p e) = Yield e
     code l (block p ls) = in_order l ls
 
@@ -117,5 +117,5 @@ module _ (s : Setting) where
 
     -- a label ends the section
     pub in_order : Name → LabeledStatements → Code
-    in_order l no_labeled = Skip
+    in_order l no_labeled = Empty
     in_order l (more_labeled x t ls) = on (Seq (code l t) (in_order l ls)) x (λ y. Goto (label_of s.process y.name))

@@ -15,7 +15,9 @@ use Rattle.pgo_sections.specs.Code.{Place, Code}
 use Rattle.pgo_sections.specs.Expansion.{Expansion}
 use Rattle.pgo_sections.specs.Among.{is_among}
 use Rattle.pgo_meaning.specs.Parameters.{places_of, own_variables}
-use Rattle.pgo_sections.specs.WellFormed.{NotMade, PlainCode, most_made}
+use Rattle.pgo_sections.specs.WellFormed.{NotMade, PlainCode}
+use Rattle.pgo_sections.specs.Expand.{expansion}
+use Rattle.pgo_sections.specs.Nodes.{most_names}
 use Rattle.pgo_meaning.specs.Expansions.{expansions_of, trees_of}
 use Rattle.pgo_meaning.specs.Sect.{context_of, Allows}
 use Rattle.pgo_meaning.specs.Sections.{sections_of}
@@ -25,13 +27,13 @@ abbrev pub sections_at : Bound → Instance → List (Name × Code)
 sections_at b i = sections_of b.spec.macros i.process i.archetype i.bindings
 
 abbrev pub expansions_at : Bound → Instance → List (Name × Expansion)
-expansions_at b i = expansions_of b.spec.macros i.process i.archetype i.bindings
+expansions_at b i = expansions_of (variables_of b.spec) b.spec.macros i.process i.archetype i.bindings
 
 -- What the rules on names and on labels are to give, with what the grammar says of a text (an identifier has a letter, and no
 -- specification has a prime): the written names of variables differ, and none is a made name or `self`; the instance's own
 -- variables are among them; each parameter is a declared global, a value parameter or a local; a definition names no variable;
--- and the names in the sections are well formed. That they are not too many (`few`) no rule gives: 64 macros, each of which
--- calls the one before it twice, bind 2^64 names. A limit on the expansion has to.
+-- and the names in the sections are well formed. That a path binds fewer
+-- than 2^64 names (`few`) no rule gives, but the limit on an expansion's nodes does.
 pub record Named (b : Bound) (i : Instance) : Type 0 where
   pub differ : AreDifferent (variables_of b.spec)
   pub written : (x : Name) → is_among x (variables_of b.spec) ≡ true → NotMade x × (same_name x self_name ≡ false)
@@ -40,7 +42,7 @@ pub record Named (b : Bound) (i : Instance) : Type 0 where
   pub closed : AreClosed (variables_of b.spec) (map defined_view b.defs)
   pub plain : (l : Name) (c : Code) → find l (sections_at b i) ≡ Some c
       → PlainCode (variables_of b.spec) (map (λ d. d.name.name) b.spec.globals) (places_of i.process i.archetype i.bindings) [] c
-  pub few : (l : Name) (c : Code) → find l (sections_at b i) ≡ Some c → most_made c < 2 ^ 64
+  pub few : (l : Name) (c : Code) → find l (sections_at b i) ≡ Some c → most_names (expansion (variables_of b.spec) (places_of i.process i.archetype i.bindings) c) < 2 ^ 64
 
 -- for every instance at a written label, and all states
 abbrev pub TreesAgree : Type 0

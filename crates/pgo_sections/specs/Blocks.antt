@@ -1,10 +1,11 @@
 -- Code whose mapped parameters are read and written by blocks, which have none themselves.
-use Rattle.pgo_sections.specs.Code.{Code, Skip, Let, Pick, Become, Set, Await, Assert, Print, If, Either, Seq, Goto, Yield, Read, Write, Codes, no_codes, more_codes}
+use Rattle.pgo_sections.specs.Code.{Code, Empty, Skip, Let, Pick, Become, Set, Await, Assert, Print, If, Either, Seq, Goto, Yield, Read, Write, Codes, no_codes, more_codes}
 
 -- each block in the code meets B
 module _ (B : Code → Type 0) where
   abbrev mutual
     pub AreBlocks : Code → Type 0
+    AreBlocks Empty = Unit {0}
     AreBlocks Skip = Unit {0}
     AreBlocks (Let b w e c) = AreBlocks c
     AreBlocks (Pick b w e c) = AreBlocks c

@@ -17,6 +17,9 @@ variable_of (Own x) = x
 -- that the expansion binds.
 mutual
   pub data Code : Type 0 where
+    -- no statement
+    Empty : Code
+    -- `skip`, or that a macro's call is walked on the way
     Skip : Code
     -- w stands in c for the value of e
     Let : (b w : Name) → (e : Tree) → (c : Code) → Code
@@ -46,7 +49,7 @@ mutual
     more_codes : Code → Codes → Codes
 
 abbrev pub in_turn : List Code → Code
-in_turn [] = Skip
+in_turn [] = Empty
 in_turn (c ∷ cs) = Seq c (in_turn cs)
 
 -- in a mapping macro's block: the content and the value that is written

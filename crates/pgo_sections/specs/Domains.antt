@@ -8,7 +8,7 @@ use Rattle.pgo_model.specs.System.{Touched}
 use Rattle.pgo_model.specs.Variables.{IsFunctionOn}
 use Rattle.pgo_model.specs.Written.{pc}
 use Rattle.pgo_sections.specs.Among.{is_among}
-use Rattle.pgo_sections.specs.Code.{Place, Whole, Own, variable_of, Code, Skip, Let, Pick, Become, Set, Await, Assert, Print, If, Either, Seq, Goto, Yield, Read, Write, Codes, no_codes, more_codes}
+use Rattle.pgo_sections.specs.Code.{Place, Whole, Own, variable_of, Code, Empty, Skip, Let, Pick, Become, Set, Await, Assert, Print, If, Either, Seq, Goto, Yield, Read, Write, Codes, no_codes, more_codes}
 use Rattle.pgo_sections.specs.Context.{Context}
 
 -- each place that is assigned in the code meets P, and each mapped parameter that is read or written, with the name of its index,
@@ -16,6 +16,7 @@ use Rattle.pgo_sections.specs.Context.{Context}
 module _ (P : Place → Type 0) (M : Name → Option Name → Type 0) where
   abbrev mutual
     pub Uses : Code → Type 0
+    Uses Empty = Unit {0}
     Uses Skip = Unit {0}
     Uses (Let b w e c) = Uses c
     Uses (Pick b w e c) = Uses c

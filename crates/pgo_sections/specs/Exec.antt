@@ -10,7 +10,7 @@ use Rattle.pgo_model.specs.Outcome.{Kind, Blocked, NoValue, AssertFails}
 use Rattle.pgo_model.specs.System.{Words, Touched}
 use Rattle.pgo_model.specs.Val.{Meaning}
 use Rattle.pgo_sections.specs.Access.{unmapped_reads, touched_whole}
-use Rattle.pgo_sections.specs.Code.{Place, variable_of, Code, Skip, Let, Pick, Become, Set, Await, Assert, Print, If, Either, Seq, Goto, Yield, Read, Write, Codes, no_codes, more_codes}
+use Rattle.pgo_sections.specs.Code.{Place, variable_of, Code, Empty, Skip, Let, Pick, Become, Set, Await, Assert, Print, If, Either, Seq, Goto, Yield, Read, Write, Codes, no_codes, more_codes}
 use Rattle.pgo_sections.specs.Context.{Context, content, put_content, put_new, new_content, value_of, index_value}
 use Rattle.pgo_sections.specs.BoundValues.{bindable, value_under}
 use Rattle.pgo_sections.specs.SectionRun.{ChoiceMade, SectionRun, changed, seen, printed, picked_number, chosen, Out, Go, Jump, Yielded, Stop, with_value, if_true, picked, go_on}
@@ -75,6 +75,7 @@ Writes = (block : Code) → (defs : List Meaning) → (id old v : Data) → Word
 module _ (reads : Reads) (writes : Writes) where
   abbrev mutual
     pub exec_with : Context → Code → Names → Words → SectionRun → Out
+    exec_with k Empty env d run = Go run
     exec_with k Skip env d run = Go run
     exec_with k (Let b w e c) env d run =
         let now = read_unmapped k e run in with_value (bindable (value_of k e env run.changes)) now (λ v. exec_with k c ((w, Some v) ∷ env) d now)

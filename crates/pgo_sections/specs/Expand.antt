@@ -1,14 +1,14 @@
 -- The expansion of a section: the values of its statements bound to made names in the order of its effects, what follows a
 -- branch copied into each of its arms, and at the end one assignment of each variable that changed.
-use Rattle.std.specs.Prelude.{ℕ, suc, Bool, true, false, if◌then◌else◌, List, [], ◌∷◌, Option, Some, None, unwrap_or}
+use Rattle.std.specs.Prelude.{ℕ, suc, Bool, true, false, if◌then◌else◌, List, [], ◌∷◌, Option, Some, None, unwrap_or, option_map, filter_map}
 use Rattle.pgo_base.specs.Lookup.{Name, find}
 use Rattle.pgo_base.specs.Tree.{Tree, name, index, except, trees, no_paths, more_paths}
 use Rattle.pgo_model.specs.Options.{on}
 use Rattle.pgo_model.specs.Written.{self_name, made}
-use Rattle.pgo_sections.specs.Code.{Place, Whole, Own, variable_of, Code, Skip, Let, Pick, Become, Set, Await, Assert, Print, If, Either, Seq, Goto, Yield, Read, Write, Codes, no_codes, more_codes, content_name, content_places, value_name, old_base, val_base, new_base}
+use Rattle.pgo_sections.specs.Code.{Place, Whole, Own, variable_of, Code, Empty, Skip, Let, Pick, Become, Set, Await, Assert, Print, If, Either, Seq, Goto, Yield, Read, Write, Codes, no_codes, more_codes, content_name, content_places, value_name, old_base, val_base, new_base}
 use Rattle.pgo_sections.specs.Context.{is_assigned}
 use Rattle.pgo_sections.specs.Among.{is_among}
-use Rattle.pgo_sections.specs.Expansion.{Expansion, With, In, Await as EAwait, Assert as EAssert, Print as EPrint, If as EIf, Either as EEither, End, Expansions, no_expansions, more_expansions}
+use Rattle.pgo_sections.specs.Expansion.{Expansion, With, In, Skip as ESkip, Await as EAwait, Assert as EAssert, Print as EPrint, If as EIf, Either as EEither, End, Expansions, no_expansions, more_expansions}
 use Rattle.pgo_sections.specs.Replaced.{replaced}
 
 -- each name that the code binds, with its made name; the newest first
@@ -104,7 +104,8 @@ left_behind true ren cur g i e n k = put_back ren cur g i e n k
 
 abbrev mutual
   pub expand : List (Name × Place) → Code → Renames → Current → ℕ → OnGo → OnJump → OnYield → Expansion
-  expand ps Skip ren cur n k j y = k cur n
+  expand ps Empty ren cur n k j y = k cur n
+  expand ps Skip ren cur n k j y = ESkip (k cur n)
   expand ps (Let b w e c) ren cur n k j y =
       With (made b (suc n)) (current_tree ps ren cur e) (expand ps c ((w, made b (suc n)) ∷ ren) cur (suc n) k j y)
   expand ps (Pick b w e c) ren cur n k j y =
@@ -137,8 +138,17 @@ abbrev mutual
   expand_arms ps no_codes ren cur n k j y = no_expansions
   expand_arms ps (more_codes c cs) ren cur n k j y = more_expansions (expand ps c ren cur n k j y) (expand_arms ps cs ren cur n k j y)
 
-abbrev pub to_end : OnJump
-to_end l cur n = End cur l
+-- what a variable is assigned at the end, if it changed
+abbrev pub assigned_at_end : Current → Name → Option (Name × Name)
+assigned_at_end cur x = option_map (λ y. (x, y)) (find x cur)
 
-abbrev pub expansion : List (Name × Place) → Code → Expansion
-expansion ps c = expand ps c [] [] 0 no_go to_end no_yield
+-- each variable that changed once, in the order of the variables, with the made name of its current value
+abbrev pub settled : List Name → Current → List (Name × Name)
+settled vs cur = filter_map (assigned_at_end cur) vs
+
+abbrev pub to_end : List Name → OnJump
+to_end vs l cur n = End (settled vs cur) l
+
+-- vs: the variables in their order
+abbrev pub expansion : List Name → List (Name × Place) → Code → Expansion
+expansion vs ps c = expand ps c [] [] 0 no_go (to_end vs) no_yield

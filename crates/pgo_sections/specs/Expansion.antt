@@ -19,13 +19,16 @@ mutual
     With : (x : Name) → (e : Tree) → (rest : Expansion) → Expansion
     -- `with (x \in e) rest`
     In : (x : Name) → (e : Tree) → (rest : Expansion) → Expansion
+    -- a `skip`, or a macro's call, that is walked on the way: it is counted, and prints nothing
+    Skip : (rest : Expansion) → Expansion
     Await : (e : Tree) → (rest : Expansion) → Expansion
     Assert : (e : Tree) → (rest : Expansion) → Expansion
     Print : (e : Tree) → (rest : Expansion) → Expansion
     If : (e : Tree) → (a b : Expansion) → Expansion
     -- the arms of an `either`, of which the text has at least two; none allow nothing
     Either : (arms : Expansions) → Expansion
-    -- each changed variable is assigned what its made name has, at `self` where it is a local; then goto. The newest is first
+    -- each changed variable is assigned once what its made name has, at `self` where it is a local, in the order of the
+    -- variables; then goto
     End : (changes : List (Name × Name)) → (label : Name) → Expansion
 
   pub data Expansions : Type 0 where
@@ -63,6 +66,7 @@ abbrev mutual
   Path a (In x e rest) names s t =
       (v : Data) × (ms : List Data) × (option_and_then members_of (value_on a e names s t) ≡ Some ms) × Contains ms v
       × Path a rest ((x, Some v) ∷ names) s t
+  Path a (Skip rest) names s t = Path a rest names s t
   Path a (Await e rest) names s t = (value_on a e names s t ≡ Some (boolean true)) × Path a rest names s t
   Path a (Assert e rest) names s t = (value_on a e names s t ≡ Some (boolean true)) × Path a rest names s t
   Path a (Print e rest) names s t = (v : Data) × (value_on a e names s t ≡ Some v) × Path a rest names s t

@@ -13,6 +13,7 @@ pub mod Section
 pub mod Replaced
 pub mod Expansion
 pub mod Expand
+pub mod Nodes
 pub mod Plain
 pub mod WellFormed
 pub mod SectionsAgree

@@ -4,7 +4,7 @@ use Rattle.pgo_base.specs.Lookup.{Name, same_name, find}
 use Rattle.pgo_base.specs.Tree.{Tree, name, primed, number, text, truth, at, word, unary, binary, product, cond_of, case_of, case_other, let_in, quantified, choose, tuple, set_of, filter_of, image, fun_of, fun_set, record_of, record_set, except, index, field, call, unchanged, Trees, no_trees, more_trees, NamedTrees, no_named, more_named, TreePairs, no_arms, more_arms, BoundTrees, no_bound, more_bound, PathTrees, no_paths, more_paths}
 use Rattle.pgo_model.specs.Written.{self_name}
 use Rattle.pgo_sections.specs.SectionsAgree.{Distinct}
-use Rattle.pgo_sections.specs.Code.{Place, Whole, Own, Code, Skip, Let, Pick, Become, Set, Await, Assert, Print, If, Either, Seq, Goto, Yield, Read, Write, Codes, no_codes, more_codes, content_name, content_places, value_name}
+use Rattle.pgo_sections.specs.Code.{Place, Whole, Own, Code, Empty, Skip, Let, Pick, Become, Set, Await, Assert, Print, If, Either, Seq, Goto, Yield, Read, Write, Codes, no_codes, more_codes, content_name, content_places, value_name}
 use Rattle.pgo_sections.specs.Among.{is_among}
 use Rattle.pgo_sections.specs.WellFormed.{NotMade, PlainCode}
 
@@ -105,6 +105,7 @@ module _ (vs : List Name) where
 
   abbrev mutual
     pub plain_code : List Name → List (Name × Place) → List Name → Code → Bool
+    plain_code gs ps ws Empty = true
     plain_code gs ps ws Skip = true
     plain_code gs ps ws (Let b w e c) = plain_tree ps ws e && plain_code gs ps (w ∷ ws) c
     plain_code gs ps ws (Pick b w e c) = plain_tree ps ws e && plain_code gs ps (w ∷ ws) c

@@ -11,8 +11,9 @@ use Rattle.pgo_sections.specs.Context.{Context}
 use Rattle.pgo_sections.specs.Section.{SectionReaches}
 use Rattle.pgo_sections.specs.Among.{is_among}
 use Rattle.pgo_sections.specs.Expand.{expansion}
+use Rattle.pgo_sections.specs.Nodes.{most_names}
 use Rattle.pgo_sections.specs.Expansion.{PathContext, Path}
-use Rattle.pgo_sections.specs.WellFormed.{NotMade, PlainCode, most_made}
+use Rattle.pgo_sections.specs.WellFormed.{NotMade, PlainCode}
 
 abbrev pub keys : {A : Type 0} → List (Name × A) → List Name
 keys [] = []
@@ -45,9 +46,9 @@ pub record Fit (a : PathContext) (k : Context) (t : Vars) : Type 0 where
 
 -- a path leads there exactly where the section does
 abbrev pub PathAgrees : PathContext → Context → Code → Vars → Type 0
-PathAgrees a k c t = Path a (expansion k.places c) ((self_name, Some a.id) ∷ []) k.start t ↔ SectionReaches k c t
+PathAgrees a k c t = Path a (expansion a.variables k.places c) ((self_name, Some a.id) ∷ []) k.start t ↔ SectionReaches k c t
 
 -- for all code that reads and writes by blocks, has well-formed names and binds fewer than 2^64 names: past 10^64 made names
 -- are not told apart
 abbrev pub SectionsAgree : Type 0
-SectionsAgree = (a : PathContext) (k : Context) (c : Code) (t : Vars) → Fit a k t → HasBlocks c → PlainCode a.variables k.globals k.places [] c → most_made c < 2 ^ 64 → PathAgrees a k c t
+SectionsAgree = (a : PathContext) (k : Context) (c : Code) (t : Vars) → Fit a k t → HasBlocks c → PlainCode a.variables k.globals k.places [] c → most_names (expansion a.variables k.places c) < 2 ^ 64 → PathAgrees a k c t

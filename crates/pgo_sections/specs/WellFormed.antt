@@ -1,9 +1,9 @@
 -- What must hold of the names in code, so that its expansion says the same.
-use Rattle.std.specs.Prelude.{◌≡◌, ℕ, suc, ◌+◌, true, false, List, [], ◌∷◌, Option, Some, None, ◌⊎◌}
+use Rattle.std.specs.Prelude.{◌≡◌, ℕ, true, false, List, [], ◌∷◌, Option, Some, None, ◌⊎◌}
 use Rattle.pgo_base.specs.Lookup.{Name, same_name, find}
 use Rattle.pgo_base.specs.Tree.{Tree}
 use Rattle.pgo_model.specs.Written.{self_name, made}
-use Rattle.pgo_sections.specs.Code.{Place, Code, Skip, Let, Pick, Become, Set, Await, Assert, Print, If, Either, Seq, Goto, Yield, Read, Write, Codes, no_codes, more_codes, content_name, content_places, value_name}
+use Rattle.pgo_sections.specs.Code.{Place, Code, Empty, Skip, Let, Pick, Become, Set, Await, Assert, Print, If, Either, Seq, Goto, Yield, Read, Write, Codes, no_codes, more_codes, content_name, content_places, value_name}
 use Rattle.pgo_sections.specs.Among.{is_among}
 use Rattle.pgo_sections.specs.Plain.{Plain}
 
@@ -37,6 +37,7 @@ module _ (vs : List Name) where
 
   abbrev mutual
     pub PlainCode : List Name → List (Name × Place) → List Name → Code → Type 0
+    PlainCode gs ps ws Empty = Unit {0}
     PlainCode gs ps ws Skip = Unit {0}
     PlainCode gs ps ws (Let b w e c) = PlainTree ps ws e × PlainCode gs ps (w ∷ ws) c
     PlainCode gs ps ws (Pick b w e c) = PlainTree ps ws e × PlainCode gs ps (w ∷ ws) c
@@ -58,26 +59,3 @@ module _ (vs : List Name) where
     pub PlainCodes : List Name → List (Name × Place) → List Name → Codes → Type 0
     PlainCodes gs ps ws no_codes = Unit {0}
     PlainCodes gs ps ws (more_codes c cs) = PlainCode gs ps ws c × PlainCodes gs ps ws cs
-
-abbrev mutual
-  -- at most how many names the expansion binds on a path through the code
-  pub most_made : Code → ℕ
-  most_made Skip = 0
-  most_made (Let b w e c) = suc (most_made c)
-  most_made (Pick b w e c) = suc (most_made c)
-  most_made (Become p w) = 0
-  most_made (Set b p e) = 1
-  most_made (Await e) = 0
-  most_made (Assert e) = 0
-  most_made (Print e) = 0
-  most_made (If e a b) = most_made a + most_made b
-  most_made (Either cs) = most_made_by cs
-  most_made (Seq a b) = most_made a + most_made b
-  most_made (Goto l) = 0
-  most_made (Yield e) = 0
-  most_made (Read w g i m c) = 3 + (most_made m + most_made c)
-  most_made (Write g i w m) = 3 + most_made m
-
-  pub most_made_by : Codes → ℕ
-  most_made_by no_codes = 0
-  most_made_by (more_codes c cs) = most_made c + most_made_by cs
