@@ -31,7 +31,7 @@ pub type ExpandedProcesses = Items<ExpandedProcess>;
 
 /// A specification whose labels are expanded: its heads, and one tree for each label.
 ///
-/// `pluscal_of` of `specs/Expanded` says which one a specification has.
+/// `pluscal_of` of `specs/PlusCalOf` says which one a specification has.
 #[derive(Drop)]
 pub struct PlusCal {
     /// the algorithm's name
