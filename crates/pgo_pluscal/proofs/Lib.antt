@@ -1,2 +1,4 @@
 pub mod PartLaws
 pub mod RowTexts
+pub mod Added
+pub mod Depths

@@ -1,8 +1,7 @@
 -- The text of a row of statements and what follows it.
-use Rattle.std.proofs.Common.{◌≡◌, ◌≤◌, ◌<◌, ◌+◌, ◌-◌, ℕ, zero, suc, List, [], ◌∷◌, ◌++◌, refl, ap, sym, ◌∙◌, arith}
+use Rattle.std.proofs.Common.{◌≡◌, ◌+◌, ◌-◌, ℕ, zero, suc, List, [], ◌∷◌, ◌++◌, refl, ap, sym, ◌∙◌, arith}
 use Rattle.std.specs.Prelude.{codes}
 use Rattle.std.proofs.lemmas.List.{append_assoc, append-nil}
-use Rattle.pgo_base.specs.ExprView.{tree}
 use Rattle.pgo_base.specs.Lookup.{Name}
 use Rattle.pgo_sections.specs.Expansion.{Expansion}
 use Rattle.pgo_pluscal.specs.declared.part.Step.{Step}
@@ -81,10 +80,12 @@ blocks_are : (n k m : ℕ) (ss : List Step) → m ≡ level_within n ss → k �
 blocks_are n k m ss e f = omega (arith, within_is n ss)
 
 -- what is added behind `old`: the row's lines, those of what follows, and those that close its blocks
-pub part_text : (own : List Name) (t part : Expansion) (n k m : ℕ) (ss : List Step) (old : List ℕ) → around ss t ≡ part → m ≡ level_within n ss → k ≡ m - n
-    → old ++ opened own n ss ++ tree_text own m t ++ closings n k ≡ old ++ tree_text own n part
-part_text own t part n k m ss old e f g =
-    ap (λ l. old ++ opened own n ss ++ tree_text own l t ++ closings n k) f
+pub part_text : (own : List Name) (t part : Expansion) (n k m : ℕ) (ss : List Step) (old b1 b2 : List ℕ)
+    → b1 ≡ old ++ opened own n ss → b2 ≡ b1 ++ tree_text own m t → around ss t ≡ part → m ≡ level_within n ss → k ≡ m - n
+    → b2 ++ closings n k ≡ old ++ tree_text own n part
+part_text own t part n k m ss old b1 b2 e1 e2 e f g =
+    ap (λ l. l ++ closings n k) (e2 ∙ ap (λ l. l ++ tree_text own m t) e1)
+    ∙ ap (λ l. old ++ opened own n ss ++ tree_text own l t ++ closings n k) f
     ∙ ap (λ l. old ++ opened own n ss ++ tree_text own (level_within n ss) t ++ closings n l) (sym (blocks_are n k m ss f g))
     ∙ sym (behind old (opened own n ss) (tree_text own (level_within n ss) t) (closings n (blocks ss)))
     ∙ ap (λ l. old ++ l) (sym (row_text own t n ss))

@@ -1,11 +1,12 @@
 -- The text of a specification whose labels are expanded.
 --
 -- Source: the PlusCal manual for the statements, this project's choice for lines, blanks and parentheses.
-use Rattle.std.specs.Prelude.{ℕ, zero, suc, ◌+◌, List, [], ◌∷◌, ◌++◌, map, flatten, codes, Option, Some, None}
+use Rattle.std.specs.Prelude.{ℕ, zero, suc, ◌+◌, true, false, List, [], ◌∷◌, ◌++◌, map, codes, Option, Some, None}
 use Rattle.std.specs.List.{flat_map}
 use Rattle.pgo_base.specs.Lookup.{Name}
 use Rattle.pgo_base.specs.Tree.{Tree}
 use Rattle.pgo_model.specs.ExprText.{expr_text}
+use Rattle.pgo_model.specs.ModuleText.{flatten}
 use Rattle.pgo_syntax.specs.declared.binding.Origin.{Origin}
 use Rattle.pgo_syntax.specs.declared.binding.Origin.TheVariants as origins
 use Rattle.pgo_syntax.specs.declared.declaration.Declaration.{Declaration}

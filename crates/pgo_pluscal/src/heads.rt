@@ -141,11 +141,7 @@ fn push_parameters(
 }
 
 /// Adds further names of a list.
-fn push_names(
-    bytes: &mut Vec<u8>,
-    alloc: Global,
-    names: &[PlacedName],
-) -> Result<(), NoMemory>
+fn push_names(bytes: &mut Vec<u8>, alloc: Global, names: &[PlacedName]) -> Result<(), NoMemory>
     ensures { IfOk result (λ _. bytes.new.items ≡ bytes.old.items ++ flat_map (λ y. codes ", " ++ y) (map (λ x. x.name) names.now)) }
 {
     for name in names {

@@ -54,12 +54,12 @@ fn push_ending(
 
 /// Adds the lines of an `if`.
 #[cycle(lines)]
-fn push_if(
+fn push_if<'a>(
     bytes: &mut Vec<u8>,
     alloc: Global,
-    own: &Names,
+    own: &'a Names,
     level: usize,
-    e: &Expr,
+    e: &'a Expr,
     a: &Part,
     b: &Part,
 ) -> Result<(), NoMemory>

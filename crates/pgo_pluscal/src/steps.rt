@@ -52,12 +52,12 @@ pub fn push_steps(
 }
 
 /// Adds the line of a statement.
-fn push_step(
+fn push_step<'a>(
     bytes: &mut Vec<u8>,
     alloc: Global,
-    own: &Names,
+    own: &'a Names,
     level: usize,
-    step: &Step,
+    step: &'a Step,
 ) -> Result<(), NoMemory>
     ensures { IfOk result (λ _. bytes.new.items ≡ bytes.old.items ++ spec.step_text own.now level step.now) }
 {

@@ -1,5 +1,6 @@
 // Lines of words.
-ghost use Rattle.std.specs.Prelude.{◌≡◌, ◌+◌, ◌++◌, ℕ, List, map, flatten, IfOk};
+ghost use Rattle.std.specs.Prelude.{◌≡◌, ◌+◌, ◌++◌, ℕ, List, map, IfOk};
+ghost use Rattle.pgo_model.specs.ModuleText.{flatten};
 ghost use Rattle.pgo_pluscal.specs.Text.{blanks, line};
 ghost use Rattle.pgo_pluscal.specs.Words.{word_text};
 
@@ -44,8 +45,7 @@ pub fn push_line(
 {
     push_blanks(bytes, level)?;
     push_words(bytes, alloc, words)?;
-    bytes.push(b'\n')?;
-    Ok(())
+    push_bytes(bytes, b"\n")
 }
 
 /// Adds the blanks before a line.
@@ -61,11 +61,7 @@ pub fn push_blanks(bytes: &mut Vec<u8>, level: usize) -> Result<(), NoMemory>
 }
 
 /// Adds these words.
-pub fn push_words(
-    bytes: &mut Vec<u8>,
-    alloc: Global,
-    words: &[Word<'_>],
-) -> Result<(), NoMemory>
+pub fn push_words(bytes: &mut Vec<u8>, alloc: Global, words: &[Word<'_>]) -> Result<(), NoMemory>
     ensures { IfOk result (λ _. bytes.new.items ≡ bytes.old.items ++ flatten (map word_text words.now)) }
 {
     for word in words {

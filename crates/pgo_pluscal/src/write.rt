@@ -61,11 +61,7 @@ fn push_processes(
 }
 
 /// Adds the lines of a process.
-fn push_process(
-    bytes: &mut Vec<u8>,
-    alloc: Global,
-    p: &ExpandedProcess,
-) -> Result<(), NoMemory>
+fn push_process(bytes: &mut Vec<u8>, alloc: Global, p: &ExpandedProcess) -> Result<(), NoMemory>
     ensures { IfOk result (λ _. bytes.new.items ≡ bytes.old.items ++ text.process_text p.now) }
 {
     push_line(
@@ -87,11 +83,7 @@ fn push_process(
 }
 
 /// Adds the lines of a process's labels.
-fn push_own_labels(
-    bytes: &mut Vec<u8>,
-    alloc: Global,
-    p: &ExpandedProcess,
-) -> Result<(), NoMemory>
+fn push_own_labels(bytes: &mut Vec<u8>, alloc: Global, p: &ExpandedProcess) -> Result<(), NoMemory>
     ensures { IfOk result (λ _. bytes.new.items ≡ bytes.old.items ++ text.labels_text p.now) }
 {
     let own = names_of(alloc, p.variables.as_slice())?;
