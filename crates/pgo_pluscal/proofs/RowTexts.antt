@@ -7,7 +7,7 @@ use Rattle.pgo_sections.specs.Expansion.{Expansion}
 use Rattle.pgo_pluscal.specs.declared.part.Step.{Step}
 use Rattle.pgo_pluscal.specs.declared.part.Step.TheVariants as steps
 use Rattle.pgo_pluscal.specs.PartView.{around}
-use Rattle.pgo_pluscal.specs.Rows.{level_within, step_text, opened, closings}
+use Rattle.pgo_pluscal.specs.Steps.{level_within, step_text, opened, closings}
 use Rattle.pgo_pluscal.specs.Text.{line, tree_text}
 
 -- the line that closes a block

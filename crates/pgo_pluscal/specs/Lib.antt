@@ -5,4 +5,4 @@ pub mod PartFalls
 pub mod PlusCalOf
 pub mod Text
 pub mod Words
-pub mod Rows
+pub mod Steps

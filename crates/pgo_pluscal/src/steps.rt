@@ -1,7 +1,7 @@
 // The lines of a row of statements, and of a row's end.
 ghost use Rattle.std.specs.Prelude.{◌≡◌, ◌++◌, ℕ, IfOk};
 ghost use Rattle.std.specs.List.{flat_map};
-ghost use Rattle.pgo_pluscal.specs.Rows as spec;
+ghost use Rattle.pgo_pluscal.specs.Steps as spec;
 ghost use Rattle.pgo_pluscal.specs.Text.{change_text, end_text};
 
 use crate::part::Step;

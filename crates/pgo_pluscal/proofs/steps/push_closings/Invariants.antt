@@ -1,5 +1,5 @@
 use Rattle.std.proofs.Common.{◌≡◌, ◌++◌}
-use Rattle.pgo_pluscal.specs.Rows.{closings}
+use Rattle.pgo_pluscal.specs.Steps.{closings}
 use Rattle.pgo_pluscal.proofs.steps.push_closings.Given as goal
 
 abbrev pub invariant-loop-left : goal.invariant-loop-left

@@ -1,5 +1,5 @@
 use Rattle.std.proofs.Common.{◌≡◌, ◌++◌, drop}
-use Rattle.pgo_pluscal.specs.Rows.{opened, level_within}
+use Rattle.pgo_pluscal.specs.Steps.{opened, level_within}
 use Rattle.pgo_pluscal.proofs.steps.push_steps.Given as goal
 
 abbrev pub invariant-loop-step : goal.invariant-loop-step
