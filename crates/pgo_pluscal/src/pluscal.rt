@@ -42,7 +42,7 @@ pub struct PlusCal {
     pub processes: ExpandedProcesses,
 }
 
-/// The set of the identifiers: `{e}` for `= e`, and e for `\in e`.
+/// The set of the identifiers: `{e}` for `= e`, and e for `\in e`. `AllocError` comes where there is no memory.
 ///
 /// Source: this project's choice.
 pub fn set_of_ids(alloc: Global, ids: &Origin) -> Result<Sub, AllocError>

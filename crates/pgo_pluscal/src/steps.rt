@@ -1,13 +1,14 @@
 // The lines of a row of statements, and of a row's end.
-ghost use Rattle.std.specs.Prelude.{◌≡◌, ◌++◌, ℕ, IfOk};
+ghost use Rattle.std.specs.Prelude.{◌≡◌, ◌++◌, [], ◌∷◌, codes, IfOk};
 ghost use Rattle.std.specs.List.{flat_map};
+ghost use Rattle.pgo_base.specs.ExprView.{tree};
 ghost use Rattle.pgo_pluscal.specs.Steps as spec;
-ghost use Rattle.pgo_pluscal.specs.Text.{change_text, end_text};
+ghost use Rattle.pgo_pluscal.specs.Text.{change_text, end_text, line, value_text};
 
 use crate::part::Step;
 use crate::words::Word::{Bytes, Name, Own};
 use crate::words::{deeper, push_line};
-use pgo_base::expr::Names;
+use pgo_base::expr::{Expr, Names};
 use pgo_base::text::Text;
 use pgo_expr_write::errors::NoMemory;
 use std::alloc::Global;
@@ -52,60 +53,64 @@ pub fn push_steps(
 }
 
 /// Adds the line of a statement.
-fn push_step<'a>(
+fn push_step(
     bytes: &mut Vec<u8>,
     alloc: Global,
-    own: &'a Names,
+    own: &Names,
     level: usize,
-    step: &'a Step,
+    step: &Step,
 ) -> Result<(), NoMemory>
     ensures { IfOk result (λ _. bytes.new.items ≡ bytes.old.items ++ spec.step_text own.now level step.now) }
 {
     match step {
-        Step::With(x, e) => push_line(
-            bytes,
-            alloc,
-            level,
-            &[
-                Bytes(b"with ("),
-                Name(x),
-                Bytes(b" = "),
-                Own(own, e),
-                Bytes(b") {"),
-            ],
-        ),
-        Step::In(x, e) => push_line(
-            bytes,
-            alloc,
-            level,
-            &[
-                Bytes(b"with ("),
-                Name(x),
-                Bytes(b" \\in "),
-                Own(own, e),
-                Bytes(b") {"),
-            ],
-        ),
+        Step::With(x, e) => push_with(bytes, alloc, own, level, x, b" = ", e),
+        Step::In(x, e) => push_with(bytes, alloc, own, level, x, b" \\in ", e),
         Step::Skip => Ok(()),
-        Step::Await(e) => push_line(
-            bytes,
-            alloc,
-            level,
-            &[Bytes(b"await "), Own(own, e), Bytes(b";")],
-        ),
-        Step::Assert(e) => push_line(
-            bytes,
-            alloc,
-            level,
-            &[Bytes(b"assert "), Own(own, e), Bytes(b";")],
-        ),
-        Step::Print(e) => push_line(
-            bytes,
-            alloc,
-            level,
-            &[Bytes(b"print "), Own(own, e), Bytes(b";")],
-        ),
+        Step::Await(e) => push_simple(bytes, alloc, own, level, b"await ", e),
+        Step::Assert(e) => push_simple(bytes, alloc, own, level, b"assert ", e),
+        Step::Print(e) => push_simple(bytes, alloc, own, level, b"print ", e),
     }
+}
+
+/// Adds the line of a `with`; sign: what stands between the name and the expression.
+fn push_with<'a>(
+    bytes: &mut Vec<u8>,
+    alloc: Global,
+    own: &'a Names,
+    level: usize,
+    x: &'a Text,
+    sign: &'a [u8],
+    e: &'a Expr,
+) -> Result<(), NoMemory>
+    ensures { IfOk result (λ _. bytes.new.items ≡ bytes.old.items ++ line level (codes "with (" ∷ x.now ∷ sign.now ∷ value_text own.now (tree e.now) ∷ codes ") {" ∷ [])) }
+{
+    let words = [
+        Bytes(b"with ("),
+        Name(x),
+        Bytes(sign),
+        Own(own, e),
+        Bytes(b") {"),
+    ];
+    push_line(bytes, alloc, level, &words)
+}
+
+/// Adds the line of a statement that is a word and an expression.
+fn push_simple<'a>(
+    bytes: &mut Vec<u8>,
+    alloc: Global,
+    own: &'a Names,
+    level: usize,
+    word: &'a [u8],
+    e: &'a Expr,
+) -> Result<(), NoMemory>
+    ensures { IfOk result (λ _. bytes.new.items ≡ bytes.old.items ++ line level (word.now ∷ value_text own.now (tree e.now) ∷ codes ";" ∷ [])) }
+{
+    push_line(
+        bytes,
+        alloc,
+        level,
+        &[Bytes(word), Own(own, e), Bytes(b";")],
+    )
 }
 
 /// Adds the lines that close so many blocks, the innermost first; level: how many blocks stand around them.
