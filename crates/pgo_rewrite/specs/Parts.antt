@@ -16,6 +16,11 @@ indexed _ = None
 abbrev pub element_by : MappedNames → List Name → Tree → Option Mapped
 element_by mapped under t = on None (indexed t) (element_of mapped under)
 
+-- another expression, with these operands
+abbrev pub form_rewritten : MappedNames → List Name → Tree → List Tree → ℕ → Hoisted Tree
+form_rewritten mapped under t ps k =
+    on (pure k (rebuilt t ps)) (element_by mapped under t) (λ m. read_element m (index_tree (trees (behind ps))) k)
+
 module _ (stands : Name → Option Tree) (mapped : MappedNames) where
   -- operands, of which the first has the number i: around number i the names `around i` are bound
   abbrev pub parts : (ℕ → List Name) → ℕ → List Tree → ℕ → Hoisted (List Tree)
@@ -29,11 +34,6 @@ module _ (stands : Name → Option Tree) (mapped : MappedNames) where
   abbrev pub name_rewritten : List Name → Name → ℕ → Hoisted Tree
   name_rewritten under x k = on (pure k (standing stands under x)) (if_whole (mapped_under mapped under x)) (λ m. read_whole m k)
 
-  -- another expression, with these operands
-  abbrev pub form_rewritten : List Name → Tree → List Tree → ℕ → Hoisted Tree
-  form_rewritten under t ps k =
-      on (pure k (rebuilt t ps)) (element_by mapped under t) (λ m. read_element m (index_tree (trees (behind ps))) k)
-
   abbrev pub finished : List Name → Tree → List Tree → ℕ → Hoisted Tree
   finished under (name x) ps k = name_rewritten under x k
-  finished under t ps k = form_rewritten under t ps k
+  finished under t ps k = form_rewritten mapped under t ps k

@@ -8,4 +8,4 @@ use Rattle.pgo_rewrite.specs.ScopeView.{groups_of}
 
 pub link_falls : (l : Link) → max (deep-Link l) 0 ≤ length (groups_of l)
 link_falls Empty = omega arith
-link_falls (Within ns s) = omega arith
+link_falls (Within ns n s) = omega arith

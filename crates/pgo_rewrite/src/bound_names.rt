@@ -1,59 +1,58 @@
-// The names that an expression binds, and which of them are bound around each of its operands.
-ghost use Rattle.std.specs.Prelude.{◌≡◌, [], ◌∷◌, ◌++◌, take, IfOk};
+// The names that an expression binds, and how many of them are bound around each of its operands.
+ghost use Rattle.std.specs.Prelude.{◌≡◌, [], ◌∷◌, ◌++◌, IfOk};
 ghost use Rattle.pgo_base.specs.ExprView.{tree};
 ghost use Rattle.pgo_base.specs.Tree.{named, bound};
-ghost use Rattle.pgo_rewrite.specs.ScopeView.{lent_names};
 ghost use Rattle.pgo_rewrite.specs.Scoped as spec;
 ghost use Rattle.pgo_sections.specs.Bound.{names_of, names_bound};
 
-use pgo_base::expr::{Binders, Expr, Named};
+use pgo_base::expr::{Binders, Expr, Named, Names};
 use pgo_base::text::Text;
 use std::alloc::{AllocError, Global};
 
 /// Adds names.
-fn add_all<'a>(all: &mut Vec<&'a Text>, names: &'a [Text]) -> Result<(), AllocError>
-    ensures { IfOk result (λ _. lent_names all.new.items ≡ lent_names all.old.items ++ names.now) }
+fn add_all(alloc: Global, all: &mut Names, names: &[Text]) -> Result<(), AllocError>
+    ensures { IfOk result (λ _. all.new ≡ all.old ++ names.now) }
 {
     for name in names {
-        all.push(name)?;
+        all.push(name.copy(alloc)?)?;
     }
     Ok(())
 }
 
 /// The names of a LET.
-fn let_names<'a>(alloc: Global, list: &'a Named) -> Result<Vec<&'a Text>, AllocError>
-    ensures { IfOk result (λ v. lent_names v.items ≡ names_of (named list.entry.now)) }
+fn let_names(alloc: Global, list: &Named) -> Result<Names, AllocError>
+    ensures { IfOk result (λ v. v ≡ names_of (named list.now)) }
 {
-    let mut all = Vec::new(alloc);
+    let mut all = Names::new(alloc);
     for item in list.as_slice() {
-        all.push(&item.0)?;
+        all.push(item.0.copy(alloc)?)?;
     }
     Ok(all)
 }
 
 /// The names of binders.
-fn binder_names<'a>(alloc: Global, list: &'a Binders) -> Result<Vec<&'a Text>, AllocError>
-    ensures { IfOk result (λ v. lent_names v.items ≡ names_bound (bound list.entry.now)) }
+fn binder_names(alloc: Global, list: &Binders) -> Result<Names, AllocError>
+    ensures { IfOk result (λ v. v ≡ names_bound (bound list.now)) }
 {
-    let mut all = Vec::new(alloc);
+    let mut all = Names::new(alloc);
     for item in list.as_slice() {
-        add_all(&mut all, item.0.as_slice())?;
+        add_all(alloc, &mut all, item.0.as_slice())?;
     }
     Ok(all)
 }
 
 /// One name.
-fn one_name<'a>(alloc: Global, name: &'a Text) -> Result<Vec<&'a Text>, AllocError>
-    ensures { IfOk result (λ v. lent_names v.items ≡ name.entry.now ∷ []) }
+fn one_name(alloc: Global, name: &Text) -> Result<Names, AllocError>
+    ensures { IfOk result (λ v. v ≡ name.now ∷ []) }
 {
-    let mut all = Vec::new(alloc);
-    all.push(name)?;
+    let mut all = Names::new(alloc);
+    all.push(name.copy(alloc)?)?;
     Ok(all)
 }
 
 /// The names that an expression binds, in the order of the text.
-pub(crate) fn names_by<'a>(alloc: Global, e: &'a Expr) -> Result<Vec<&'a Text>, AllocError>
-    ensures { IfOk result (λ v. lent_names v.items ≡ spec.names_by (tree e.entry.now)) }
+pub(crate) fn names_by(alloc: Global, e: &Expr) -> Result<Names, AllocError>
+    ensures { IfOk result (λ v. v ≡ spec.names_by (tree e.now)) }
 {
     match e {
         Expr::Let(list, _) => let_names(alloc, list),
@@ -62,50 +61,35 @@ pub(crate) fn names_by<'a>(alloc: Global, e: &'a Expr) -> Result<Vec<&'a Text>, 
         Expr::Filter(x, _, _) => one_name(alloc, x),
         Expr::Image(_, x, _) => one_name(alloc, x),
         Expr::FunOf(list, _) => binder_names(alloc, list),
-        _ => Ok(Vec::new(alloc)),
+        _ => Ok(Names::new(alloc)),
     }
 }
 
-/// The first so many of these names.
-fn first_names<'a>(names: &'a [&'a Text], count: usize) -> &'a [&'a Text]
-    ensures { lent_names result.now ≡ take count (lent_names names.entry.now) }
+/// No name around the sets of binders, and all n around what stands behind them.
+fn at_body(list: &Binders, n: usize, i: usize) -> usize
+    ensures { result ≡ spec.at_body (spec.count_bound (bound list.now)) n i }
 {
-    if count < names.len() {
-        &names[..count]
-    } else {
-        names
-    }
+    if i < list.as_slice().len() { 0 } else { n }
 }
 
-/// No name around the sets of binders, and these names around what stands behind them.
-fn at_body<'a>(list: &Binders, names: &'a [&'a Text], i: usize) -> &'a [&'a Text]
-    ensures { lent_names result.now ≡ spec.at_body (spec.count_bound (bound list.now)) (lent_names names.entry.now) i }
+/// All n names around the first operand, and none around another.
+fn at_first(n: usize, i: usize) -> usize
+    ensures { result ≡ spec.at_first n i }
 {
-    if i < list.as_slice().len() {
-        first_names(names, 0)
-    } else {
-        names
-    }
+    if i == 0 { n } else { 0 }
 }
 
-/// These names around the first operand.
-fn at_first<'a>(names: &'a [&'a Text], i: usize) -> &'a [&'a Text]
-    ensures { lent_names result.now ≡ spec.at_first (lent_names names.entry.now) i }
-{
-    if i == 0 { names } else { first_names(names, 0) }
-}
-
-/// Those of the names of an expression that are bound around its operand i, from 0.
-pub(crate) fn names_at<'a>(e: &Expr, names: &'a [&'a Text], i: usize) -> &'a [&'a Text]
-    ensures { lent_names result.now ≡ spec.names_at (tree e.now) (lent_names names.entry.now) i }
+/// How many of the n names of an expression are bound around its operand i, from 0. They are the first of its names.
+pub(crate) fn count_at(e: &Expr, n: usize, i: usize) -> usize
+    ensures { result ≡ spec.count_at (tree e.now) n i }
 {
     match e {
-        Expr::Let(_, _) => first_names(names, i),
-        Expr::Quantified(_, list, _) => at_body(list, names, i),
-        Expr::Choose(_, _, _) => first_names(names, i),
-        Expr::Filter(_, _, _) => first_names(names, i),
-        Expr::Image(_, _, _) => at_first(names, i),
-        Expr::FunOf(list, _) => at_body(list, names, i),
-        _ => first_names(names, 0),
+        Expr::Let(_, _) => i,
+        Expr::Quantified(_, list, _) => at_body(list, n, i),
+        Expr::Choose(_, _, _) => i,
+        Expr::Filter(_, _, _) => i,
+        Expr::Image(_, _, _) => at_first(n, i),
+        Expr::FunOf(list, _) => at_body(list, n, i),
+        _ => 0,
     }
 }

@@ -1,7 +1,7 @@
 // Mapped reads that come before an expression.
-ghost use Rattle.std.specs.Prelude.{◌≡◌, ◌+◌, ◌++◌, IfOk};
+ghost use Rattle.std.specs.Prelude.{◌≡◌, ◌+◌, [], ◌∷◌, ◌++◌, None, Some, IfOk};
 ghost use Rattle.pgo_base.specs.ExprView.{tree};
-ghost use Rattle.pgo_rewrite.specs.Views.{mapped_view, read_views};
+ghost use Rattle.pgo_rewrite.specs.Views.{mapped_view, read_view, read_views};
 ghost use Rattle.pgo_sections.specs.Access.{place as place_name, read_whole as whole, read_element as element};
 
 use crate::mapped::Mapped;
@@ -33,10 +33,10 @@ pub fn place(alloc: Global, k: u64) -> Result<Text, AllocError>
     ensures { IfOk result (λ t. t ≡ place_name k) }
 {
     let mut bytes = Vec::new(alloc);
+    bytes.push(b'#')?;
     for _i in 0..k {
         bytes.push(b'#')?;
     }
-    bytes.push(b'#')?;
     Ok(Text::from_bytes(bytes))
 }
 
@@ -57,6 +57,40 @@ pub(crate) struct Reads<'a> {
     pub used: u64,
 }
 
+/// A read of a global as a whole.
+fn whole_read<'a>(mapped: Mapped<'a>, value: Text) -> Read<'a>
+    ensures { read_view result ≡ record { mapped = mapped_view mapped.entry; index = None; value = value } }
+{
+    Read {
+        mapped,
+        index: None,
+        value,
+    }
+}
+
+/// A read of an element.
+fn element_read<'a>(mapped: Mapped<'a>, at: Text, index: Expr, value: Text) -> Read<'a>
+    ensures { read_view result ≡ record { mapped = mapped_view mapped.entry; index = Some (at, tree index); value = value } }
+{
+    Read {
+        mapped,
+        index: Some((at, index)),
+        value,
+    }
+}
+
+impl<'a> Reads<'a> {
+    /// Adds a read.
+    fn add(&mut self, read: Read<'a>, used: u64) -> Result<(), AllocError>
+        ensures reads { IfOk result (λ _. read_views self.new.list.items ≡ read_views self.old.list.items ++ read_view read.entry ∷ []) }
+        ensures used { IfOk result (λ _. self.new.used ≡ used) }
+    {
+        self.used = used;
+        self.list.push(read)?;
+        Ok(())
+    }
+}
+
 impl<'a> Reads<'a> {
     /// Adds a read of a global as a whole, and gives the name of its value.
     pub(crate) fn read_whole(&mut self, alloc: Global, mapped: Mapped<'a>) -> Result<Expr, AllocError>
@@ -67,12 +101,7 @@ impl<'a> Reads<'a> {
         let k = self.used;
         let value = place(alloc, k)?;
         let rest = place(alloc, k)?;
-        self.used = after(k)?;
-        self.list.push(Read {
-            mapped,
-            index: None,
-            value,
-        })?;
+        self.add(whole_read(mapped, value), after(k)?)?;
         Ok(Expr::Name(rest))
     }
 
@@ -92,12 +121,7 @@ impl<'a> Reads<'a> {
         let next = after(k)?;
         let value = place(alloc, next)?;
         let rest = place(alloc, next)?;
-        self.used = after(next)?;
-        self.list.push(Read {
-            mapped,
-            index: Some((at, index)),
-            value,
-        })?;
+        self.add(element_read(mapped, at, index, value), after(next)?)?;
         Ok(Expr::Name(rest))
     }
 }

@@ -1,9 +1,9 @@
 // The names that an expression binds around a place in it.
-ghost use Rattle.std.specs.Prelude.{◌≡◌, [], ◌∷◌};
+ghost use Rattle.std.specs.Prelude.{◌≡◌, [], ◌∷◌, take};
 ghost use Rattle.pgo_rewrite.specs.Scopes.{in_scope};
-ghost use Rattle.pgo_rewrite.specs.ScopeView.{lent_names};
 ghost use Rattle.pgo_sections.specs.Among.{is_among};
 
+use pgo_base::expr::Names;
 use pgo_base::text::Text;
 use std::marker::Model;
 
@@ -14,12 +14,12 @@ pub(crate) struct Scope<'a> {
     link: Link<'a>,
 }
 
-/// No name, or these names within others.
+/// No name, or the first so many of these names within others.
 #[cycle(scopes)]
 #[derive(Clone, Copy)]
 enum Link<'a> {
     Empty,
-    Within(&'a [&'a Text], &'a Scope<'a>),
+    Within(&'a Names, usize, &'a Scope<'a>),
 }
 
 impl<'a> Model for Scope<'a> {
@@ -49,19 +49,30 @@ impl<'a> Scope<'a> {
         Scope { link: Link::Empty }
     }
 
-    /// The names of `outer`, and within them these.
-    pub(crate) fn within(outer: &'a Scope<'a>, names: &'a [&'a Text]) -> Scope<'a>
-        ensures { result ≡ lent_names names.entry.now ∷ outer.entry.now }
+    /// The names of `outer`, and within them the first so many of these.
+    pub(crate) fn within(outer: &'a Scope<'a>, names: &'a Names, count: usize) -> Scope<'a>
+        ensures { result ≡ take count names.entry.now ∷ outer.entry.now }
     {
         Scope {
-            link: Link::Within(names, outer),
+            link: Link::Within(names, count, outer),
         }
     }
 }
 
+/// The first so many of these names.
+fn first_names(names: &[Text], count: usize) -> &[Text]
+    ensures { result.now ≡ take count names.now }
+{
+    if count < names.len() {
+        &names[..count]
+    } else {
+        names
+    }
+}
+
 /// Whether a name is one of these.
-fn is_one(names: &[&Text], name: &Text) -> bool
-    ensures { result ≡ is_among name.now (lent_names names.now) }
+fn is_one(names: &[Text], name: &Text) -> bool
+    ensures { result ≡ is_among name.now names.now }
 {
     for one in names {
         if name.is(one) {
@@ -78,7 +89,9 @@ impl<'a> Scope<'a> {
     {
         match &self.link {
             Link::Empty => false,
-            Link::Within(names, outer) => is_one(names, name) || outer.has(name),
+            Link::Within(names, count, outer) => {
+                is_one(first_names(names.as_slice(), *count), name) || outer.has(name)
+            }
         }
     }
 }

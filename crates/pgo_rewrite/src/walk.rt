@@ -8,18 +8,17 @@ ghost use Rattle.pgo_rewrite.specs.Parts as spec;
 ghost use Rattle.pgo_rewrite.specs.Rewritten.{rewritten as walked, standing};
 ghost use Rattle.pgo_rewrite.specs.Scoped.{under_at};
 ghost use Rattle.pgo_rewrite.specs.Scopes.{in_scope};
-ghost use Rattle.pgo_rewrite.specs.ScopeView.{lent_names};
 ghost use Rattle.pgo_rewrite.specs.Views.{mapped_view, read_views};
 ghost use Rattle.pgo_sections.specs.Access.{if_whole, if_element, mapped_under, index_tree};
 
-use crate::bound_names::{names_at, names_by};
+use crate::bound_names::{count_at, names_by};
 use crate::mapped::{Mapped, mapped_named};
 use crate::parts::Parts;
 use crate::reads::Reads;
 use crate::rebuild::rebuilt;
 use crate::scopes::Scope;
 use crate::substitution::Substitution;
-use pgo_base::expr::{Expr, Exprs};
+use pgo_base::expr::{Expr, Exprs, Names};
 use pgo_base::text::Text;
 use pgo_operands::operands::operands;
 use pgo_syntax::bound::Binding;
@@ -74,10 +73,13 @@ fn index_of(list: Vec<Expr>) -> Expr
     ensures { tree result ≡ index_tree (trees (map tree list.items)) }
 {
     let mut list = list;
-    if list.len() == 1 && let Some(e) = list.pop() {
-        return e;
+    if list.len() != 1 {
+        return Expr::Tuple(Exprs::from_vec(list));
     }
-    Expr::Tuple(Exprs::from_vec(list))
+    match list.pop() {
+        Some(e) => e,
+        None => Expr::Tuple(Exprs::from_vec(list)),
+    }
 }
 
 /// What stands for a name, where these names are bound around it.
@@ -178,7 +180,7 @@ pub(crate) fn rewritten<'a, S: Substitution>(
 {
     let bound = names_by(alloc, e)?;
     let list = operands(alloc, e)?;
-    let parts = rewrite_parts(alloc, names, bindings, scope, e, bound.as_slice(), list.as_slice(), reads)?;
+    let parts = rewrite_parts(alloc, names, bindings, scope, e, &bound, list.as_slice(), reads)?;
     finished(alloc, names, bindings, scope, e, parts, reads)
 }
 
@@ -190,18 +192,18 @@ fn rewrite_parts<'a, S: Substitution>(
     bindings: &'a [Binding],
     scope: &Scope<'_>,
     e: &Expr,
-    bound: &[&Text],
+    bound: &Names,
     list: &[&Expr],
     reads: &mut Reads<'a>,
 ) -> Result<Vec<Expr>, AllocError>
-    ensures rest { IfOk result (λ v. map tree v.items ≡ (spec.parts (S.stands names.now) (all_mapped bindings.now) (under_at (tree e.now) (lent_names bound.now) (in_scope scope.now)) 0 (lent_trees list.now) reads.old.used).rest) }
-    ensures reads { IfOk result (λ _. read_views reads.new.list.items ≡ read_views reads.old.list.items ++ (spec.parts (S.stands names.now) (all_mapped bindings.now) (under_at (tree e.now) (lent_names bound.now) (in_scope scope.now)) 0 (lent_trees list.now) reads.old.used).reads) }
-    ensures used { IfOk result (λ _. reads.new.used ≡ (spec.parts (S.stands names.now) (all_mapped bindings.now) (under_at (tree e.now) (lent_names bound.now) (in_scope scope.now)) 0 (lent_trees list.now) reads.old.used).used) }
+    ensures rest { IfOk result (λ v. map tree v.items ≡ (spec.parts (S.stands names.now) (all_mapped bindings.now) (under_at (tree e.now) bound.now (in_scope scope.now)) 0 (lent_trees list.now) reads.old.used).rest) }
+    ensures reads { IfOk result (λ _. read_views reads.new.list.items ≡ read_views reads.old.list.items ++ (spec.parts (S.stands names.now) (all_mapped bindings.now) (under_at (tree e.now) bound.now (in_scope scope.now)) 0 (lent_trees list.now) reads.old.used).reads) }
+    ensures used { IfOk result (λ _. reads.new.used ≡ (spec.parts (S.stands names.now) (all_mapped bindings.now) (under_at (tree e.now) bound.now (in_scope scope.now)) 0 (lent_trees list.now) reads.old.used).used) }
 {
     let mut all = Vec::new(alloc);
     for (i, part) in list.iter().enumerate() {
-        let around = names_at(e, bound, i);
-        let inner = Scope::within(scope, around);
+        let count = count_at(e, bound.as_slice().len(), i);
+        let inner = Scope::within(&*scope, &*bound, count);
         all.push(rewritten(alloc, names, bindings, &inner, part, reads)?)?;
     }
     Ok(all)
