@@ -6,6 +6,7 @@ ghost use Rattle.pgo_sections.specs.Access.{place as place_name, read_whole as w
 
 use crate::mapped::Mapped;
 use pgo_base::expr::Expr;
+use pgo_base::results::both;
 use pgo_base::text::Text;
 use std::alloc::{AllocError, Global};
 
@@ -48,6 +49,34 @@ fn after(k: u64) -> Result<u64, AllocError>
         Some(n) => Ok(n),
         None => Err(AllocError),
     }
+}
+
+/// The places that the read of an element takes: of its index and twice of its value; and how many are in use then.
+#[derive(Drop)]
+struct ElementNames {
+    at: Text,
+    value: Text,
+    rest: Text,
+    used: u64,
+}
+
+/// The places that the read of an element takes where `k` are in use.
+fn element_names(alloc: Global, k: u64) -> Result<ElementNames, AllocError>
+    ensures at { IfOk result (λ n. n.at ≡ place_name k) }
+    ensures value { IfOk result (λ n. n.value ≡ place_name (k + 1)) }
+    ensures rest { IfOk result (λ n. n.rest ≡ place_name (k + 1)) }
+    ensures used { IfOk result (λ n. n.used ≡ k + 2) }
+{
+    let next = after(k)?;
+    let used = after(next)?;
+    let at = place(alloc, k)?;
+    let (value, rest) = both(place(alloc, next), place(alloc, next))?;
+    Ok(ElementNames {
+        at,
+        value,
+        rest,
+        used,
+    })
 }
 
 /// The reads so far, and how many places are in use.
@@ -116,12 +145,9 @@ impl<'a> Reads<'a> {
         ensures reads { IfOk result (λ _. read_views self.new.list.items ≡ read_views self.old.list.items ++ (element (mapped_view mapped.entry) (tree index) self.old.used).reads) }
         ensures used { IfOk result (λ _. self.new.used ≡ (element (mapped_view mapped.entry) (tree index) self.old.used).used) }
     {
-        let k = self.used;
-        let at = place(alloc, k)?;
-        let next = after(k)?;
-        let value = place(alloc, next)?;
-        let rest = place(alloc, next)?;
-        self.add(element_read(mapped, at, index, value), after(next)?)?;
-        Ok(Expr::Name(rest))
+        let names = element_names(alloc, self.used)?;
+        let read = element_read(mapped, names.at, index, names.value);
+        self.add(read, names.used)?;
+        Ok(Expr::Name(names.rest))
     }
 }
