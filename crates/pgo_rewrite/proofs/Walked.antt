@@ -7,7 +7,7 @@ use Rattle.pgo_base.specs.Lookup.{Name}
 use Rattle.pgo_base.specs.Tree.{Tree, name, primed, number, text, truth, at, word, unary, binary, product, cond_of, case_of, case_other, let_in, quantified, choose, tuple, set_of, filter_of, image, fun_of, fun_set, record_of, record_set, except, index, field, call, unchanged, Trees, no_trees, more_trees, NamedTrees, no_named, more_named, TreePairs, no_arms, more_arms, BoundTrees, no_bound, more_bound, PathTrees, no_paths, more_paths, trees, named, arms, bound, paths}
 use Rattle.pgo_model.specs.Options.{on}
 use Rattle.pgo_operands.specs.Operands.{operands, members, named_members, arm_members, bound_members, path_members}
-use Rattle.pgo_sections.specs.Access.{MappedNames, Hoisted, pure, then_hoist, read_element, index_tree, element_of}
+use Rattle.pgo_sections.specs.Access.{MappedNames, MappedRead, Hoisted, pure, then_hoist, read_element, index_tree, element_of}
 use Rattle.pgo_sections.specs.Bound.{names_of, names_bound, below}
 use Rattle.pgo_rewrite.specs.Parts.{parts, finished, form_rewritten}
 use Rattle.pgo_rewrite.specs.Rebuilt.{next, behind, fill_trees, behind_trees, fill_named, behind_named, fill_arms, behind_arms, fill_bound, behind_bound, fill_paths, behind_paths, rebuilt}
@@ -214,3 +214,24 @@ module _ (stands : Name → Option Tree) (mapped : MappedNames) where
   all_walked under ns t ls k e h =
       walked under t k ∙ parts_bind (under_at t (names_by t) under) 0 (operands t) k (finished stands mapped under t)
       ∙ sym (λ i. then_hoist (parts stands mapped (under_at t (e i) under) 0 (h i) k) (finished stands mapped under t))
+
+  -- the same, field by field, where the operands became ps and u places are in use then
+  pub walked_rest : (under ns : List Name) (t : Tree) (ls : List Tree) (k : ℕ) (ps : List Tree) (u : ℕ) → ns ≡ names_by t → ls ≡ operands t
+      → ps ≡ (parts stands mapped (under_at t ns under) 0 ls k).rest → u ≡ (parts stands mapped (under_at t ns under) 0 ls k).used
+      → (finished stands mapped under t ps u).rest ≡ (rewritten stands mapped under t k).rest
+  walked_rest under ns t ls k ps u e h r n = (λ i. (finished stands mapped under t (r i) (n i)).rest) ∙ sym (ap (λ w. w.rest) (all_walked under ns t ls k e h))
+
+  pub walked_used : (under ns : List Name) (t : Tree) (ls : List Tree) (k : ℕ) (ps : List Tree) (u : ℕ) → ns ≡ names_by t → ls ≡ operands t
+      → ps ≡ (parts stands mapped (under_at t ns under) 0 ls k).rest → u ≡ (parts stands mapped (under_at t ns under) 0 ls k).used
+      → (finished stands mapped under t ps u).used ≡ (rewritten stands mapped under t k).used
+  walked_used under ns t ls k ps u e h r n = (λ i. (finished stands mapped under t (r i) (n i)).used) ∙ sym (ap (λ w. w.used) (all_walked under ns t ls k e h))
+
+  pub walked_reads : (under ns : List Name) (t : Tree) (ls : List Tree) (k : ℕ) (ps : List Tree) (u : ℕ) (before between : List MappedRead) → ns ≡ names_by t → ls ≡ operands t
+      → ps ≡ (parts stands mapped (under_at t ns under) 0 ls k).rest → u ≡ (parts stands mapped (under_at t ns under) 0 ls k).used
+      → between ≡ before ++ (parts stands mapped (under_at t ns under) 0 ls k).reads
+      → between ++ (finished stands mapped under t ps u).reads ≡ before ++ (rewritten stands mapped under t k).reads
+  walked_reads under ns t ls k ps u before between e h r n b =
+      let p = parts stands mapped (under_at t ns under) 0 ls k in
+      (λ i. b i ++ (finished stands mapped under t (r i) (n i)).reads)
+      ∙ append_assoc before p.reads (finished stands mapped under t p.rest p.used).reads
+      ∙ sym (ap (λ w. before ++ w.reads) (all_walked under ns t ls k e h))

@@ -1,9 +1,9 @@
 -- The walk over an expression, one level at a time: its operands rewritten in order, and what is made of them.
 use Rattle.std.specs.Prelude.{ℕ, suc, List, [], ◌∷◌, ◌++◌, Option, Some, None}
 use Rattle.pgo_base.specs.Lookup.{Name}
-use Rattle.pgo_base.specs.Tree.{Tree, name, index, trees}
+use Rattle.pgo_base.specs.Tree.{Tree, index, trees}
 use Rattle.pgo_model.specs.Options.{on}
-use Rattle.pgo_sections.specs.Access.{Mapped, MappedNames, Hoisted, pure, then_hoist, read_whole, read_element, index_tree, if_whole, mapped_under, element_of}
+use Rattle.pgo_sections.specs.Access.{Mapped, MappedNames, Hoisted, pure, then_hoist, read_whole, read_element, index_tree, if_whole, name_alone, mapped_under, element_of}
 use Rattle.pgo_rewrite.specs.Rewritten.{standing, rewritten}
 use Rattle.pgo_rewrite.specs.Rebuilt.{next, behind, rebuilt}
 
@@ -35,5 +35,4 @@ module _ (stands : Name → Option Tree) (mapped : MappedNames) where
   name_rewritten under x k = on (pure k (standing stands under x)) (if_whole (mapped_under mapped under x)) (λ m. read_whole m k)
 
   abbrev pub finished : List Name → Tree → List Tree → ℕ → Hoisted Tree
-  finished under (name x) ps k = name_rewritten under x k
-  finished under t ps k = form_rewritten mapped under t ps k
+  finished under t ps k = on (form_rewritten mapped under t ps k) (name_alone t) (λ x. name_rewritten under x k)

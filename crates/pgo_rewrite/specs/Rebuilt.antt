@@ -1,6 +1,6 @@
 -- An expression with other operands. They are taken one after another in the order of the text, as far as the form needs them; `@`
 -- stands where there are too few.
-use Rattle.std.specs.Prelude.{List, [], ◌∷◌}
+use Rattle.std.specs.Prelude.{Bool, true, false, if◌then◌else◌, List, [], ◌∷◌}
 use Rattle.pgo_base.specs.Lookup.{Name}
 use Rattle.pgo_base.specs.Tree.{Tree, name, primed, number, text, truth, at, word, unary, binary, product, cond_of, case_of, case_other, let_in, quantified, choose, tuple, set_of, filter_of, image, fun_of, fun_set, record_of, record_set, except, index, field, call, unchanged, Trees, no_trees, more_trees, NamedTrees, no_named, more_named, TreePairs, no_arms, more_arms, BoundTrees, no_bound, more_bound, PathTrees, no_paths, more_paths, trees, named, arms, bound, paths}
 
@@ -65,33 +65,39 @@ rebuilt_fixed (fun_set a b) ps = fun_set (next ps) (next (behind ps))
 rebuilt_fixed (field r x) ps = field (next ps) x
 rebuilt_fixed t ps = t
 
+-- a form with a list; another stays as it is
+abbrev pub rebuilt_listed : Tree → List Tree → Tree
+rebuilt_listed (product ts) ps = product (trees ps)
+rebuilt_listed (case_of gs) ps = case_of (arms (fill_arms gs ps))
+rebuilt_listed (case_other gs e) ps = case_other (arms (fill_arms gs ps)) (next (behind_arms gs ps))
+rebuilt_listed (let_in ds e) ps = let_in (named (fill_named ds ps)) (next (behind_named ds ps))
+rebuilt_listed (quantified q bs p) ps = quantified q (bound (fill_bound bs ps)) (next (behind_bound bs ps))
+rebuilt_listed (tuple ts) ps = tuple (trees ps)
+rebuilt_listed (set_of ts) ps = set_of (trees ps)
+rebuilt_listed (fun_of bs e) ps = fun_of (bound (fill_bound bs ps)) (next (behind_bound bs ps))
+rebuilt_listed (record_of ds) ps = record_of (named (fill_named ds ps))
+rebuilt_listed (record_set ds) ps = record_set (named (fill_named ds ps))
+rebuilt_listed (except f us) ps = except (next ps) (paths (fill_paths us (behind ps)))
+rebuilt_listed (index f ts) ps = index (next ps) (trees (behind ps))
+rebuilt_listed (call x ts) ps = call x (trees ps)
+rebuilt_listed t ps = t
+
+-- whether a form has a list
+abbrev pub has_list : Tree → Bool
+has_list (product ts) = true
+has_list (case_of gs) = true
+has_list (case_other gs e) = true
+has_list (let_in ds e) = true
+has_list (quantified q bs p) = true
+has_list (tuple ts) = true
+has_list (set_of ts) = true
+has_list (fun_of bs e) = true
+has_list (record_of ds) = true
+has_list (record_set ds) = true
+has_list (except f us) = true
+has_list (index f ts) = true
+has_list (call x ts) = true
+has_list t = false
+
 abbrev pub rebuilt : Tree → List Tree → Tree
-rebuilt (name x) ps = name x
-rebuilt (primed x) ps = primed x
-rebuilt (number z) ps = number z
-rebuilt (text s) ps = text s
-rebuilt (truth b) ps = truth b
-rebuilt at ps = at
-rebuilt (word w) ps = word w
-rebuilt (unary o a) ps = unary o (next ps)
-rebuilt (binary o a b) ps = binary o (next ps) (next (behind ps))
-rebuilt (product ts) ps = product (trees ps)
-rebuilt (cond_of p a b) ps = cond_of (next ps) (next (behind ps)) (next (behind (behind ps)))
-rebuilt (case_of gs) ps = case_of (arms (fill_arms gs ps))
-rebuilt (case_other gs e) ps = case_other (arms (fill_arms gs ps)) (next (behind_arms gs ps))
-rebuilt (let_in ds e) ps = let_in (named (fill_named ds ps)) (next (behind_named ds ps))
-rebuilt (quantified q bs p) ps = quantified q (bound (fill_bound bs ps)) (next (behind_bound bs ps))
-rebuilt (choose x r p) ps = choose x (next ps) (next (behind ps))
-rebuilt (tuple ts) ps = tuple (trees ps)
-rebuilt (set_of ts) ps = set_of (trees ps)
-rebuilt (filter_of x r p) ps = filter_of x (next ps) (next (behind ps))
-rebuilt (image e x r) ps = image (next ps) x (next (behind ps))
-rebuilt (fun_of bs e) ps = fun_of (bound (fill_bound bs ps)) (next (behind_bound bs ps))
-rebuilt (fun_set a b) ps = fun_set (next ps) (next (behind ps))
-rebuilt (record_of ds) ps = record_of (named (fill_named ds ps))
-rebuilt (record_set ds) ps = record_set (named (fill_named ds ps))
-rebuilt (except f us) ps = except (next ps) (paths (fill_paths us (behind ps)))
-rebuilt (index f ts) ps = index (next ps) (trees (behind ps))
-rebuilt (field r x) ps = field (next ps) x
-rebuilt (call x ts) ps = call x (trees ps)
-rebuilt (unchanged xs) ps = unchanged xs
+rebuilt t ps = if has_list t then rebuilt_listed t ps else rebuilt_fixed t ps

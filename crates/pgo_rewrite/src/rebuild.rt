@@ -106,11 +106,37 @@ fn under_binders(alloc: Global, list: &Binders, parts: &mut Parts) -> Result<(Bi
     Ok((list, a))
 }
 
+/// Whether the form of an expression has a list.
+fn has_list(e: &Expr) -> bool
+    ensures { result ≡ spec.has_list (tree e.now) }
+{
+    match e {
+        Expr::Product(_) | Expr::Tuple(_) | Expr::SetOf(_) | Expr::Call(_, _) => true,
+        Expr::Case(_) | Expr::CaseOther(_, _) => true,
+        Expr::Let(_, _) | Expr::Record(_) | Expr::RecordSet(_) => true,
+        Expr::Quantified(_, _, _) | Expr::FunOf(_, _) => true,
+        Expr::Except(_, _) | Expr::Index(_, _) => true,
+        _ => false,
+    }
+}
+
 /// The form of an expression with other operands; `@` stands where there are too few.
 ///
 /// Err only where there is no memory.
 pub(crate) fn rebuilt(alloc: Global, e: &Expr, parts: Parts) -> Result<Expr, AllocError>
     ensures { IfOk result (λ r. tree r ≡ spec.rebuilt (tree e.now) parts) }
+{
+    let mut parts = parts;
+    if has_list(e) {
+        rebuilt_listed(alloc, e, parts)
+    } else {
+        rebuilt_fixed(alloc, e, &mut parts)
+    }
+}
+
+/// The same of a form with a list; another stays as it is.
+fn rebuilt_listed(alloc: Global, e: &Expr, parts: Parts) -> Result<Expr, AllocError>
+    ensures { IfOk result (λ r. tree r ≡ spec.rebuilt_listed (tree e.now) parts) }
 {
     let mut parts = parts;
     match e {
@@ -145,7 +171,7 @@ pub(crate) fn rebuilt(alloc: Global, e: &Expr, parts: Parts) -> Result<Expr, All
             let (list, a) = under_binders(alloc, list, &mut parts)?;
             Ok(Expr::FunOf(list, a))
         }
-        _ => rebuilt_fixed(alloc, e, &mut parts),
+        _ => e.copy(alloc),
     }
 }
 

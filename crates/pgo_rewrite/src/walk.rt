@@ -9,7 +9,7 @@ ghost use Rattle.pgo_rewrite.specs.Rewritten.{rewritten as walked, standing};
 ghost use Rattle.pgo_rewrite.specs.Scoped.{under_at};
 ghost use Rattle.pgo_rewrite.specs.Scopes.{in_scope};
 ghost use Rattle.pgo_rewrite.specs.Views.{mapped_view, read_views};
-ghost use Rattle.pgo_sections.specs.Access.{if_whole, if_element, mapped_under, index_tree};
+ghost use Rattle.pgo_sections.specs.Access.{if_whole, if_element, mapped_under, index_tree, name_alone as name_of};
 
 use crate::bound_names::{count_at, names_by};
 use crate::mapped::{Mapped, mapped_named};
@@ -119,6 +119,16 @@ fn rewrite_name<'a, S: Substitution>(
     }
 }
 
+/// The name that an expression is.
+fn name_alone(e: &Expr) -> Option<&Text>
+    ensures { option_map (λ x. x.now) result ≡ name_of (tree e.now) }
+{
+    match e {
+        Expr::Name(x) => Some(x),
+        _ => None,
+    }
+}
+
 /// What an expression becomes whose operands became these.
 fn finished<'a, S: Substitution>(
     alloc: Global,
@@ -133,9 +143,9 @@ fn finished<'a, S: Substitution>(
     ensures reads { IfOk result (λ _. read_views reads.new.list.items ≡ read_views reads.old.list.items ++ (spec.finished (S.stands names.now) (all_mapped bindings.now) (in_scope scope.now) (tree e.now) (map tree list.items) reads.old.used).reads) }
     ensures used { IfOk result (λ _. reads.new.used ≡ (spec.finished (S.stands names.now) (all_mapped bindings.now) (in_scope scope.now) (tree e.now) (map tree list.items) reads.old.used).used) }
 {
-    match e {
-        Expr::Name(x) => rewrite_name(alloc, names, bindings, scope, x, reads),
-        _ => rewrite_form(alloc, bindings, scope, e, list, reads),
+    match name_alone(e) {
+        Some(x) => rewrite_name(alloc, names, bindings, scope, x, reads),
+        None => rewrite_form(alloc, bindings, scope, e, list, reads),
     }
 }
 
