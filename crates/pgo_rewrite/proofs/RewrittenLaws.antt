@@ -1,10 +1,13 @@
 -- Where no parameter is mapped the walk puts what stands for a name in its place, and where nothing stands for a name it hoists.
-use Rattle.std.proofs.Common.{◌≡◌, ℕ, Bool, true, false, List, [], ◌∷◌, Option, Some, None, refl}
+use Rattle.std.proofs.Common.{◌≡◌, ℕ, Bool, true, false, List, [], ◌∷◌, ◌++◌, Option, Some, None, refl, ap, ◌∙◌}
 use Rattle.std.specs.Prelude.{if◌then◌else◌, unwrap_or}
 use Rattle.pgo_base.specs.Lookup.{Name, find}
 use Rattle.pgo_base.specs.Tree.{Tree, name, primed, number, text, truth, at, word, unary, binary, product, cond_of, case_of, case_other, let_in, quantified, choose, tuple, set_of, filter_of, image, fun_of, fun_set, record_of, record_set, except, index, field, call, unchanged, Trees, no_trees, more_trees, NamedTrees, no_named, more_named, TreePairs, no_arms, more_arms, BoundTrees, no_bound, more_bound, PathTrees, no_paths, more_paths}
+use Rattle.pgo_syntax.specs.declared.bound.Binding.{Binding}
+use Rattle.pgo_meaning.specs.Parameters.{all_mapped}
+use Rattle.pgo_rewrite.specs.Scopes.{Groups, in_scope}
 use Rattle.pgo_model.specs.Options.{on}
-use Rattle.pgo_sections.specs.Access.{Mapped, MappedNames, Hoisted, pure, then_hoist, read_whole, read_element, index_tree, if_whole, if_element, name_alone, mapped_under, element_of, hoisted, hoisted_all, hoisted_arms, hoisted_fields, hoisted_let, hoisted_bound, hoisted_paths}
+use Rattle.pgo_sections.specs.Access.{Mapped, MappedNames, MappedRead, Hoisted, pure, then_hoist, read_whole, read_element, index_tree, if_whole, if_element, name_alone, mapped_under, element_of, hoisted, hoisted_all, hoisted_arms, hoisted_fields, hoisted_let, hoisted_bound, hoisted_paths}
 use Rattle.pgo_sections.specs.Among.{is_among}
 use Rattle.pgo_sections.specs.Bound.{names_of, names_bound, below}
 use Rattle.pgo_sections.specs.Replaced.{replaced, replaced_all, replaced_arms, replaced_fields, replaced_let, replaced_bound, replaced_paths}
@@ -92,6 +95,11 @@ module _ (stands : Name → Option Tree) where
     plain_paths under no_paths k = refl
     plain_paths under (more_paths ps e us) k = λ i. then_hoist (plain_all under ps k i) (λ ps' k1. then_hoist (plain under e k1 i) (λ e' k2. then_hoist (plain_paths under us k2 i) (λ us' k3. pure k3 (more_paths ps' e' us'))))
 
+  -- where no name is bound around it and no binding is there
+  pub put_in : (scope : Groups) (t : Tree) (k : ℕ) (bindings : List Binding) → scope ≡ [] → bindings ≡ []
+      → (rewritten stands (all_mapped bindings) (in_scope scope) t k).rest ≡ replaced (standing stands) [] t
+  put_in scope t k bindings s b = (λ i. (rewritten stands (all_mapped (b i)) (in_scope (s i)) t k).rest) ∙ ap (λ w. w.rest) (plain [] t k)
+
 module _ (mapped : MappedNames) where
   mutual
 
@@ -149,3 +157,12 @@ module _ (mapped : MappedNames) where
     pub same_paths : (under : List Name) (t : PathTrees) (k : ℕ) → rewritten_paths (λ x. None) mapped under t k ≡ hoisted_paths mapped under t k
     same_paths under no_paths k = refl
     same_paths under (more_paths ps e us) k = λ i. then_hoist (same_all under ps k i) (λ ps' k1. then_hoist (same under e k1 i) (λ e' k2. then_hoist (same_paths under us k2 i) (λ us' k3. pure k3 (more_paths ps' e' us'))))
+
+  -- where no name is bound around it and no read comes before it
+  pub hoists : (scope : Groups) (t : Tree) (k : ℕ) (before reads : List MappedRead) (rest : Tree) (used : ℕ) → scope ≡ [] → before ≡ []
+      → rest ≡ (rewritten (λ x. None) mapped (in_scope scope) t k).rest → reads ≡ before ++ (rewritten (λ x. None) mapped (in_scope scope) t k).reads
+      → used ≡ (rewritten (λ x. None) mapped (in_scope scope) t k).used → record { reads = reads; rest = rest; used = used } ≡ hoisted mapped [] t k
+  hoists scope t k before reads rest used s b r n u =
+      (λ i. record { reads = n i; rest = r i; used = u i })
+      ∙ (λ i. let w = rewritten (λ x. None) mapped (in_scope (s i)) t k in record { reads = b i ++ w.reads; rest = w.rest; used = w.used })
+      ∙ same [] t k
