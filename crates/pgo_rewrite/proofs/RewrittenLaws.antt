@@ -1,13 +1,13 @@
 -- Where no parameter is mapped the walk puts what stands for a name in its place, and where nothing stands for a name it hoists.
 use Rattle.std.proofs.Common.{◌≡◌, ℕ, Bool, true, false, List, [], ◌∷◌, ◌++◌, Option, Some, None, refl, ap, ◌∙◌}
-use Rattle.std.specs.Prelude.{if◌then◌else◌, unwrap_or}
-use Rattle.pgo_base.specs.Lookup.{Name, find}
+use Rattle.std.specs.Prelude.{if◌then◌else◌}
+use Rattle.pgo_base.specs.Lookup.{Name}
 use Rattle.pgo_base.specs.Tree.{Tree, name, primed, number, text, truth, at, word, unary, binary, product, cond_of, case_of, case_other, let_in, quantified, choose, tuple, set_of, filter_of, image, fun_of, fun_set, record_of, record_set, except, index, field, call, unchanged, Trees, no_trees, more_trees, NamedTrees, no_named, more_named, TreePairs, no_arms, more_arms, BoundTrees, no_bound, more_bound, PathTrees, no_paths, more_paths}
 use Rattle.pgo_syntax.specs.declared.bound.Binding.{Binding}
 use Rattle.pgo_meaning.specs.Parameters.{all_mapped}
 use Rattle.pgo_rewrite.specs.Scopes.{Groups, in_scope}
 use Rattle.pgo_model.specs.Options.{on}
-use Rattle.pgo_sections.specs.Access.{Mapped, MappedNames, MappedRead, Hoisted, pure, then_hoist, read_whole, read_element, index_tree, if_whole, if_element, name_alone, mapped_under, element_of, hoisted, hoisted_all, hoisted_arms, hoisted_fields, hoisted_let, hoisted_bound, hoisted_paths}
+use Rattle.pgo_sections.specs.Access.{Mapped, MappedNames, MappedRead, pure, then_hoist, read_whole, read_element, index_tree, if_whole, if_element, name_alone, mapped_under, element_of, hoisted, hoisted_all, hoisted_arms, hoisted_fields, hoisted_let, hoisted_bound, hoisted_paths}
 use Rattle.pgo_sections.specs.Among.{is_among}
 use Rattle.pgo_sections.specs.Bound.{names_of, names_bound, below}
 use Rattle.pgo_sections.specs.Replaced.{replaced, replaced_all, replaced_arms, replaced_fields, replaced_let, replaced_bound, replaced_paths}
@@ -39,7 +39,6 @@ nothing_stands under x = go (is_among x under)
 
 module _ (stands : Name → Option Tree) where
   mutual
-
     pub plain : (under : List Name) (t : Tree) (k : ℕ) → rewritten stands [] under t k ≡ pure k (replaced (standing stands) under t)
     plain under (name x) k = λ i. on (pure k (standing stands under x)) (if_whole (nothing_mapped under x i)) (λ m. read_whole m k)
     plain under (primed x) k = refl
@@ -102,7 +101,6 @@ module _ (stands : Name → Option Tree) where
 
 module _ (mapped : MappedNames) where
   mutual
-
     pub same : (under : List Name) (t : Tree) (k : ℕ) → rewritten (λ x. None) mapped under t k ≡ hoisted mapped under t k
     same under (name x) k = λ i. on (pure k (nothing_stands under x i)) (if_whole (mapped_under mapped under x)) (λ m. read_whole m k)
     same under (primed x) k = refl

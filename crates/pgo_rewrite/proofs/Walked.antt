@@ -1,5 +1,5 @@
 -- A walk that takes the operands of an expression one after another and builds the form anew gives what `rewritten` says.
-use Rattle.std.proofs.Common.{◌≡◌, ◌<◌, ◌≤◌, ◌+◌, ℕ, zero, suc, Bool, true, false, nat_lt, List, [], ◌∷◌, ◌++◌, length, take, Option, Some, None, refl, ap, sym, ◌∙◌, append_assoc, arith}
+use Rattle.std.proofs.Common.{◌≡◌, ◌<◌, ◌+◌, ℕ, suc, true, false, nat_lt, List, [], ◌∷◌, ◌++◌, length, take, Option, refl, ap, sym, ◌∙◌, append_assoc, arith}
 use Rattle.std.specs.Prelude.{if◌then◌else◌}
 use Rattle.std.proofs.lemmas.List.{append-nil, length-append}
 use Rattle.std.proofs.Math.Seq.{take-append_seam, take-length}
@@ -9,10 +9,10 @@ use Rattle.pgo_model.specs.Options.{on}
 use Rattle.pgo_operands.specs.Operands.{operands, members, named_members, arm_members, bound_members, path_members}
 use Rattle.pgo_sections.specs.Access.{MappedNames, MappedRead, Hoisted, pure, then_hoist, read_element, index_tree, element_of}
 use Rattle.pgo_sections.specs.Bound.{names_of, names_bound, below}
-use Rattle.pgo_rewrite.specs.Parts.{parts, finished, form_rewritten}
-use Rattle.pgo_rewrite.specs.Rebuilt.{next, behind, fill_trees, behind_trees, fill_named, behind_named, fill_arms, behind_arms, fill_bound, behind_bound, fill_paths, behind_paths, rebuilt}
+use Rattle.pgo_rewrite.specs.Parts.{parts, finished}
+use Rattle.pgo_rewrite.specs.Rebuilt.{next, behind, fill_trees, behind_trees, fill_named, behind_named, fill_arms, behind_arms, fill_bound, behind_bound, fill_paths}
 use Rattle.pgo_rewrite.specs.Rewritten.{rewritten, rewritten_all, rewritten_arms, rewritten_fields, rewritten_let, rewritten_bound, rewritten_paths}
-use Rattle.pgo_rewrite.specs.Scoped.{names_by, count_bound, at_body, count_at, under_at}
+use Rattle.pgo_rewrite.specs.Scoped.{names_by, count_bound, at_body, under_at}
 
 nest_2 : {A B C D : Type 0} (p : Hoisted A) (f : A → ℕ → Hoisted B) (h : A → B → C) (g : C → ℕ → Hoisted D)
     → then_hoist (then_hoist p (λ a k. then_hoist (f a k) (λ b l. pure l (h a b)))) g ≡ then_hoist p (λ a k. then_hoist (f a k) (λ b l. g (h a b) l))

@@ -3,9 +3,9 @@ use Rattle.std.specs.Prelude.{ℕ, suc, List, [], ◌∷◌, ◌++◌, Option, S
 use Rattle.pgo_base.specs.Lookup.{Name}
 use Rattle.pgo_base.specs.Tree.{Tree, index, trees}
 use Rattle.pgo_model.specs.Options.{on}
-use Rattle.pgo_sections.specs.Access.{Mapped, MappedNames, Hoisted, pure, then_hoist, read_whole, read_element, index_tree, if_whole, name_alone, mapped_under, element_of}
+use Rattle.pgo_sections.specs.Access.{Mapped, MappedNames, Hoisted, pure, read_whole, read_element, index_tree, if_whole, name_alone, mapped_under, element_of}
 use Rattle.pgo_rewrite.specs.Rewritten.{standing, rewritten}
-use Rattle.pgo_rewrite.specs.Rebuilt.{next, behind, rebuilt}
+use Rattle.pgo_rewrite.specs.Rebuilt.{behind, rebuilt}
 
 -- what is indexed
 abbrev pub indexed : Tree → Option Tree

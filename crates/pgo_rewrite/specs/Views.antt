@@ -1,6 +1,5 @@
 -- What is read and hoisted, as it lies in memory, without any trace of that.
 use Rattle.std.specs.Prelude.{List, map, Option, Some, None, option_map}
-use Rattle.pgo_base.specs.Lookup.{Name}
 use Rattle.pgo_base.specs.Tree.{Tree}
 use Rattle.pgo_base.specs.ExprView.{tree, named_tree}
 use Rattle.pgo_sections.specs.Access.{Mapped, MappedRead, Hoisted}

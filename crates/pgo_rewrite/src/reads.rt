@@ -122,7 +122,11 @@ impl<'a> Reads<'a> {
 
 impl<'a> Reads<'a> {
     /// Adds a read of a global as a whole, and gives the name of its value.
-    pub(crate) fn read_whole(&mut self, alloc: Global, mapped: Mapped<'a>) -> Result<Expr, AllocError>
+    pub(crate) fn read_whole(
+        &mut self,
+        alloc: Global,
+        mapped: Mapped<'a>,
+    ) -> Result<Expr, AllocError>
         ensures rest { IfOk result (λ e. tree e ≡ (whole (mapped_view mapped.entry) self.old.used).rest) }
         ensures reads { IfOk result (λ _. read_views self.new.list.items ≡ read_views self.old.list.items ++ (whole (mapped_view mapped.entry) self.old.used).reads) }
         ensures used { IfOk result (λ _. self.new.used ≡ (whole (mapped_view mapped.entry) self.old.used).used) }

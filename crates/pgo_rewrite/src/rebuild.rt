@@ -97,7 +97,11 @@ fn named_two(alloc: Global, x: &Text, parts: &mut Parts) -> Result<(Text, (Sub, 
 }
 
 /// Binders with other sets, and an operand behind them.
-fn under_binders(alloc: Global, list: &Binders, parts: &mut Parts) -> Result<(Binders, Sub), AllocError>
+fn under_binders(
+    alloc: Global,
+    list: &Binders,
+    parts: &mut Parts,
+) -> Result<(Binders, Sub), AllocError>
     ensures list { IfOk result (λ p. p.0 ≡ spec.fill_bound (bound list.now) parts.old) }
     ensures operand { IfOk result (λ p. p.1 ≡ spec.next (spec.behind_bound (bound list.now) parts.old)) }
 {

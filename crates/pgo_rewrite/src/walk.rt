@@ -190,7 +190,16 @@ pub(crate) fn rewritten<'a, S: Substitution>(
 {
     let bound = names_by(alloc, e)?;
     let list = operands(alloc, e)?;
-    let parts = rewrite_parts(alloc, names, bindings, scope, e, &bound, list.as_slice(), reads)?;
+    let parts = rewrite_parts(
+        alloc,
+        names,
+        bindings,
+        scope,
+        e,
+        &bound,
+        list.as_slice(),
+        reads,
+    )?;
     finished(alloc, names, bindings, scope, e, parts, reads)
 }
 

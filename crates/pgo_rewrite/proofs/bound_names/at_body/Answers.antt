@@ -1,4 +1,4 @@
-use Rattle.std.proofs.Common.{◌≡◌, arith, length}
+use Rattle.std.proofs.Common.{arith}
 use Rattle.pgo_rewrite.proofs.Counts.{bound_counted, before_body, behind_body}
 use Rattle.pgo_rewrite.proofs.bound_names.at_body.Goals as goal
 

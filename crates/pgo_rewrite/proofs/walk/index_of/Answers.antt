@@ -1,4 +1,4 @@
-use Rattle.std.proofs.Common.{ap, ◌∙◌, arith, sym}
+use Rattle.std.proofs.Common.{ap, ◌∙◌, arith}
 use Rattle.pgo_base.specs.Tree.{tuple, trees}
 use Rattle.pgo_rewrite.proofs.Counts.{several}
 use Rattle.pgo_rewrite.proofs.walk.index_of.Goals as goal

@@ -1,0 +1,2 @@
+pub mod HighestOf
+pub mod NodesIn
