@@ -1,2 +1,3 @@
 pub mod HighestOf
 pub mod NodesIn
+pub mod Several

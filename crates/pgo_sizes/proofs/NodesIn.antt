@@ -73,5 +73,13 @@ less_left l m n h = grind (arith, h)
 pub both_left : (l m n r : ℕ) → left_after l m ≡ Some r → left_after r n ≡ left_after l (m + n)
 both_left l m n r h = grind (arith, h)
 
-pub none_left : (l m : ℕ) → left_after l 0 ≡ Some l
-none_left l m = grind arith
+pub none_of : (l m : ℕ) (t : Tree) (o : Option ℕ) → m ≡ own_nodes t → o ≡ left_after l m → o ≡ None → None ≡ left_after l (tree_nodes t)
+none_of l m t o e h n =
+    sym (ap (left_after l) (nodes_are t) ∙ less_left l (own_nodes t) (nodes_in (operands t)) (ap (left_after l) (sym e) ∙ sym h ∙ n))
+
+pub some_of : (l m r : ℕ) (t : Tree) (o : Option ℕ) (ps : List Tree) → m ≡ own_nodes t → o ≡ left_after l m → o ≡ Some r → ps ≡ operands t
+    → left_after r (nodes_in ps) ≡ left_after l (tree_nodes t)
+some_of l m r t o ps e h n p =
+    ap (λ q. left_after r (nodes_in q)) p
+    ∙ both_left l (own_nodes t) (nodes_in (operands t)) r (ap (left_after l) (sym e) ∙ sym h ∙ n)
+    ∙ ap (left_after l) (sym (nodes_are t))
