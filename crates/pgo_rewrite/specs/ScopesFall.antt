@@ -1,0 +1,11 @@
+-- Names within others are in one group more than those.
+use Rattle.std.specs.Prelude.{◌≤◌, max, length}
+use Rattle.std.proofs.Common.{arith}
+use Rattle.pgo_rewrite.specs.declared.scopes.Link.{Link}
+use Rattle.pgo_rewrite.specs.declared.scopes.Link.TheVariants.{Empty, Within}
+use Rattle.pgo_rewrite.specs.declared.scopes.Scope.TheDeep.{deep-Link}
+use Rattle.pgo_rewrite.specs.ScopeView.{groups_of}
+
+pub link_falls : (l : Link) → max (deep-Link l) 0 ≤ length (groups_of l)
+link_falls Empty = omega arith
+link_falls (Within ns n s) = omega arith

@@ -1,0 +1,97 @@
+// The names that an expression binds around a place in it.
+ghost use Rattle.std.specs.Prelude.{◌≡◌, [], ◌∷◌, take};
+ghost use Rattle.pgo_rewrite.specs.Scopes.{in_scope};
+ghost use Rattle.pgo_sections.specs.Among.{is_among};
+
+use pgo_base::expr::Names;
+use pgo_base::text::Text;
+use std::marker::Model;
+
+/// Names that are bound around an expression.
+#[cycle(scopes)]
+#[derive(Drop)]
+pub(crate) struct Scope<'a> {
+    link: Link<'a>,
+}
+
+/// No name, or the first so many of these names within others.
+#[cycle(scopes)]
+#[derive(Clone, Copy)]
+enum Link<'a> {
+    Empty,
+    Within(&'a Names, usize, &'a Scope<'a>),
+}
+
+impl<'a> Model for Scope<'a> {
+    ghost use Rattle.std.specs.Prelude.{List, ℕ, length};
+    ghost use Rattle.pgo_rewrite.specs.Scopes.{coded_groups};
+
+    ghost Value = { List (List (List ℕ)) };
+
+    ghost coded = { coded_groups };
+
+    ghost use Rattle.pgo_rewrite.specs.ScopeView.{groups_of};
+
+    ghost view = { λ s. groups_of s.link };
+
+    ghost size = { length };
+
+    ghost use Rattle.pgo_rewrite.specs.ScopesFall.{link_falls};
+
+    ghost size_decreases = { λ a h. link_falls a.link };
+}
+
+impl<'a> Scope<'a> {
+    /// No name.
+    pub(crate) fn new() -> Scope<'a>
+        ensures { result ≡ [] }
+    {
+        Scope { link: Link::Empty }
+    }
+
+    /// The names of `outer`, and within them the first so many of these.
+    pub(crate) fn within(outer: &'a Scope<'a>, names: &'a Names, count: usize) -> Scope<'a>
+        ensures { result ≡ take count names.entry.now ∷ outer.entry.now }
+    {
+        Scope {
+            link: Link::Within(names, count, outer),
+        }
+    }
+}
+
+/// The first so many of these names.
+fn first_names(names: &[Text], count: usize) -> &[Text]
+    ensures { result.now ≡ take count names.now }
+{
+    if count < names.len() {
+        &names[..count]
+    } else {
+        names
+    }
+}
+
+/// Whether a name is one of these.
+fn is_one(names: &[Text], name: &Text) -> bool
+    ensures { result ≡ is_among name.now names.now }
+{
+    for one in names {
+        if name.is(one) {
+            return true;
+        }
+    }
+    false
+}
+
+impl<'a> Scope<'a> {
+    /// Whether this is one of the names.
+    pub(crate) fn has(&self, name: &Text) -> bool
+        ensures { result ≡ is_among name.now (in_scope self.now) }
+    {
+        match &self.link {
+            Link::Empty => false,
+            Link::Within(names, count, outer) => {
+                is_one(first_names(names.as_slice(), *count), name) || outer.has(name)
+            }
+        }
+    }
+}
