@@ -1,5 +1,5 @@
 -- An expression is one higher than the highest of its operands.
-use Rattle.std.proofs.Common.{◌≡◌, ◌+◌, ◌≤◌, ℕ, zero, suc, max, min, Bool, true, false, List, [], ◌∷◌, ◌++◌, take, drop, length, refl, sym, ap, ◌∙◌, subst, arith}
+use Rattle.std.proofs.Common.{◌≡◌, ◌+◌, ◌-◌, ◌<◌, ◌≤◌, ℕ, zero, suc, max, min, Bool, true, false, List, [], ◌∷◌, ◌++◌, take, drop, length, refl, sym, ap, ◌∙◌, subst, arith}
 use Rattle.std.specs.Prelude.{if◌then◌else◌}
 use Rattle.pgo_base.specs.Tree.{Tree, name, primed, number, text, truth, at, word, unary, binary, product, cond_of, case_of, case_other, let_in, quantified, choose, tuple, set_of, filter_of, image, fun_of, fun_set, record_of, record_set, except, index, field, call, unchanged, Trees, no_trees, more_trees, NamedTrees, no_named, more_named, TreePairs, no_arms, more_arms, BoundTrees, no_bound, more_bound, PathTrees, no_paths, more_paths}
 use Rattle.pgo_expr_read.specs.Heights.{height, trees_height, named_height, arms_height, bound_height, paths_height}
@@ -63,3 +63,9 @@ height_is (index f (more_trees t (more_trees u us))) = omega (arith, trees_in us
 height_is (field r x) = omega arith
 height_is (call x ts) = omega (arith, trees_in ts)
 height_is (unchanged xs) = omega arith
+
+pub one_higher : (inside most : ℕ) (t : Tree) (b : Bool) (ps : List Tree) → b ≡ has_tuple t → ps ≡ operands t → inside ≡ min (most - 1) (highest_of b ps) → 0 < most
+    → inside + 1 ≡ min most (height t)
+one_higher inside most t b ps e h i low =
+    let all : inside ≡ min (most - 1) (highest_of (has_tuple t) (operands t)) = i ∙ (λ z. min (most - 1) (highest_of (e z) (h z))) in
+    omega (arith, all, height_is t)
