@@ -28,12 +28,7 @@ pub fn height_up_to(alloc: Global, e: &Expr, most: u64) -> Result<u64, AllocErro
 
 /// How high the highest of these operands is; those behind the first stand in a tuple, if there is one.
 #[cycle(heights)]
-fn parts_up_to(
-    alloc: Global,
-    in_tuple: bool,
-    parts: &[&Expr],
-    most: u64,
-) -> Result<u64, AllocError>
+fn parts_up_to(alloc: Global, in_tuple: bool, parts: &[&Expr], most: u64) -> Result<u64, AllocError>
     ensures { IfOk result (λ h. h ≡ min most (highest_of in_tuple (lent_trees parts.now))) }
 {
     if !in_tuple {
