@@ -1,3 +1,0 @@
-pub mod HighestOf
-pub mod NodesIn
-pub mod Several
