@@ -5,3 +5,6 @@ pub mod Around
 pub mod Todos
 pub mod Pieces
 pub mod Sections
+pub mod Called
+pub mod Origins
+pub mod Assigned

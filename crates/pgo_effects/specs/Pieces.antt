@@ -21,9 +21,13 @@ abbrev pub code_with : List Effect → Code → Code
 code_with [] c = c
 code_with (e ∷ es) c = effect_code e (code_with es c)
 
+-- these arms, and then further ones
+abbrev pub arms_then : List Code → Codes → Codes
+arms_then [] ds = ds
+arms_then (c ∷ cs) ds = more_codes c (arms_then cs ds)
+
 abbrev pub all_arms : List Code → Codes
-all_arms [] = no_codes
-all_arms (c ∷ cs) = more_codes c (all_arms cs)
+all_arms cs = arms_then cs no_codes
 
 abbrev pub last_code : Setting → Last → Code
 last_code s last.Empty = Empty

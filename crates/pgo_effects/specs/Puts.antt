@@ -1,12 +1,13 @@
 -- The arguments of macros within one another, put in place one after another: the innermost macro's first.
 use Rattle.std.specs.Prelude.{List, [], ◌∷◌}
-use Rattle.pgo_base.specs.Tree.{Tree}
+use Rattle.pgo_base.specs.Lookup.{Name}
+use Rattle.pgo_base.specs.Tree.{Tree, name}
 use Rattle.pgo_syntax.specs.Statement.{Statement, Statements, LabeledStatements, GuardedStatements}
 use Rattle.pgo_syntax.specs.declared.assignment.Assignment.{Assignment}
 use Rattle.pgo_syntax.specs.declared.assignment.Left.{Left}
 use Rattle.pgo_syntax.specs.declared.binding.Origin.{Origin}
 use Rattle.pgo_syntax.specs.declared.binding.WithName.{WithName}
-use Rattle.pgo_meaning.specs.MacrosPlaced.{Arguments, put_tree, put_left, put_assignment, put_origin, with_marked, marked, put, put_each, put_among, put_guarded}
+use Rattle.pgo_meaning.specs.MacrosPlaced.{Arguments, put_tree, put_left, put_assignment, put_origin, marked, put, put_each, put_among, put_guarded}
 
 abbrev pub Layers : Type 0
 Layers = List Arguments
@@ -42,23 +43,23 @@ abbrev pub puts_origin : Layers → Origin → Origin
 puts_origin [] o = o
 puts_origin (es ∷ ls) o = puts_origin ls (put_origin es o)
 
--- a name that a `with` in a macro binds
-abbrev pub put_name : Arguments → WithName → WithName
-put_name es w = record { name = record { name = marked w.name.name; place = w.name.place }; origin = put_origin es w.origin }
+-- the name of a `with`, with a mark for each macro around
+abbrev pub marked_by : Layers → Name → Name
+marked_by [] x = x
+marked_by (es ∷ ls) x = marked_by ls (marked x)
 
 abbrev pub puts_name : Layers → WithName → WithName
-puts_name [] w = w
-puts_name (es ∷ ls) w = puts_name ls (put_name es w)
+puts_name ls w = record { name = record { name = marked_by ls w.name.name; place = w.name.place }; origin = puts_origin ls w.origin }
 
 -- the arguments behind such a name
-abbrev pub behind_name : Layers → WithName → Layers
-behind_name [] w = []
-behind_name (es ∷ ls) w = with_marked w es ∷ behind_name ls (put_name es w)
+abbrev pub behind_name : Layers → Name → Layers
+behind_name [] x = []
+behind_name (es ∷ ls) x = ((x, name (marked x)) ∷ es) ∷ behind_name ls (marked x)
 
 abbrev pub puts_names : Layers → List WithName → List WithName
 puts_names ls [] = []
-puts_names ls (w ∷ ws) = puts_name ls w ∷ puts_names (behind_name ls w) ws
+puts_names ls (w ∷ ws) = puts_name ls w ∷ puts_names (behind_name ls w.name.name) ws
 
 abbrev pub behind_names : Layers → List WithName → Layers
 behind_names ls [] = ls
-behind_names ls (w ∷ ws) = behind_names (behind_name ls w) ws
+behind_names ls (w ∷ ws) = behind_names (behind_name ls w.name.name) ws

@@ -1,6 +1,7 @@
 // What stands around a part of the text.
-ghost use Rattle.std.specs.Prelude.{◌≡◌, [], IfOk};
-ghost use Rattle.pgo_effects.specs.Around.{layers_of};
+ghost use Rattle.std.specs.Prelude.{◌≡◌, [], None, IfOk};
+ghost use Rattle.pgo_effects.specs.Around.{around_view};
+ghost use Rattle.pgo_meaning.specs.MacrosPlaced.{bodies};
 
 use pgo_base::text::Text;
 use pgo_rewrite::arguments::Arguments;
@@ -20,9 +21,7 @@ pub struct Around<'a> {
 impl<'a> Around<'a> {
     /// Around a part of an archetype's or a mapping macro's text: no macro's arguments, and no label above.
     pub fn new(alloc: Global, macros: &'a [Macro]) -> Result<Around<'a>, AllocError>
-        ensures layers { IfOk result (λ a. layers_of a ≡ []) }
-        ensures macros { IfOk result (λ a. a.macros ≡ macros.entry) }
-        ensures label { IfOk result (λ a. a.label ≡ None) }
+        ensures { IfOk result (λ a. around_view a ≡ record { layers = []; bodies = bodies macros.entry.now; label = None }) }
     {
         let layers = Rc::new(alloc, Vec::new(alloc))?;
         Ok(Around {
@@ -34,9 +33,7 @@ impl<'a> Around<'a> {
 
     /// The same once more.
     pub fn copy(&self) -> Result<Around<'a>, AllocError>
-        ensures layers { IfOk result (λ a. layers_of a ≡ layers_of self.now) }
-        ensures macros { IfOk result (λ a. a.macros ≡ self.now.macros) }
-        ensures label { IfOk result (λ a. a.label ≡ self.now.label) }
+        ensures { IfOk result (λ a. around_view a ≡ around_view self.now) }
     {
         let layers = self.layers.clone()?;
         Ok(Around {

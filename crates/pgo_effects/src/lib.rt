@@ -2,10 +2,17 @@
 #![tactic(auto)]
 
 pub mod around;
+mod assign;
+mod branches;
+mod called;
 pub mod change;
+mod evaluate;
+mod lefts;
+mod names;
 pub mod piece;
 pub mod place;
 pub mod sections;
 pub mod setting;
+mod simple;
 pub mod todo;
 pub mod unfold;

@@ -1,7 +1,8 @@
 // Code that has not been looked at.
 ghost use Rattle.std.specs.Prelude.{◌≡◌, IfOk};
 ghost use Rattle.pgo_meaning.specs.Statements.{Setting};
-ghost use Rattle.pgo_effects.specs.Todos.{code_of};
+ghost use Rattle.pgo_effects.specs.Todos.{code_of, part_code};
+ghost use Rattle.pgo_effects.specs.Around.{around_view};
 ghost use Rattle.pgo_rewrite.specs.Views.{mapped_view};
 ghost use Rattle.pgo_meaning.specs.Parameters.{block_setting};
 
@@ -72,4 +73,11 @@ pub fn write_block<'a>(alloc: Global, mapped: Mapped<'a>) -> Result<Todo<'a>, Al
     let _ = alloc;
     let _ = mapped;
     Err(AllocError)
+}
+
+/// A part of the text that is still to be looked at.
+pub(crate) fn part_todo<'a>(part: Part<'a>, around: &Around<'a>) -> Result<Todo<'a>, AllocError>
+    ensures { IfOk result (λ t. (s : Setting) → code_of s t ≡ part_code s (around_view around.now) part.entry) }
+{
+    Ok(Todo::Text(part, around.copy()?))
 }
