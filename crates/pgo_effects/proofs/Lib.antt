@@ -6,3 +6,5 @@ pub mod BranchLaws
 pub mod Rests
 pub mod NameLaws
 pub mod AssignLaws
+pub mod CallLaws
+pub mod StatementLaws

@@ -5,6 +5,7 @@ pub mod around;
 mod assign;
 mod branches;
 mod called;
+mod calls;
 pub mod change;
 mod evaluate;
 mod lefts;

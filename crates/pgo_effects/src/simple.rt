@@ -89,7 +89,7 @@ pub(crate) fn yield_piece<'a>(
     Ok(last_alone(alloc, Last::Yield(done)))
 }
 
-/// p ++ "_" ++ x
+/// The written name of a label or a local x of the process p.
 pub(crate) fn written_name(alloc: Global, p: &[u8], x: &Text) -> Result<Text, AllocError>
     ensures { IfOk result (λ t. t ≡ written p.now x.now) }
 {
