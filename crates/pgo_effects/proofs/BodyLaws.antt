@@ -6,13 +6,13 @@ use Rattle.pgo_base.specs.Lookup.{Name}
 use Rattle.pgo_meaning.specs.MacrosPlaced.{Body, Bodies, placed, placed_each, placed_among, placed_guarded, bodies_with, bodies}
 use Rattle.pgo_effects.specs.Called.{body_after}
 
-bodies_behind : (done' : Bodies) (ms : List Macro) (m : Macro) → bodies_with done' (ms ++ m ∷ []) ≡ (m.name.name, body_after (bodies_with done' ms) m) ∷ bodies_with done' ms
-bodies_behind done' [] m = refl
-bodies_behind done' (n ∷ ms) m = bodies_behind _ ms m
+bodies_behind : (ms : List Macro) (done' : Bodies) (m : Macro) → bodies_with done' (ms ++ m ∷ []) ≡ (m.name.name, body_after (bodies_with done' ms) m) ∷ bodies_with done' ms
+bodies_behind [] done' m = refl
+bodies_behind (n ∷ ms) done' m = bodies_behind ms ((n.name.name, body_after done' n) ∷ done') m
 
 -- the last macro comes first, with those before it in place
 pub bodies_last : (ms : List Macro) (m : Macro) → bodies (ms ++ m ∷ []) ≡ (m.name.name, body_after (bodies ms) m) ∷ bodies ms
-bodies_last ms m = bodies_behind [] ms m
+bodies_last ms m = bodies_behind ms [] m
 
 mutual
   placed_none : (t : Statement) → placed [] t ≡ t

@@ -13,7 +13,7 @@ use Rattle.pgo_effects.specs.Puts.{Layers, puts, puts_among}
 use Rattle.pgo_effects.proofs.PutLaws.{puts_call, puts_walked, puts_block}
 
 module _ (s : Setting) (a : Surroundings) where
-  abbrev above : List ℕ
+  abbrev pub above : List ℕ
   above = written_label s a.label
 
   pub body_code : (n : ℕ) (es fs : Arguments) (ls : LabeledStatements) (c d : Code) → es ≡ fs → c ≡ Skip → d ≡ in_order s above (puts_among (es ∷ a.layers) ls) → in_turn (c ∷ d ∷ []) ≡ code s above (puts a.layers (walked n (put fs (block 0 ls))))

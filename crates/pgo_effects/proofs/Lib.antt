@@ -8,3 +8,4 @@ pub mod NameLaws
 pub mod AssignLaws
 pub mod CallLaws
 pub mod StatementLaws
+pub mod PlaceLaws

@@ -13,7 +13,7 @@ use Rattle.pgo_effects.specs.Puts.{puts_tree, puts_assignment}
 use Rattle.pgo_effects.proofs.PutLaws.{puts_skip, puts_assign, puts_if, puts_if_else, puts_either, puts_await, puts_print, puts_assert, puts_yield, puts_goto, puts_block}
 
 module _ (s : Setting) (a : Surroundings) where
-  abbrev above : List ℕ
+  abbrev pub above : List ℕ
   above = written_label s a.label
 
   abbrev pub meant : Statement → Code

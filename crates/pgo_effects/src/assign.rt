@@ -1,6 +1,4 @@
 // One level of an assignment: all indices and right sides in the order of the text, and then the changes from left to right.
-#![tactic(none)]
-
 ghost use Rattle.std.specs.Prelude.{◌≡◌, ℕ, suc, [], ◌∷◌, List, map, None, option_map, if◌then◌else◌, IfOk};
 ghost use Rattle.pgo_base.specs.ExprView.{tree};
 ghost use Rattle.pgo_base.specs.Lookup.{find};

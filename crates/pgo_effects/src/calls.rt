@@ -1,6 +1,4 @@
 // One level of a macro's call: its body in the place of the call.
-#![tactic(none)]
-
 ghost use Rattle.std.specs.Prelude.{◌≡◌, ℕ, [], ◌∷◌, map, IfOk};
 ghost use Rattle.pgo_base.specs.ExprView.{tree};
 ghost use Rattle.pgo_effects.specs.Around.{around_view, stands, written_label as label_at};

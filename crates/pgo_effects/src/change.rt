@@ -1,6 +1,4 @@
 // What an assignment does when all its expressions have been evaluated.
-#![tactic(none)]
-
 ghost use Rattle.std.specs.Prelude.{◌≡◌, IfOk};
 ghost use Rattle.pgo_base.specs.ExprView.{tree};
 ghost use Rattle.pgo_effects.specs.PlaceView.{place_view};
@@ -37,12 +35,7 @@ fn copy_name(alloc: Global, x: &Option<Text>) -> Result<Option<Text>, AllocError
 }
 
 /// The assignment of an expression once more.
-fn copy_set<'a>(
-    alloc: Global,
-    base: &Text,
-    p: &Place,
-    e: &Expr,
-) -> Result<Change<'a>, AllocError>
+fn copy_set<'a>(alloc: Global, base: &Text, p: &Place, e: &Expr) -> Result<Change<'a>, AllocError>
     ensures { IfOk result (λ c. change_code c ≡ Set base.now (place_view p.now) (tree e.now)) }
 {
     let base = base.copy(alloc)?;

@@ -1,6 +1,4 @@
 // The names of a `with`.
-#![tactic(none)]
-
 ghost use Rattle.std.specs.Prelude.{◌≡◌, ℕ, ◌∷◌, IfOk};
 ghost use Rattle.pgo_base.specs.ExprView.{tree};
 ghost use Rattle.pgo_base.specs.Tree.{name as name_tree};
@@ -74,6 +72,21 @@ struct OneName {
     value: Expr,
 }
 
+/// The arguments with a name more, which another one stands for.
+fn add_marked(
+    alloc: Global,
+    arguments: Arguments,
+    name: Text,
+    new: &Text,
+) -> Result<Arguments, AllocError>
+    ensures { IfOk result (λ es. es ≡ (name, name_tree new.now) ∷ arguments) }
+{
+    let stands = new.copy(alloc)?;
+    let mut more = arguments;
+    more.push(name, Expr::Name(stands))?;
+    Ok(more)
+}
+
 /// The same in a macro's body with these arguments.
 fn put_name(
     alloc: Global,
@@ -85,13 +98,11 @@ fn put_name(
     ensures name { IfOk result (λ m. m.name ≡ spec.marked name) }
     ensures value { IfOk result (λ m. tree m.value ≡ spec.put_tree arguments (tree value.now)) }
 {
-    let mut arguments = arguments;
     let value = put(alloc, &arguments, value)?;
     let new = marked(alloc, &name)?;
-    let stands = new.copy(alloc)?;
-    arguments.push(name, Expr::Name(stands))?;
+    let more = add_marked(alloc, arguments, name, &new)?;
     Ok(OneName {
-        arguments,
+        arguments: more,
         name: new,
         value,
     })
@@ -159,11 +170,7 @@ fn binding_effect<'a>(origin: &Origin, base: Text, name: Text, e: Expr) -> Effec
             name,
             value: e,
         },
-        Origin::In(_) => Effect::Pick {
-            base,
-            name,
-            set: e,
-        },
+        Origin::In(_) => Effect::Pick { base, name, set: e },
     }
 }
 

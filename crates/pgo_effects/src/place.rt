@@ -1,6 +1,4 @@
 // The variable that a name stands for.
-#![tactic(none)]
-
 ghost use Rattle.std.specs.Prelude.{◌≡◌, option_map, IfOk};
 ghost use Rattle.pgo_base.specs.Lookup.{find};
 ghost use Rattle.pgo_effects.specs.PlaceView.{place_view, target_place_of};

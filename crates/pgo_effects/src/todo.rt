@@ -1,6 +1,4 @@
 // Code that has not been looked at.
-#![tactic(none)]
-
 ghost use Rattle.std.specs.Prelude.{◌≡◌, map, IfOk};
 ghost use Rattle.pgo_syntax.specs.StatementView.{labeled_pair};
 ghost use Rattle.pgo_meaning.specs.Statements.{Setting};

@@ -1,6 +1,4 @@
 // One level of code that has not been looked at.
-#![tactic(none)]
-
 ghost use Rattle.std.specs.Prelude.{◌≡◌, option_map, IfOk};
 ghost use Rattle.pgo_base.specs.Tree.{name};
 ghost use Rattle.pgo_effects.specs.Around.{around_view};

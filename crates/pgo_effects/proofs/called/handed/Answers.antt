@@ -8,9 +8,12 @@ loop-k-init c =
 
 pub loop-k-preserved : goal.loop-k-preserved
 loop-k-preserved c =
-    let k = c.loop-k.k - 1 in
-    (handed_more c.args.params.now c.args.list.now k c.loop-k.k c.index-params-k.result c.index-list-k.result c.in_ok-value.value c.in_ok-name.name c.push.new.self c.loop-k.arguments
-    (omega arith) (omega arith) (omega arith) c.index-params-k.is c.index-list-k.is c.in_ok-name.ensures c.in_ok-value.ensures c.in_ok-push.ensures c.loop-k.invariant.0, omega arith, omega arith)
+    let k = c.loop-k.k - 1 in (
+      handed_more c.args.params.now c.args.list.now k c.loop-k.k c.index-params-k.result c.index-list-k.result c.in_ok-value.value c.in_ok-name.name c.push.new.self c.loop-k.arguments
+          (omega arith) (omega arith) (omega arith) c.index-params-k.is c.index-list-k.is c.in_ok-name.ensures c.in_ok-value.ensures c.in_ok-push.ensures c.loop-k.invariant.0,
+      omega arith,
+      omega arith,
+    )
 
 pub returns : goal.returns
 returns c =
