@@ -9,3 +9,5 @@ pub mod AssignLaws
 pub mod CallLaws
 pub mod StatementLaws
 pub mod PlaceLaws
+pub mod LeftLaws
+pub mod ChangedLaws
