@@ -1,0 +1,13 @@
+pub mod PutLaws
+pub mod BodyLaws
+pub mod PieceLaws
+pub mod Handed
+pub mod BranchLaws
+pub mod Rests
+pub mod NameLaws
+pub mod AssignLaws
+pub mod CallLaws
+pub mod StatementLaws
+pub mod PlaceLaws
+pub mod LeftLaws
+pub mod ChangedLaws

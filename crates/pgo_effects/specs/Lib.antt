@@ -1,0 +1,10 @@
+pub mod SettingView
+pub mod PlaceView
+pub mod Puts
+pub mod Around
+pub mod Todos
+pub mod Pieces
+pub mod Sections
+pub mod Called
+pub mod Origins
+pub mod Assigned

@@ -1,0 +1,51 @@
+// What the names of statements are: those of a process, or those of a mapping macro's block.
+ghost use Rattle.std.specs.Prelude.{◌≡◌};
+ghost use Rattle.pgo_meaning.specs.Parameters.{all_mapped};
+ghost use Rattle.pgo_effects.specs.SettingView.{setting_view};
+
+use pgo_base::text::Text;
+use pgo_syntax::archetype::Archetype;
+use pgo_syntax::bound::Binding;
+
+/// Whose statements they are: those of a process that runs an archetype with these bindings, or those of a mapping macro.
+#[derive(Clone, Copy)]
+pub enum Setting<'a> {
+    Process {
+        name: &'a Text,
+        archetype: &'a Archetype,
+        bindings: &'a [Binding],
+    },
+    Block,
+}
+
+impl<'a> Setting<'a> {
+    /// The process's name, empty in a block.
+    pub fn process(self) -> &'a [u8]
+        ensures { result.now ≡ (setting_view self.entry).process }
+    {
+        match self {
+            Setting::Process { name, .. } => name.as_bytes(),
+            Setting::Block => b"",
+        }
+    }
+
+    /// The bindings, none in a block.
+    pub fn bindings(self) -> &'a [Binding]
+        ensures { all_mapped result.now ≡ (setting_view self.entry).mapped }
+    {
+        match self {
+            Setting::Process { bindings, .. } => bindings,
+            Setting::Block => &[],
+        }
+    }
+
+    /// Whether the statements are a mapping macro's.
+    pub fn is_block(self) -> bool
+        ensures { result ≡ (setting_view self.entry).is_block }
+    {
+        match self {
+            Setting::Process { .. } => false,
+            Setting::Block => true,
+        }
+    }
+}
