@@ -81,7 +81,12 @@ fn height_of_change(x: &Text, globals: &[Text], changes: &[(Text, Text)]) -> Opt
 }
 
 /// Of an end behind the items so far.
-pub fn height_of_end(variables: &[Text], globals: &[Text], changes: &[(Text, Text)], before: Option<u64>) -> u64
+pub fn height_of_end(
+    variables: &[Text],
+    globals: &[Text],
+    changes: &[(Text, Text)],
+    before: Option<u64>,
+) -> u64
     ensures { result ≡ capped (end_height globals.now variables.now before changes.now) }
 {
     let mut so_far = before;
