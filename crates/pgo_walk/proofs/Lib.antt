@@ -1,1 +1,3 @@
 pub mod Capped
+pub mod Named
+pub mod Runs

@@ -19,6 +19,13 @@ pub data Frame : Type 0 where
   Reading : (w g : Name) → (i : Option Name) → (ps : List (Name × Place)) → (c : Code) → (ren : Renames) → (cur : Current) → Frame
   -- a yield ends a write to g, or to its element
   Writing : (g : Name) → (i : Option Name) → (ren : Renames) → (cur : Current) → Frame
+  -- then g, or its element, has the value of e
+  Put : (g : Name) → (i : Option Name) → (ren : Renames) → (e : Tree) → Frame
+
+-- these codes one after the other, and then fs
+abbrev pub runs : List (Name × Place) → Renames → List Code → List Frame → List Frame
+runs ps ren [] fs = fs
+runs ps ren (c ∷ cs) fs = Run ps c ren ∷ runs ps ren cs fs
 
 -- what an arm and what follows it see of the frames: the three ways on of `expand`
 module _ (vs : List Name) where
@@ -29,6 +36,7 @@ module _ (vs : List Name) where
     goes (Run ps c ren ∷ fs) cur n = expand ps c ren cur n (goes fs) (jumps fs) (yields fs)
     goes (Reading w g i ps c ren cur ∷ fs) mem n = no_go mem n
     goes (Writing g i ren cur ∷ fs) mem n = no_go mem n
+    goes (Put g i ren e ∷ fs) cur n = put_back ren cur g i e n (goes fs)
 
     -- a section ends at a jump, and a block has none
     pub jumps : List Frame → OnJump
@@ -36,11 +44,13 @@ module _ (vs : List Name) where
     jumps (Run ps c ren ∷ fs) l cur n = jumps fs l cur n
     jumps (Reading w g i ps c ren cur ∷ fs) l mem n = no_jump l mem n
     jumps (Writing g i ren cur ∷ fs) l mem n = no_jump l mem n
+    jumps (Put g i ren e ∷ fs) l cur n = jumps fs l cur n
 
     -- the innermost block ends with this value
     pub yields : List Frame → OnYield
     yields [] e cur n = no_yield e cur n
     yields (Run ps c ren ∷ fs) e cur n = yields fs e cur n
+    yields (Put g i ren e' ∷ fs) e cur n = yields fs e cur n
     yields (Reading w g i ps c ren cur ∷ fs) e mem n =
         With (made val_base (suc n)) e
         (left_behind (is_assigned mem) ren cur g i (current mem (Whole content_name)) (suc n) (λ cur' n'.

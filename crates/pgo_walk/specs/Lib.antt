@@ -1,2 +1,5 @@
 pub mod Frames
+pub mod SettingPlaces
+pub mod FrameView
+pub mod Emitted
 pub mod Heights

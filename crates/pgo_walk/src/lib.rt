@@ -1,7 +1,13 @@
 // The expansion of a section's code, one effect at a time: how many nodes and how high it is, and the tree itself.
 #![tactic(auto)]
 
+pub mod binds;
 pub mod contents;
+pub mod effects;
+pub mod event;
+pub mod frames;
 pub mod heights;
 pub mod made;
+pub mod naming;
+pub mod pushes;
 pub mod stack;
