@@ -1,3 +1,4 @@
 pub mod Capped
 pub mod Named
 pub mod Runs
+pub mod BlockAmong

@@ -27,6 +27,22 @@ abbrev pub runs : List (Name × Place) → Renames → List Code → List Frame 
 runs ps ren [] fs = fs
 runs ps ren (c ∷ cs) fs = Run ps c ren ∷ runs ps ren cs fs
 
+-- whether a block is among them
+abbrev pub has_block : List Frame → Bool
+has_block [] = false
+has_block (Run ps c ren ∷ fs) = has_block fs
+has_block (Reading w g i ps c ren cur ∷ fs) = true
+has_block (Writing g i ren cur ∷ fs) = true
+has_block (Put g i ren e ∷ fs) = has_block fs
+
+-- the innermost block's frame, and those behind it
+abbrev pub block_in : List Frame → Option (Frame × List Frame)
+block_in [] = None
+block_in (Run ps c ren ∷ fs) = block_in fs
+block_in (Reading w g i ps c ren cur ∷ fs) = Some (Reading w g i ps c ren cur, fs)
+block_in (Writing g i ren cur ∷ fs) = Some (Writing g i ren cur, fs)
+block_in (Put g i ren e ∷ fs) = block_in fs
+
 -- what an arm and what follows it see of the frames: the three ways on of `expand`
 module _ (vs : List Name) where
   abbrev mutual

@@ -12,7 +12,7 @@ use pgo_base::text::Text;
 use std::alloc::{AllocError, Global};
 
 /// `x`
-fn name_sub(alloc: Global, x: &Text) -> Result<Sub, AllocError>
+pub fn name_sub(alloc: Global, x: &Text) -> Result<Sub, AllocError>
     ensures { IfOk result (λ s. s ≡ name x.now) }
 {
     Sub::new(alloc, Expr::Name(x.copy(alloc)?))

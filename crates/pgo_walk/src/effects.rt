@@ -1,10 +1,10 @@
 // Turns at effects.
-ghost use Rattle.std.specs.Prelude.{◌≡◌, ◌∷◌, suc, IfOk, List, option_map};
+ghost use Rattle.std.specs.Prelude.{◌≡◌, ◌∷◌, [], suc, IfOk, List, option_map};
 ghost use Rattle.pgo_base.specs.ExprView.{tree};
 ghost use Rattle.pgo_base.specs.Lookup.{Name};
 ghost use Rattle.pgo_model.specs.Written.{made};
 ghost use Rattle.pgo_effects.specs.Pieces.{effect_code};
-ghost use Rattle.pgo_sections.specs.Code.{Let, Pick, Read};
+ghost use Rattle.pgo_sections.specs.Code.{Let, Pick, Read, content_places};
 ghost use Rattle.pgo_sections.specs.Expand.{content_now};
 ghost use Rattle.pgo_rewrite.specs.Views.{mapped_view};
 ghost use Rattle.pgo_walk.specs.Emitted.{emitted, left_in, with_frame};
@@ -17,7 +17,7 @@ use crate::contents::content;
 use crate::event::Event;
 use crate::frames::{Frame, Run, State, copy_name};
 use crate::naming::expr_now;
-use crate::pushes::push_code;
+use crate::pushes::push_todo;
 use crate::stack::Stack;
 use pgo_base::expr::Expr;
 use pgo_base::text::Text;
@@ -59,7 +59,7 @@ fn let_value<'a>(
 {
     let value = expr_now(alloc, run.setting, &run.renames, &state.current, e)?;
     let made = bind_in(alloc, state, run, base, name)?;
-    Ok(Event::Step(Step::With(made, value)))
+    Ok(Event::Step(Step::With(made, value.into_expr())))
 }
 
 /// A turn at a member of a set for which a name stands in what is left of the run.
@@ -75,7 +75,7 @@ fn pick_member<'a>(
 {
     let value = expr_now(alloc, run.setting, &run.renames, &state.current, set)?;
     let made = bind_in(alloc, state, run, base, name)?;
-    Ok(Event::Step(Step::In(made, value)))
+    Ok(Event::Step(Step::In(made, value.into_expr())))
 }
 
 /// What is left of the run waits for what is read.
@@ -102,6 +102,23 @@ fn wait_for<'a>(
     })
 }
 
+/// Puts the block that reads a mapped parameter before what is there.
+fn push_read<'a>(
+    alloc: Global,
+    frames: &mut Stack<Frame<'a>>,
+    mapped: Mapped<'a>,
+) -> Result<(), AllocError>
+    ensures { IfOk result (λ _. frames_view frames.new ≡ spec.Run content_places (mapped_view mapped.entry).reads [] ∷ frames_view frames.old) }
+{
+    push_todo(
+        alloc,
+        frames,
+        Setting::Block,
+        Stack::new(alloc),
+        read_block(alloc, mapped)?,
+    )
+}
+
 /// A turn at a read of a mapped parameter.
 fn read_mapped<'a>(
     alloc: Global,
@@ -116,14 +133,7 @@ fn read_mapped<'a>(
     let before = content(alloc, &run.renames, &state.current, mapped.global, index)?;
     let old = bind(alloc, &mut state.bound, b"old")?;
     wait_for(alloc, state, run, &old, value, mapped, index)?;
-    let block = read_block(alloc, mapped)?;
-    push_code(
-        alloc,
-        &mut state.frames,
-        Setting::Block,
-        &Stack::new(alloc),
-        &block,
-    )?;
+    push_read(alloc, &mut state.frames, mapped)?;
     Ok(Event::Step(Step::With(old, before.into_expr())))
 }
 

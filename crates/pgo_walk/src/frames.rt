@@ -77,13 +77,13 @@ pub fn copy_name(alloc: Global, name: Option<&Text>) -> Result<Option<Text>, All
 }
 
 /// This code, which has not been looked at.
-fn whole_piece<'a>(alloc: Global, todo: &Todo<'a>) -> Result<Piece<'a>, AllocError>
-    ensures { IfOk result (λ p. (s : Names) → piece_code s p ≡ code_of s todo.now) }
+pub fn whole_piece<'a>(alloc: Global, todo: Todo<'a>) -> Piece<'a>
+    ensures { (s : Names) → piece_code s result ≡ code_of s todo.entry }
 {
-    Ok(Piece {
+    Piece {
         effects: Vec::new(alloc),
-        last: Last::Code(todo.copy(alloc)?),
-    })
+        last: Last::Code(todo),
+    }
 }
 
 impl<'a> Run<'a> {
@@ -103,19 +103,6 @@ impl<'a> Run<'a> {
             done: 0,
             renames,
         })
-    }
-
-    /// This code, which has not been looked at.
-    pub fn of(
-        alloc: Global,
-        setting: Setting<'a>,
-        renames: &Made,
-        todo: &Todo<'a>,
-    ) -> Result<Run<'a>, AllocError>
-        ensures { IfOk result (λ r. run_view r ≡ spec.Run (places_in setting.entry) (code_of (setting_view setting.entry) todo.now) renames.now) }
-    {
-        let piece = whole_piece(alloc, todo)?;
-        Run::new(alloc, setting, piece, renames.copy(alloc)?)
     }
 
     /// The same once more.

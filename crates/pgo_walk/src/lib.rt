@@ -2,11 +2,14 @@
 #![tactic(auto)]
 
 pub mod binds;
+pub mod blocks;
 pub mod contents;
+pub mod copies;
 pub mod effects;
 pub mod event;
 pub mod frames;
 pub mod heights;
+pub mod last;
 pub mod made;
 pub mod naming;
 pub mod pushes;

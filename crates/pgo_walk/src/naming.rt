@@ -70,13 +70,13 @@ pub fn expr_now(
     renames: &Made,
     current: &Made,
     e: &Expr,
-) -> Result<Expr, AllocError>
-    ensures { IfOk result (λ r. tree r ≡ spec.current_tree (places_in setting.entry) renames.now current.now (tree e.now)) }
+) -> Result<Sub, AllocError>
+    ensures { IfOk result (λ r. r ≡ spec.current_tree (places_in setting.entry) renames.now current.now (tree e.now)) }
 {
     let names = Naming {
         setting,
         renames,
         current,
     };
-    substitute(alloc, &names, e)
+    Sub::new(alloc, substitute(alloc, &names, e)?)
 }
