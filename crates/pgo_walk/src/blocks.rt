@@ -14,13 +14,12 @@ ghost use Rattle.pgo_walk.specs.SettingPlaces.{places_in};
 
 use crate::binds::{bind, rename};
 use crate::contents::{content_put, name_sub, settle, whole_now};
-use crate::event::Event;
+use crate::event::{Event, Move};
 use crate::frames::{Frame, Run, State};
 use crate::made::Made;
 use crate::stack::Stack;
 use pgo_base::expr::Sub;
 use pgo_base::text::Text;
-use pgo_pluscal::part::Step;
 use pgo_rewrite::mapped::Mapped;
 use std::alloc::{AllocError, Global};
 
@@ -185,7 +184,7 @@ fn end_read<'a>(
     let made = bind(alloc, &mut state.bound, b"val")?;
     behind_read(alloc, state, &value, mapped, index, rest, &made)?;
     state.current = current;
-    Ok(Event::Step(Step::With(made, e.into_expr())))
+    Ok(Event::Step(Move::With(made, e)))
 }
 
 /// A turn at the end of a block that writes.
@@ -204,7 +203,7 @@ fn end_write<'a>(
     let value = name_sub(alloc, &made)?;
     push_put(&mut state.frames, mapped, index, renames, value)?;
     state.current = current;
-    Ok(Event::Step(Step::With(made, e.into_expr())))
+    Ok(Event::Step(Move::With(made, e)))
 }
 
 /// A turn at the end of a block.
@@ -265,5 +264,5 @@ pub fn put_turn<'a>(
     )?;
     let made = bind(alloc, &mut state.bound, mapped.global.as_bytes())?;
     rename(alloc, &mut state.current, mapped.global, &made)?;
-    Ok(Event::Step(Step::With(made, e.into_expr())))
+    Ok(Event::Step(Move::With(made, e)))
 }

@@ -14,7 +14,7 @@ ghost use Rattle.pgo_walk.specs.SettingPlaces.{places_in};
 
 use crate::binds::{bind, enter, rename};
 use crate::contents::content;
-use crate::event::Event;
+use crate::event::{Event, Move};
 use crate::frames::{Frame, Run, State, copy_name};
 use crate::naming::expr_now;
 use crate::pushes::push_todo;
@@ -24,7 +24,6 @@ use pgo_base::text::Text;
 use pgo_effects::piece::Effect;
 use pgo_effects::setting::Setting;
 use pgo_effects::todo::read_block;
-use pgo_pluscal::part::Step;
 use pgo_rewrite::mapped::Mapped;
 use std::alloc::{AllocError, Global};
 
@@ -59,7 +58,7 @@ fn let_value<'a>(
 {
     let value = expr_now(alloc, run.setting, &run.renames, &state.current, e)?;
     let made = bind_in(alloc, state, run, base, name)?;
-    Ok(Event::Step(Step::With(made, value.into_expr())))
+    Ok(Event::Step(Move::With(made, value)))
 }
 
 /// A turn at a member of a set for which a name stands in what is left of the run.
@@ -75,7 +74,7 @@ fn pick_member<'a>(
 {
     let value = expr_now(alloc, run.setting, &run.renames, &state.current, set)?;
     let made = bind_in(alloc, state, run, base, name)?;
-    Ok(Event::Step(Step::In(made, value.into_expr())))
+    Ok(Event::Step(Move::In(made, value)))
 }
 
 /// What is left of the run waits for what is read.
@@ -134,7 +133,7 @@ fn read_mapped<'a>(
     let old = bind(alloc, &mut state.bound, b"old")?;
     wait_for(alloc, state, run, &old, value, mapped, index)?;
     push_read(alloc, &mut state.frames, mapped)?;
-    Ok(Event::Step(Step::With(old, before.into_expr())))
+    Ok(Event::Step(Move::With(old, before)))
 }
 
 /// A turn at an effect, behind which the run goes on.

@@ -18,7 +18,7 @@ ghost use Rattle.pgo_walk.specs.SettingPlaces.{places_in};
 use crate::binds::{bind, enter, handed, rename};
 use crate::blocks::{end_with, jump};
 use crate::contents::content;
-use crate::event::Event;
+use crate::event::{Event, Move};
 use crate::frames::{Frame, Run, State, copy_name};
 use crate::made::{Made, made_for};
 use crate::naming::expr_now;
@@ -32,7 +32,6 @@ use pgo_effects::place::Place;
 use pgo_effects::setting::Setting;
 use pgo_effects::todo::{Todo, write_block};
 use pgo_effects::unfold::unfold;
-use pgo_pluscal::part::Step;
 use pgo_rewrite::mapped::Mapped;
 use std::alloc::{AllocError, Global};
 
@@ -93,7 +92,7 @@ fn set_turn<'a>(
     let value = expr_now(alloc, setting, renames, &state.current, e)?;
     let made = bind(alloc, &mut state.bound, base.as_bytes())?;
     rename(alloc, &mut state.current, variable(p), &made)?;
-    Ok(Event::Step(Step::With(made, value.into_expr())))
+    Ok(Event::Step(Move::With(made, value)))
 }
 
 /// Puts the block that writes a mapped parameter before what is there.
@@ -155,7 +154,7 @@ fn write_turn<'a>(
     let old = bind(alloc, &mut state.bound, b"old")?;
     wait_for_write(alloc, state, renames, mapped, index, &old)?;
     push_write(alloc, &mut state.frames, renames, mapped, w)?;
-    Ok(Event::Step(Step::With(old, before.into_expr())))
+    Ok(Event::Step(Move::With(old, before)))
 }
 
 /// A turn at what an assignment does.
@@ -214,7 +213,7 @@ fn if_turn<'a>(
     let test = expr_now(alloc, setting, renames, &state.current, e)?;
     let other = branch(alloc, state, setting, renames, b)?;
     push_code(alloc, &mut state.frames, setting, renames, a)?;
-    Ok(Event::If(test.into_expr(), other))
+    Ok(Event::If(test, other))
 }
 
 /// A turn at a choice.
@@ -261,7 +260,7 @@ fn await_turn<'a>(
     ensures { IfOk result (λ t. (vs : List Name) → with_frame vs state.old (spec.Run (places_in setting.entry) (Await (tree e.now)) renames.now) ≡ emitted vs t (left_in vs state.new)) }
 {
     let e = expr_now(alloc, setting, renames, &state.current, e)?;
-    Ok(Event::Step(Step::Await(e.into_expr())))
+    Ok(Event::Step(Move::Await(e)))
 }
 
 /// A turn at `assert`.
@@ -275,7 +274,7 @@ fn assert_turn<'a>(
     ensures { IfOk result (λ t. (vs : List Name) → with_frame vs state.old (spec.Run (places_in setting.entry) (Assert (tree e.now)) renames.now) ≡ emitted vs t (left_in vs state.new)) }
 {
     let e = expr_now(alloc, setting, renames, &state.current, e)?;
-    Ok(Event::Step(Step::Assert(e.into_expr())))
+    Ok(Event::Step(Move::Assert(e)))
 }
 
 /// A turn at `print`.
@@ -289,7 +288,7 @@ fn print_turn<'a>(
     ensures { IfOk result (λ t. (vs : List Name) → with_frame vs state.old (spec.Run (places_in setting.entry) (Print (tree e.now)) renames.now) ≡ emitted vs t (left_in vs state.new)) }
 {
     let e = expr_now(alloc, setting, renames, &state.current, e)?;
-    Ok(Event::Step(Step::Print(e.into_expr())))
+    Ok(Event::Step(Move::Print(e)))
 }
 
 /// A turn at `yield`.
@@ -349,7 +348,7 @@ pub fn last_turn<'a>(
 {
     match last {
         Last::Empty => Ok(Event::Quiet),
-        Last::Skip => Ok(Event::Step(Step::Skip)),
+        Last::Skip => Ok(Event::Step(Move::Skip)),
         Last::Change(change) => change_turn(alloc, state, setting, renames, change),
         Last::Await(e) => await_turn(alloc, state, setting, renames, e),
         Last::Assert(e) => assert_turn(alloc, state, setting, renames, e),
