@@ -2,3 +2,5 @@ pub mod Capped
 pub mod Named
 pub mod Runs
 pub mod BlockAmong
+pub mod Turns
+pub mod Measures

@@ -4,3 +4,6 @@ pub mod FrameView
 pub mod Emitted
 pub mod Behind
 pub mod Heights
+pub mod Spots
+pub mod Measured
+pub mod Looked

@@ -48,7 +48,7 @@ fn is_in_block(frames: &[Frame<'_>]) -> bool
 }
 
 /// No step.
-fn nowhere<'a>(alloc: Global) -> Event<'a>
+pub fn nowhere<'a>(alloc: Global) -> Event<'a>
     ensures { (vs : List Name) (x : Expansion) → emitted vs result x ≡ spec_nowhere }
 {
     Event::Either(Vec::new(alloc))
