@@ -56,8 +56,8 @@ jump_ends vs (spec.Put g i ren t ∷ fs) l cur n e = jump_ends vs fs l cur n e
 pub no_yields : (vs : List Name) (fs : List spec.Frame) (e : Tree) (cur : Current) (n : ℕ) → None ≡ spec.block_in fs → spec.yields vs fs e cur n ≡ nowhere
 no_yields vs [] e cur n h = refl
 no_yields vs (spec.Run ps c ren ∷ fs) e cur n h = no_yields vs fs e cur n h
-no_yields vs (spec.Reading w g i ps c ren before ∷ fs) e cur n h = absurd (let p : None ≡ Some (spec.Reading w g i ps c ren before, fs) = h in cc)
-no_yields vs (spec.Writing g i ren before ∷ fs) e cur n h = absurd (let p : None ≡ Some (spec.Writing g i ren before, fs) = h in cc)
+no_yields vs (spec.Reading w g i ps c ren before ∷ fs) e cur n h = absurd (let p : ◌≡◌ {A = Option (spec.Frame × List spec.Frame)} None (Some (spec.Reading w g i ps c ren before, fs)) = h in cc)
+no_yields vs (spec.Writing g i ren before ∷ fs) e cur n h = absurd (let p : ◌≡◌ {A = Option (spec.Frame × List spec.Frame)} None (Some (spec.Writing g i ren before, fs)) = h in cc)
 no_yields vs (spec.Put g i ren t ∷ fs) e cur n h = no_yields vs fs e cur n h
 
 -- the innermost block's frame f, and those behind it
@@ -67,13 +67,13 @@ pub record Found (vs : List Name) (fs : List spec.Frame) (f : spec.Frame) (gs : 
 
 -- f and gs, read off an equation of options
 found_as : (vs : List Name) (ks : List spec.Frame) (b : spec.Frame) (fs : List spec.Frame) (f : spec.Frame) (gs : List spec.Frame)
-    → Some (f, gs) ≡ Some (b, fs) → has_block (b ∷ []) ≡ true → ((e : Tree) (cur : Current) (n : ℕ) → spec.yields vs ks e cur n ≡ spec.yields vs (b ∷ fs) e cur n)
+    → ◌≡◌ {A = Option (spec.Frame × List spec.Frame)} (Some (f, gs)) (Some (b, fs)) → has_block (b ∷ []) ≡ true → ((e : Tree) (cur : Current) (n : ℕ) → spec.yields vs ks e cur n ≡ spec.yields vs (b ∷ fs) e cur n)
     → Found vs ks f gs
 found_as vs ks b fs f gs h is same =
     subst (λ (q : spec.Frame × List spec.Frame). Found vs ks q.0 q.1) (ap (λ (o : Option (spec.Frame × List spec.Frame)). on {A = spec.Frame × List spec.Frame} (b, fs) o (λ q. q)) (sym h)) (record { block = is; same = same })
 
-pub found_block_in : (vs : List Name) (fs : List spec.Frame) (f : spec.Frame) (gs : List spec.Frame) → Some (f, gs) ≡ spec.block_in fs → Found vs fs f gs
-found_block_in vs [] f gs h = absurd (let p : Some (f, gs) ≡ None = h in cc)
+pub found_block_in : (vs : List Name) (fs : List spec.Frame) (f : spec.Frame) (gs : List spec.Frame) → ◌≡◌ {A = Option (spec.Frame × List spec.Frame)} (Some (f, gs)) (spec.block_in fs) → Found vs fs f gs
+found_block_in vs [] f gs h = absurd (let p : ◌≡◌ {A = Option (spec.Frame × List spec.Frame)} (Some (f, gs)) None = h in cc)
 found_block_in vs (spec.Run ps c ren ∷ fs) f gs h = let r = found_block_in vs fs f gs h in record { block = r.block; same = r.same }
 found_block_in vs (spec.Reading w g i ps c ren before ∷ fs) f gs h =
     found_as vs (spec.Reading w g i ps c ren before ∷ fs) (spec.Reading w g i ps c ren before) fs f gs h refl (λ e cur n. refl)
