@@ -12,6 +12,7 @@ pub mod heights;
 pub mod last;
 pub mod looked;
 pub mod made;
+pub mod make;
 pub mod naming;
 pub mod pushes;
 pub mod spot;
