@@ -1,0 +1,6 @@
+pub mod Capped
+pub mod Named
+pub mod Runs
+pub mod BlockAmong
+pub mod Turns
+pub mod Measures

@@ -1,0 +1,9 @@
+pub mod Frames
+pub mod SettingPlaces
+pub mod FrameView
+pub mod Emitted
+pub mod Behind
+pub mod Heights
+pub mod Spots
+pub mod Measured
+pub mod Looked

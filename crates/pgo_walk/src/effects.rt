@@ -1,0 +1,157 @@
+// Turns at effects.
+ghost use Rattle.std.specs.Prelude.{◌≡◌, ◌∷◌, [], suc, IfOk, List, option_map};
+ghost use Rattle.pgo_base.specs.ExprView.{tree};
+ghost use Rattle.pgo_base.specs.Lookup.{Name};
+ghost use Rattle.pgo_model.specs.Written.{made};
+ghost use Rattle.pgo_effects.specs.Pieces.{effect_code};
+ghost use Rattle.pgo_sections.specs.Code.{Let, Pick, Read, content_places};
+ghost use Rattle.pgo_sections.specs.Expand.{content_now};
+ghost use Rattle.pgo_rewrite.specs.Views.{mapped_view};
+ghost use Rattle.pgo_walk.specs.Emitted.{emitted, left_in, with_frame};
+ghost use Rattle.pgo_walk.specs.FrameView.{code_left, frames_view, state_view};
+ghost use Rattle.pgo_walk.specs.Frames as spec;
+ghost use Rattle.pgo_walk.specs.SettingPlaces.{places_in};
+
+use crate::binds::{bind, enter, rename};
+use crate::contents::content;
+use crate::event::{Event, Move};
+use crate::frames::{Frame, Run, State, copy_name};
+use crate::naming::expr_now;
+use crate::pushes::push_todo;
+use crate::stack::Stack;
+use pgo_base::expr::Expr;
+use pgo_base::text::Text;
+use pgo_effects::piece::Effect;
+use pgo_effects::setting::Setting;
+use pgo_effects::todo::read_block;
+use pgo_rewrite::mapped::Mapped;
+use std::alloc::{AllocError, Global};
+
+/// The run goes on where the name stands for a value that gets a made name of this base.
+fn bind_in<'a>(
+    alloc: Global,
+    state: &mut State<'a>,
+    run: Run<'a>,
+    base: &Text,
+    name: &Text,
+) -> Result<Text, AllocError>
+    ensures name { IfOk result (λ y. y ≡ made base.now (suc state.old.bound)) }
+    ensures state { IfOk result (λ y. state_view state.new ≡ record { frames = spec.Run (places_in run.entry.setting) (code_left run.entry) ((name.now, y) ∷ run.entry.renames) ∷ frames_view state.old.frames; current = state.old.current; bound = suc state.old.bound }) }
+{
+    let mut run = run;
+    let made = bind(alloc, &mut state.bound, base.as_bytes())?;
+    rename(alloc, &mut run.renames, name, &made)?;
+    state.frames.push(Frame::Run(run))?;
+    Ok(made)
+}
+
+/// A turn at a value that a name stands for in what is left of the run.
+fn let_value<'a>(
+    alloc: Global,
+    state: &mut State<'a>,
+    run: Run<'a>,
+    base: &Text,
+    name: &Text,
+    e: &Expr,
+) -> Result<Event<'a>, AllocError>
+    ensures { IfOk result (λ t. (vs : List Name) → with_frame vs state.old (spec.Run (places_in run.entry.setting) (Let base.now name.now (tree e.now) (code_left run.entry)) run.entry.renames) ≡ emitted vs t (left_in vs state.new)) }
+{
+    let value = expr_now(alloc, run.setting, &run.renames, &state.current, e)?;
+    let made = bind_in(alloc, state, run, base, name)?;
+    Ok(Event::Step(Move::With(made, value)))
+}
+
+/// A turn at a member of a set for which a name stands in what is left of the run.
+fn pick_member<'a>(
+    alloc: Global,
+    state: &mut State<'a>,
+    run: Run<'a>,
+    base: &Text,
+    name: &Text,
+    set: &Expr,
+) -> Result<Event<'a>, AllocError>
+    ensures { IfOk result (λ t. (vs : List Name) → with_frame vs state.old (spec.Run (places_in run.entry.setting) (Pick base.now name.now (tree set.now) (code_left run.entry)) run.entry.renames) ≡ emitted vs t (left_in vs state.new)) }
+{
+    let value = expr_now(alloc, run.setting, &run.renames, &state.current, set)?;
+    let made = bind_in(alloc, state, run, base, name)?;
+    Ok(Event::Step(Move::In(made, value)))
+}
+
+/// What is left of the run waits for what is read.
+fn wait_for<'a>(
+    alloc: Global,
+    state: &mut State<'a>,
+    run: Run<'a>,
+    old: &Text,
+    value: &Text,
+    mapped: Mapped<'a>,
+    index: Option<&Text>,
+) -> Result<(), AllocError>
+    ensures { IfOk result (λ _. state_view state.new ≡ record { frames = spec.Reading value.now mapped.entry.global.now (option_map (λ i. i.now) index.entry) (places_in run.entry.setting) (code_left run.entry) run.entry.renames state.old.current ∷ frames_view state.old.frames; current = content_now old.now; bound = state.old.bound }) }
+{
+    let value = value.copy(alloc)?;
+    let index = copy_name(alloc, index)?;
+    let current = enter(alloc, &mut state.current, old)?;
+    state.frames.push(Frame::Reading {
+        value,
+        mapped,
+        index,
+        rest: run,
+        current,
+    })
+}
+
+/// Puts the block that reads a mapped parameter before what is there.
+fn push_read<'a>(
+    alloc: Global,
+    frames: &mut Stack<Frame<'a>>,
+    mapped: Mapped<'a>,
+) -> Result<(), AllocError>
+    ensures { IfOk result (λ _. frames_view frames.new ≡ spec.Run content_places (mapped_view mapped.entry).reads [] ∷ frames_view frames.old) }
+{
+    push_todo(
+        alloc,
+        frames,
+        Setting::Block,
+        Stack::new(alloc),
+        read_block(alloc, mapped)?,
+    )
+}
+
+/// A turn at a read of a mapped parameter.
+fn read_mapped<'a>(
+    alloc: Global,
+    state: &mut State<'a>,
+    run: Run<'a>,
+    value: &Text,
+    mapped: Mapped<'a>,
+    index: Option<&Text>,
+) -> Result<Event<'a>, AllocError>
+    ensures { IfOk result (λ t. (vs : List Name) → with_frame vs state.old (spec.Run (places_in run.entry.setting) (Read value.now mapped.entry.global.now (option_map (λ i. i.now) index.entry) (mapped_view mapped.entry).reads (code_left run.entry)) run.entry.renames) ≡ emitted vs t (left_in vs state.new)) }
+{
+    let before = content(alloc, &run.renames, &state.current, mapped.global, index)?;
+    let old = bind(alloc, &mut state.bound, b"old")?;
+    wait_for(alloc, state, run, &old, value, mapped, index)?;
+    push_read(alloc, &mut state.frames, mapped)?;
+    Ok(Event::Step(Move::With(old, before)))
+}
+
+/// A turn at an effect, behind which the run goes on.
+pub fn effect_turn<'a>(
+    alloc: Global,
+    state: &mut State<'a>,
+    run: Run<'a>,
+    effect: &Effect<'a>,
+) -> Result<Event<'a>, AllocError>
+    ensures { IfOk result (λ t. (vs : List Name) → with_frame vs state.old (spec.Run (places_in run.entry.setting) (effect_code effect.now (code_left run.entry)) run.entry.renames) ≡ emitted vs t (left_in vs state.new)) }
+{
+    match effect {
+        Effect::Let { base, name, value } => let_value(alloc, state, run, base, name, value),
+        Effect::Pick { base, name, set } => pick_member(alloc, state, run, base, name, set),
+        Effect::Read {
+            value,
+            mapped,
+            index,
+        } => read_mapped(alloc, state, run, value, *mapped, index.as_ref()),
+    }
+}

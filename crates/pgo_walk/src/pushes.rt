@@ -1,0 +1,66 @@
+// Code that is put before what is still to be done.
+ghost use Rattle.std.specs.Prelude.{◌≡◌, ◌∷◌, map, reverse, IfOk};
+ghost use Rattle.pgo_effects.specs.SettingView.{setting_view};
+ghost use Rattle.pgo_effects.specs.Todos.{code_of, codes_of};
+ghost use Rattle.pgo_sections.specs.Code.{Seq};
+ghost use Rattle.pgo_walk.specs.FrameView.{code_left, frame_view, frames_view, run_view, state_view};
+ghost use Rattle.pgo_walk.specs.Frames as spec;
+ghost use Rattle.pgo_walk.specs.SettingPlaces.{places_in};
+
+use crate::frames::{Frame, Run, whole_piece};
+use crate::made::Made;
+use crate::stack::Stack;
+use pgo_effects::setting::Setting;
+use pgo_effects::todo::Todo;
+use std::alloc::{AllocError, Global};
+
+/// Puts a run before what is there.
+pub fn push_run<'a>(frames: &mut Stack<Frame<'a>>, run: Run<'a>) -> Result<(), AllocError>
+    ensures { IfOk result (λ _. frames_view frames.new ≡ run_view run.entry ∷ frames_view frames.old) }
+{
+    frames.push(Frame::Run(run))
+}
+
+/// Puts code before what is there.
+pub fn push_todo<'a>(
+    alloc: Global,
+    frames: &mut Stack<Frame<'a>>,
+    setting: Setting<'a>,
+    renames: Made,
+    todo: Todo<'a>,
+) -> Result<(), AllocError>
+    ensures { IfOk result (λ _. frames_view frames.new ≡ spec.Run (places_in setting.entry) (code_of (setting_view setting.entry) todo.entry) renames ∷ frames_view frames.old) }
+{
+    let run = Run::new(alloc, setting, whole_piece(alloc, todo), renames)?;
+    push_run(frames, run)
+}
+
+/// Puts lent code before what is there.
+pub fn push_code<'a>(
+    alloc: Global,
+    frames: &mut Stack<Frame<'a>>,
+    setting: Setting<'a>,
+    renames: &Made,
+    todo: &Todo<'a>,
+) -> Result<(), AllocError>
+    ensures { IfOk result (λ _. frames_view frames.new ≡ spec.Run (places_in setting.entry) (code_of (setting_view setting.entry) todo.now) renames.now ∷ frames_view frames.old) }
+{
+    let renames = renames.copy(alloc)?;
+    push_todo(alloc, frames, setting, renames, todo.copy(alloc)?)
+}
+
+/// Puts pieces of code, one after the other, before what is there.
+pub fn push_codes<'a>(
+    alloc: Global,
+    frames: &mut Stack<Frame<'a>>,
+    setting: Setting<'a>,
+    renames: &Made,
+    todos: &[Todo<'a>],
+) -> Result<(), AllocError>
+    ensures { IfOk result (λ _. frames_view frames.new ≡ spec.runs (places_in setting.entry) renames.now (codes_of (setting_view setting.entry) todos.now) (frames_view frames.old)) }
+{
+    for i in 0..todos.len() {
+        push_code(alloc, frames, setting, renames, &todos[todos.len() - 1 - i])?;
+    }
+    Ok(())
+}
