@@ -6,3 +6,9 @@ pub mod Instances
 pub mod Heads
 pub mod Uses
 pub mod Variables
+pub mod Stands
+pub mod FromUses
+pub mod Places
+pub mod Weaker
+pub mod Meanings
+pub mod Closed

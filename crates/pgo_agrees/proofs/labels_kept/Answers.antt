@@ -8,8 +8,9 @@ use Rattle.pgo_agrees.proofs.Heads.{refs_declared}
 use Rattle.pgo_agrees.proofs.Instances.{runs_as}
 use Rattle.pgo_agrees.proofs.Kept.{no_findings, no_label_findings}
 use Rattle.pgo_agrees.proofs.Unlabelled.{are_unlabelled, none_is_done}
-use Rattle.pgo_agrees.proofs.Names.{written_single}
-use Rattle.pgo_agrees.proofs.Variables.{variable_is}
+use Rattle.pgo_agrees.proofs.FromUses.{all_left}
+use Rattle.pgo_agrees.proofs.Closed.{definitions_closed}
+use Rattle.pgo_agrees.proofs.Places.{target_whole}
 use Rattle.pgo_agrees.proofs.labels_kept.Goals as goal
 
 pub returns-clause-macros : goal.returns-clause-macros
