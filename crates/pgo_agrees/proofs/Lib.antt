@@ -12,3 +12,4 @@ pub mod Places
 pub mod Weaker
 pub mod Meanings
 pub mod Closed
+pub mod Labels

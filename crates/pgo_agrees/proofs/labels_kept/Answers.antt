@@ -10,6 +10,7 @@ use Rattle.pgo_agrees.proofs.Kept.{no_findings, no_label_findings}
 use Rattle.pgo_agrees.proofs.Unlabelled.{are_unlabelled, none_is_done}
 use Rattle.pgo_agrees.proofs.FromUses.{all_left}
 use Rattle.pgo_agrees.proofs.Closed.{definitions_closed}
+use Rattle.pgo_agrees.proofs.Labels.{few_names}
 use Rattle.pgo_agrees.proofs.Places.{target_whole}
 use Rattle.pgo_agrees.proofs.labels_kept.Goals as goal
 
