@@ -24,7 +24,7 @@ use Rattle.pgo_bound.specs.StartNames.{map-append}
 use Rattle.pgo_sections.specs.Code.{Code, Seq, Goto}
 use Rattle.pgo_meaning.specs.LabelSections.{AreUnlabelled, NoneIsDone}
 use Rattle.pgo_meaning.specs.Labels.{own, labelled, within, within_branches, within_arms, within_order}
-use Rattle.pgo_meaning.specs.MacrosPlaced.{Arguments, put, put_each, put_among, put_guarded, under_names, Body, Bodies, handed, placed, placed_each, placed_among, placed_guarded, bodies_with, bodies}
+use Rattle.pgo_meaning.specs.MacrosPlaced.{Arguments, put, put_each, put_among, put_guarded, under_names, Body, Bodies, handed, walked, placed, placed_each, placed_among, placed_guarded, bodies_with, bodies}
 use Rattle.pgo_meaning.specs.Parameters.{setting_of}
 use Rattle.pgo_sections.specs.Section.{section}
 use Rattle.pgo_meaning.specs.Sect.{context_of, code_at, nothing, Sect}
@@ -128,9 +128,9 @@ found_body (m ∷ ms) x b h e = go (same_name x m.0) e (λ k. found_body ms x b 
     go false e more = more e
 
 module _ (ms : Bodies) (none : WithoutLabels ms) where
-  call_labels : (p : ℕ) (m : PlacedName) (ts : List Tree) (o : Option Body) → find m.name ms ≡ o → labels_in (on (call_macro p m ts) o (λ b. put (handed b.parameters ts) b.statement)) ≡ []
+  call_labels : (p : ℕ) (m : PlacedName) (ts : List Tree) (o : Option Body) → find m.name ms ≡ o → labels_in (on (call_macro p m ts) o (λ b. walked p (put (handed b.parameters ts) b.statement))) ≡ []
   call_labels p m ts None e = refl
-  call_labels p m ts (Some b) e = put_labels (handed b.parameters ts) b.statement ∙ found_body ms m.name b none e
+  call_labels p m ts (Some b) e = ap (λ l. l ++ []) (put_labels (handed b.parameters ts) b.statement ∙ found_body ms m.name b none e)
 
   mutual
     placed_labels : (t : Statement) → labels_in (placed ms t) ≡ labels_in t

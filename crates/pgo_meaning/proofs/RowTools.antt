@@ -1,12 +1,11 @@
 -- Specifications in rows, written shortly.
 use Rattle.std.specs.List.{list_all}
-use Rattle.std.specs.Prelude.{ℕ, zero, suc, Bool, true, not, List, [], ◌∷◌, ◌++◌, map, pos, Option, Some, None, codes}
+use Rattle.std.specs.Prelude.{ℕ, zero, suc, Bool, true, not, List, [], ◌∷◌, map, pos, Option, Some, None, codes}
 use Rattle.pgo_base.specs.Tree.{Tree, name, number}
 use Rattle.pgo_base.specs.Data.{Data, integer, string, set, items, function, pairs}
 use Rattle.pgo_base.specs.declared.module.Defined.{Defined}
 use Rattle.pgo_base.specs.declared.value.Value.{Value}
-use Rattle.pgo_base.specs.Lookup.{Name, Vars, find}
-use Rattle.pgo_model.specs.Options.{on}
+use Rattle.pgo_base.specs.Lookup.{Name, Vars}
 use Rattle.pgo_model.specs.Outcome.{Kind, Next, Stuck, Section}
 use Rattle.pgo_model.specs.Written.{pc}
 use Rattle.pgo_syntax.specs.Statement.{Statement, yield_as}
@@ -23,7 +22,7 @@ use Rattle.pgo_syntax.specs.declared.archetype.Extent.TheVariants as extents
 use Rattle.pgo_syntax.specs.declared.macros.Macro.{Macro}
 use Rattle.pgo_syntax.specs.declared.macros.MappingMacro.{MappingMacro}
 use Rattle.pgo_syntax.specs.declared.name.PlacedName.{PlacedName}
-use Rattle.pgo_sections.specs.Expansion.{Expansion, With, In, Await, Assert, Print, If, Either, End, Expansions, no_expansions, more_expansions}
+use Rattle.pgo_sections.specs.Expansion.{Expansion, With, In, Skip, Await, Assert, Print, If, Either, End, Expansions, no_expansions, more_expansions}
 use Rattle.pgo_sections.specs.Among.{is_among}
 use Rattle.pgo_model.specs.Choice.{word_at}
 use Rattle.pgo_model.specs.System.{Touched}
@@ -96,28 +95,25 @@ leads ts t prints = record { trace = ts; end = Next t prints }
 
 -- ---- specifications
 
--- the newest change of each variable, in the order of the variables
-abbrev pub ordered : List (Name × Name) → List Name → List (Name × Name)
-ordered changes [] = []
-ordered changes (x ∷ xs) = on [] (find x changes) (λ y. (x, y) ∷ []) ++ ordered changes xs
-
 abbrev mutual
-  pub in_order : List Name → Expansion → Expansion
-  in_order vars (With x e rest) = With x e (in_order vars rest)
-  in_order vars (In x e rest) = In x e (in_order vars rest)
-  in_order vars (Await e rest) = Await e (in_order vars rest)
-  in_order vars (Assert e rest) = Assert e (in_order vars rest)
-  in_order vars (Print e rest) = Print e (in_order vars rest)
-  in_order vars (If e a b) = If e (in_order vars a) (in_order vars b)
-  in_order vars (Either arms) = Either (all_in_order vars arms)
-  in_order vars (End changes l) = End (ordered changes vars) l
+  -- the tree as it is printed: neither a `skip` nor that a macro is called is seen in it
+  pub without_skips : Expansion → Expansion
+  without_skips (With x e rest) = With x e (without_skips rest)
+  without_skips (In x e rest) = In x e (without_skips rest)
+  without_skips (Skip rest) = without_skips rest
+  without_skips (Await e rest) = Await e (without_skips rest)
+  without_skips (Assert e rest) = Assert e (without_skips rest)
+  without_skips (Print e rest) = Print e (without_skips rest)
+  without_skips (If e a b) = If e (without_skips a) (without_skips b)
+  without_skips (Either arms) = Either (all_without_skips arms)
+  without_skips (End changes l) = End changes l
 
-  pub all_in_order : List Name → Expansions → Expansions
-  all_in_order vars no_expansions = no_expansions
-  all_in_order vars (more_expansions x xs) = more_expansions (in_order vars x) (all_in_order vars xs)
+  pub all_without_skips : Expansions → Expansions
+  all_without_skips no_expansions = no_expansions
+  all_without_skips (more_expansions x xs) = more_expansions (without_skips x) (all_without_skips xs)
 
 abbrev pub all_expansions : List Name → List Macro → Name → Archetype → List Binding → List (Name × Expansion)
-all_expansions vars ms p a bs = map (λ e. (e.0, in_order vars e.1)) (expansions_of ms p a bs)
+all_expansions vars ms p a bs = map (λ e. (e.0, without_skips e.1)) (expansions_of vars ms p a bs)
 
 -- a specification with these macros and globals, bound with one instance
 abbrev pub one_instance : List Macro → Name → Archetype → List Binding → List Name → List Defined → Value → Bound

@@ -1,4 +1,5 @@
--- The expansions of ten specifications, as an independent reading of the rules wrote them; and that their names are well formed.
+-- The expansions of ten specifications, but for `skip`s and calls, as an independent reading of the rules wrote them; and that their
+-- names are well formed.
 use Rattle.std.specs.Prelude.{◌≡◌, pos, true, [], ◌∷◌, Some, None, codes, refl}
 use Rattle.pgo_base.specs.declared.expr.Infix.TheVariants as infixs
 use Rattle.pgo_base.specs.Tree.{name, number, text, binary, tuple, record_of, except, index, field, call, trees, named, paths}

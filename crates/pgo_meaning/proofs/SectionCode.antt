@@ -24,7 +24,7 @@ use Rattle.pgo_sections.specs.Access.{Mapped, MappedNames, MappedRead, Hoisted, 
 use Rattle.pgo_sections.specs.Among.{is_among}
 use Rattle.pgo_sections.specs.Bound.{names_of, names_bound, below}
 use Rattle.pgo_sections.specs.Blocks.{AreBlocks, AllAreBlocks, IsBlock, HasBlocks}
-use Rattle.pgo_sections.specs.Code.{Place, Whole, variable_of, Code, Skip, Let, Pick, Become, Set, Await, Assert, Print, If, Either, Seq, Goto, Yield, Read, Write, Codes, no_codes, more_codes, in_turn, content_name, at_base, old_base, val_base}
+use Rattle.pgo_sections.specs.Code.{Place, Whole, variable_of, Code, Empty, Skip, Let, Pick, Become, Set, Await, Assert, Print, If, Either, Seq, Goto, Yield, Read, Write, Codes, no_codes, more_codes, in_turn, content_name, at_base, old_base, val_base}
 use Rattle.pgo_meaning.specs.Labels.{own, labelled, within, within_branches, within_arms, within_order}
 use Rattle.pgo_meaning.specs.MacrosPlaced.{unmarked, placed_among, bodies}
 use Rattle.pgo_meaning.specs.Parameters.{block_setting, block_code, reads_by, writes_by, by_element, mapped_of, all_mapped, setting_of}
@@ -168,6 +168,7 @@ module _ (mapped : MappedNames) (P : Mapped → Type 0) (from : (x : Name) (m : 
 
 -- what is shown of all code that statements make
 pub record Holds (s : Setting) (Good : Code → Type 0) (Arms : Codes → Type 0) : Type 0 where
+  pub empty : Good Empty
   pub skips : Good Skip
   pub lets : (b w : Name) (e : Tree) (c : Code) → Good c → Good (Let b w e c)
   pub picks : (b w : Name) (e : Tree) (c : Code) → Good c → Good (Pick b w e c)
@@ -217,11 +218,11 @@ module _ (s : Setting) (Good : Code → Type 0) (Arms : Codes → Type 0) (holds
   assigned_good : (x : Name) (path : List Part) (w : Name) → Good (assigned s x path w)
   assigned_good x path w = go (find x s.mapped) refl (find x s.places) refl
     where
-      place_good : (o : Option Place) → find x s.places ≡ o → Good (on Skip o (to_variable s x path w))
-      place_good None e = holds.skips
+      place_good : (o : Option Place) → find x s.places ≡ o → Good (on Empty o (to_variable s x path w))
+      place_good None e = holds.empty
       place_good (Some p) e = variable_good x path w p e
 
-      go : (o : Option Mapped) → find x s.mapped ≡ o → (q : Option Place) → find x s.places ≡ q → Good (on (on Skip q (to_variable s x path w)) o (λ m. Write m.global (index_of path) w m.writes))
+      go : (o : Option Mapped) → find x s.mapped ≡ o → (q : Option Place) → find x s.places ≡ q → Good (on (on Empty q (to_variable s x path w)) o (λ m. Write m.global (index_of path) w m.writes))
       go None e q f = place_good q f
       go (Some m) e q f = holds.writes x m (index_of path) w e
 
@@ -233,7 +234,7 @@ module _ (s : Setting) (Good : Code → Type 0) (Arms : Codes → Type 0) (holds
   steps_good (step.Field x ∷ path) k f h = steps_good path k (λ parts. f (Field x ∷ parts)) (λ ps j. h (Field x ∷ ps) j)
 
   in_turn_good : (cs : List Code) → AllByRecursion Good cs → Good (in_turn cs)
-  in_turn_good [] h = holds.skips
+  in_turn_good [] h = holds.empty
   in_turn_good (c ∷ cs) h = holds.seqs c (in_turn cs) h.0 (in_turn_good cs h.1)
 
   last_good : (cs : List Code) (c : Code) → AllByRecursion Good cs → Good c → AllByRecursion Good (cs ++ c ∷ [])
@@ -272,18 +273,18 @@ module _ (s : Setting) (Good : Code → Type 0) (Arms : Codes → Type 0) (holds
     code_good : (t : Statement) (l : Name) → Good (code s l t)
     code_good (skip p) l = holds.skips
     code_good (assign p as') l = assignment_good as'
-    code_good (if_then p bs) l = branches_good bs l Skip holds.skips
+    code_good (if_then p bs) l = branches_good bs l Empty holds.empty
     code_good (if_else p bs t) l = branches_good bs l (code s l t) (code_good t l)
     code_good (while_do p e t) l =
-        evaluated_good e 0 (λ e' k. If e' (Seq (code s l t) (Goto l)) Skip) (λ e' k.
-        holds.ifs e' (Seq (code s l t) (Goto l)) Skip (holds.seqs (code s l t) (Goto l) (code_good t l) (holds.gotos l)) holds.skips)
+        evaluated_good e 0 (λ e' k. If e' (Seq (code s l t) (Goto l)) Empty) (λ e' k.
+        holds.ifs e' (Seq (code s l t) (Goto l)) Empty (holds.seqs (code s l t) (Goto l) (code_good t l) (holds.gotos l)) holds.empty)
     code_good (either_of p ts) l = holds.eithers (arms s l ts) (arms_good ts l)
     code_good (await_that p e) l = evaluated_good e 0 (λ e' k. Await e') (λ e' k. holds.awaits e')
     code_good (with_in p ws t) l = names_good ws (code s l t) (code_good t l)
     code_good (print_out p e) l = evaluated_good e 0 (λ e' k. Print e') (λ e' k. holds.prints e')
     code_good (assert_that p e) l = evaluated_good e 0 (λ e' k. Assert e') (λ e' k. holds.asserts e')
     code_good (go_to p x) l = holds.gotos (label_of s.process x.name)
-    code_good (call_macro p m es) l = holds.skips
+    code_good (call_macro p m es) l = holds.empty
     code_good (yield_as p e) l = holds.yields e
     code_good (block p ls) l = order_good ls l
 
@@ -298,7 +299,7 @@ module _ (s : Setting) (Good : Code → Type 0) (Arms : Codes → Type 0) (holds
     arms_good (more_statements t ts) l = holds.more_arms (code s l t) (arms s l ts) (code_good t l) (arms_good ts l)
 
     pub order_good : (ls : LabeledStatements) (l : Name) → Good (in_order s l ls)
-    order_good no_labeled l = holds.skips
+    order_good no_labeled l = holds.empty
     order_good (more_labeled None t ls) l = holds.seqs (code s l t) (in_order s l ls) (code_good t l) (order_good ls l)
     order_good (more_labeled (Some y) t ls) l = holds.gotos (label_of s.process y.name)
 
@@ -366,6 +367,7 @@ section_good Good Arms ms p a bs h l c e =
 -- ---- sections read and write mapped parameters by blocks, which have no mapped parameters
 blocks_hold : (s : Setting) (B : Code → Type 0) → ((x : Name) (m : Mapped) → find x s.mapped ≡ Some m → B m.reads × B m.writes) → Holds s (AreBlocks B) (AllAreBlocks B)
 blocks_hold s B from = record {
+  empty = tt;
   skips = tt;
   lets = λ b w e c h. h;
   picks = λ b w e c h. h;

@@ -119,6 +119,7 @@ module _ (b : Bound) (i : Instance) (s : Vars) (keeps : KeepsElements b i) where
 
   uses_hold : Holds (setting_of i.process i.archetype i.bindings) (Uses (PlaceIn c gs) (λ g i. is_among g gs ≡ true)) (AllUse (PlaceIn c gs) (λ g i. is_among g gs ≡ true))
   uses_hold = record {
+    empty = tt;
     skips = tt;
     lets = λ b w e c h. h;
     picks = λ b w e c h. h;

@@ -89,27 +89,27 @@ module _ (sections_agree : SectionsAgree) (alike : ClosedAlike) (b : Bound) (k :
       ∙ ap (λ q. on nothing (code_at b i q) (λ c. section (context_of b i s) c d)) at_l
       ∙ ap (λ q. on nothing q (λ c. section (context_of b i s) c d)) e
 
-  tree_is : find l (expansions_at b i) ≡ option_map (expansion (places_of i.process i.archetype i.bindings)) (find l (sections_at b i))
-  tree_is = find_map (expansion (places_of i.process i.archetype i.bindings)) (sections_at b i) l
+  tree_is : find l (expansions_at b i) ≡ option_map (expansion (variables_of b.spec) (places_of i.process i.archetype i.bindings)) (find l (sections_at b i))
+  tree_is = find_map (expansion (variables_of b.spec) (places_of i.process i.archetype i.bindings)) (sections_at b i) l
 
   got : {A : Type 0} → (a b : A) → Some a ≡ Some b → a ≡ b
   got a b e = ap (λ o. elim o [ None ↦ a | Some z ↦ z ]) e
 
   cases : (o : Option Code) → find l (sections_at b i) ≡ o → TreeAllows (expansions_at b i) b l (id_of i) s t ↔ Allows b k s t
   cases None e = (
-    λ h. absurd (let q : None ≡ Some h.0 = sym (tree_is ∙ ap (option_map (expansion (places_of i.process i.archetype i.bindings))) e) ∙ h.1 in grind (arith, q)),
+    λ h. absurd (let q : None ≡ Some h.0 = sym (tree_is ∙ ap (option_map (expansion (variables_of b.spec) (places_of i.process i.archetype i.bindings))) e) ∙ h.1 in grind (arith, q)),
     λ h.
         absurd (let q : Nowhere ≡ Next t h.prints = sym (ap (λ x. x.end) (sect_is None e (word_at h.words))) ∙ h.leads in grind (arith, q)),
   )
   cases (Some c) e =
       let agree = sections_agree (path_context b (id_of i)) (context_of b i s) c t fit (section_has_blocks b.spec.macros i.process i.archetype i.bindings l c e) (n.plain l c e) (n.few l c e) in
-      let there = tree_is ∙ ap (option_map (expansion (places_of i.process i.archetype i.bindings))) e in (
+      let there = tree_is ∙ ap (option_map (expansion (variables_of b.spec) (places_of i.process i.archetype i.bindings))) e in (
         λ h.
             (let same = got _ _ (sym there ∙ h.1) in
             let r = agree.0 (subst (λ x. Path (path_context b (id_of i)) x ((self_name, Some (id_of i)) ∷ []) s t) (sym same) h.2.1) in
             record { words = r.words; prints = r.prints; leads = ap (λ x. x.end) (sect_is (Some c) e (word_at r.words)) ∙ r.leads }),
         λ h.
-            (expansion (places_of i.process i.archetype i.bindings) c, there, (is_t, agree.1 (record { words = h.words; prints = h.prints; leads = sym (ap (λ x. x.end) (sect_is (Some c) e (word_at h.words))) ∙ h.leads }))),
+            (expansion (variables_of b.spec) (places_of i.process i.archetype i.bindings) c, there, (is_t, agree.1 (record { words = h.words; prints = h.prints; leads = sym (ap (λ x. x.end) (sect_is (Some c) e (word_at h.words))) ∙ h.leads }))),
       )
 
 pub trees_agree : SectionsAgree → ClosedAlike → TreesAgree

@@ -5,7 +5,7 @@
 --   variables n = <<<<3, 4>>, <<3, 4>>>>, x = 0, y = <<0>>;
 --   process (P \in {1, 2}) == instance A(ref n[_], ref n[_], ref x, self + 10, ref y[_]) mapping n[_] via Pop mapping @2[_] via QLen
 --   process (Q = 3) == instance B(ref y)
-use Rattle.std.specs.Prelude.{◌≡◌, map, [], ◌∷◌, Some, None, codes, refl}
+use Rattle.std.specs.Prelude.{◌≡◌, map, [], ◌∷◌, Some, None, option_map, codes, refl}
 use Rattle.pgo_base.specs.declared.expr.Infix.TheVariants as infixs
 use Rattle.pgo_syntax.specs.declared.archetype.Extent.TheVariants as extents
 use Rattle.pgo_syntax.specs.declared.assignment.Step.TheVariants as step
@@ -18,9 +18,9 @@ use Rattle.pgo_base.specs.Tree.{name, binary, tuple, set_of, index, call, except
 use Rattle.pgo_model.specs.Outcome.{Nowhere}
 use Rattle.pgo_syntax.specs.Statement.{skip, assign, await_that, with_in, yield_as, block, labeled}
 use Rattle.pgo_syntax.specs.declared.binding.Origin.TheVariants.{Equals, In as InSet}
-use Rattle.pgo_meaning.proofs.RowTools.{n, int, whole, element, leads, writes_value, placed_name, assignment, with_name, mapping}
+use Rattle.pgo_meaning.proofs.RowTools.{without_skips, n, int, whole, element, leads, writes_value, placed_name, assignment, with_name, mapping}
 use Rattle.pgo_model.specs.Written.{made}
-use Rattle.pgo_sections.specs.Expansion.{With, Await, End}
+use Rattle.pgo_sections.specs.Expansion.{With, Skip, Await, End}
 use Rattle.pgo_meaning.specs.Expansions.{trees_of}
 use Rattle.pgo_meaning.specs.Sect.{Sect, Allows}
 use Rattle.pgo_meaning.specs.System.{system_of}
@@ -109,11 +109,16 @@ own_variables : (system_of system).own
 own_variables = refl
 
 -- the tree of the second process
-tree_of_skip : find (codes "Q_l") (trees_of spec)
+tree_of_skip : option_map without_skips (find (codes "Q_l") (trees_of spec))
     ≡ Some (End [] (codes "Done"))
 tree_of_skip = refl
 
+-- its `skip` is counted
+skip_is_there : find (codes "Q_l") (trees_of spec)
+    ≡ Some (Skip (End [] (codes "Done")))
+skip_is_there = refl
+
 -- the tree of the first: the second read stands on what the first left of n
 tree_of_both : find (codes "P_l") (trees_of spec)
-    ≡ Some (With (made (codes "at") 1) (name (codes "self")) (With (made (codes "old") 2) (index (name (codes "n")) (trees ((name (made (codes "at") 1)) ∷ []))) (Await (binary infixs.Greater (call (codes "Len") (trees ((name (made (codes "old") 2)) ∷ []))) (n 0)) (With (made (codes "msg") 3) (call (codes "Head") (trees ((name (made (codes "old") 2)) ∷ []))) (With (made (codes "old") 4) (call (codes "Tail") (trees ((name (made (codes "old") 2)) ∷ []))) (With (made (codes "val") 5) (name (made (codes "msg") 3)) (With (made (codes "n") 6) (except (name (codes "n")) (paths ((((name (made (codes "at") 1)) ∷ []), (name (made (codes "old") 4))) ∷ []))) (With (made (codes "at") 7) (name (codes "self")) (With (made (codes "old") 8) (index (name (made (codes "n") 6)) (trees ((name (made (codes "at") 7)) ∷ []))) (With (made (codes "val") 9) (call (codes "Len") (trees ((name (made (codes "old") 8)) ∷ []))) (With (made (codes "val") 10) (binary infixs.Add (binary infixs.Add (binary infixs.Add (name (made (codes "val") 5)) (name (made (codes "val") 9))) (index (name (codes "P_p")) (trees ((name (codes "self")) ∷ [])))) (index (name (codes "P_q")) (trees ((name (codes "self")) ∷ [])))) (With (made (codes "at") 11) (n 1) (With (made (codes "val") 12) (name (codes "K")) (With (made (codes "old") 13) (index (name (codes "y")) (trees ((name (made (codes "at") 11)) ∷ []))) (With (made (codes "new") 14) (name (made (codes "val") 12)) (With (made (codes "y") 15) (except (name (codes "y")) (paths ((((name (made (codes "at") 11)) ∷ []), (name (made (codes "new") 14))) ∷ []))) (End (((codes "y"), (made (codes "y") 15)) ∷ ((codes "x"), (made (codes "val") 10)) ∷ ((codes "n"), (made (codes "n") 6)) ∷ []) (codes "Done"))))))))))))))))))
+    ≡ Some (With (made (codes "at") 1) (name (codes "self")) (With (made (codes "old") 2) (index (name (codes "n")) (trees ((name (made (codes "at") 1)) ∷ []))) (Await (binary infixs.Greater (call (codes "Len") (trees ((name (made (codes "old") 2)) ∷ []))) (n 0)) (With (made (codes "msg") 3) (call (codes "Head") (trees ((name (made (codes "old") 2)) ∷ []))) (With (made (codes "old") 4) (call (codes "Tail") (trees ((name (made (codes "old") 2)) ∷ []))) (With (made (codes "val") 5) (name (made (codes "msg") 3)) (With (made (codes "n") 6) (except (name (codes "n")) (paths ((((name (made (codes "at") 1)) ∷ []), (name (made (codes "old") 4))) ∷ []))) (With (made (codes "at") 7) (name (codes "self")) (With (made (codes "old") 8) (index (name (made (codes "n") 6)) (trees ((name (made (codes "at") 7)) ∷ []))) (With (made (codes "val") 9) (call (codes "Len") (trees ((name (made (codes "old") 8)) ∷ []))) (With (made (codes "val") 10) (binary infixs.Add (binary infixs.Add (binary infixs.Add (name (made (codes "val") 5)) (name (made (codes "val") 9))) (index (name (codes "P_p")) (trees ((name (codes "self")) ∷ [])))) (index (name (codes "P_q")) (trees ((name (codes "self")) ∷ [])))) (With (made (codes "at") 11) (n 1) (With (made (codes "val") 12) (name (codes "K")) (With (made (codes "old") 13) (index (name (codes "y")) (trees ((name (made (codes "at") 11)) ∷ []))) (With (made (codes "new") 14) (name (made (codes "val") 12)) (With (made (codes "y") 15) (except (name (codes "y")) (paths ((((name (made (codes "at") 11)) ∷ []), (name (made (codes "new") 14))) ∷ []))) (End (((codes "n"), (made (codes "n") 6)) ∷ ((codes "x"), (made (codes "val") 10)) ∷ ((codes "y"), (made (codes "y") 15)) ∷ []) (codes "Done"))))))))))))))))))
 tree_of_both = refl

@@ -32,8 +32,8 @@ expansions_at b i = expansions_of (variables_of b.spec) b.spec.macros i.process 
 -- What the rules on names and on labels are to give, with what the grammar says of a text (an identifier has a letter, and no
 -- specification has a prime): the written names of variables differ, and none is a made name or `self`; the instance's own
 -- variables are among them; each parameter is a declared global, a value parameter or a local; a definition names no variable;
--- and the names in the sections are well formed. That a path binds fewer
--- than 2^64 names (`few`) no rule gives, but the limit on an expansion's nodes does.
+-- and the names in the sections are well formed. That no path binds 2^64 names (`few`) no rule gives, but a limit on an
+-- expansion's nodes does (`few_names` of `NodeLaws`).
 pub record Named (b : Bound) (i : Instance) : Type 0 where
   pub differ : AreDifferent (variables_of b.spec)
   pub written : (x : Name) → is_among x (variables_of b.spec) ≡ true → NotMade x × (same_name x self_name ≡ false)

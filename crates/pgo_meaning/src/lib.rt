@@ -52,7 +52,7 @@ use pgo_sections::{sections_agree, sections_keep};
 /// - `labels`: so they do at each label of the instance's process.
 ///
 /// The premises are what the grammar and the rules on names and labels are to give (`Named`, `OwnLabels`, `AreUnlabelled`,
-/// `NoneIsDone`), but for `few` of `Named`, which asks for a limit on the expansion.
+/// `NoneIsDone`), but for `few` of `Named`, that no path through an expansion binds 2^64 names, which a limit on its nodes gives.
 ///
 /// Source: this project's choice.
 pub fn trees_agree()

@@ -19,7 +19,7 @@ use Rattle.pgo_model.specs.Variables.{IsFunctionOn}
 use Rattle.pgo_model.specs.Written.{pc}
 use Rattle.pgo_sections.specs.SectionsAgree.{keys as names_of}
 use Rattle.pgo_sections.specs.Among.{is_among}
-use Rattle.pgo_sections.specs.Code.{Whole, variable_of, Code, Skip, Let, Pick, Become, Set, Await, Assert, Print, If, Either, Seq, Goto, Yield, Read, Write, Codes, no_codes, more_codes}
+use Rattle.pgo_sections.specs.Code.{Whole, variable_of, Code, Empty, Skip, Let, Pick, Become, Set, Await, Assert, Print, If, Either, Seq, Goto, Yield, Read, Write, Codes, no_codes, more_codes}
 use Rattle.pgo_sections.specs.Context.{Context, content, index_value, put_content, put_new, value_now, value_of, with_content}
 use Rattle.pgo_sections.specs.Domains.{AllUse, HasIndex, HaveDomains, ByElements, KeepsDomain, place, own, elements}
 use Rattle.pgo_sections.specs.Exec.{MacroEnd, Gives, Stops, with_choices, if_gives, touching, read_unmapped, becoming, count, exec_arm_with}
@@ -171,6 +171,7 @@ module _ (k : Context) where
 
   mutual
     pub kept_by : (c : Code) (env : Names) (d : Words) (run : SectionRun) → ByElements k.by_element c → Kept run.changes → KeptBy (exec k c env d run)
+    kept_by Empty env d run b h = h
     kept_by Skip env d run b h = h
     kept_by (Let x w e c) env d run b h =
         let now = read_unmapped k e run in

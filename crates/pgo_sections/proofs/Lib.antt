@@ -7,6 +7,7 @@ pub mod Iff
 pub mod Paths
 pub mod Apart
 pub mod Closing
+pub mod Settled
 pub mod Whole
 pub mod Closed
 pub mod PlainTest

@@ -3,7 +3,7 @@ use Rattle.std.proofs.Common.{◌≡◌, Bool, true, false, if◌then◌else◌,
 use Rattle.pgo_base.specs.Data.{Data, boolean}
 use Rattle.pgo_base.specs.Lookup.{Name, Names, Vars, find}
 use Rattle.pgo_model.specs.Operators.{members_of}
-use Rattle.pgo_sections.specs.Code.{variable_of, Code, Skip, Let, Pick, Become, Set, Await, Assert, Print, If, Either, Seq, Goto, Yield, Read, Write, Codes, no_codes, more_codes, content_name, value_name}
+use Rattle.pgo_sections.specs.Code.{variable_of, Code, Empty, Skip, Let, Pick, Become, Set, Await, Assert, Print, If, Either, Seq, Goto, Yield, Read, Write, Codes, no_codes, more_codes, content_name, value_name}
 use Rattle.pgo_sections.specs.BoundValues.{bindable, value_under}
 use Rattle.pgo_sections.specs.Context.{Context, block_context, content, put_content, put_new, content_state, new_content, index_value, is_assigned, value_of}
 
@@ -37,6 +37,7 @@ never_at l st = ⊥
 abbrev mutual
   -- some choices end behind it in P, at a jump in J, or at a yield in Y
   pub May : Context → Code → Names → Vars → (Vars → Type 0) → (Name → Vars → Type 0) → (Data → Vars → Type 0) → Type 0
+  May k Empty env st P J Y = P st
   May k Skip env st P J Y = P st
   May k (Let b w e c) env st P J Y = (v : Data) × (bindable (value_of k e env st) ≡ Some v) × May k c ((w, Some v) ∷ env) st P J Y
   May k (Pick b w e c) env st P J Y =

@@ -1,5 +1,5 @@
 -- The paths through an expansion go where the section may.
-use Rattle.std.proofs.Common.{◌≡◌, ℕ, suc, ◌+◌, ◌<◌, ◌≤◌, Bool, true, false, ◌||◌, if◌then◌else◌, List, [], ◌∷◌, ◌++◌, length, Option, Some, None, ◌↔◌, refl, sym, ap, ◌∙◌, arith, inr, option_and_then, option_map}
+use Rattle.std.proofs.Common.{◌≡◌, ℕ, suc, ◌+◌, ◌<◌, ◌≤◌, Bool, true, false, ◌||◌, if◌then◌else◌, List, [], ◌∷◌, ◌++◌, length, Option, Some, None, ◌↔◌, refl, sym, ap, ◌∙◌, subst, arith, inr, option_and_then, option_map}
 use Rattle.std.specs.Prelude.{unwrap_or}
 use Rattle.pgo_base.specs.Data.{Data, boolean}
 use Rattle.pgo_base.specs.Lookup.{Name, Names, Vars, same_name, find}
@@ -10,13 +10,14 @@ use Rattle.pgo_model.specs.Options.{on}
 use Rattle.pgo_model.specs.Val.{or_else, Scope, sem, plain, call_def, meanings, index_of}
 use Rattle.pgo_model.specs.Written.{made}
 use Rattle.pgo_sections.specs.SectionsAgree.{IsPlace}
-use Rattle.pgo_sections.specs.Code.{Place, Whole, variable_of, Code, Skip, Let, Pick, Become, Set, Await, Assert, Print, If, Either, Seq, Goto, Yield, Read, Write, Codes, no_codes, more_codes, content_name, content_places, value_name, old_base, val_base, new_base}
+use Rattle.pgo_sections.specs.Code.{Place, Whole, variable_of, Code, Empty, Skip, Let, Pick, Become, Set, Await, Assert, Print, If, Either, Seq, Goto, Yield, Read, Write, Codes, no_codes, more_codes, content_name, content_places, value_name, old_base, val_base, new_base}
 use Rattle.pgo_sections.specs.Context.{Context, value_now, content, with_content, put_content, content_state, index_value, is_assigned}
 use Rattle.pgo_sections.specs.BoundValues.{bindable, value_under, put_part}
 use Rattle.pgo_sections.specs.Among.{is_among}
 use Rattle.pgo_sections.specs.Expand.{Renames, Current, current, current_tree, content_tree, content_put, becoming, content_now, value_handed, OnGo, OnJump, OnYield, no_go, no_jump, put_back, left_behind, expand, expand_arms}
 use Rattle.pgo_sections.specs.Expansion.{Expansion, With, PathContext, Path, SomePath, value_on}
-use Rattle.pgo_sections.specs.WellFormed.{PlainCode, PlainCodes, KnownIndex, most_made, most_made_by}
+use Rattle.pgo_sections.specs.Nodes.{most_names, most_of_arms}
+use Rattle.pgo_sections.specs.WellFormed.{PlainCode, PlainCodes, KnownIndex}
 use Rattle.pgo_sections.proofs.Here.{sim_ext, sources, among_found, on_path, Fits, SimName, Changed, Here, here_ext, here_with, here_set, fits_block, here_block, tree_is}
 use Rattle.pgo_sections.proofs.Iff.{iff_same, iff_then, sum_iff, with_iff, guard_iff, pick_iff, known_iff, map_iff, iff_along, read_iff, some_is}
 use Rattle.pgo_sections.proofs.Later.{AllLater, Ext, ext_same, ext_more, ext_then, just_bound}
@@ -63,17 +64,17 @@ module _ (vs : List Name) (L : ℕ) (apart : (b b' : Name) (m m' : ℕ) → m �
   abbrev pub Change : ℕ → Current → Names → Vars → Type 0
   Change n cur env ch = Changed vs L apart s t (meanings a.defs s (Some t)) not_there n cur env ch
 
-  -- what follows agrees, wherever the code leads: at most top names are bound there
-  pub record Ways (k : Context) (n top : ℕ) (env : Names) (go : OnGo) (jump : OnJump) (yield : OnYield) (P : Vars → Type 0) (J : Name → Vars → Type 0) (Y : Data → Vars → Type 0) : Type 0 where
-    pub on_go : (cur : Current) (n' : ℕ) (env' : Names) (ch : Vars) → n ≤ n' → n' ≤ top → Ext vs L apart n env env' → Valued k n' cur env' ch → Change n' cur env' ch → Path a (go cur n') env' s t ↔ P ch
-    pub on_jump : (l : Name) (cur : Current) (n' : ℕ) (env' : Names) (ch : Vars) → n ≤ n' → n' ≤ top → Ext vs L apart n env env' → Valued k n' cur env' ch → Change n' cur env' ch → Path a (jump l cur n') env' s t ↔ J l ch
-    pub on_yield : (e : Tree) (cur : Current) (n' : ℕ) (env' : Names) (ch : Vars) → n ≤ n' → n' ≤ top → Ext vs L apart n env env' → Valued k n' cur env' ch → Change n' cur env' ch → Path a (yield e cur n') env' s t ↔ ((v : Data) × (bindable (value_on a e env' s t) ≡ Some v) × Y v ch)
+  -- what follows agrees, wherever the code leads, if no more than L names are bound there
+  pub record Ways (k : Context) (n : ℕ) (env : Names) (go : OnGo) (jump : OnJump) (yield : OnYield) (P : Vars → Type 0) (J : Name → Vars → Type 0) (Y : Data → Vars → Type 0) : Type 0 where
+    pub on_go : (cur : Current) (n' : ℕ) (env' : Names) (ch : Vars) → n ≤ n' → n' + most_names (go cur n') ≤ L → Ext vs L apart n env env' → Valued k n' cur env' ch → Change n' cur env' ch → Path a (go cur n') env' s t ↔ P ch
+    pub on_jump : (l : Name) (cur : Current) (n' : ℕ) (env' : Names) (ch : Vars) → n ≤ n' → n' + most_names (jump l cur n') ≤ L → Ext vs L apart n env env' → Valued k n' cur env' ch → Change n' cur env' ch → Path a (jump l cur n') env' s t ↔ J l ch
+    pub on_yield : (e : Tree) (cur : Current) (n' : ℕ) (env' : Names) (ch : Vars) → n ≤ n' → n' + most_names (yield e cur n') ≤ L → Ext vs L apart n env env' → Valued k n' cur env' ch → Change n' cur env' ch → Path a (yield e cur n') env' s t ↔ ((v : Data) × (bindable (value_on a e env' s t) ≡ Some v) × Y v ch)
 
-  ways_ext : (k : Context) (n n1 top top1 : ℕ) (env env1 : Names) (go : OnGo) (jump : OnJump) (yield : OnYield) (P : Vars → Type 0) (J : Name → Vars → Type 0) (Y : Data → Vars → Type 0) → n ≤ n1 → top1 ≤ top → Ext vs L apart n env env1 → Ways k n top env go jump yield P J Y → Ways k n1 top1 env1 go jump yield P J Y
-  ways_ext k n n1 top top1 env env1 go jump yield P J Y le less x w = record {
-    on_go = λ cur n' env' ch l m y. w.on_go cur n' env' ch (omega (arith, le, l)) (omega (arith, less, m)) (ext_then vs L apart n n1 env env1 env' le x y);
-    on_jump = λ q cur n' env' ch l m y. w.on_jump q cur n' env' ch (omega (arith, le, l)) (omega (arith, less, m)) (ext_then vs L apart n n1 env env1 env' le x y);
-    on_yield = λ e cur n' env' ch l m y. w.on_yield e cur n' env' ch (omega (arith, le, l)) (omega (arith, less, m)) (ext_then vs L apart n n1 env env1 env' le x y);
+  ways_ext : (k : Context) (n n1 : ℕ) (env env1 : Names) (go : OnGo) (jump : OnJump) (yield : OnYield) (P : Vars → Type 0) (J : Name → Vars → Type 0) (Y : Data → Vars → Type 0) → n ≤ n1 → Ext vs L apart n env env1 → Ways k n env go jump yield P J Y → Ways k n1 env1 go jump yield P J Y
+  ways_ext k n n1 env env1 go jump yield P J Y le x w = record {
+    on_go = λ cur n' env' ch l m y. w.on_go cur n' env' ch (omega (arith, le, l)) m (ext_then vs L apart n n1 env env1 env' le x y);
+    on_jump = λ q cur n' env' ch l m y. w.on_jump q cur n' env' ch (omega (arith, le, l)) m (ext_then vs L apart n n1 env env1 env' le x y);
+    on_yield = λ e cur n' env' ch l m y. w.on_yield e cur n' env' ch (omega (arith, le, l)) m (ext_then vs L apart n n1 env env1 env' le x y);
   }
 
   -- the names of the code's start, and the variables now
@@ -141,8 +142,8 @@ module _ (vs : List Name) (L : ℕ) (apart : (b b' : Name) (m m' : ℕ) → m �
       go None = put_none j (value_now k (Whole g) ch)
       go (Some w) = refl
 
-  no_ways : (k : Context) (n top : ℕ) (env : Names) (yield : OnYield) (Y : Data → Vars → Type 0) → ((e : Tree) (cur : Current) (n' : ℕ) (env' : Names) (ch : Vars) → n ≤ n' → n' ≤ top → Ext vs L apart n env env' → Valued k n' cur env' ch → Change n' cur env' ch → Path a (yield e cur n') env' s t ↔ ((v : Data) × (bindable (value_on a e env' s t) ≡ Some v) × Y v ch)) → Ways k n top env no_go no_jump yield never never_at Y
-  no_ways k n top env yield Y h = record {
+  no_ways : (k : Context) (n : ℕ) (env : Names) (yield : OnYield) (Y : Data → Vars → Type 0) → ((e : Tree) (cur : Current) (n' : ℕ) (env' : Names) (ch : Vars) → n ≤ n' → n' + most_names (yield e cur n') ≤ L → Ext vs L apart n env env' → Valued k n' cur env' ch → Change n' cur env' ch → Path a (yield e cur n') env' s t ↔ ((v : Data) × (bindable (value_on a e env' s t) ≡ Some v) × Y v ch)) → Ways k n env no_go no_jump yield never never_at Y
+  no_ways k n env yield Y h = record {
     on_go = λ cur n' env' ch l m x v long. iff_same;
     on_jump = λ q cur n' env' ch l m x v long. iff_same;
     on_yield = h;
@@ -150,10 +151,10 @@ module _ (vs : List Name) (L : ℕ) (apart : (b b' : Name) (m m' : ℕ) → m �
 
   -- the paths of the code's expansion go where the code may
   abbrev pub Agree : Code → Type 1
-  Agree c = (k : Context) (f : Fit k) (n : ℕ) (ren : Renames) (cur : Current) (env wenv : Names) (ch : Vars) (go : OnGo) (jump : OnJump) (yield : OnYield) (P : Vars → Type 0) (J : Name → Vars → Type 0) (Y : Data → Vars → Type 0) → PlainCode vs k.globals k.places (sources ren) c → n + most_made c ≤ L → IsHere k n ren cur env wenv ch → Ways k n (n + most_made c) env go jump yield P J Y → Path a (expand k.places c ren cur n go jump yield) env s t ↔ May k c wenv ch P J Y
+  Agree c = (k : Context) (f : Fit k) (n : ℕ) (ren : Renames) (cur : Current) (env wenv : Names) (ch : Vars) (go : OnGo) (jump : OnJump) (yield : OnYield) (P : Vars → Type 0) (J : Name → Vars → Type 0) (Y : Data → Vars → Type 0) → PlainCode vs k.globals k.places (sources ren) c → n + most_names (expand k.places c ren cur n go jump yield) ≤ L → IsHere k n ren cur env wenv ch → Ways k n env go jump yield P J Y → Path a (expand k.places c ren cur n go jump yield) env s t ↔ May k c wenv ch P J Y
 
   -- a name is bound, and the code goes on
-  bound : (c : Code) → Agree c → (k : Context) (f : Fit k) (b x : Name) (n : ℕ) (v : Data) (ren : Renames) (cur : Current) (env wenv : Names) (ch : Vars) (go : OnGo) (jump : OnJump) (yield : OnYield) (P : Vars → Type 0) (J : Name → Vars → Type 0) (Y : Data → Vars → Type 0) → PlainCode vs k.globals k.places (x ∷ sources ren) c → n + suc (most_made c) ≤ L → IsHere k n ren cur env wenv ch → Ways k n (n + suc (most_made c)) env go jump yield P J Y → Path a (expand k.places c ((x, made b (suc n)) ∷ ren) cur (suc n) go jump yield) ((made b (suc n), Some v) ∷ env) s t ↔ May k c ((x, Some v) ∷ wenv) ch P J Y
+  bound : (c : Code) → Agree c → (k : Context) (f : Fit k) (b x : Name) (n : ℕ) (v : Data) (ren : Renames) (cur : Current) (env wenv : Names) (ch : Vars) (go : OnGo) (jump : OnJump) (yield : OnYield) (P : Vars → Type 0) (J : Name → Vars → Type 0) (Y : Data → Vars → Type 0) → PlainCode vs k.globals k.places (x ∷ sources ren) c → n + suc (most_names (expand k.places c ((x, made b (suc n)) ∷ ren) cur (suc n) go jump yield)) ≤ L → IsHere k n ren cur env wenv ch → Ways k n env go jump yield P J Y → Path a (expand k.places c ((x, made b (suc n)) ∷ ren) cur (suc n) go jump yield) ((made b (suc n), Some v) ∷ env) s t ↔ May k c ((x, Some v) ∷ wenv) ch P J Y
   bound c agree k f b x n v ren cur env wenv ch go jump yield P J Y pl top h w =
       let le : n ≤ suc n = omega arith in
       let more : suc n ≤ L = omega (arith, top) in
@@ -161,23 +162,25 @@ module _ (vs : List Name) (L : ℕ) (apart : (b b' : Name) (m m' : ℕ) → m �
       let x1 = ext_more vs L apart n b (suc n) (Some v) env env (omega arith) more (ext_same vs L apart n env) in
       let h1 = here_ext vs L apart s t (meanings a.defs s (Some t)) not_there k n (suc n) ren cur env env1 wenv ch le x1 h in
       let h2 = here_with vs L apart s t (meanings a.defs s (Some t)) not_there k b n x v ren cur env env1 wenv ch more (ext_same vs L apart (suc n) env1) h1 in
-      agree k f (suc n) ((x, made b (suc n)) ∷ ren) cur env1 ((x, Some v) ∷ wenv) ch go jump yield P J Y pl (omega (arith, top)) h2 (ways_ext k n (suc n) (n + suc (most_made c)) (suc n + most_made c) env env1 go jump yield P J Y le (omega arith) x1 w)
+      agree k f (suc n) ((x, made b (suc n)) ∷ ren) cur env1 ((x, Some v) ∷ wenv) ch go jump yield P J Y pl (omega (arith, top)) h2 (ways_ext k n (suc n) env env1 go jump yield P J Y le x1 w)
 
   -- a place becomes what a name stands for
-  become_may : (k : Context) (p : Place) (x : Name) (n top : ℕ) (ren : Renames) (cur : Current) (env wenv : Names) (ch : Vars) (go : OnGo) (jump : OnJump) (yield : OnYield) (P : Vars → Type 0) (J : Name → Vars → Type 0) (Y : Data → Vars → Type 0) → is_among x (sources ren) ≡ true → n ≤ top → IsHere k n ren cur env wenv ch → Ways k n top env go jump yield P J Y → Path a (go (becoming p (find x ren) cur) n) env s t ↔ ((v : Data) × (value_under x wenv ≡ Some v) × P ((variable_of p, v) ∷ ch))
-  become_may k p x n top ren cur env wenv ch go jump yield P J Y is less h w =
+  become_may : (k : Context) (p : Place) (x : Name) (n : ℕ) (ren : Renames) (cur : Current) (env wenv : Names) (ch : Vars) (go : OnGo) (jump : OnJump) (yield : OnYield) (P : Vars → Type 0) (J : Name → Vars → Type 0) (Y : Data → Vars → Type 0) → is_among x (sources ren) ≡ true → n + most_names (go (becoming p (find x ren) cur) n) ≤ L → IsHere k n ren cur env wenv ch → Ways k n env go jump yield P J Y → Path a (go (becoming p (find x ren) cur) n) env s t ↔ ((v : Data) × (value_under x wenv ≡ Some v) × P ((variable_of p, v) ∷ ch))
+  become_may k p x n ren cur env wenv ch go jump yield P J Y is top h w =
       let q = known k n ren cur env wenv ch x h is in
       let h1 = here_set vs L apart s t (meanings a.defs s (Some t)) not_there k q.made_as n p q.value ren cur env wenv ch q.found h in
-      known_iff (value_under x wenv) q.value _ (λ v. P ((variable_of p, v) ∷ ch)) q.is_value (iff_along (λ o. Path a (go (becoming p o cur) n) env s t) (sym q.is_made) (w.on_go ((variable_of p, q.made_as) ∷ cur) n env ((variable_of p, q.value) ∷ ch) (omega arith) less (ext_same vs L apart n env) h1.valued h1.long))
+      let top1 : n + most_names (go ((variable_of p, q.made_as) ∷ cur) n) ≤ L = subst (λ o. n + most_names (go (becoming p o cur) n) ≤ L) q.is_made top in
+      known_iff (value_under x wenv) q.value _ (λ v. P ((variable_of p, v) ∷ ch)) q.is_value (iff_along (λ o. Path a (go (becoming p o cur) n) env s t) (sym q.is_made) (w.on_go ((variable_of p, q.made_as) ∷ cur) n env ((variable_of p, q.value) ∷ ch) (omega arith) top1 (ext_same vs L apart n env) h1.valued h1.long))
 
   -- a place becomes the value that was just bound
-  set_may : (k : Context) (p : Place) (b : Name) (n : ℕ) (v : Data) (ren : Renames) (cur : Current) (env wenv : Names) (ch : Vars) (go : OnGo) (jump : OnJump) (yield : OnYield) (P : Vars → Type 0) (J : Name → Vars → Type 0) (Y : Data → Vars → Type 0) → suc n ≤ L → IsHere k n ren cur env wenv ch → Ways k n (suc n) env go jump yield P J Y → Path a (go ((variable_of p, made b (suc n)) ∷ cur) (suc n)) ((made b (suc n), Some v) ∷ env) s t ↔ P ((variable_of p, v) ∷ ch)
-  set_may k p b n v ren cur env wenv ch go jump yield P J Y top h w =
+  set_may : (k : Context) (p : Place) (b : Name) (n : ℕ) (v : Data) (ren : Renames) (cur : Current) (env wenv : Names) (ch : Vars) (go : OnGo) (jump : OnJump) (yield : OnYield) (P : Vars → Type 0) (J : Name → Vars → Type 0) (Y : Data → Vars → Type 0) → n + suc (most_names (go ((variable_of p, made b (suc n)) ∷ cur) (suc n))) ≤ L → IsHere k n ren cur env wenv ch → Ways k n env go jump yield P J Y → Path a (go ((variable_of p, made b (suc n)) ∷ cur) (suc n)) ((made b (suc n), Some v) ∷ env) s t ↔ P ((variable_of p, v) ∷ ch)
+  set_may k p b n v ren cur env wenv ch go jump yield P J Y few h w =
+      let top : suc n ≤ L = omega (arith, few) in
       let env1 = (made b (suc n), Some v) ∷ env in
       let x1 = ext_more vs L apart n b (suc n) (Some v) env env (omega arith) top (ext_same vs L apart n env) in
       let h1 = here_ext vs L apart s t (meanings a.defs s (Some t)) not_there k n (suc n) ren cur env env1 wenv ch (omega arith) x1 h in
       let h2 = here_set vs L apart s t (meanings a.defs s (Some t)) not_there k (made b (suc n)) (suc n) p v ren cur env1 wenv ch (λ Δ later. just_bound vs L apart b n (Some v) env Δ top later) h1 in
-      w.on_go ((variable_of p, made b (suc n)) ∷ cur) (suc n) env1 ((variable_of p, v) ∷ ch) (omega arith) (omega arith) x1 h2.valued h2.long
+      w.on_go ((variable_of p, made b (suc n)) ∷ cur) (suc n) env1 ((variable_of p, v) ∷ ch) (omega arith) (omega (arith, few)) x1 h2.valued h2.long
 
   index_ext : (n n' : ℕ) (ren : Renames) (env env' wenv : Names) (i : Option Name) (j : Option Data) → n ≤ n' → Ext vs L apart n env env' → IndexIs n ren env wenv i j → IndexIs n' ren env' wenv i j
   index_ext n n' ren env env' wenv None None le x h = tt
@@ -198,9 +201,9 @@ module _ (vs : List Name) (L : ℕ) (apart : (b b' : Name) (m m' : ℕ) → m �
       map_iff (bindable (value_on a (content_put ren cur g i e) env s t)) (bindable (with_content k g j o ch)) (λ v. (g, v) ∷ ch) (λ v. Path a rest ((made g (suc n), Some v) ∷ env) s t) B (ap bindable (put_is k n ren cur env wenv ch g i j e o is h x e_is)) next
 
   -- behind the block of a read
-  behind_may : (x g : Name) (i : Option Name) (c : Code) → Agree c → (k : Context) (f : Fit k) (n n' : ℕ) (j : Option Data) (v : Data) (ren : Renames) (cur cur' : Current) (env env' wenv : Names) (ch mem : Vars) (go : OnGo) (jump : OnJump) (yield : OnYield) (P : Vars → Type 0) (J : Name → Vars → Type 0) (Y : Data → Vars → Type 0) → is_among g k.globals ≡ true → PlainCode vs k.globals k.places (x ∷ sources ren) c → n ≤ n' → suc (suc n') + most_made c ≤ L → Ext vs L apart n env env' → IsHere k n ren cur env wenv ch → IndexIs n ren env wenv i j → Valued (block_of k) n' cur' env' mem → Change n' cur' env' mem → Ways k n (suc (suc n') + most_made c) env go jump yield P J Y → Path a (left_behind (is_assigned cur') ren cur g i (current cur' (Whole content_name)) (suc n') (λ cur2 n2. expand k.places c ((x, made val_base (suc n')) ∷ ren) cur2 n2 go jump yield)) ((made val_base (suc n'), Some v) ∷ env') s t ↔ ((ch' : Vars) × (left_content k g j mem ch ≡ Some ch') × May k c ((x, Some v) ∷ wenv) ch' P J Y)
+  behind_may : (x g : Name) (i : Option Name) (c : Code) → Agree c → (k : Context) (f : Fit k) (n n' : ℕ) (j : Option Data) (v : Data) (ren : Renames) (cur cur' : Current) (env env' wenv : Names) (ch mem : Vars) (go : OnGo) (jump : OnJump) (yield : OnYield) (P : Vars → Type 0) (J : Name → Vars → Type 0) (Y : Data → Vars → Type 0) → is_among g k.globals ≡ true → PlainCode vs k.globals k.places (x ∷ sources ren) c → n ≤ n' → suc n' + most_names (left_behind (is_assigned cur') ren cur g i (current cur' (Whole content_name)) (suc n') (λ cur2 n2. expand k.places c ((x, made val_base (suc n')) ∷ ren) cur2 n2 go jump yield)) ≤ L → Ext vs L apart n env env' → IsHere k n ren cur env wenv ch → IndexIs n ren env wenv i j → Valued (block_of k) n' cur' env' mem → Change n' cur' env' mem → Ways k n env go jump yield P J Y → Path a (left_behind (is_assigned cur') ren cur g i (current cur' (Whole content_name)) (suc n') (λ cur2 n2. expand k.places c ((x, made val_base (suc n')) ∷ ren) cur2 n2 go jump yield)) ((made val_base (suc n'), Some v) ∷ env') s t ↔ ((ch' : Vars) × (left_content k g j mem ch ≡ Some ch') × May k c ((x, Some v) ∷ wenv) ch' P J Y)
   behind_may x g i c agree k f n n' j v ren cur cur' env env' wenv ch mem go jump yield P J Y is pl le top x0 h known_at valued long w =
-      cases (is_assigned cur') (is_assigned mem) (same_assigned cur' mem long.0)
+      cases (is_assigned cur') (is_assigned mem) (same_assigned cur' mem long.0) top
     where
       env2 : Names
       env2 = (made val_base (suc n'), Some v) ∷ env'
@@ -217,26 +220,26 @@ module _ (vs : List Name) (L : ℕ) (apart : (b b' : Name) (m m' : ℕ) → m �
       h3 : IsHere k (suc n') ((x, made val_base (suc n')) ∷ ren) cur ((made val_base (suc n'), Some v) ∷ env') ((x, Some v) ∷ wenv) ch
       h3 = here_with vs L apart s t (meanings a.defs s (Some t)) not_there k val_base n' x v ren cur env' ((made val_base (suc n'), Some v) ∷ env') wenv ch top1 (ext_same vs L apart (suc n') ((made val_base (suc n'), Some v) ∷ env')) h2
 
-      assigned : (gv : Data) → Path a (expand k.places c ((x, made val_base (suc n')) ∷ ren) ((g, made g (suc (suc n'))) ∷ cur) (suc (suc n')) go jump yield) ((made g (suc (suc n')), Some gv) ∷ ((made val_base (suc n'), Some v) ∷ env')) s t ↔ May k c ((x, Some v) ∷ wenv) ((g, gv) ∷ ch) P J Y
-      assigned gv =
-          let top2 : suc (suc n') ≤ L = omega (arith, top) in
+      assigned : suc n' + suc (most_names (expand k.places c ((x, made val_base (suc n')) ∷ ren) ((g, made g (suc (suc n'))) ∷ cur) (suc (suc n')) go jump yield)) ≤ L → (gv : Data) → Path a (expand k.places c ((x, made val_base (suc n')) ∷ ren) ((g, made g (suc (suc n'))) ∷ cur) (suc (suc n')) go jump yield) ((made g (suc (suc n')), Some gv) ∷ ((made val_base (suc n'), Some v) ∷ env')) s t ↔ May k c ((x, Some v) ∷ wenv) ((g, gv) ∷ ch) P J Y
+      assigned few gv =
+          let top2 : suc (suc n') ≤ L = omega (arith, few) in
           let before = (made val_base (suc n'), Some v) ∷ env' in
           let env4 = (made g (suc (suc n')), Some gv) ∷ before in
           let x3 = ext_more vs L apart (suc n') g (suc (suc n')) (Some gv) before before (omega arith) top2 (ext_same vs L apart (suc n') before) in
           let x4 = ext_more vs L apart n g (suc (suc n')) (Some gv) env before (omega (arith, le)) top2 x2 in
           let h4 = here_ext vs L apart s t (meanings a.defs s (Some t)) not_there k (suc n') (suc (suc n')) ((x, made val_base (suc n')) ∷ ren) cur before env4 ((x, Some v) ∷ wenv) ch (omega arith) x3 h3 in
           let h5 = here_set vs L apart s t (meanings a.defs s (Some t)) not_there k (made g (suc (suc n'))) (suc (suc n')) (Whole g) gv ((x, made val_base (suc n')) ∷ ren) cur env4 ((x, Some v) ∷ wenv) ch (λ Δ later. just_bound vs L apart g (suc n') (Some gv) before Δ top2 later) h4 in
-          agree k f (suc (suc n')) ((x, made val_base (suc n')) ∷ ren) ((g, made g (suc (suc n'))) ∷ cur) env4 ((x, Some v) ∷ wenv) ((g, gv) ∷ ch) go jump yield P J Y pl top h5 (ways_ext k n (suc (suc n')) (suc (suc n') + most_made c) (suc (suc n') + most_made c) env env4 go jump yield P J Y (omega (arith, le)) (omega arith) x4 w)
+          agree k f (suc (suc n')) ((x, made val_base (suc n')) ∷ ren) ((g, made g (suc (suc n'))) ∷ cur) env4 ((x, Some v) ∷ wenv) ((g, gv) ∷ ch) go jump yield P J Y pl (omega (arith, few)) h5 (ways_ext k n (suc (suc n')) env env4 go jump yield P J Y (omega (arith, le)) x4 w)
 
-      cases : (b b' : Bool) → b ≡ b' → Path a (left_behind b ren cur g i (current cur' (Whole content_name)) (suc n') (λ cur2 n2. expand k.places c ((x, made val_base (suc n')) ∷ ren) cur2 n2 go jump yield)) ((made val_base (suc n'), Some v) ∷ env') s t ↔ ((ch' : Vars) × ((if b' then put_content k g j (find content_name mem) ch else Some ch) ≡ Some ch') × May k c ((x, Some v) ∷ wenv) ch' P J Y)
-      cases false false e =
-          known_iff (Some ch) ch _ (λ ch'. May k c ((x, Some v) ∷ wenv) ch' P J Y) refl (agree k f (suc n') ((x, made val_base (suc n')) ∷ ren) cur ((made val_base (suc n'), Some v) ∷ env') ((x, Some v) ∷ wenv) ch go jump yield P J Y pl (omega (arith, top)) h3 (ways_ext k n (suc n') (suc (suc n') + most_made c) (suc n' + most_made c) env ((made val_base (suc n'), Some v) ∷ env') go jump yield P J Y (omega (arith, le)) (omega arith) x2 w))
-      cases true true e =
-          put_may k (suc n') ren cur ((made val_base (suc n'), Some v) ∷ env') wenv ch g i j (current cur' (Whole content_name)) (find content_name mem) _ (λ ch'. May k c ((x, Some v) ∷ wenv) ch' P J Y) is h2 (index_ext n (suc n') ren env ((made val_base (suc n'), Some v) ∷ env') wenv i j (omega (arith, le)) x2 known_at) (λ part. content_now_is k n' cur' env' mem ((made val_base (suc n'), Some v) ∷ []) part (inr (val_base, suc n', refl, (let lt : n' < suc n' = omega arith in lt), top1), tt) valued) assigned
-      cases true false e = absurd (grind (arith, e))
-      cases false true e = absurd (grind (arith, e))
+      cases : (b b' : Bool) → b ≡ b' → suc n' + most_names (left_behind b ren cur g i (current cur' (Whole content_name)) (suc n') (λ cur2 n2. expand k.places c ((x, made val_base (suc n')) ∷ ren) cur2 n2 go jump yield)) ≤ L → Path a (left_behind b ren cur g i (current cur' (Whole content_name)) (suc n') (λ cur2 n2. expand k.places c ((x, made val_base (suc n')) ∷ ren) cur2 n2 go jump yield)) ((made val_base (suc n'), Some v) ∷ env') s t ↔ ((ch' : Vars) × ((if b' then put_content k g j (find content_name mem) ch else Some ch) ≡ Some ch') × May k c ((x, Some v) ∷ wenv) ch' P J Y)
+      cases false false e few =
+          known_iff (Some ch) ch _ (λ ch'. May k c ((x, Some v) ∷ wenv) ch' P J Y) refl (agree k f (suc n') ((x, made val_base (suc n')) ∷ ren) cur ((made val_base (suc n'), Some v) ∷ env') ((x, Some v) ∷ wenv) ch go jump yield P J Y pl few h3 (ways_ext k n (suc n') env ((made val_base (suc n'), Some v) ∷ env') go jump yield P J Y (omega (arith, le)) x2 w))
+      cases true true e few =
+          put_may k (suc n') ren cur ((made val_base (suc n'), Some v) ∷ env') wenv ch g i j (current cur' (Whole content_name)) (find content_name mem) (expand k.places c ((x, made val_base (suc n')) ∷ ren) ((g, made g (suc (suc n'))) ∷ cur) (suc (suc n')) go jump yield) (λ ch'. May k c ((x, Some v) ∷ wenv) ch' P J Y) is h2 (index_ext n (suc n') ren env ((made val_base (suc n'), Some v) ∷ env') wenv i j (omega (arith, le)) x2 known_at) (λ part. content_now_is k n' cur' env' mem ((made val_base (suc n'), Some v) ∷ []) part (inr (val_base, suc n', refl, (let lt : n' < suc n' = omega arith in lt), top1), tt) valued) (assigned few)
+      cases true false e few = absurd (grind (arith, e))
+      cases false true e few = absurd (grind (arith, e))
 
-  read_may : (x g : Name) (i : Option Name) (m c : Code) → Agree m → Agree c → (k : Context) (f : Fit k) (n : ℕ) (ren : Renames) (cur : Current) (env wenv : Names) (ch : Vars) (go : OnGo) (jump : OnJump) (yield : OnYield) (P : Vars → Type 0) (J : Name → Vars → Type 0) (Y : Data → Vars → Type 0) → PlainCode vs k.globals k.places (sources ren) (Read x g i m c) → n + most_made (Read x g i m c) ≤ L → IsHere k n ren cur env wenv ch → Ways k n (n + most_made (Read x g i m c)) env go jump yield P J Y → Path a (expand k.places (Read x g i m c) ren cur n go jump yield) env s t ↔ May k (Read x g i m c) wenv ch P J Y
+  read_may : (x g : Name) (i : Option Name) (m c : Code) → Agree m → Agree c → (k : Context) (f : Fit k) (n : ℕ) (ren : Renames) (cur : Current) (env wenv : Names) (ch : Vars) (go : OnGo) (jump : OnJump) (yield : OnYield) (P : Vars → Type 0) (J : Name → Vars → Type 0) (Y : Data → Vars → Type 0) → PlainCode vs k.globals k.places (sources ren) (Read x g i m c) → n + most_names (expand k.places (Read x g i m c) ren cur n go jump yield) ≤ L → IsHere k n ren cur env wenv ch → Ways k n env go jump yield P J Y → Path a (expand k.places (Read x g i m c) ren cur n go jump yield) env s t ↔ May k (Read x g i m c) wenv ch P J Y
   read_may x g i m c am ac k f n ren cur env wenv ch go jump yield P J Y pl top h w =
       let q = known_index k n ren cur env wenv ch i h pl.1 in
       read_iff (index_value i wenv) q.0 (bindable (value_on a (content_tree ren cur g i) env s t)) (λ j. bindable (content k g j ch)) _ (λ j old. May (block_of k) m [] (content_state old) never never_at (λ v mem. (ch' : Vars) × (left_content k g j mem ch ≡ Some ch') × May k c ((x, Some v) ∷ wenv) ch' P J Y)) q.1 (ap bindable (content_is k n ren cur env wenv ch g i q.0 pl.0 h q.2)) (λ old.
@@ -244,9 +247,9 @@ module _ (vs : List Name) (L : ℕ) (apart : (b b' : Name) (m m' : ℕ) → m �
       let env1 = (made old_base (suc n), Some old) ∷ env in
       let x1 = ext_more vs L apart n old_base (suc n) (Some old) env env (omega arith) top1 (ext_same vs L apart n env) in
       let h1 = here_ext vs L apart s t (meanings a.defs s (Some t)) not_there k n (suc n) ren cur env env1 wenv ch (omega arith) x1 h in
-      am (block_of k) (fits_block vs L apart s t (meanings a.defs s (Some t)) not_there k f) (suc n) [] (content_now (made old_base (suc n))) env1 [] (content_state old) no_go no_jump _ never never_at (λ v mem. (ch' : Vars) × (left_content k g q.0 mem ch ≡ Some ch') × May k c ((x, Some v) ∷ wenv) ch' P J Y) pl.2 (omega (arith, top)) (here_block vs L apart s t (meanings a.defs s (Some t)) not_there k old_base n old ren [] cur env env1 wenv [] ch top1 (ext_same vs L apart (suc n) env1) h1 (λ z. tt)) (no_ways (block_of k) (suc n) (suc n + most_made m) env1 _ _ (λ e cur' n' env' mem l less x2 valued long.
+      am (block_of k) (fits_block vs L apart s t (meanings a.defs s (Some t)) not_there k f) (suc n) [] (content_now (made old_base (suc n))) env1 [] (content_state old) no_go no_jump _ never never_at (λ v mem. (ch' : Vars) × (left_content k g q.0 mem ch ≡ Some ch') × May k c ((x, Some v) ∷ wenv) ch' P J Y) pl.2 (omega (arith, top)) (here_block vs L apart s t (meanings a.defs s (Some t)) not_there k old_base n old ren [] cur env env1 wenv [] ch top1 (ext_same vs L apart (suc n) env1) h1 (λ z. tt)) (no_ways (block_of k) (suc n) env1 _ _ (λ e cur' n' env' mem l less x2 valued long.
       with_iff _ _ _ _ refl (λ v _.
-      behind_may x g i c ac k f n n' q.0 v ren cur cur' env env' wenv ch mem go jump yield P J Y pl.0 pl.3 (omega (arith, l)) (omega (arith, less, top)) (ext_then vs L apart n (suc n) env env1 env' (omega arith) x1 x2) h q.2 valued long (ways_ext k n n (n + (3 + (most_made m + most_made c))) (suc (suc n') + most_made c) env env go jump yield P J Y (omega arith) (omega (arith, less)) (ext_same vs L apart n env) w)))))
+      behind_may x g i c ac k f n n' q.0 v ren cur cur' env env' wenv ch mem go jump yield P J Y pl.0 pl.3 (omega (arith, l)) (omega (arith, less)) (ext_then vs L apart n (suc n) env env1 env' (omega arith) x1 x2) h q.2 valued long w))))
 
   -- what a write hands its block
   handed_sim : (n : ℕ) (env : Names) (y : Name) (w : Option Data) (v : Data) → w ≡ Some v → ((Δ : Names) → AllLater vs L apart n Δ → find y (Δ ++ env) ≡ Some (Some v)) → (z : Name) → SimName vs L apart s t (meanings a.defs s (Some t)) not_there n env (find z ((value_name, y) ∷ [])) (find z ((value_name, w) ∷ []))
@@ -257,21 +260,28 @@ module _ (vs : List Name) (L : ℕ) (apart : (b b' : Name) (m m' : ℕ) → m �
       go false = tt
 
   -- behind the block of a write
-  written_may : (g : Name) (i : Option Name) (k : Context) (n n' : ℕ) (j : Option Data) (v : Data) (ren : Renames) (cur : Current) (env env' wenv : Names) (ch : Vars) (go : OnGo) (jump : OnJump) (yield : OnYield) (P : Vars → Type 0) (J : Name → Vars → Type 0) (Y : Data → Vars → Type 0) → is_among g k.globals ≡ true → n ≤ n' → suc (suc n') ≤ L → Ext vs L apart n env env' → IsHere k n ren cur env wenv ch → IndexIs n ren env wenv i j → Ways k n (suc (suc n')) env go jump yield P J Y → Path a (put_back ren cur g i (name (made new_base (suc n'))) (suc n') go) ((made new_base (suc n'), Some v) ∷ env') s t ↔ ((ch' : Vars) × (put_content k g j (Some v) ch ≡ Some ch') × P ch')
-  written_may g i k n n' j v ren cur env env' wenv ch go jump yield P J Y is le top x0 h known_at w =
+  written_may : (g : Name) (i : Option Name) (k : Context) (n n' : ℕ) (j : Option Data) (v : Data) (ren : Renames) (cur : Current) (env env' wenv : Names) (ch : Vars) (go : OnGo) (jump : OnJump) (yield : OnYield) (P : Vars → Type 0) (J : Name → Vars → Type 0) (Y : Data → Vars → Type 0) → is_among g k.globals ≡ true → n ≤ n' → suc n' + suc (most_names (go ((g, made g (suc (suc n'))) ∷ cur) (suc (suc n')))) ≤ L → Ext vs L apart n env env' → IsHere k n ren cur env wenv ch → IndexIs n ren env wenv i j → Ways k n env go jump yield P J Y → Path a (put_back ren cur g i (name (made new_base (suc n'))) (suc n') go) ((made new_base (suc n'), Some v) ∷ env') s t ↔ ((ch' : Vars) × (put_content k g j (Some v) ch ≡ Some ch') × P ch')
+  written_may g i k n n' j v ren cur env env' wenv ch go jump yield P J Y is le few x0 h known_at w =
+      let top : suc (suc n') ≤ L = omega (arith, few) in
       let top1 : suc n' ≤ L = omega (arith, top) in
       let env2 = (made new_base (suc n'), Some v) ∷ env' in
       let x2 = ext_more vs L apart n new_base (suc n') (Some v) env env' (omega (arith, le)) top1 x0 in
       let h2 = here_ext vs L apart s t (meanings a.defs s (Some t)) not_there k n (suc n') ren cur env env2 wenv ch (omega (arith, le)) x2 h in
-      put_may k (suc n') ren cur env2 wenv ch g i j (name (made new_base (suc n'))) (Some v) _ P is h2 (index_ext n (suc n') ren env env2 wenv i j (omega (arith, le)) x2 known_at) (λ part. plain_name (made new_base (suc n')) v env2 part (just_bound vs L apart new_base n' (Some v) env' [] top1 tt)) (λ gv.
+      put_may k (suc n') ren cur env2 wenv ch g i j (name (made new_base (suc n'))) (Some v) (go ((g, made g (suc (suc n'))) ∷ cur) (suc (suc n'))) P is h2 (index_ext n (suc n') ren env env2 wenv i j (omega (arith, le)) x2 known_at) (λ part. plain_name (made new_base (suc n')) v env2 part (just_bound vs L apart new_base n' (Some v) env' [] top1 tt)) (λ gv.
       let env4 = (made g (suc (suc n')), Some gv) ∷ env2 in
       let x3 = ext_more vs L apart (suc n') g (suc (suc n')) (Some gv) env2 env2 (omega arith) top (ext_same vs L apart (suc n') env2) in
       let x4 = ext_more vs L apart n g (suc (suc n')) (Some gv) env env2 (omega (arith, le)) top x2 in
       let h4 = here_ext vs L apart s t (meanings a.defs s (Some t)) not_there k (suc n') (suc (suc n')) ren cur env2 env4 wenv ch (omega arith) x3 h2 in
       let h5 = here_set vs L apart s t (meanings a.defs s (Some t)) not_there k (made g (suc (suc n'))) (suc (suc n')) (Whole g) gv ren cur env4 wenv ch (λ Δ later. just_bound vs L apart g (suc n') (Some gv) env2 Δ top later) h4 in
-      w.on_go ((g, made g (suc (suc n'))) ∷ cur) (suc (suc n')) env4 ((g, gv) ∷ ch) (omega (arith, le)) (omega arith) x4 h5.valued h5.long)
+      w.on_go ((g, made g (suc (suc n'))) ∷ cur) (suc (suc n')) env4 ((g, gv) ∷ ch) (omega (arith, le)) (omega (arith, few)) x4 h5.valued h5.long)
 
-  write_may : (g : Name) (i : Option Name) (x : Name) (m : Code) → Agree m → (k : Context) (f : Fit k) (n : ℕ) (ren : Renames) (cur : Current) (env wenv : Names) (ch : Vars) (go : OnGo) (jump : OnJump) (yield : OnYield) (P : Vars → Type 0) (J : Name → Vars → Type 0) (Y : Data → Vars → Type 0) → PlainCode vs k.globals k.places (sources ren) (Write g i x m) → n + most_made (Write g i x m) ≤ L → IsHere k n ren cur env wenv ch → Ways k n (n + most_made (Write g i x m)) env go jump yield P J Y → Path a (expand k.places (Write g i x m) ren cur n go jump yield) env s t ↔ May k (Write g i x m) wenv ch P J Y
+  -- the names of a write's block, whose value has a made name
+  write_few : (g : Name) (i : Option Name) (x : Name) (m : Code) (k : Context) (n : ℕ) (ren : Renames) (cur : Current) (go : OnGo) (jump : OnJump) (yield : OnYield) (y : Name) → find x ren ≡ Some y → n + most_names (expand k.places (Write g i x m) ren cur n go jump yield) ≤ L → suc n + most_names (expand content_places m (value_handed (Some y)) (content_now (made old_base (suc n))) (suc n) no_go no_jump (λ e mem n'. With (made new_base (suc n')) e (put_back ren cur g i (name (made new_base (suc n'))) (suc n') go))) ≤ L
+  write_few g i x m k n ren cur go jump yield y e top =
+      let top1 : suc n + most_names (expand content_places m (value_handed (find x ren)) (content_now (made old_base (suc n))) (suc n) no_go no_jump (λ e mem n'. With (made new_base (suc n')) e (put_back ren cur g i (name (made new_base (suc n'))) (suc n') go))) ≤ L = omega (arith, top) in
+      subst (λ o. suc n + most_names (expand content_places m (value_handed o) (content_now (made old_base (suc n))) (suc n) no_go no_jump (λ e mem n'. With (made new_base (suc n')) e (put_back ren cur g i (name (made new_base (suc n'))) (suc n') go))) ≤ L) e top1
+
+  write_may : (g : Name) (i : Option Name) (x : Name) (m : Code) → Agree m → (k : Context) (f : Fit k) (n : ℕ) (ren : Renames) (cur : Current) (env wenv : Names) (ch : Vars) (go : OnGo) (jump : OnJump) (yield : OnYield) (P : Vars → Type 0) (J : Name → Vars → Type 0) (Y : Data → Vars → Type 0) → PlainCode vs k.globals k.places (sources ren) (Write g i x m) → n + most_names (expand k.places (Write g i x m) ren cur n go jump yield) ≤ L → IsHere k n ren cur env wenv ch → Ways k n env go jump yield P J Y → Path a (expand k.places (Write g i x m) ren cur n go jump yield) env s t ↔ May k (Write g i x m) wenv ch P J Y
   write_may g i x m am k f n ren cur env wenv ch go jump yield P J Y pl top h w =
       let q = known_index k n ren cur env wenv ch i h pl.1 in
       read_iff (index_value i wenv) q.0 (bindable (value_on a (content_tree ren cur g i) env s t)) (λ j. bindable (content k g j ch)) _ (λ j old. (value : Data) × (value_under x wenv ≡ Some value) × May (block_of k) m ((value_name, Some value) ∷ []) (content_state old) never never_at (λ v mem. (ch' : Vars) × (put_content k g j (Some v) ch ≡ Some ch') × P ch')) q.1 (ap bindable (content_is k n ren cur env wenv ch g i q.0 pl.0 h q.2)) (λ old.
@@ -280,14 +290,17 @@ module _ (vs : List Name) (L : ℕ) (apart : (b b' : Name) (m m' : ℕ) → m �
       let x1 = ext_more vs L apart n old_base (suc n) (Some old) env env (omega arith) top1 (ext_same vs L apart n env) in
       let h1 = here_ext vs L apart s t (meanings a.defs s (Some t)) not_there k n (suc n) ren cur env env1 wenv ch (omega arith) x1 h in
       let kx = known k (suc n) ren cur env1 wenv ch x h1 pl.2 in
-      known_iff (value_under x wenv) kx.value _ (λ value. May (block_of k) m ((value_name, Some value) ∷ []) (content_state old) never never_at (λ v mem. (ch' : Vars) × (put_content k g q.0 (Some v) ch ≡ Some ch') × P ch')) kx.is_value (iff_along (λ o. Path a (expand content_places m (value_handed o) (content_now (made old_base (suc n))) (suc n) no_go no_jump (λ e mem n'. With (made new_base (suc n')) e (put_back ren cur g i (name (made new_base (suc n'))) (suc n') go))) env1 s t) (sym kx.is_made) (am (block_of k) (fits_block vs L apart s t (meanings a.defs s (Some t)) not_there k f) (suc n) (value_handed (Some kx.made_as)) (content_now (made old_base (suc n))) env1 ((value_name, Some kx.value) ∷ []) (content_state old) no_go no_jump (λ e mem n'. With (made new_base (suc n')) e (put_back ren cur g i (name (made new_base (suc n'))) (suc n') go)) never never_at (λ v mem. (ch' : Vars) × (put_content k g q.0 (Some v) ch ≡ Some ch') × P ch') pl.3 (omega (arith, top)) (here_block vs L apart s t (meanings a.defs s (Some t)) not_there k old_base n old ren (value_handed (Some kx.made_as)) cur env env1 wenv ((value_name, Some kx.value) ∷ []) ch top1 (ext_same vs L apart (suc n) env1) h1 (handed_sim (suc n) env1 kx.made_as (Some kx.value) kx.value refl kx.found)) (no_ways (block_of k) (suc n) (suc n + most_made m) env1 (λ e mem n'. With (made new_base (suc n')) e (put_back ren cur g i (name (made new_base (suc n'))) (suc n') go)) (λ v mem. (ch' : Vars) × (put_content k g q.0 (Some v) ch ≡ Some ch') × P ch') (λ e cur' n' env' mem l less x2 valued long.
+      let few1 = write_few g i x m k n ren cur go jump yield kx.made_as kx.is_made top in
+      known_iff (value_under x wenv) kx.value _ (λ value. May (block_of k) m ((value_name, Some value) ∷ []) (content_state old) never never_at (λ v mem. (ch' : Vars) × (put_content k g q.0 (Some v) ch ≡ Some ch') × P ch')) kx.is_value (iff_along (λ o. Path a (expand content_places m (value_handed o) (content_now (made old_base (suc n))) (suc n) no_go no_jump (λ e mem n'. With (made new_base (suc n')) e (put_back ren cur g i (name (made new_base (suc n'))) (suc n') go))) env1 s t) (sym kx.is_made) (am (block_of k) (fits_block vs L apart s t (meanings a.defs s (Some t)) not_there k f) (suc n) (value_handed (Some kx.made_as)) (content_now (made old_base (suc n))) env1 ((value_name, Some kx.value) ∷ []) (content_state old) no_go no_jump (λ e mem n'. With (made new_base (suc n')) e (put_back ren cur g i (name (made new_base (suc n'))) (suc n') go)) never never_at (λ v mem. (ch' : Vars) × (put_content k g q.0 (Some v) ch ≡ Some ch') × P ch') pl.3 few1 (here_block vs L apart s t (meanings a.defs s (Some t)) not_there k old_base n old ren (value_handed (Some kx.made_as)) cur env env1 wenv ((value_name, Some kx.value) ∷ []) ch top1 (ext_same vs L apart (suc n) env1) h1 (handed_sim (suc n) env1 kx.made_as (Some kx.value) kx.value refl kx.found)) (no_ways (block_of k) (suc n) env1 (λ e mem n'. With (made new_base (suc n')) e (put_back ren cur g i (name (made new_base (suc n'))) (suc n') go)) (λ v mem. (ch' : Vars) × (put_content k g q.0 (Some v) ch ≡ Some ch') × P ch') (λ e cur' n' env' mem l less x2 valued long.
       with_iff _ _ _ _ refl (λ v _.
-      written_may g i k n n' q.0 v ren cur env env' wenv ch go jump yield P J Y pl.0 (omega (arith, l)) (omega (arith, less, top)) (ext_then vs L apart n (suc n) env env1 env' (omega arith) x1 x2) h q.2 (ways_ext k n n (n + (3 + most_made m)) (suc (suc n')) env env go jump yield P J Y (omega arith) (omega (arith, less)) (ext_same vs L apart n env) w)))))))
+      written_may g i k n n' q.0 v ren cur env env' wenv ch go jump yield P J Y pl.0 (omega (arith, l)) (omega (arith, less)) (ext_then vs L apart n (suc n) env env1 env' (omega arith) x1 x2) h q.2 w))))))
 
   mutual
-    pub path_may : (c : Code) (k : Context) (f : Fit k) (n : ℕ) (ren : Renames) (cur : Current) (env wenv : Names) (ch : Vars) (go : OnGo) (jump : OnJump) (yield : OnYield) (P : Vars → Type 0) (J : Name → Vars → Type 0) (Y : Data → Vars → Type 0) → PlainCode vs k.globals k.places (sources ren) c → n + most_made c ≤ L → IsHere k n ren cur env wenv ch → Ways k n (n + most_made c) env go jump yield P J Y → Path a (expand k.places c ren cur n go jump yield) env s t ↔ May k c wenv ch P J Y
+    pub path_may : (c : Code) (k : Context) (f : Fit k) (n : ℕ) (ren : Renames) (cur : Current) (env wenv : Names) (ch : Vars) (go : OnGo) (jump : OnJump) (yield : OnYield) (P : Vars → Type 0) (J : Name → Vars → Type 0) (Y : Data → Vars → Type 0) → PlainCode vs k.globals k.places (sources ren) c → n + most_names (expand k.places c ren cur n go jump yield) ≤ L → IsHere k n ren cur env wenv ch → Ways k n env go jump yield P J Y → Path a (expand k.places c ren cur n go jump yield) env s t ↔ May k c wenv ch P J Y
+    path_may Empty k f n ren cur env wenv ch go jump yield P J Y pl top h w =
+        w.on_go cur n env ch (omega arith) top (ext_same vs L apart n env) h.valued h.long
     path_may Skip k f n ren cur env wenv ch go jump yield P J Y pl top h w =
-        w.on_go cur n env ch (omega arith) (omega arith) (ext_same vs L apart n env) h.valued h.long
+        w.on_go cur n env ch (omega arith) top (ext_same vs L apart n env) h.valued h.long
     path_may (Let b x e c) k f n ren cur env wenv ch go jump yield P J Y pl top h w =
         with_iff _ _ _ _ (ap bindable (tree_is vs L apart s t (meanings a.defs s (Some t)) not_there k f n ren cur env wenv ch h e pl.0)) (λ v _.
         bound c (λ k f n ren cur env wenv ch go jump yield P J Y pl top h w. path_may c k f n ren cur env wenv ch go jump yield P J Y pl top h w) k f b x n v ren cur env wenv ch go jump yield P J Y pl.1 top h w)
@@ -295,39 +308,39 @@ module _ (vs : List Name) (L : ℕ) (apart : (b b' : Name) (m m' : ℕ) → m �
         pick_iff _ _ _ _ (ap (option_and_then members_of) (tree_is vs L apart s t (meanings a.defs s (Some t)) not_there k f n ren cur env wenv ch h e pl.0)) (λ v.
         bound c (λ k f n ren cur env wenv ch go jump yield P J Y pl top h w. path_may c k f n ren cur env wenv ch go jump yield P J Y pl top h w) k f b x n v ren cur env wenv ch go jump yield P J Y pl.1 top h w)
     path_may (Become p x) k f n ren cur env wenv ch go jump yield P J Y pl top h w =
-        become_may k p x n (n + 0) ren cur env wenv ch go jump yield P J Y pl (omega arith) h w
+        become_may k p x n ren cur env wenv ch go jump yield P J Y pl top h w
     path_may (Set b p e) k f n ren cur env wenv ch go jump yield P J Y pl top h w =
         with_iff _ _ _ _ (ap bindable (tree_is vs L apart s t (meanings a.defs s (Some t)) not_there k f n ren cur env wenv ch h e pl)) (λ v _.
-        set_may k p b n v ren cur env wenv ch go jump yield P J Y (omega (arith, top)) h (ways_ext k n n (n + 1) (suc n) env env go jump yield P J Y (omega arith) (omega arith) (ext_same vs L apart n env) w))
+        set_may k p b n v ren cur env wenv ch go jump yield P J Y top h w)
     path_may (Await e) k f n ren cur env wenv ch go jump yield P J Y pl top h w =
-        guard_iff _ _ (Some (boolean true)) (tree_is vs L apart s t (meanings a.defs s (Some t)) not_there k f n ren cur env wenv ch h e pl) (w.on_go cur n env ch (omega arith) (omega arith) (ext_same vs L apart n env) h.valued h.long)
+        guard_iff _ _ (Some (boolean true)) (tree_is vs L apart s t (meanings a.defs s (Some t)) not_there k f n ren cur env wenv ch h e pl) (w.on_go cur n env ch (omega arith) top (ext_same vs L apart n env) h.valued h.long)
     path_may (Assert e) k f n ren cur env wenv ch go jump yield P J Y pl top h w =
-        guard_iff _ _ (Some (boolean true)) (tree_is vs L apart s t (meanings a.defs s (Some t)) not_there k f n ren cur env wenv ch h e pl) (w.on_go cur n env ch (omega arith) (omega arith) (ext_same vs L apart n env) h.valued h.long)
+        guard_iff _ _ (Some (boolean true)) (tree_is vs L apart s t (meanings a.defs s (Some t)) not_there k f n ren cur env wenv ch h e pl) (w.on_go cur n env ch (omega arith) top (ext_same vs L apart n env) h.valued h.long)
     path_may (Print e) k f n ren cur env wenv ch go jump yield P J Y pl top h w =
         with_iff _ _ _ _ (tree_is vs L apart s t (meanings a.defs s (Some t)) not_there k f n ren cur env wenv ch h e pl) (λ v _.
-        w.on_go cur n env ch (omega arith) (omega arith) (ext_same vs L apart n env) h.valued h.long)
+        w.on_go cur n env ch (omega arith) top (ext_same vs L apart n env) h.valued h.long)
     path_may (If e x y) k f n ren cur env wenv ch go jump yield P J Y pl top h w =
         let same = tree_is vs L apart s t (meanings a.defs s (Some t)) not_there k f n ren cur env wenv ch h e pl.0 in
-        sum_iff (guard_iff _ _ (Some (boolean true)) same (path_may x k f n ren cur env wenv ch go jump yield P J Y pl.1 (omega (arith, top)) h (ways_ext k n n (n + (most_made x + most_made y)) (n + most_made x) env env go jump yield P J Y (omega arith) (omega arith) (ext_same vs L apart n env) w))) (guard_iff _ _ (Some (boolean false)) same (path_may y k f n ren cur env wenv ch go jump yield P J Y pl.2 (omega (arith, top)) h (ways_ext k n n (n + (most_made x + most_made y)) (n + most_made y) env env go jump yield P J Y (omega arith) (omega arith) (ext_same vs L apart n env) w)))
+        sum_iff (guard_iff _ _ (Some (boolean true)) same (path_may x k f n ren cur env wenv ch go jump yield P J Y pl.1 (omega (arith, top)) h w)) (guard_iff _ _ (Some (boolean false)) same (path_may y k f n ren cur env wenv ch go jump yield P J Y pl.2 (omega (arith, top)) h w))
     path_may (Either cs) k f n ren cur env wenv ch go jump yield P J Y pl top h w =
         some_may cs k f n ren cur env wenv ch go jump yield P J Y pl top h w
     path_may (Seq x y) k f n ren cur env wenv ch go jump yield P J Y pl top h w =
-        path_may x k f n ren cur env wenv ch (λ cur' n'. expand k.places y ren cur' n' go jump yield) jump yield (λ ch'. May k y wenv ch' P J Y) J Y pl.0 (omega (arith, top)) h (record {
+        path_may x k f n ren cur env wenv ch (λ cur' n'. expand k.places y ren cur' n' go jump yield) jump yield (λ ch'. May k y wenv ch' P J Y) J Y pl.0 top h (record {
           on_go = λ cur' n' env' ch' l m x1 valued long.
-              path_may y k f n' ren cur' env' wenv ch' go jump yield P J Y pl.1 (omega (arith, top, m)) (here_again k n n' ren cur cur' env env' wenv ch ch' l x1 h valued long) (ways_ext k n n' (n + (most_made x + most_made y)) (n' + most_made y) env env' go jump yield P J Y l (omega (arith, m)) x1 w);
-          on_jump = λ q cur' n' env' ch' l m. w.on_jump q cur' n' env' ch' l (omega (arith, m));
-          on_yield = λ e cur' n' env' ch' l m. w.on_yield e cur' n' env' ch' l (omega (arith, m));
+              path_may y k f n' ren cur' env' wenv ch' go jump yield P J Y pl.1 m (here_again k n n' ren cur cur' env env' wenv ch ch' l x1 h valued long) (ways_ext k n n' env env' go jump yield P J Y l x1 w);
+          on_jump = w.on_jump;
+          on_yield = w.on_yield;
         })
     path_may (Goto l) k f n ren cur env wenv ch go jump yield P J Y pl top h w =
-        w.on_jump l cur n env ch (omega arith) (omega arith) (ext_same vs L apart n env) h.valued h.long
+        w.on_jump l cur n env ch (omega arith) top (ext_same vs L apart n env) h.valued h.long
     path_may (Yield e) k f n ren cur env wenv ch go jump yield P J Y pl top h w =
-        iff_then (w.on_yield (current_tree k.places ren cur e) cur n env ch (omega arith) (omega arith) (ext_same vs L apart n env) h.valued h.long) (with_iff _ _ _ _ (ap bindable (tree_is vs L apart s t (meanings a.defs s (Some t)) not_there k f n ren cur env wenv ch h e pl)) (λ v _. iff_same))
+        iff_then (w.on_yield (current_tree k.places ren cur e) cur n env ch (omega arith) top (ext_same vs L apart n env) h.valued h.long) (with_iff _ _ _ _ (ap bindable (tree_is vs L apart s t (meanings a.defs s (Some t)) not_there k f n ren cur env wenv ch h e pl)) (λ v _. iff_same))
     path_may (Read x g i m c) k f n ren cur env wenv ch go jump yield P J Y pl top h w =
         read_may x g i m c (λ k f n ren cur env wenv ch go jump yield P J Y pl top h w. path_may m k f n ren cur env wenv ch go jump yield P J Y pl top h w) (λ k f n ren cur env wenv ch go jump yield P J Y pl top h w. path_may c k f n ren cur env wenv ch go jump yield P J Y pl top h w) k f n ren cur env wenv ch go jump yield P J Y pl top h w
     path_may (Write g i x m) k f n ren cur env wenv ch go jump yield P J Y pl top h w =
         write_may g i x m (λ k f n ren cur env wenv ch go jump yield P J Y pl top h w. path_may m k f n ren cur env wenv ch go jump yield P J Y pl top h w) k f n ren cur env wenv ch go jump yield P J Y pl top h w
 
-    some_may : (cs : Codes) (k : Context) (f : Fit k) (n : ℕ) (ren : Renames) (cur : Current) (env wenv : Names) (ch : Vars) (go : OnGo) (jump : OnJump) (yield : OnYield) (P : Vars → Type 0) (J : Name → Vars → Type 0) (Y : Data → Vars → Type 0) → PlainCodes vs k.globals k.places (sources ren) cs → n + most_made_by cs ≤ L → IsHere k n ren cur env wenv ch → Ways k n (n + most_made_by cs) env go jump yield P J Y → SomePath a (expand_arms k.places cs ren cur n go jump yield) env s t ↔ SomeMay k cs wenv ch P J Y
+    some_may : (cs : Codes) (k : Context) (f : Fit k) (n : ℕ) (ren : Renames) (cur : Current) (env wenv : Names) (ch : Vars) (go : OnGo) (jump : OnJump) (yield : OnYield) (P : Vars → Type 0) (J : Name → Vars → Type 0) (Y : Data → Vars → Type 0) → PlainCodes vs k.globals k.places (sources ren) cs → n + most_of_arms (expand_arms k.places cs ren cur n go jump yield) ≤ L → IsHere k n ren cur env wenv ch → Ways k n env go jump yield P J Y → SomePath a (expand_arms k.places cs ren cur n go jump yield) env s t ↔ SomeMay k cs wenv ch P J Y
     some_may no_codes k f n ren cur env wenv ch go jump yield P J Y pl top h w = iff_same
     some_may (more_codes c cs) k f n ren cur env wenv ch go jump yield P J Y pl top h w =
-        sum_iff (path_may c k f n ren cur env wenv ch go jump yield P J Y pl.0 (omega (arith, top)) h (ways_ext k n n (n + (most_made c + most_made_by cs)) (n + most_made c) env env go jump yield P J Y (omega arith) (omega arith) (ext_same vs L apart n env) w)) (some_may cs k f n ren cur env wenv ch go jump yield P J Y pl.1 (omega (arith, top)) h (ways_ext k n n (n + (most_made c + most_made_by cs)) (n + most_made_by cs) env env go jump yield P J Y (omega arith) (omega arith) (ext_same vs L apart n env) w))
+        sum_iff (path_may c k f n ren cur env wenv ch go jump yield P J Y pl.0 (omega (arith, top)) h w) (some_may cs k f n ren cur env wenv ch go jump yield P J Y pl.1 (omega (arith, top)) h w)

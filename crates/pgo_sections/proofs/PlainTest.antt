@@ -6,7 +6,7 @@ use Rattle.pgo_base.specs.Tree.{Tree, name, primed, number, text, truth, at, wor
 use Rattle.pgo_model.specs.Names.{same_name-is}
 use Rattle.pgo_model.specs.Written.{made, self_name}
 use Rattle.pgo_sections.specs.SectionsAgree.{Distinct}
-use Rattle.pgo_sections.specs.Code.{Place, Code, Skip, Let, Pick, Become, Set, Await, Assert, Print, If, Either, Seq, Goto, Yield, Read, Write, Codes, no_codes, more_codes, content_name, content_places, value_name}
+use Rattle.pgo_sections.specs.Code.{Place, Code, Empty, Skip, Let, Pick, Become, Set, Await, Assert, Print, If, Either, Seq, Goto, Yield, Read, Write, Codes, no_codes, more_codes, content_name, content_places, value_name}
 use Rattle.pgo_sections.specs.Among.{is_among}
 use Rattle.pgo_sections.specs.Plain.{All, Plain, PlainAll, PlainArms, PlainFields, PlainLet, PlainBound, PlainPaths}
 use Rattle.pgo_sections.specs.PlainTest.{is_digit_code, all_digit_codes, digits_behind, looks_made, all_names, is_plain, plain_all, plain_arms, plain_fields, plain_let, plain_bound, plain_paths, is_bindable, is_alone, is_applied, plain_tree, known_index, plain_code, plain_codes, distinct_names, is_written, is_place, all_places, NamesTestIsSound}
@@ -176,6 +176,7 @@ module _ (vs : List Name) where
 
   mutual
     pub code_sound : (gs : List Name) (ps : List (Name × Place)) (ws : List Name) (c : Code) → plain_code vs gs ps ws c ≡ true → PlainCode vs gs ps ws c
+    code_sound gs ps ws Empty h = tt
     code_sound gs ps ws Skip h = tt
     code_sound gs ps ws (Let b w e c) h =
         let p = and_true (plain_tree vs ps ws e) (plain_code vs gs ps (w ∷ ws) c) h in (plain_sound ps ws e p.0, code_sound gs ps (w ∷ ws) c p.1)

@@ -13,7 +13,7 @@ use Rattle.pgo_model.specs.Outcome.{Blocked, AssertFails}
 use Rattle.pgo_model.specs.System.{Words, Touched}
 use Rattle.pgo_sections.specs.Access.{touched_whole, reads_among, unmapped_reads}
 use Rattle.pgo_sections.specs.Among.{is_among}
-use Rattle.pgo_sections.specs.Code.{Place, Whole, Own, variable_of, Code, Skip, Let, Pick, Become, Set, Await, Assert, Print, If, Either, Seq, Goto, Yield, Read, Write, Codes, no_codes, more_codes}
+use Rattle.pgo_sections.specs.Code.{Place, Whole, Own, variable_of, Code, Empty, Skip, Let, Pick, Become, Set, Await, Assert, Print, If, Either, Seq, Goto, Yield, Read, Write, Codes, no_codes, more_codes}
 use Rattle.pgo_sections.specs.Context.{Context, content, index_value, put_content, put_new, value_now, value_of}
 use Rattle.pgo_sections.specs.Domains.{Uses, AllUse, HasIndex, ByElements, PlaceIn, UsesOnly, IsPart, IsEvent}
 use Rattle.pgo_sections.specs.Exec.{MacroEnd, Gives, Stops, with_choices, if_gives, touched, touching, read_unmapped, becoming, count, exec_arm_with}
@@ -114,6 +114,7 @@ module _ (k : Context) (gs : List Name) (places_in : (x : Name) (p : Place) → 
 
   mutual
     traced_by : (c : Code) (env : Names) (d : Words) (run : SectionRun) → Uses (PlaceIn k gs) (λ g i. is_among g gs ≡ true) c → ByElements k.by_element c → Kept k run.changes → All run.trace → Traced (exec k c env d run)
+    traced_by Empty env d run u b h r = r
     traced_by Skip env d run u b h r = r
     traced_by (Let x w e c) env d run u b h r =
         let now = read_unmapped k e run in

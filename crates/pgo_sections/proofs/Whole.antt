@@ -20,9 +20,10 @@ use Rattle.pgo_sections.specs.Section.{closed_value, closed, end_of, if_shallow,
 use Rattle.pgo_model.specs.Choice.{word_at}
 use Rattle.pgo_sections.specs.Among.{is_among}
 use Rattle.pgo_sections.specs.BoundValues.{put_part, value_put, value_under}
-use Rattle.pgo_sections.specs.Expand.{Current, untouched, no_go, to_end, no_yield}
+use Rattle.pgo_sections.specs.Expand.{Current, untouched, no_go, settled, to_end, no_yield, expansion}
+use Rattle.pgo_sections.specs.Nodes.{most_names}
 use Rattle.pgo_sections.specs.Expansion.{PathContext, value_at_end, EndsIn}
-use Rattle.pgo_sections.specs.WellFormed.{Bindable, PlainCode, most_made}
+use Rattle.pgo_sections.specs.WellFormed.{Bindable, PlainCode}
 use Rattle.pgo_sections.proofs.Apart.{apart, self_not_made}
 use Rattle.pgo_sections.proofs.Closing.{among_nth, nth_among, found_among, not_among, closed_at, closed_is}
 use Rattle.pgo_sections.proofs.Here.{on_path, SimName, Changed, Here}
@@ -30,6 +31,7 @@ use Rattle.pgo_sections.proofs.Iff.{iff_same, iff_then}
 use Rattle.pgo_sections.proofs.Later.{find_in, find_on, find_past, turned, hidden_not, AllLater}
 use Rattle.pgo_sections.proofs.May.{May, never}
 use Rattle.pgo_sections.proofs.Paths.{path_may}
+use Rattle.pgo_sections.proofs.Settled.{settled_has}
 use Rattle.pgo_sections.proofs.Words.{Holds, may_from, ends_from, Reads}
 
 abbrev no_gift : Data → Vars → Type 0
@@ -123,21 +125,27 @@ module _ (a : PathContext) (k : Context) (t : Vars) (f : Fit a k t) where
           ∙ changed (find x cur) (find x ch) (long.1 x)
           ∙ sym (ap (λ b. if b then put_part k.id (Some old) (Some (string l)) else on (Some old) (find x ch) (λ v. value_put (is_among x k.globals) k.id (Some old) (Some v))) same)
 
-  ends_may : (n : ℕ) (cur : Current) (env : Names) (ch : Vars) (l : Name) → Changed a.variables L apart k.start t (meanings a.defs k.start (Some t)) not_there n cur env ch → EndsIn a env cur l k.start t ↔ J l ch
+  -- the assignments give a variable what its newest made name gives
+  settled_value : (cur : Current) (env : Names) (l x : Name) → is_among x a.variables ≡ true → value_at_end a env (settled a.variables cur) l k.start x ≡ value_at_end a env cur l k.start x
+  settled_value cur env l x is =
+      ap (λ o. if same_name x pc then put_part a.id (find pc k.start) (Some (string l)) else on (find x k.start) o (λ y. value_put (is_among x a.globals) a.id (find x k.start) (value_under y env))) (settled_has a.variables cur x is)
+
+  ends_may : (n : ℕ) (cur : Current) (env : Names) (ch : Vars) (l : Name) → Changed a.variables L apart k.start t (meanings a.defs k.start (Some t)) not_there n cur env ch → EndsIn a env (settled a.variables cur) l k.start t ↔ J l ch
   ends_may n cur env ch l long = (forward, backward)
     where
-      forward : EndsIn a env cur l k.start t → J l ch
+      forward : EndsIn a env (settled a.variables cur) l k.start t → J l ch
       forward h =
           closed_is k l ch k.start t (f.after ∙ sym f.before) (subst Distinct (sym f.before) f.distinct) (λ x is.
           let among : is_among x a.variables ≡ true = ap (λ xs. is_among x xs) (sym f.before) ∙ is in
           let at_n = nth_among a.variables x among in
           let old = there x among in
-          h at_n.0 x at_n.1 ∙ end_value n cur env ch l x old.0 long old.1)
+          h at_n.0 x at_n.1 ∙ settled_value cur env l x among ∙ end_value n cur env ch l x old.0 long old.1)
 
-      backward : J l ch → EndsIn a env cur l k.start t
+      backward : J l ch → EndsIn a env (settled a.variables cur) l k.start t
       backward h m x is =
-          let old = there x (among_nth a.variables m x is) in
-          closed_at k l ch k.start t h x ∙ sym (end_value n cur env ch l x old.0 long old.1)
+          let among = among_nth a.variables m x is in
+          let old = there x among in
+          closed_at k l ch k.start t h x ∙ sym (end_value n cur env ch l x old.0 long old.1) ∙ sym (settled_value cur env l x among)
 
   -- the start of the path
   start_env : Names
@@ -180,9 +188,9 @@ module _ (a : PathContext) (k : Context) (t : Vars) (f : Fit a k t) where
     long = (refl, λ x. tt);
   }
 
-  pub section_agrees : (c : Code) → HasBlocks c → PlainCode a.variables k.globals k.places [] c → most_made c < 2 ^ 64 → PathAgrees a k c t
+  pub section_agrees : (c : Code) → HasBlocks c → PlainCode a.variables k.globals k.places [] c → most_names (expansion a.variables k.places c) < 2 ^ 64 → PathAgrees a k c t
   section_agrees c bl pl few =
-      iff_then (path_may a.variables L apart a k.start t not_there c k (record { places = f.places; defs = f.defs }) 0 [] [] ((self_name, Some a.id) ∷ []) [] [] no_go to_end no_yield never J no_gift pl (omega (arith, few)) start_here (record {
+      iff_then (path_may a.variables L apart a k.start t not_there c k (record { places = f.places; defs = f.defs }) 0 [] [] ((self_name, Some a.id) ∷ []) [] [] no_go (to_end a.variables) no_yield never J no_gift pl (omega (arith, few)) start_here (record {
         on_go = λ cur n env ch l m x v long. iff_same;
         on_jump = λ l cur n env ch le m x v long. ends_may n cur env ch l long;
         on_yield = λ e cur n env ch l m x v long. (λ b. absurd b, λ p. absurd p.2);

@@ -7,7 +7,7 @@ use Rattle.pgo_model.specs.Operators.{truth_of}
 use Rattle.pgo_model.specs.Options.{on}
 use Rattle.pgo_model.specs.Outcome.{Blocked, NoValue, AssertFails}
 use Rattle.pgo_model.specs.System.{Words}
-use Rattle.pgo_sections.specs.Code.{Code, Skip, Let, Pick, Become, Set, Await, Assert, Print, If, Either, Seq, Goto, Yield, Read, Write, Codes, no_codes, more_codes, value_name}
+use Rattle.pgo_sections.specs.Code.{Code, Empty, Skip, Let, Pick, Become, Set, Await, Assert, Print, If, Either, Seq, Goto, Yield, Read, Write, Codes, no_codes, more_codes, value_name}
 use Rattle.pgo_sections.specs.Blocks.{AreBlocks, AllAreBlocks, IsBlock, HasBlocks}
 use Rattle.pgo_sections.specs.Context.{Context, content, put_content, put_new, content_state, new_content}
 use Rattle.pgo_sections.specs.Exec.{Gives, Stops, read_end, write_end, with_choices, if_gives, touching, read_unmapped, becoming, count, Reads as ReadsBlock, Writes as WritesBlock, exec_with, exec_arm_with}
@@ -89,6 +89,7 @@ module _ (B : Code → Type 0) (rd : ReadsBlock) (wr : WritesBlock) (reads_may :
   mutual
     -- what code does, it may do
     may_with : (k : Context) (c : Code) (env : Names) (d : Words) (run : SectionRun) (P : Vars → Type 0) (J : Name → Vars → Type 0) (Y : Data → Vars → Type 0) → AreBlocks B c → Holds P J Y (exec_with rd wr k c env d run) → May k c env run.changes P J Y
+    may_with k Empty env d run P J Y bl h = h
     may_with k Skip env d run P J Y bl h = h
     may_with k (Let b w e c) env d run P J Y bl h =
         let x = value_holds P J Y _ _ _ h in (x.0, x.1, may_with k c ((w, Some x.0) ∷ env) d (read_unmapped k e run) P J Y bl x.2)
@@ -289,6 +290,7 @@ module _ (B : Code → Type 0) (rd : ReadsBlock) (wr : WritesBlock) (reads_end :
 
   mutual
     ends_with : (k : Context) (c : Code) (env : Names) (run : SectionRun) (P : Vars → Type 0) (J : Name → Vars → Type 0) (Y : Data → Vars → Type 0) → AreBlocks B c → May k c env run.changes P J Y → Ends (λ d. exec_with rd wr k c env d run) (words_used run) P J Y
+    ends_with k Empty env run P J Y bl h = ends_now (words_used run) P J Y (Go run) refl h
     ends_with k Skip env run P J Y bl h = ends_now (words_used run) P J Y (Go run) refl h
     ends_with k (Let b w e c) env run P J Y bl h =
         let now = read_unmapped k e run in

@@ -1,5 +1,5 @@
 -- The expansion of a section: the values of its statements bound to made names in the order of its effects, what follows a
--- branch copied into each of its arms, and at the end one assignment of each variable that changed.
+-- branch copied into each of its arms, and at the end one assignment of each variable that changed, in the order of the variables.
 use Rattle.std.specs.Prelude.{ℕ, suc, Bool, true, false, if◌then◌else◌, List, [], ◌∷◌, Option, Some, None, unwrap_or, option_map, filter_map}
 use Rattle.pgo_base.specs.Lookup.{Name, find}
 use Rattle.pgo_base.specs.Tree.{Tree, name, index, except, trees, no_paths, more_paths}

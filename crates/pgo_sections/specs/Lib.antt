@@ -14,6 +14,7 @@ pub mod Replaced
 pub mod Expansion
 pub mod Expand
 pub mod Nodes
+pub mod NodeLaws
 pub mod Plain
 pub mod WellFormed
 pub mod SectionsAgree

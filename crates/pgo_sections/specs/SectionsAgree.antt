@@ -48,7 +48,7 @@ pub record Fit (a : PathContext) (k : Context) (t : Vars) : Type 0 where
 abbrev pub PathAgrees : PathContext → Context → Code → Vars → Type 0
 PathAgrees a k c t = Path a (expansion a.variables k.places c) ((self_name, Some a.id) ∷ []) k.start t ↔ SectionReaches k c t
 
--- for all code that reads and writes by blocks, has well-formed names and binds fewer than 2^64 names: past 10^64 made names
--- are not told apart
+-- for all code that reads and writes by blocks, has well-formed names, and whose expansion binds fewer than 2^64 names on a path:
+-- past 10^64 made names are not told apart
 abbrev pub SectionsAgree : Type 0
 SectionsAgree = (a : PathContext) (k : Context) (c : Code) (t : Vars) → Fit a k t → HasBlocks c → PlainCode a.variables k.globals k.places [] c → most_names (expansion a.variables k.places c) < 2 ^ 64 → PathAgrees a k c t

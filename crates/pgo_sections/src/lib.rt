@@ -31,7 +31,7 @@ ghost use Rattle.pgo_sections.specs.WellFormed.{PlainCode};
 /// - `paths` (`SectionsAgree`): some path through the expansion leads from the start to an end that is a state exactly where
 ///   the code, with some words of choice, ends there. Its premises are that the path and the section are of one instance and
 ///   its variables (`Fit`), that the code reads and writes mapped parameters by blocks that have none (`HasBlocks`), that its
-///   names are well formed (`PlainCode`), and that it binds fewer than 2^64 names.
+///   names are well formed (`PlainCode`), and that no path through its expansion binds 2^64 names (`most_names`).
 /// - `definitions`: definitions whose bodies have no prime and name no variable mean the same over any state.
 /// - `reads`, `writes`: where a mapped parameter has an index and a content, its read, or write, in a section is what its
 ///   macro's block does on that content. The section goes on behind it with the words that are left.
