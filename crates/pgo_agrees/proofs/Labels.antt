@@ -147,11 +147,11 @@ label_own j a x h =
     let ls = local_uses j (parameter_names a.params) s a.locals in
     let bs = uses_of_block ns s (labeled a.body) in
     let u = second_part x (ps ++ ls) bs (label_among (labeled a.body) x ns s h) in
-    subst (λ y. IsAmong y (own_names j a)) u.3 (among_right u.0.name (value_names a.params ++ variable_names a.locals) (labels_from [] (archetype_uses j a)) (listed (label_listed u.0 [] (archetype_uses j a) u.1 u.2)))
+    subst (λ y. IsAmong y (own_names j a)) u.3 (among_right u.0.name (value_names a.params ++ variable_names a.locals) (labels_from [] (archetype_uses j a)) (listed u.0.name (label_listed u.0 [] (archetype_uses j a) u.1 u.2)))
   where
-    listed : {y : Name} → (is_among y [] ≡ true) ⊎ IsAmong y (labels_from [] (archetype_uses j a)) → IsAmong y (labels_from [] (archetype_uses j a))
-    listed (inl e) = absurd (let q : false ≡ true = e in cc)
-    listed (inr b) = b
+    listed : (y : Name) → (is_among y [] ≡ true) ⊎ IsAmong y (labels_from [] (archetype_uses j a)) → IsAmong y (labels_from [] (archetype_uses j a))
+    listed y (inl e) = absurd (let q : false ≡ true = e in cc)
+    listed y (inr b) = b
 
 found_own : (x : Name) (j : ℕ) (as' : List Archetype) (a : Archetype) → archetype_named x as' ≡ Some a → (k : ℕ) × (find x (own_rows j as') ≡ Some (own_names k a))
 found_own x j [] a h = absurd (cc)

@@ -13,3 +13,5 @@ pub mod Weaker
 pub mod Meanings
 pub mod Closed
 pub mod Labels
+pub mod Replaced
+pub mod Hoist
