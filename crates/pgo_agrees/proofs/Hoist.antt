@@ -24,7 +24,7 @@ marks_single (suc (suc n)) = marks_single (suc n)
 pub place_single : (k : ℕ) → NotMade (place k)
 place_single k = single (place k) (marks_single (suc k))
 
-never : {A : Type 0} → false ≡ true → A
+pub never : {A : Type 0} → false ≡ true → A
 never e = absurd (cc)
 
 -- ---- names that the code has bound

@@ -15,3 +15,5 @@ pub mod Closed
 pub mod Labels
 pub mod Replaced
 pub mod Hoist
+pub mod Fine
+pub mod GoodCode

@@ -43,11 +43,12 @@ is_identifier x = has_letter x && has_name_bytes x
 abbrev pub DefinitionOfText : Definition → Type 0
 DefinitionOfText d = (is_identifier d.name.name ≡ true) × Spoken d.body
 
+-- a `yield` stands in a mapping macro alone
 abbrev pub MacroOfText : Macro → Type 0
-MacroOfText m = LabeledSpoken (labeled m.body)
+MacroOfText m = LabeledSpoken ⊥ (labeled m.body)
 
 abbrev pub MappingOfText : MappingMacro → Type 0
-MappingOfText m = LabeledSpoken (labeled m.read) × LabeledSpoken (labeled m.write)
+MappingOfText m = LabeledSpoken (Unit {0}) (labeled m.read) × LabeledSpoken (Unit {0}) (labeled m.write)
 
 abbrev pub ParameterOfText : Parameter → Type 0
 ParameterOfText p = is_identifier p.name.name ≡ true
@@ -57,10 +58,11 @@ DeclarationOfText d = is_identifier d.name.name ≡ true
 
 abbrev pub ArchetypeOfText : Archetype → Type 0
 ArchetypeOfText a =
-    AllByRecursion ParameterOfText a.params × AllByRecursion DeclarationOfText a.locals × LabeledSpoken (labeled a.body)
+    AllByRecursion ParameterOfText a.params × AllByRecursion DeclarationOfText a.locals × LabeledSpoken ⊥ (labeled a.body)
 
 -- what the grammar says of a specification that a text spells, as far as the laws here ask for it
 pub record IsOfText (s : Spec) : Type 0 where
+  pub globals : AllByRecursion DeclarationOfText s.globals
   pub definitions : AllByRecursion DefinitionOfText (all_definitions s)
   pub macros : AllByRecursion MacroOfText s.macros
   pub mappings : AllByRecursion MappingOfText s.mappings

@@ -86,31 +86,32 @@ abbrev pub ArgumentsSpoken : List Tree → Type 0
 ArgumentsSpoken [] = Unit {0}
 ArgumentsSpoken (t ∷ ts) = Spoken t × ArgumentsSpoken ts
 
+-- Y: what it takes that a `yield` stands there
 abbrev mutual
-  pub StatementSpoken : Statement → Type 0
-  StatementSpoken (skip p) = Unit {0}
-  StatementSpoken (assign p as') = AssignmentsSpoken as'
-  StatementSpoken (if_then p bs) = GuardedSpoken bs
-  StatementSpoken (if_else p bs s) = GuardedSpoken bs × StatementSpoken s
-  StatementSpoken (while_do p e s) = Spoken e × StatementSpoken s
-  StatementSpoken (either_of p ss) = EachSpoken ss
-  StatementSpoken (await_that p e) = Spoken e
-  StatementSpoken (with_in p ws s) = WithsSpoken ws × StatementSpoken s
-  StatementSpoken (print_out p e) = Spoken e
-  StatementSpoken (assert_that p e) = Spoken e
-  StatementSpoken (go_to p l) = Unit {0}
-  StatementSpoken (call_macro p m ts) = ArgumentsSpoken ts
-  StatementSpoken (yield_as p e) = Spoken e
-  StatementSpoken (block p ls) = LabeledSpoken ls
+  pub StatementSpoken : Type 0 → Statement → Type 0
+  StatementSpoken Y (skip p) = Unit {0}
+  StatementSpoken Y (assign p as') = AssignmentsSpoken as'
+  StatementSpoken Y (if_then p bs) = GuardedSpoken Y bs
+  StatementSpoken Y (if_else p bs s) = GuardedSpoken Y bs × StatementSpoken Y s
+  StatementSpoken Y (while_do p e s) = Spoken e × StatementSpoken Y s
+  StatementSpoken Y (either_of p ss) = EachSpoken Y ss
+  StatementSpoken Y (await_that p e) = Spoken e
+  StatementSpoken Y (with_in p ws s) = WithsSpoken ws × StatementSpoken Y s
+  StatementSpoken Y (print_out p e) = Spoken e
+  StatementSpoken Y (assert_that p e) = Spoken e
+  StatementSpoken Y (go_to p l) = Unit {0}
+  StatementSpoken Y (call_macro p m ts) = ArgumentsSpoken ts
+  StatementSpoken Y (yield_as p e) = Y × Spoken e
+  StatementSpoken Y (block p ls) = LabeledSpoken Y ls
 
-  pub EachSpoken : Statements → Type 0
-  EachSpoken no_statements = Unit {0}
-  EachSpoken (more_statements s ss) = StatementSpoken s × EachSpoken ss
+  pub EachSpoken : Type 0 → Statements → Type 0
+  EachSpoken Y no_statements = Unit {0}
+  EachSpoken Y (more_statements s ss) = StatementSpoken Y s × EachSpoken Y ss
 
-  pub LabeledSpoken : LabeledStatements → Type 0
-  LabeledSpoken no_labeled = Unit {0}
-  LabeledSpoken (more_labeled l s ls) = StatementSpoken s × LabeledSpoken ls
+  pub LabeledSpoken : Type 0 → LabeledStatements → Type 0
+  LabeledSpoken Y no_labeled = Unit {0}
+  LabeledSpoken Y (more_labeled l s ls) = StatementSpoken Y s × LabeledSpoken Y ls
 
-  pub GuardedSpoken : GuardedStatements → Type 0
-  GuardedSpoken no_guarded = Unit {0}
-  GuardedSpoken (more_guarded p e s bs) = Spoken e × StatementSpoken s × GuardedSpoken bs
+  pub GuardedSpoken : Type 0 → GuardedStatements → Type 0
+  GuardedSpoken Y no_guarded = Unit {0}
+  GuardedSpoken Y (more_guarded p e s bs) = Spoken e × StatementSpoken Y s × GuardedSpoken Y bs

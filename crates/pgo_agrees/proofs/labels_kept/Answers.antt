@@ -12,7 +12,7 @@ use Rattle.pgo_agrees.proofs.FromUses.{all_left}
 use Rattle.pgo_agrees.proofs.Closed.{definitions_closed}
 use Rattle.pgo_agrees.proofs.Labels.{few_names}
 use Rattle.pgo_agrees.proofs.Replaced.{put}
-use Rattle.pgo_agrees.proofs.Hoist.{place_single}
+use Rattle.pgo_agrees.proofs.GoodCode.{section_good}
 use Rattle.pgo_agrees.proofs.Places.{target_whole}
 use Rattle.pgo_agrees.proofs.labels_kept.Goals as goal
 
