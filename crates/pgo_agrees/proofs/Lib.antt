@@ -17,3 +17,4 @@ pub mod Replaced
 pub mod Hoist
 pub mod Fine
 pub mod GoodCode
+pub mod FineUses
