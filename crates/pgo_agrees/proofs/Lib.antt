@@ -18,3 +18,4 @@ pub mod Hoist
 pub mod Fine
 pub mod GoodCode
 pub mod FineUses
+pub mod Placing
