@@ -126,7 +126,7 @@ module _ (P : Use → Type 0) (home : Home) (qs : List Name) (N : List Name → 
     pub assigned : (ns : List Name) (u : Use) (h : Shape) → P u → IsAt home false u.around → u.form ≡ forms.Assigned h → (u.inner ≡ true → K ns u.name) → A ns h u.name
     pub named : (u : Use) → P u → IsAt home false u.around → u.form ≡ forms.Named → (u.inner ≡ false → is_member u.name qs ≡ false) → W u.name
     pub called : (ns ms : List Name) (a : Around) (m : PlacedName) (ts : List Tree) → P (record { name = m.name; form = forms.Called ts; inner = is_member m.name ms; around = at_place m.place a }) → IsAt home false a → Known (K ns) ms [] → Within qs ms → ArgumentsSpoken ts → AllByRecursion P (argument_uses ms (as_passed (at_place m.place a)) ts) → M ns m ts
-    pub newest : (x : Name) (ns : List Name) → K (x ∷ ns) x
+    pub newest : (x : Name) (ns : List Name) → W x → K (x ∷ ns) x
     pub older : (x y : Name) (ns : List Name) → K ns y → K (x ∷ ns) y
 
   module _ (tells : TellsAll) where
@@ -176,8 +176,8 @@ module _ (P : Use → Type 0) (home : Home) (qs : List Name) (N : List Name → 
         go true k more = refl
         go false k more = more k
 
-    with_more : (ms ns : List Name) (x : Name) → InUnit ms ns → InUnit (ms ++ x ∷ []) (x ∷ ns)
-    with_more ms ns x v = record { known = λ y h. go y (split y x ms h); unit = λ y h. still y ms (x ∷ []) (v.unit y h) }
+    with_more : (ms ns : List Name) (x : Name) → W x → InUnit ms ns → InUnit (ms ++ x ∷ []) (x ∷ ns)
+    with_more ms ns x d v = record { known = λ y h. go y (split y x ms h); unit = λ y h. still y ms (x ∷ []) (v.unit y h) }
       where
         old : (y : Name) → (is_among y [] ≡ true) ⊎ K ns y → (is_among y [] ≡ true) ⊎ K (x ∷ ns) y
         old y (inl e) = inl e
@@ -185,7 +185,7 @@ module _ (P : Use → Type 0) (home : Home) (qs : List Name) (N : List Name → 
 
         go : (y : Name) → (is_member y ms ≡ true) ⊎ (y ≡ x) → (is_among y [] ≡ true) ⊎ K (x ∷ ns) y
         go y (inl e) = old y (v.known y e)
-        go y (inr e) = inr (subst (λ z. K (x ∷ ns) z) (sym e) (tells.newest x ns))
+        go y (inr e) = inr (subst (λ z. K (x ∷ ns) z) (sym e) (tells.newest x ns d))
 
     path_fine : (ms ns : List Name) (a : Around) (ss : List Step) → IsAt home false a → (a.hidden ≡ false) × (a.indexed ≡ false) → InUnit ms ns → PathSpoken ss → AllP (path_uses ms a ss) → PathFine N C B W A M Y ns ss
     path_fine ms ns a [] w f v s h = tt
@@ -231,19 +231,20 @@ module _ (P : Use → Type 0) (home : Home) (qs : List Name) (N : List Name → 
         let y = uses ms at' (origin_tree x.origin) in
         let z = with_uses (ms ++ x.name.name ∷ []) a xs in
         let k = l (n ++ y) z h in
-        let here = l n y k in (
-          tells.named (record { name = x.name.name; form = forms.Named; inner = is_member x.name.name ms; around = at' }) here.0 w refl (λ i. fresh_name x.name.name ms v.unit i),
+        let here = l n y k in
+        let d = tells.named (record { name = x.name.name; form = forms.Named; inner = is_member x.name.name ms; around = at' }) here.0 w refl (λ i. fresh_name x.name.name ms v.unit i) in (
+          d,
           expr ms ns at' (origin_tree x.origin) w f v s.0 (r n y k),
-          withs_fine (ms ++ x.name.name ∷ []) (x.name.name ∷ ns) a xs w f (with_more ms ns x.name.name v) s.1 (r (n ++ y) z h),
+          withs_fine (ms ++ x.name.name ∷ []) (x.name.name ∷ ns) a xs w f (with_more ms ns x.name.name d v) s.1 (r (n ++ y) z h),
         )
 
     append_names : (ms : List Name) (x : Name) (xs : List Name) → (ms ++ x ∷ []) ++ xs ≡ ms ++ (x ∷ xs)
     append_names ms x xs = append_assoc ms (x ∷ []) xs
 
-    withs_around : (ms ns : List Name) (ws : List WithName) → InUnit ms ns → InUnit (ms ++ with_names ws) (in_with ns ws)
-    withs_around ms ns [] v = subst (λ z. InUnit z ns) (sym (append-nil ms)) v
-    withs_around ms ns (x ∷ xs) v =
-        subst (λ z. InUnit z (in_with (x.name.name ∷ ns) xs)) (append_names ms x.name.name (with_names xs)) (withs_around (ms ++ x.name.name ∷ []) (x.name.name ∷ ns) xs (with_more ms ns x.name.name v))
+    withs_around : (ms ns : List Name) (ws : List WithName) → WithsFine N C B W A M Y ns ws → InUnit ms ns → InUnit (ms ++ with_names ws) (in_with ns ws)
+    withs_around ms ns [] g v = subst (λ z. InUnit z ns) (sym (append-nil ms)) v
+    withs_around ms ns (x ∷ xs) g v =
+        subst (λ z. InUnit z (in_with (x.name.name ∷ ns) xs)) (append_names ms x.name.name (with_names xs)) (withs_around (ms ++ x.name.name ∷ []) (x.name.name ∷ ns) xs g.2 (with_more ms ns x.name.name g.0 v))
 
     mutual
       pub fine : (t : Statement) (b : Bool) (ms ns : List Name) (a : Around) → Free b t → IsAt home false a → (a.hidden ≡ false) × (a.indexed ≡ false) → InUnit ms ns → StatementSpoken Y t → AllP (statement_uses ms a t) → Fine N C B W A M Y b ns t
@@ -264,7 +265,8 @@ module _ (P : Use → Type 0) (home : Home) (qs : List Name) (N : List Name → 
       fine (with_in p ws t) b ms ns a e w f v s h =
           let x = with_uses ms a ws in
           let y = statement_uses (ms ++ with_names ws) a t in
-          (withs_fine ms ns a ws w f v s.0 (l x y h), fine t false (ms ++ with_names ws) (in_with ns ws) a (may_with b p ws t e) w f (withs_around ms ns ws v) s.1 (r x y h))
+          let g = withs_fine ms ns a ws w f v s.0 (l x y h) in
+          (g, fine t false (ms ++ with_names ws) (in_with ns ws) a (may_with b p ws t e) w f (withs_around ms ns ws g v) s.1 (r x y h))
       fine (print_out p c) b ms ns a e w f v s h = expr ms ns (at_place p a) c w f v s h
       fine (assert_that p c) b ms ns a e w f v s h = expr ms ns (at_place p a) c w f v s h
       fine (go_to p x) b ms ns a e w f v s h = tt

@@ -145,7 +145,9 @@ all_unlabelled (fs ∷ rules) h = go (least label_place fs) refl h (λ k. all_un
     go (Some f) e k more = absurd (cc)
 
 pub record NoLabelFindings (s : Spec) : Type 0 where
+  pub withs : flat_map label_in_with s.archetypes ≡ []
   pub macros : flat_map label_in_macro s.macros ≡ []
+  pub mappings : flat_map label_in_mapping s.mappings ≡ []
   pub dones : flat_map reserved_done s.archetypes ≡ []
   pub yields : flat_map yield_rule s.mappings ≡ []
 
@@ -156,7 +158,9 @@ no_label_findings s h =
     let macros = flat_map label_in_macro s.macros in
     let mappings = flat_map label_in_mapping s.mappings in
     record {
+      withs = none_left withs macros (none_left (withs ++ macros) mappings r.1.0);
       macros = none_right withs macros (none_left (withs ++ macros) mappings r.1.0);
+      mappings = none_right (withs ++ macros) mappings r.1.0;
       dones = r.1.1.1.1.0;
       yields = r.1.1.1.1.1.0;
     }

@@ -19,3 +19,7 @@ pub mod Fine
 pub mod GoodCode
 pub mod FineUses
 pub mod Placing
+pub mod Zip
+pub mod Arguments
+pub mod Env
+pub mod Blocks

@@ -58,7 +58,7 @@ defined_name d (e ∷ ds) (inl q) = inl (ap (λ (z : Definition). z.name) q)
 defined_name d (e ∷ ds) (inr a) = inr (defined_name d ds a)
 
 -- what is so of no name in the rows is not so of one that is found
-row_test : (f : Name → Bool) (x : Name) (rows : Rows) → AllByRecursion (λ r. f r.0 ≡ false) rows → is_among x rows ≡ true → f x ≡ false
+pub row_test : (f : Name → Bool) (x : Name) (rows : Rows) → AllByRecursion (λ r. f r.0 ≡ false) rows → is_among x rows ≡ true → f x ≡ false
 row_test f x [] a h = absurd (cc)
 row_test f x (r ∷ rows) a h = go (same_name x r.0) refl h (row_test f x rows a.1)
   where

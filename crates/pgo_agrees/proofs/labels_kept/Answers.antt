@@ -15,6 +15,9 @@ use Rattle.pgo_agrees.proofs.Replaced.{put}
 use Rattle.pgo_agrees.proofs.GoodCode.{section_good}
 use Rattle.pgo_agrees.proofs.FineUses.{labeled_fine}
 use Rattle.pgo_agrees.proofs.Placing.{marked_bang}
+use Rattle.pgo_agrees.proofs.Arguments.{further}
+use Rattle.pgo_agrees.proofs.Env.{applicable_no_bang}
+use Rattle.pgo_agrees.proofs.Blocks.{mapping_plain}
 use Rattle.pgo_agrees.proofs.Places.{target_whole}
 use Rattle.pgo_agrees.proofs.labels_kept.Goals as goal
 
