@@ -23,3 +23,5 @@ pub mod Zip
 pub mod Arguments
 pub mod Env
 pub mod Blocks
+pub mod MappedPlaces
+pub mod InArchetype
