@@ -149,7 +149,7 @@ module _ (s : Spec) (k : NoFindings s) (fit : AllByRecursion (ArgumentsFit s.arc
     places = places_of p.name.name a (binds s p a)
 
     -- what names of parameters and locals are
-    record Mine (x : Name) : Type 0 where
+    pub record Mine (x : Name) : Type 0 where
       pub use' : Use
       pub fine : FineUse s use'
       pub name : use'.name ≡ x
@@ -167,14 +167,14 @@ module _ (s : Spec) (k : NoFindings s) (fit : AllByRecursion (ArgumentsFit s.arc
         let u = local_fine s k a declared d h in
         record { use' = u.0; fine = u.1; name = u.2; form = u.3; number = u.4.0; home = u.4.1 }
 
-    mine : (x : Name) → is_member x names ≡ true → Mine x
+    pub mine : (x : Name) → is_member x names ≡ true → Mine x
     mine x h = go (member_append x (parameter_names a.params) (variable_names a.locals) h)
       where
         go : (is_member x (parameter_names a.params) ≡ true) ⊎ (is_member x (variable_names a.locals) ≡ true) → Mine x
         go (inl e) = let q = parameter_of x a.params e in subst Mine (sym q.2) (mine_parameter q.0 q.1)
         go (inr e) = let d = local_of x a.locals e in subst Mine (sym d.2) (mine_local d.0 d.1)
 
-    mine_single : (x : Name) → Mine x → NotMade x
+    pub mine_single : (x : Name) → Mine x → NotMade x
     mine_single x m = single x (ap has_double (sym m.name) ∙ m.fine.double)
 
     mine_declared : (x : Name) → Mine x → D s k fit of_text x

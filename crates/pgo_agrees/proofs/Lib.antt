@@ -25,3 +25,6 @@ pub mod Env
 pub mod Blocks
 pub mod MappedPlaces
 pub mod InArchetype
+pub mod FreeWiths
+pub mod RunCode
+pub mod Calls

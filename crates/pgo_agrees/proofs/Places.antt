@@ -103,7 +103,7 @@ found_there {A} x v (q ∷ xs) h = go (same_name x q.0) refl h (found_there x v 
     go true e k more = inl (let f = same_name-is x q.0 e in let g : q.1 ≡ v = cc in (λ i. (f i, sym g i)))
     go false e k more = inr (more k)
 
-handed_among : (n : ℕ) (ps : List Parameter) (es : List Argument) (h : Handed) → IsAmong h (handed_from n ps es) → IsAmong h.argument es
+pub handed_among : (n : ℕ) (ps : List Parameter) (es : List Argument) (h : Handed) → IsAmong h (handed_from n ps es) → IsAmong h.argument es
 handed_among n [] es h a = absurd a
 handed_among n (p ∷ ps) [] h a = absurd a
 handed_among n (p ∷ ps) (x ∷ es) h (inl e) = inl (ap (λ (h : Handed). h.argument) e)

@@ -42,7 +42,7 @@ first_names : (o : Option PlacedName) (t : Statement) (is : List Item) → names
 first_names o t is = map-append placed_name (option_to_list o) (labels_of is) ∙ ap (λ ns. ns ++ names_in is) (own_name o)
 
 mutual
-  names_inside : (t : Statement) → names_in (inside t) ≡ labels_in t
+  pub names_inside : (t : Statement) → names_in (inside t) ≡ labels_in t
   names_inside (skip p) = refl
   names_inside (assign p x) = refl
   names_inside (if_then p bs) = names_guarded bs
@@ -74,7 +74,7 @@ mutual
   names_guarded no_guarded = refl
   names_guarded (more_guarded p e t bs) = names_append (inside t) (inside_guarded bs) ∙ (λ i. names_inside t i ++ names_guarded bs i)
 
-with_inside_is : (is : List Item) → with_inside is ≡ inside_labeled (labeled is)
+pub with_inside_is : (is : List Item) → with_inside is ≡ inside_labeled (labeled is)
 with_inside_is [] = refl
 with_inside_is (i ∷ is) = ap (λ js. (i.0, i.1) ∷ (inside i.1 ++ js)) (with_inside_is is)
 

@@ -19,7 +19,9 @@ use Rattle.pgo_agrees.proofs.Arguments.{further}
 use Rattle.pgo_agrees.proofs.Env.{applicable_no_bang}
 use Rattle.pgo_agrees.proofs.Blocks.{mapping_plain}
 use Rattle.pgo_agrees.proofs.MappedPlaces.{local_placed}
-use Rattle.pgo_agrees.proofs.InArchetype.{assigned_fine}
+use Rattle.pgo_agrees.proofs.RunCode.{sections_good}
+use Rattle.pgo_agrees.proofs.Calls.{call_among}
+use Rattle.pgo_agrees.proofs.FreeWiths.{body_free}
 use Rattle.pgo_agrees.proofs.Places.{target_whole}
 use Rattle.pgo_agrees.proofs.labels_kept.Goals as goal
 
