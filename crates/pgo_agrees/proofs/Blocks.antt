@@ -137,7 +137,7 @@ module _ (s : Spec) (k : NoFindings s) (fit : AllByRecursion (ArgumentsFit s.arc
     with_of = λ x d m. d;
     declared = λ x d. d;
     assigned = λ ns u h f w e inner. single u.name f.double;
-    called = λ ns ms a m ts f w v u s' h. tt;
+    called = λ ns ms a m ts f w i v u s' h. tt;
   }
 
   -- names stand so in a block without labels

@@ -43,7 +43,7 @@ use Rattle.pgo_agrees.proofs.Uses.{FineUse}
 
 -- ---- bytes of names
 
-bytes_no_bang : (x : Name) → has_name_bytes x ≡ true → has_bang x ≡ false
+pub bytes_no_bang : (x : Name) → has_name_bytes x ≡ true → has_bang x ≡ false
 bytes_no_bang [] h = refl
 bytes_no_bang (b ∷ bs) h = go (nat_eq b 33) refl (bytes_no_bang bs (and_right (is_name_byte b) (has_name_bytes bs) h))
   where
@@ -205,7 +205,7 @@ module _ (s : Spec) (k : NoFindings s) (fit : AllByRecursion (ArgumentsFit s.arc
       pub with_of : (x : Name) → D x → is_member x qs ≡ false → W x
       pub declared : (x : Name) → W x → D x
       pub assigned : (ns : List Name) (u : Use) (h : Shape) → P u → IsAt home false u.around → u.form ≡ forms.Assigned h → (u.inner ≡ true → Known' qs ns u.name) → A ns h u.name
-      pub called : (ns ms : List Name) (a : Around) (m : PlacedName) (ts : List Tree) → P (record { name = m.name; form = forms.Called ts; inner = is_member m.name ms; around = at_place m.place a }) → IsAt home false a → Known (Known' qs ns) ms [] → Within qs ms → ArgumentsSpoken ts → AllByRecursion P (argument_uses ms (as_passed (at_place m.place a)) ts) → M ns m ts
+      pub called : (ns ms : List Name) (a : Around) (m : PlacedName) (ts : List Tree) → P (record { name = m.name; form = forms.Called ts; inner = is_member m.name ms; around = at_place m.place a }) → IsAt home false a → (a.hidden ≡ false) × (a.indexed ≡ false) → Known (Known' qs ns) ms [] → Within qs ms → ArgumentsSpoken ts → AllByRecursion P (argument_uses ms (as_passed (at_place m.place a)) ts) → M ns m ts
 
     module _ (rules : UnitRules) where
       expressions : (ns : List Name) → Tells P home false (N ns) C B (Known' qs ns)

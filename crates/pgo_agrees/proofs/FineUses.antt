@@ -125,7 +125,7 @@ module _ (P : Use → Type 0) (home : Home) (qs : List Name) (N : List Name → 
     pub expressions : (ns : List Name) → Tells P home false (N ns) C B (K ns)
     pub assigned : (ns : List Name) (u : Use) (h : Shape) → P u → IsAt home false u.around → u.form ≡ forms.Assigned h → (u.inner ≡ true → K ns u.name) → A ns h u.name
     pub named : (u : Use) → P u → IsAt home false u.around → u.form ≡ forms.Named → (u.inner ≡ false → is_member u.name qs ≡ false) → W u.name
-    pub called : (ns ms : List Name) (a : Around) (m : PlacedName) (ts : List Tree) → P (record { name = m.name; form = forms.Called ts; inner = is_member m.name ms; around = at_place m.place a }) → IsAt home false a → Known (K ns) ms [] → Within qs ms → ArgumentsSpoken ts → AllByRecursion P (argument_uses ms (as_passed (at_place m.place a)) ts) → M ns m ts
+    pub called : (ns ms : List Name) (a : Around) (m : PlacedName) (ts : List Tree) → P (record { name = m.name; form = forms.Called ts; inner = is_member m.name ms; around = at_place m.place a }) → IsAt home false a → (a.hidden ≡ false) × (a.indexed ≡ false) → Known (K ns) ms [] → Within qs ms → ArgumentsSpoken ts → AllByRecursion P (argument_uses ms (as_passed (at_place m.place a)) ts) → M ns m ts
     pub newest : (x : Name) (ns : List Name) → W x → K (x ∷ ns) x
     pub older : (x y : Name) (ns : List Name) → K ns y → K (x ∷ ns) y
 
@@ -273,7 +273,7 @@ module _ (P : Use → Type 0) (home : Home) (qs : List Name) (N : List Name → 
       fine (call_macro p m ts) b ms ns a e w f v s h =
           let x = placed ms a m (forms.Called ts) in
           let y = argument_uses ms (as_passed (at_place m.place a)) ts in
-          tells.called ns ms a m ts h.0 w v.known v.unit s (r x y h)
+          tells.called ns ms a m ts h.0 w f v.known v.unit s (r x y h)
       fine (yield_as p c) b ms ns a e w f v s h = (s.0, expr ms ns (at_place p a) c w f v s.1 h)
       fine (block p ls) b ms ns a e w f v s h = labeled_fine ls b ms ns a (may_block b p ls e) w f v s h
 

@@ -28,3 +28,7 @@ pub mod InArchetype
 pub mod FreeWiths
 pub mod RunCode
 pub mod Calls
+pub mod MacroNames
+pub mod MacroCalls
+pub mod InMacro
+pub mod RunBody

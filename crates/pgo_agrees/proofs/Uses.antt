@@ -1,5 +1,5 @@
 -- The uses of names in each unit are uses of the specification, and none of them breaks a rule.
-use Rattle.std.proofs.Common.{◌≡◌, ℕ, suc, ◌+◌, Bool, false, List, [], ◌∷◌, ◌++◌, Option, Some, None, refl, ap, sym, ◌∙◌, subst, inl, inr, arith}
+use Rattle.std.proofs.Common.{◌≡◌, ℕ, zero, suc, ◌+◌, Bool, false, List, [], ◌∷◌, ◌++◌, Option, Some, None, refl, ap, sym, ◌∙◌, subst, inl, inr, arith}
 use Rattle.std.specs.Prelude.{slice_get}
 use Rattle.pgo_base.specs.Lookup.{Name}
 use Rattle.pgo_syntax.specs.declared.archetype.Archetype.{Archetype}
@@ -102,6 +102,18 @@ module _ (s : Spec) where
   of_macro m h =
       let r = from_start macro_uses macros_uses (λ n x xs. refl) m s.macros h in
       (r.0, r.1, λ u b. among_left u (ds ++ gs ++ ms ++ ps ++ rs) qs (among_left u (ds ++ gs ++ ms ++ ps) rs (among_left u (ds ++ gs ++ ms) ps (among_right u (ds ++ gs) ms (r.2 u b)))))
+
+  -- the uses of the macro at this number
+  pub of_macro_at : (m : Macro) (i : ℕ) → slice_get s.macros i ≡ Some m → Within (macro_uses i m) (all_uses s)
+  of_macro_at m i h u b = among_left u (ds ++ gs ++ ms ++ ps ++ rs) qs (among_left u (ds ++ gs ++ ms ++ ps) rs (among_left u (ds ++ gs ++ ms) ps (among_right u (ds ++ gs) ms (within 0 s.macros i h (let z : 0 + i ≡ i = omega arith in z)))))
+    where
+      within : (n : ℕ) (xs : List Macro) (j : ℕ) → slice_get xs j ≡ Some m → n + j ≡ i → IsAmong u (macros_uses n xs)
+      within n [] j g e = absurd (cc)
+      within n (x ∷ xs) zero g e =
+          let same : x ≡ m = cc in
+          let at_n : i ≡ n = omega (arith, e) in
+          among_left u (macro_uses n x) (macros_uses (suc n) xs) (subst (λ z. IsAmong u (macro_uses n z)) (sym same) (subst (λ z. IsAmong u (macro_uses z m)) at_n b))
+      within n (x ∷ xs) (suc j) g e = among_right u (macro_uses n x) (macros_uses (suc n) xs) (within (suc n) xs j g (omega (arith, e)))
 
   pub of_definition : (d : Definition) → IsAmong d (all_definitions s) → (j : ℕ) × (slice_get (all_definitions s) j ≡ Some d) × Within (definition_uses j d) (all_uses s)
   of_definition d h =

@@ -10,6 +10,7 @@ use Rattle.pgo_syntax.specs.declared.declaration.Declaration.{Declaration}
 use Rattle.pgo_syntax.specs.declared.declaration.Definition.{Definition}
 use Rattle.pgo_syntax.specs.declared.macros.Macro.{Macro}
 use Rattle.pgo_syntax.specs.declared.macros.MappingMacro.{MappingMacro}
+use Rattle.pgo_syntax.specs.declared.name.PlacedName.{PlacedName}
 use Rattle.pgo_syntax.specs.declared.spec.Spec.{Spec}
 use Rattle.pgo_uses.specs.Tables.{all_definitions}
 use Rattle.pgo_scope.specs.Refusal.{scope_refusal}
@@ -43,9 +44,12 @@ is_identifier x = has_letter x && has_name_bytes x
 abbrev pub DefinitionOfText : Definition → Type 0
 DefinitionOfText d = (is_identifier d.name.name ≡ true) × Spoken d.body
 
+abbrev pub MacroParameterOfText : PlacedName → Type 0
+MacroParameterOfText p = is_identifier p.name ≡ true
+
 -- a `yield` stands in a mapping macro alone
 abbrev pub MacroOfText : Macro → Type 0
-MacroOfText m = LabeledSpoken ⊥ (labeled m.body)
+MacroOfText m = AllByRecursion MacroParameterOfText m.params × LabeledSpoken ⊥ (labeled m.body)
 
 abbrev pub MappingOfText : MappingMacro → Type 0
 MappingOfText m = LabeledSpoken (Unit {0}) (labeled m.read) × LabeledSpoken (Unit {0}) (labeled m.write)

@@ -20,7 +20,9 @@ use Rattle.pgo_agrees.proofs.Env.{applicable_no_bang}
 use Rattle.pgo_agrees.proofs.Blocks.{mapping_plain}
 use Rattle.pgo_agrees.proofs.MappedPlaces.{local_placed}
 use Rattle.pgo_agrees.proofs.RunCode.{sections_good}
-use Rattle.pgo_agrees.proofs.Calls.{call_among}
+use Rattle.pgo_agrees.proofs.MacroCalls.{assigned_base}
+use Rattle.pgo_agrees.proofs.InMacro.{all_macros}
+use Rattle.pgo_agrees.proofs.RunBody.{body_fine}
 use Rattle.pgo_agrees.proofs.FreeWiths.{body_free}
 use Rattle.pgo_agrees.proofs.Places.{target_whole}
 use Rattle.pgo_agrees.proofs.labels_kept.Goals as goal
