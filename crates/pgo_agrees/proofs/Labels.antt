@@ -33,8 +33,9 @@ use Rattle.pgo_bound.specs.State.{variables_of}
 use Rattle.pgo_accept.proofs.WrittenOnce.{writes, writes-append}
 use Rattle.pgo_sections.specs.Code.{Code}
 use Rattle.pgo_sections.specs.Expand.{expansion}
-use Rattle.pgo_sections.specs.Expansion.{Expansion, With, In, Skip, Await, Assert, Print, If, Either, End, Expansions, no_expansions, more_expansions}
-use Rattle.pgo_sections.specs.Nodes.{tree_nodes, changes_nodes, nodes, arms_total, most_names, most_of_arms}
+use Rattle.pgo_sections.specs.Expansion.{Expansion}
+use Rattle.pgo_sections.specs.NodeLaws.{names_below_nodes}
+use Rattle.pgo_sections.specs.Nodes.{most_names}
 use Rattle.pgo_meaning.specs.Expansions.{expansions_of, process_bindings, process_expansions, trees_of}
 use Rattle.pgo_meaning.specs.LabelSections.{AreUnlabelled}
 use Rattle.pgo_meaning.specs.Parameters.{places_of}
@@ -252,22 +253,6 @@ module _ (s : Spec) (clashes : name_clashes s ≡ []) (unlabelled : AreUnlabelle
       let w : writes l (process_things (rows_of s) s.processes) ≤ 1 = omega (arith, n) in
       (one_tree p t.0 l (f c) t.1 t.2 own s.processes b w, here)
 
--- ---- a path binds no more names than its expansion has nodes
-mutual
-  pub most_at_nodes : (x : Expansion) → most_names x ≤ nodes x
-  most_at_nodes (With y e rest) = omega (arith, most_at_nodes rest)
-  most_at_nodes (In y e rest) = omega (arith, most_at_nodes rest)
-  most_at_nodes (Skip rest) = omega (arith, most_at_nodes rest)
-  most_at_nodes (Await e rest) = omega (arith, most_at_nodes rest)
-  most_at_nodes (Assert e rest) = omega (arith, most_at_nodes rest)
-  most_at_nodes (Print e rest) = omega (arith, most_at_nodes rest)
-  most_at_nodes (If e a b) = omega (arith, most_at_nodes a, most_at_nodes b)
-  most_at_nodes (Either xs) = omega (arith, most_at_arms xs)
-  most_at_nodes (End cs l) = omega arith
-
-  most_at_arms : (xs : Expansions) → most_of_arms xs ≤ arms_total xs
-  most_at_arms no_expansions = omega arith
-  most_at_arms (more_expansions x xs) = omega (arith, most_at_nodes x, most_at_arms xs)
-
+-- ---- few names are bound on a path
 pub few_names : (s : Spec) → AreSmall s → (l : Name) (x : Expansion) → find l (trees_of s) ≡ Some x → most_names x < 2 ^ 64
-few_names s h l x e = let a = h l x e in let b = most_at_nodes x in omega (arith, a, b)
+few_names s h l x e = let a = h l x e in let b = names_below_nodes x in omega (arith, a, b)

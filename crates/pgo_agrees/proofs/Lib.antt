@@ -32,3 +32,4 @@ pub mod MacroNames
 pub mod MacroCalls
 pub mod InMacro
 pub mod RunBody
+pub mod Premises

@@ -208,7 +208,7 @@ module _ (s : Spec) (consts : List (Name × Data)) (k : NoFindings s) (fit : All
         let q = mapping_plain s k fit of_text mappings f.mapping (λ n e. mapping_of f.extent (speaking f.handed.number f.global.name p.clauses) f.mapping f.found n e) in
         subst (λ (z : Mapped). PlainCode vs (content_name ∷ []) content_places [] z.reads × PlainCode vs (content_name ∷ []) content_places (value_name ∷ []) z.writes) (sym f.is) q
 
-    place_whole : (x : Name) (z : Place) → find x (places_of p.name.name a (binds s p a)) ≡ Some z → by (variable_of z) ≡ false
+    pub place_whole : (x : Name) (z : Place) → find x (places_of p.name.name a (binds s p a)) ≡ Some z → by (variable_of z) ≡ false
     place_whole x z h = go (place_from s p a (x, z) (found_there x z (places_of p.name.name a (binds s p a)) h))
       where
         go : PlaceFrom s p.clauses p.name.name (hands s p a) (names_with p a) (x, z) → by (variable_of z) ≡ false
