@@ -1,15 +1,13 @@
 -- The arguments of a macro's call, in the ways in which its parameters stand.
-use Rattle.std.proofs.Common.{◌≡◌, ℕ, Bool, true, false, List, [], ◌∷◌, ◌++◌, Option, Some, None, option_map, refl, ap, sym, ◌∙◌, subst, inl, inr}
-use Rattle.std.specs.Prelude.{◌⊎◌}
+use Rattle.std.proofs.Common.{◌≡◌, Bool, true, false, List, [], ◌∷◌, ◌++◌, Some, option_map, refl, ap, sym, ◌∙◌, subst, inl}
 use Rattle.std.specs.List.{AllByRecursion}
 use Rattle.pgo_base.specs.Lookup.{Name}
-use Rattle.pgo_base.specs.Tree.{Tree, name, primed, number, text, truth, at, word, unary, binary, product, cond_of, case_of, case_other, let_in, quantified, choose, tuple, set_of, filter_of, image, fun_of, fun_set, record_of, record_set, except, index, field, call, unchanged, Trees, no_trees, more_trees}
-use Rattle.pgo_model.specs.Options.{on}
+use Rattle.pgo_base.specs.Tree.{Tree, name, primed, number, text, truth, at, word, unary, binary, product, cond_of, case_of, case_other, let_in, quantified, choose, tuple, set_of, filter_of, image, fun_of, fun_set, record_of, record_set, except, index, field, call, unchanged, no_trees, more_trees}
 use Rattle.pgo_syntax.specs.declared.assignment.Left.{Left}
 use Rattle.pgo_syntax.specs.declared.assignment.Step.{Step}
 use Rattle.pgo_syntax.specs.declared.assignment.Step.TheVariants as step
 use Rattle.pgo_uses.specs.StatementUses.{shape_of}
-use Rattle.pgo_uses.specs.Uses.{inside, uses, uses_of_all}
+use Rattle.pgo_uses.specs.Uses.{inside, uses}
 use Rattle.pgo_uses.specs.declared.uses.Around.{Around}
 use Rattle.pgo_uses.specs.declared.uses.Form.TheVariants as forms
 use Rattle.pgo_uses.specs.declared.uses.Home.{Home}
@@ -18,12 +16,12 @@ use Rattle.pgo_uses.specs.declared.uses.Shape.TheVariants.{Bare, OneIndex, Furth
 use Rattle.pgo_uses.specs.declared.uses.Use.{Use}
 use Rattle.pgo_scope.specs.Ways.{join, left_base, left_shape, left_uses}
 use Rattle.pgo_scope.specs.declared.ways.Ways.{Ways}
-use Rattle.pgo_meaning.specs.MacrosPlaced.{only, with_step, left_of}
+use Rattle.pgo_meaning.specs.MacrosPlaced.{with_step, left_of}
 use Rattle.pgo_agrees.specs.Spoken.{Spoken}
 use Rattle.pgo_agrees.proofs.Zip.{any_flags}
 use Rattle.pgo_agrees.proofs.Fine.{PathFine}
-use Rattle.pgo_agrees.proofs.FromUses.{all_left, all_right, Known, IsAt, Tells, stands}
-use Rattle.pgo_agrees.proofs.Placing.{reads_so, writes_so, shape_append, AnyCall, Handed, LeftGood}
+use Rattle.pgo_agrees.proofs.FromUses.{all_left, all_right, IsAt, Tells, stands}
+use Rattle.pgo_agrees.proofs.Placing.{reads_so, writes_so, shape_append, AnyCall, Handed}
 use Rattle.pgo_agrees.proofs.Stands.{Stands}
 use Rattle.pgo_agrees.proofs.Zip.{zip}
 

@@ -1,19 +1,18 @@
 -- The blocks of mapping macros have well-formed names.
-use Rattle.std.proofs.Common.{◌≡◌, ℕ, Bool, true, false, ◌||◌, nat_eq, if◌then◌else◌, List, [], ◌∷◌, ◌++◌, map, Option, Some, None, refl, ap, sym, ◌∙◌, subst, inl, inr, arith}
+use Rattle.std.proofs.Common.{◌≡◌, Bool, true, false, ◌||◌, nat_eq, if◌then◌else◌, List, [], ◌∷◌, ◌++◌, map, Some, None, refl, ap, sym, ◌∙◌, subst, inl, inr, arith}
 use Rattle.std.specs.Prelude.{◌⊎◌, flat_map}
 use Rattle.std.specs.List.{AllByRecursion}
 use Rattle.pgo_base.specs.Lookup.{Name, same_name, find}
 use Rattle.pgo_base.specs.Tree.{Tree}
-use Rattle.pgo_model.specs.Names.{same_name-self, same_name-is, same_name-not}
+use Rattle.pgo_model.specs.Names.{same_name-is, same_name-not}
 use Rattle.pgo_syntax.specs.Statement.{labeled}
 use Rattle.pgo_syntax.specs.declared.bound.Mapping.{Mapping}
 use Rattle.pgo_syntax.specs.declared.bound.Mapping.TheVariants.{Identity, Macro}
-use Rattle.pgo_syntax.specs.declared.declaration.Declaration.{Declaration}
 use Rattle.pgo_syntax.specs.declared.macros.MappingMacro.{MappingMacro}
 use Rattle.pgo_syntax.specs.declared.name.PlacedName.{PlacedName}
 use Rattle.pgo_syntax.specs.declared.spec.Spec.{Spec}
 use Rattle.pgo_uses.specs.AllUses.{start, mapping_uses}
-use Rattle.pgo_uses.specs.Names.{Rows, is_member}
+use Rattle.pgo_uses.specs.Names.{is_member}
 use Rattle.pgo_uses.specs.StatementUses.{uses_of_block}
 use Rattle.pgo_uses.specs.Tables.{all_definitions, operator_rows, variable_name, value_name}
 use Rattle.pgo_uses.specs.declared.uses.Home.TheVariants as homes
@@ -27,21 +26,20 @@ use Rattle.pgo_bound.specs.Among.{IsAmong, among_left, among_right, all_at, empt
 use Rattle.pgo_bound.specs.Sound.{labels_among}
 use Rattle.pgo_bound.specs.State.{variables_of}
 use Rattle.pgo_accept.proofs.Fitting.{ArgumentsFit}
-use Rattle.pgo_sections.specs.Access.{Mapped}
 use Rattle.pgo_sections.specs.Among.{is_among}
-use Rattle.pgo_sections.specs.Code.{Place, Whole, Code, content_name, content_places}
+use Rattle.pgo_sections.specs.Code.{Place, Whole, content_name, content_places}
 use Rattle.pgo_sections.specs.WellFormed.{NotMade, PlainCode}
 use Rattle.pgo_meaning.specs.Parameters.{block_setting, block_code, reads_by, writes_by}
-use Rattle.pgo_agrees.specs.Accepted.{IsOfText, MappingOfText, DefinitionOfText, DeclarationOfText, is_name_byte, has_letter, has_name_bytes, is_identifier}
+use Rattle.pgo_agrees.specs.Accepted.{IsOfText, MappingOfText, DefinitionOfText, DeclarationOfText, is_name_byte, has_letter, has_name_bytes}
 use Rattle.pgo_agrees.specs.Spoken.{LabeledSpoken}
 use Rattle.pgo_agrees.proofs.Closed.{all_among, apart}
-use Rattle.pgo_agrees.proofs.Env.{C, B, Common, D, Known', Inside, InStatements, place_apart, UnitRules, tells_all}
+use Rattle.pgo_agrees.proofs.Env.{C, B, D, Known', Inside, InStatements, place_apart, UnitRules, tells_all}
 use Rattle.pgo_agrees.proofs.Fine.{LabeledFine}
 use Rattle.pgo_agrees.proofs.FineUses.{labeled_fine}
 use Rattle.pgo_agrees.proofs.GoodCode.{CodeRules, order_good}
 use Rattle.pgo_agrees.proofs.Hoist.{InScope, Hoistable, never}
 use Rattle.pgo_agrees.proofs.Kept.{NoFindings}
-use Rattle.pgo_agrees.proofs.Meanings.{IsCommon, common_apart, common_single, applicable_apart, applicable_single, applicable_not_self, defined_row, row_test}
+use Rattle.pgo_agrees.proofs.Meanings.{common_apart, common_single, applicable_apart, applicable_single, applicable_not_self, defined_row, row_test}
 use Rattle.pgo_agrees.proofs.Names.{and_left, and_right, single, written_marked, has_mark}
 use Rattle.pgo_agrees.proofs.Unlabelled.{body_names, placed_name}
 use Rattle.pgo_agrees.proofs.Uses.{FineUse, fine_use, of_mapping}

@@ -1,5 +1,5 @@
 -- The parameters of a macro with the arguments of a call, and the ways in which a name stands among uses.
-use Rattle.std.proofs.Common.{◌≡◌, ℕ, zero, suc, Bool, true, false, not, ◌&&◌, ◌||◌, if◌then◌else◌, List, [], ◌∷◌, ◌++◌, map, length, Option, Some, None, refl, ap, sym, ◌∙◌, subst, inl, inr, arith}
+use Rattle.std.proofs.Common.{◌≡◌, Bool, true, false, if◌then◌else◌, List, [], ◌∷◌, length, Some, None, refl, ap, sym, ◌∙◌, subst, inl, inr, arith}
 use Rattle.std.specs.Prelude.{◌⊎◌}
 use Rattle.std.specs.List.{AllByRecursion}
 use Rattle.pgo_base.specs.Lookup.{Name, same_name, find}
@@ -10,14 +10,13 @@ use Rattle.pgo_uses.specs.Names.{is_member}
 use Rattle.pgo_uses.specs.StatementUses.{argument_uses}
 use Rattle.pgo_uses.specs.Uses.{inside, uses}
 use Rattle.pgo_uses.specs.declared.uses.Around.{Around}
-use Rattle.pgo_uses.specs.declared.uses.Form.{Form}
 use Rattle.pgo_uses.specs.declared.uses.Form.TheVariants as forms
 use Rattle.pgo_uses.specs.declared.uses.Shape.{Shape}
 use Rattle.pgo_uses.specs.declared.uses.Shape.TheVariants.{Bare, OneIndex, Further}
 use Rattle.pgo_uses.specs.declared.uses.Use.{Use}
 use Rattle.pgo_scope.specs.Assigned.{assigned_if, assigned_arguments}
 use Rattle.pgo_scope.specs.Mapped.{argument_findings, arguments_findings}
-use Rattle.pgo_scope.specs.Ways.{Known, join, left_base, left_shape, left_uses, no_ways, either_way, read_way, write_way, ways_if, read_of, reads_from, reads, reads_at, base_way, writes_at, passed_ways, call_ways_from, call_ways, parameters_of, use_ways, ways_from, ways_in, each_parameter}
+use Rattle.pgo_scope.specs.Ways.{Known, join, left_base, left_shape, left_uses, no_ways, either_way, read_way, write_way, ways_if, read_of, reads_from, reads, reads_at, base_way, writes_at, passed_ways, call_ways_from, use_ways, ways_from, ways_in, each_parameter}
 use Rattle.pgo_scope.specs.declared.ways.Ways.{Ways}
 use Rattle.pgo_bound.specs.Among.{IsAmong, none_left, none_right}
 use Rattle.pgo_meaning.specs.MacrosPlaced.{handed}
@@ -187,37 +186,52 @@ if_way false v e = absurd (cc)
 module _ (w : Ways) (a : Around) (p : Name) (t : Tree) where
   abbrev v1 : Ways
   v1 = ways_if w.plain (reads_at false false a p t)
+
   abbrev v2 : Ways
   v2 = ways_if w.indexed (reads_at false true a p t)
+
   abbrev v3 : Ways
   v3 = ways_if w.hidden (reads_at true false a p t)
+
   abbrev v4 : Ways
   v4 = ways_if w.hidden_indexed (reads_at true true a p t)
+
   abbrev v5 : Ways
   v5 = ways_if w.bare (writes_at Bare a p t)
+
   abbrev v6 : Ways
   v6 = ways_if w.one_index (writes_at OneIndex a p t)
+
   abbrev v7 : Ways
   v7 = ways_if w.further (writes_at Further a p t)
+
   abbrev w6 : Ways
   w6 = either_way v6 v7
+
   abbrev w5 : Ways
   w5 = either_way v5 w6
+
   abbrev w4 : Ways
   w4 = either_way v4 w5
+
   abbrev w3 : Ways
   w3 = either_way v3 w4
+
   abbrev w2 : Ways
   w2 = either_way v2 w3
 
   up2 : Among w2 (passed_ways w a p t)
   up2 = right_way v1 w2
+
   up3 : Among w3 (passed_ways w a p t)
   up3 = among_trans w3 w2 (passed_ways w a p t) (right_way v2 w3) up2
+
   up4 : Among w4 (passed_ways w a p t)
   up4 = among_trans w4 w3 (passed_ways w a p t) (right_way v3 w4) up3
+
   up5 : Among w5 (passed_ways w a p t)
   up5 = among_trans w5 w4 (passed_ways w a p t) (right_way v4 w5) up4
+
   up6 : Among w6 (passed_ways w a p t)
   up6 = among_trans w6 w5 (passed_ways w a p t) (right_way v5 w6) up5
 

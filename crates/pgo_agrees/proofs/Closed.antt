@@ -1,5 +1,5 @@
 -- Definitions name no variable.
-use Rattle.std.proofs.Common.{◌≡◌, ℕ, suc, Bool, true, false, if◌then◌else◌, List, [], ◌∷◌, ◌++◌, map, Option, Some, None, option_map, refl, ap, sym, ◌∙◌, subst, inl, inr}
+use Rattle.std.proofs.Common.{◌≡◌, ℕ, Bool, true, false, if◌then◌else◌, List, [], ◌∷◌, ◌++◌, map, Option, Some, None, option_map, refl, sym, subst, inl, inr}
 use Rattle.std.specs.Prelude.{◌⊎◌}
 use Rattle.std.specs.List.{AllByRecursion, filter_map, cons_option}
 use Rattle.pgo_base.specs.Data.{Data}
@@ -13,7 +13,7 @@ use Rattle.pgo_model.specs.ModuleView.{defined_view}
 use Rattle.pgo_syntax.specs.declared.name.PlacedName.{PlacedName}
 use Rattle.pgo_syntax.specs.declared.declaration.Definition.{Definition}
 use Rattle.pgo_syntax.specs.declared.spec.Spec.{Spec}
-use Rattle.pgo_uses.specs.AllUses.{all_uses, start, names_of, heads, last_place, definition_uses}
+use Rattle.pgo_uses.specs.AllUses.{start, names_of, heads, last_place, definition_uses}
 use Rattle.pgo_uses.specs.Names.{is_member}
 use Rattle.pgo_uses.specs.StatementUses.{at_place}
 use Rattle.pgo_uses.specs.Tables.{all_definitions, defined, tables_of}
@@ -22,20 +22,19 @@ use Rattle.pgo_uses.specs.declared.uses.Around.{Around}
 use Rattle.pgo_uses.specs.declared.uses.Form.TheVariants as forms
 use Rattle.pgo_uses.specs.declared.uses.Home.TheVariants as homes
 use Rattle.pgo_uses.specs.declared.uses.Use.{Use}
-use Rattle.pgo_bound.specs.Among.{IsAmong, among_left, among_right, all_at, mapped_some}
+use Rattle.pgo_bound.specs.Among.{IsAmong, among_left, among_right, all_at}
 use Rattle.pgo_bound.specs.State.{variables_of}
 use Rattle.pgo_bound.specs.Values.{given_value, given_constant, meant, default_definition, define_of, defs_of}
 use Rattle.pgo_accept.proofs.Fitting.{ArgumentsFit}
 use Rattle.pgo_sections.specs.Among.{is_among}
-use Rattle.pgo_sections.specs.Closed.{Apart, IsClosed, AreClosed}
+use Rattle.pgo_sections.specs.Closed.{Apart, AreClosed}
 use Rattle.pgo_sections.specs.Plain.{Plain}
 use Rattle.pgo_agrees.specs.Accepted.{IsOfText, DefinitionOfText}
 use Rattle.pgo_agrees.proofs.FromUses.{Known, Tells, stands}
 use Rattle.pgo_agrees.proofs.Kept.{NoFindings}
 use Rattle.pgo_agrees.proofs.Meanings.{common_apart, applicable_apart, alone_means, alone_no_global, defined_here, applied_is}
-use Rattle.pgo_agrees.proofs.Stands.{Stands, Meet}
 use Rattle.pgo_agrees.proofs.Uses.{FineUse, fine_use, of_definition}
-use Rattle.pgo_agrees.proofs.Variables.{IsVariable, variable_is, among_is, not_among, bound_no_variable}
+use Rattle.pgo_agrees.proofs.Variables.{IsVariable, variable_is, not_among, bound_no_variable}
 use Rattle.pgo_agrees.proofs.Weaker.{plain}
 
 pub all_among : {A : Type 0} (P : A → Type 0) (xs : List A) → ((x : A) → IsAmong x xs → P x) → AllByRecursion P xs

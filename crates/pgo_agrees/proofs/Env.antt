@@ -1,38 +1,35 @@
 -- What the rules of names say of a name in a statement.
-use Rattle.std.proofs.Common.{◌≡◌, ℕ, zero, suc, Bool, true, false, not, ◌&&◌, ◌||◌, nat_eq, if◌then◌else◌, List, [], ◌∷◌, ◌++◌, replicate, Option, Some, None, refl, ap, sym, ◌∙◌, subst, inl, inr, arith}
-use Rattle.std.specs.Prelude.{◌⊎◌, nat_le}
+use Rattle.std.proofs.Common.{◌≡◌, ℕ, Bool, true, false, not, ◌&&◌, ◌||◌, nat_eq, List, [], ◌∷◌, refl, ap, sym, ◌∙◌, subst, inl, inr, arith}
+use Rattle.std.specs.Prelude.{◌⊎◌}
 use Rattle.std.specs.List.{AllByRecursion}
-use Rattle.pgo_base.specs.Lookup.{Name, same_name, find}
+use Rattle.pgo_base.specs.Lookup.{Name, same_name}
 use Rattle.pgo_base.specs.Tree.{Tree}
-use Rattle.pgo_model.specs.Names.{same_name-self, same_name-is, same_name-not}
+use Rattle.pgo_model.specs.Names.{same_name-self, same_name-not}
 use Rattle.pgo_model.specs.Written.{self_name, default_init_value}
 use Rattle.pgo_syntax.specs.declared.name.PlacedName.{PlacedName}
-use Rattle.pgo_syntax.specs.declared.declaration.Definition.{Definition}
 use Rattle.pgo_syntax.specs.declared.spec.Spec.{Spec}
-use Rattle.pgo_uses.specs.Names.{Rows, is_member, is_among as among_rows}
+use Rattle.pgo_uses.specs.Names.{is_member, is_among as among_rows}
 use Rattle.pgo_uses.specs.StatementUses.{as_passed, at_place, argument_uses}
-use Rattle.pgo_uses.specs.Tables.{all_definitions, definition_rows, tables_of, operator_rows}
+use Rattle.pgo_uses.specs.Tables.{all_definitions, tables_of, operator_rows}
 use Rattle.pgo_uses.specs.Uses.{uses}
 use Rattle.pgo_uses.specs.declared.uses.Around.{Around}
-use Rattle.pgo_uses.specs.declared.uses.Form.{Form}
 use Rattle.pgo_uses.specs.declared.uses.Form.TheVariants as forms
 use Rattle.pgo_uses.specs.declared.uses.Home.{Home}
 use Rattle.pgo_uses.specs.declared.uses.Shape.{Shape}
 use Rattle.pgo_uses.specs.declared.uses.Use.{Use}
 use Rattle.pgo_scope.specs.Twice.{is_reserved, may_be_global, hides, hiding_of}
-use Rattle.pgo_scope.specs.Underscores.{has_double}
-use Rattle.pgo_scope.specs.Unknown.{is_constant, is_common, knows_self, means}
+use Rattle.pgo_scope.specs.Unknown.{is_common, knows_self, means}
 use Rattle.pgo_bound.specs.Among.{all_at}
 use Rattle.pgo_bound.specs.State.{variables_of}
 use Rattle.pgo_accept.proofs.Fitting.{ArgumentsFit}
 use Rattle.pgo_sections.specs.Access.{place}
 use Rattle.pgo_sections.specs.Among.{is_among}
-use Rattle.pgo_sections.specs.WellFormed.{NotMade, Bindable}
-use Rattle.pgo_agrees.specs.Accepted.{IsOfText, DefinitionOfText, is_letter, is_name_byte, has_letter, has_name_bytes, is_identifier}
+use Rattle.pgo_sections.specs.WellFormed.{Bindable}
+use Rattle.pgo_agrees.specs.Accepted.{IsOfText, DefinitionOfText, is_name_byte, has_letter, has_name_bytes}
 use Rattle.pgo_agrees.specs.Spoken.{Spoken, ArgumentsSpoken}
-use Rattle.pgo_agrees.proofs.Closed.{apart, bound_use_apart}
+use Rattle.pgo_agrees.proofs.Closed.{bound_use_apart}
 use Rattle.pgo_agrees.proofs.FineUses.{TellsAll, Within}
-use Rattle.pgo_agrees.proofs.FromUses.{Known, IsAt, Tells, stands, all_left, all_right}
+use Rattle.pgo_agrees.proofs.FromUses.{Known, IsAt, Tells, stands}
 use Rattle.pgo_agrees.proofs.Kept.{NoFindings}
 use Rattle.pgo_agrees.proofs.Meanings.{IsCommon, IsApplicable, defined_row, row_test, alone_means, alone_no_global, common_here, applied_is}
 use Rattle.pgo_agrees.proofs.Names.{or_left, or_right, and_left, and_right, single}

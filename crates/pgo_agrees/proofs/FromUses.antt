@@ -4,12 +4,11 @@ use Rattle.std.specs.Prelude.{◌⊎◌}
 use Rattle.std.specs.List.{AllByRecursion}
 use Rattle.pgo_base.specs.Lookup.{Name, same_name}
 use Rattle.pgo_base.specs.Tree.{Tree, name, primed, number, text, truth, at, word, unary, binary, product, cond_of, case_of, case_other, let_in, quantified, choose, tuple, set_of, filter_of, image, fun_of, fun_set, record_of, record_set, except, index, field, call, unchanged, Trees, no_trees, more_trees, NamedTrees, no_named, more_named, TreePairs, no_arms, more_arms, BoundTrees, no_bound, more_bound, PathTrees, no_paths, more_paths}
-use Rattle.pgo_model.specs.Names.{same_name-is}
 use Rattle.pgo_sections.specs.Among.{is_among}
 use Rattle.pgo_sections.specs.Bound.{names_of, names_bound, below}
 use Rattle.pgo_sections.specs.Plain.{All}
 use Rattle.pgo_uses.specs.Names.{is_member}
-use Rattle.pgo_uses.specs.Uses.{one, inside, hide, indexed_by, count_trees, let_names, binder_names, bound_uses, uses, uses_of_all, uses_of_fields, uses_of_arms, uses_of_let, uses_of_binders, uses_of_updates}
+use Rattle.pgo_uses.specs.Uses.{one, inside, hide, count_trees, let_names, binder_names, bound_uses, uses, uses_of_all, uses_of_fields, uses_of_arms, uses_of_let, uses_of_binders, uses_of_updates}
 use Rattle.pgo_uses.specs.declared.uses.Around.{Around}
 use Rattle.pgo_uses.specs.declared.uses.Form.TheVariants as forms
 use Rattle.pgo_uses.specs.declared.uses.Home.{Home}

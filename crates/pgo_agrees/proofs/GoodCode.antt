@@ -1,12 +1,12 @@
 -- The code of statements in which names stand so has well-formed names, and changes element-bound globals by their elements alone.
-use Rattle.std.proofs.Common.{◌≡◌, ◌<◌, ◌≤◌, ℕ, zero, suc, Bool, true, false, ◌||◌, if◌then◌else◌, List, [], ◌∷◌, ◌++◌, map, Option, Some, None, refl, ap, sym, ◌∙◌, subst, inl, inr, arith}
+use Rattle.std.proofs.Common.{◌≡◌, ◌<◌, ℕ, zero, suc, Bool, true, false, ◌||◌, if◌then◌else◌, List, [], ◌∷◌, ◌++◌, map, Option, Some, None, refl, ap, sym, subst, inl, inr, arith}
 use Rattle.std.specs.Prelude.{◌⊎◌}
 use Rattle.std.specs.List.{AllByRecursion}
 use Rattle.pgo_base.specs.Lookup.{Name, same_name, find}
-use Rattle.pgo_base.specs.Tree.{Tree, name, text, except, no_paths, more_paths, trees}
+use Rattle.pgo_base.specs.Tree.{Tree, name, trees}
 use Rattle.pgo_model.specs.Names.{same_name-self}
 use Rattle.pgo_model.specs.Options.{on}
-use Rattle.pgo_model.specs.Written.{self_name, done}
+use Rattle.pgo_model.specs.Written.{done}
 use Rattle.pgo_syntax.specs.declared.assignment.Assignment.{Assignment}
 use Rattle.pgo_syntax.specs.declared.assignment.Step.{Step}
 use Rattle.pgo_syntax.specs.declared.assignment.Step.TheVariants as step
@@ -17,18 +17,18 @@ use Rattle.pgo_syntax.specs.declared.name.PlacedName.{PlacedName}
 use Rattle.pgo_syntax.specs.Statement.{Statement, skip, assign, if_then, if_else, while_do, either_of, await_that, with_in, print_out, assert_that, go_to, call_macro, yield_as, block, Statements, no_statements, more_statements, LabeledStatements, no_labeled, more_labeled, GuardedStatements, no_guarded, more_guarded}
 use Rattle.pgo_uses.specs.StatementUses.{shape_of, origin_tree}
 use Rattle.pgo_uses.specs.declared.uses.Shape.{Shape}
-use Rattle.pgo_uses.specs.declared.uses.Shape.TheVariants.{Bare, OneIndex, Further}
+use Rattle.pgo_uses.specs.declared.uses.Shape.TheVariants.{OneIndex}
 use Rattle.pgo_sections.specs.Access.{Mapped, place, MappedRead, read_first, after, hoisted, evaluated}
 use Rattle.pgo_sections.specs.Among.{is_among}
-use Rattle.pgo_sections.specs.Code.{Place, Whole, variable_of, Code, Empty, Skip, Let, Pick, Become, Set, Await, Assert, Print, If, Either, Seq, Goto, Yield, Read, Write, Codes, no_codes, more_codes, in_turn, content_name, content_places, value_name, at_base, old_base, val_base}
-use Rattle.pgo_sections.specs.Domains.{Uses, AllUse, HasIndex, ByElements}
+use Rattle.pgo_sections.specs.Code.{Place, Whole, variable_of, Code, Empty, Let, Pick, Become, Set, Await, Assert, Print, If, Seq, Goto, Read, Write, in_turn, content_name, content_places, value_name, at_base, old_base, val_base}
+use Rattle.pgo_sections.specs.Domains.{AllUse, HasIndex, ByElements}
 use Rattle.pgo_sections.specs.Plain.{PlainAll}
 use Rattle.pgo_sections.specs.WellFormed.{NotMade, Bindable, Alone, Applied, PlainTree, KnownIndex, PlainCode, PlainCodes}
 use Rattle.pgo_meaning.specs.Labels.{own, labelled, within, within_branches, within_arms, within_order}
 use Rattle.pgo_meaning.specs.MacrosPlaced.{unmarked}
-use Rattle.pgo_meaning.specs.Statements.{Setting, Part, Index, Field, part_tree, changed, index_of, label_of, alone, to_variable, assigned, steps, assign_all, assignment_code, bind_name, bind_names, code, branches, arms, in_order}
-use Rattle.pgo_agrees.proofs.Fine.{in_with, MayLabel, Expr, PathFine, AssignsFine, WithsFine, Fine, EachFine, LabeledFine, GuardedFine}
-use Rattle.pgo_agrees.proofs.Hoist.{place_single, never, InScope, lower, Base, Hoistable, ReadWhole, ReadElement, ReadsFrom, grows, hoist}
+use Rattle.pgo_meaning.specs.Statements.{Setting, Part, Index, Field, part_tree, index_of, label_of, alone, to_variable, assigned, steps, assign_all, assignment_code, bind_name, bind_names, code, branches, arms, in_order}
+use Rattle.pgo_agrees.proofs.Fine.{in_with, Expr, PathFine, AssignsFine, WithsFine, Fine, EachFine, LabeledFine, GuardedFine}
+use Rattle.pgo_agrees.proofs.Hoist.{place_single, never, InScope, lower, Base, Hoistable, ReadWhole, ReadElement, ReadsFrom, hoist}
 use Rattle.pgo_agrees.proofs.Stands.{Above, or_in, or_first, or_second}
 use Rattle.pgo_agrees.proofs.Weaker.{plain}
 

@@ -1,9 +1,8 @@
 -- Mapped occurrences hoisted out of an expression: what is left has well-formed names, and so have the indices before the reads.
-use Rattle.std.proofs.Common.{◌≡◌, ◌<◌, ◌≤◌, ℕ, zero, suc, ◌+◌, Bool, true, false, ◌||◌, if◌then◌else◌, List, [], ◌∷◌, ◌++◌, replicate, Option, Some, None, refl, ap, sym, ◌∙◌, subst, inl, inr, arith}
+use Rattle.std.proofs.Common.{◌≡◌, ◌<◌, ◌≤◌, ℕ, zero, suc, Bool, true, false, if◌then◌else◌, List, [], ◌∷◌, ◌++◌, replicate, Option, Some, None, refl, ap, sym, ◌∙◌, subst, inl, inr, arith}
 use Rattle.std.specs.Prelude.{◌⊎◌}
 use Rattle.pgo_base.specs.Lookup.{Name, same_name, find}
 use Rattle.pgo_base.specs.Tree.{Tree, name, primed, number, text, truth, at, word, unary, binary, product, cond_of, case_of, case_other, let_in, quantified, choose, tuple, set_of, filter_of, image, fun_of, fun_set, record_of, record_set, except, index, field, call, unchanged, Trees, no_trees, more_trees, NamedTrees, no_named, more_named, TreePairs, no_arms, more_arms, BoundTrees, no_bound, more_bound, PathTrees, no_paths, more_paths}
-use Rattle.pgo_model.specs.Names.{same_name-self}
 use Rattle.pgo_model.specs.Options.{on}
 use Rattle.pgo_model.specs.Written.{self_name}
 use Rattle.pgo_scope.specs.Underscores.{has_double}
@@ -11,7 +10,7 @@ use Rattle.pgo_sections.specs.Access.{Mapped, MappedNames, place, MappedRead, Ho
 use Rattle.pgo_sections.specs.Among.{is_among}
 use Rattle.pgo_sections.specs.Bound.{names_of, names_bound, below}
 use Rattle.pgo_sections.specs.Code.{Place}
-use Rattle.pgo_sections.specs.Plain.{All, Plain, PlainAll, PlainArms, PlainFields, PlainLet, PlainBound, PlainPaths}
+use Rattle.pgo_sections.specs.Plain.{All, PlainAll, PlainArms, PlainFields, PlainLet, PlainBound, PlainPaths}
 use Rattle.pgo_sections.specs.WellFormed.{NotMade, Bindable, Alone, Applied, PlainTree}
 use Rattle.pgo_agrees.proofs.Names.{single}
 use Rattle.pgo_agrees.proofs.Stands.{is_one, Stands, AllStand, ArmsStand, FieldsStand, LetStand, BoundStand, PathsStand, Meet, meet_one, meet_below, let_all, bound_all}

@@ -1,23 +1,15 @@
 -- Names in the statements of an archetype that a process runs.
-use Rattle.std.proofs.Common.{◌≡◌, ◌≤◌, ℕ, zero, suc, ◌+◌, Bool, true, false, not, ◌&&◌, ◌||◌, if◌then◌else◌, List, [], ◌∷◌, ◌++◌, map, length, Option, Some, None, refl, ap, sym, ◌∙◌, subst, inl, inr, arith}
+use Rattle.std.proofs.Common.{◌≡◌, ℕ, suc, Bool, true, false, not, if◌then◌else◌, List, [], ◌∷◌, ◌++◌, map, length, Option, Some, None, refl, ap, sym, ◌∙◌, subst, inl, inr}
 use Rattle.std.specs.Prelude.{◌⊎◌, slice_get}
-use Rattle.std.specs.List.{AllByRecursion, filter_map, flat_map, list_all}
+use Rattle.std.specs.List.{AllByRecursion, filter_map}
 use Rattle.pgo_base.specs.Data.{Data}
 use Rattle.pgo_base.specs.Lookup.{Name, same_name, find}
-use Rattle.pgo_base.specs.Tree.{Tree}
-use Rattle.pgo_model.specs.Machine.{nth}
 use Rattle.pgo_model.specs.Names.{same_name-self, same_name-is}
-use Rattle.pgo_model.specs.Written.{written}
-use Rattle.pgo_syntax.specs.declared.name.PlacedName.{PlacedName}
 use Rattle.pgo_syntax.specs.declared.archetype.Archetype.{Archetype}
 use Rattle.pgo_syntax.specs.declared.archetype.Extent.{Extent}
 use Rattle.pgo_syntax.specs.declared.archetype.Extent.TheVariants.{Whole as WholeExtent, Element}
 use Rattle.pgo_syntax.specs.declared.archetype.Parameter.{Parameter}
 use Rattle.pgo_syntax.specs.declared.archetype.ParameterKind.TheVariants as kinds
-use Rattle.pgo_syntax.specs.declared.bound.Bound.{Bound}
-use Rattle.pgo_syntax.specs.declared.bound.Instance.{Instance}
-use Rattle.pgo_syntax.specs.declared.bound.Mapping.{Mapping}
-use Rattle.pgo_syntax.specs.declared.bound.Mapping.TheVariants.{Macro}
 use Rattle.pgo_syntax.specs.declared.declaration.Declaration.{Declaration}
 use Rattle.pgo_syntax.specs.declared.process.Process.{Process}
 use Rattle.pgo_syntax.specs.Statement.{labeled}
@@ -41,27 +33,27 @@ use Rattle.pgo_scope.specs.Underscores.{has_double}
 use Rattle.pgo_scope.specs.Ways.{known_macros}
 use Rattle.pgo_scope.specs.declared.errors.ScopeError.TheVariants as errors
 use Rattle.pgo_scope.specs.declared.mapped.Mapped.{Mapped as Kind}
-use Rattle.pgo_scope.specs.declared.mapped.Mapped.TheVariants.{Unmapped, AsWhole, ByElement}
+use Rattle.pgo_scope.specs.declared.mapped.Mapped.TheVariants.{ByElement}
 use Rattle.pgo_bound.specs.Among.{IsAmong, among_left, among_append, from_map, from_filter_map}
 use Rattle.pgo_bound.specs.Runs.{Handed, handed_from, archetype_named}
 use Rattle.pgo_bound.specs.State.{variables_of, names_with, value_name}
 use Rattle.pgo_accept.proofs.Fitting.{ArgumentsFit}
 use Rattle.pgo_sections.specs.Access.{Mapped}
 use Rattle.pgo_sections.specs.Among.{is_among}
-use Rattle.pgo_sections.specs.Code.{Place, Whole, Own}
+use Rattle.pgo_sections.specs.Code.{Place}
 use Rattle.pgo_sections.specs.WellFormed.{NotMade}
 use Rattle.pgo_meaning.specs.Parameters.{by_element, all_mapped, places_of}
 use Rattle.pgo_agrees.specs.Accepted.{IsOfText}
 use Rattle.pgo_agrees.proofs.Closed.{apart}
-use Rattle.pgo_agrees.proofs.Env.{C, B, Common, D, Known', Inside, InStatements, NamedFacts, named_facts, named_uncommon}
+use Rattle.pgo_agrees.proofs.Env.{C, D, Inside, InStatements, NamedFacts, named_facts}
 use Rattle.pgo_agrees.proofs.FromUses.{IsAt}
 use Rattle.pgo_agrees.proofs.Hoist.{never}
-use Rattle.pgo_agrees.proofs.Kept.{NoFindings, nothing_if}
-use Rattle.pgo_agrees.proofs.MappedPlaces.{MappedFrom, mapped_from, element_kind, parameter_or_mapped, local_placed}
+use Rattle.pgo_agrees.proofs.Kept.{NoFindings}
+use Rattle.pgo_agrees.proofs.MappedPlaces.{mapped_from, element_kind, parameter_or_mapped, local_placed}
 use Rattle.pgo_agrees.proofs.Meanings.{common_apart, common_single}
-use Rattle.pgo_agrees.proofs.Names.{or_left, or_right, single}
+use Rattle.pgo_agrees.proofs.Names.{or_right, single}
 use Rattle.pgo_agrees.proofs.Places.{handed_value, PlaceFrom, is_own, is_whole, hands, binds, place_from, found_there}
-use Rattle.pgo_agrees.proofs.Uses.{FineUse, fine_use, of_archetype}
+use Rattle.pgo_agrees.proofs.Uses.{FineUse}
 use Rattle.pgo_agrees.proofs.Variables.{parameter_fine, local_fine}
 
 -- ---- lists of names

@@ -1,16 +1,16 @@
 -- Each macro's body, with the macros before it in place, has names that stand as in a macro; by the order of the macros.
-use Rattle.std.proofs.Common.{◌≡◌, ◌<◌, ◌≤◌, ℕ, zero, suc, ◌+◌, Bool, true, false, not, ◌&&◌, ◌||◌, if◌then◌else◌, List, [], ◌∷◌, ◌++◌, map, length, Option, Some, None, refl, ap, sym, ◌∙◌, subst, inl, inr, arith}
+use Rattle.std.proofs.Common.{◌≡◌, ◌<◌, ℕ, zero, suc, ◌+◌, Bool, true, false, not, ◌&&◌, if◌then◌else◌, List, [], ◌∷◌, ◌++◌, map, length, Some, None, refl, ap, sym, ◌∙◌, subst, inl, inr, arith}
 use Rattle.std.specs.Prelude.{◌⊎◌, slice_get}
 use Rattle.std.specs.List.{AllByRecursion}
 use Rattle.pgo_base.specs.Lookup.{Name, same_name, find}
 use Rattle.pgo_base.specs.Tree.{Tree}
 use Rattle.pgo_model.specs.Names.{same_name-self, same_name-is}
-use Rattle.pgo_syntax.specs.Statement.{Statement, block, labeled}
+use Rattle.pgo_syntax.specs.Statement.{block, labeled}
 use Rattle.pgo_syntax.specs.declared.macros.Macro.{Macro}
 use Rattle.pgo_syntax.specs.declared.name.PlacedName.{PlacedName}
 use Rattle.pgo_syntax.specs.declared.spec.Spec.{Spec}
 use Rattle.pgo_uses.specs.AllUses.{names_of, heads, start, macro_uses}
-use Rattle.pgo_uses.specs.Names.{is_member, is_among as among_rows, first_at}
+use Rattle.pgo_uses.specs.Names.{is_member, first_at}
 use Rattle.pgo_uses.specs.StatementUses.{at_place, as_passed, argument_uses, uses_of_block}
 use Rattle.pgo_uses.specs.Tables.{macro_rows, tables_of}
 use Rattle.pgo_uses.specs.Uses.{inside, uses}
@@ -21,7 +21,7 @@ use Rattle.pgo_uses.specs.declared.uses.Shape.{Shape}
 use Rattle.pgo_uses.specs.declared.uses.Use.{Use}
 use Rattle.pgo_scope.specs.Assigned.{parameter_in, may_assign, assigned_arguments, assigned_of}
 use Rattle.pgo_scope.specs.Unknown.{may_call, knows_self}
-use Rattle.pgo_scope.specs.Ways.{Known as WaysKnown, join, left_base, left_shape, left_uses, read_way, write_way, ways_if, no_ways, reads, reads_at, writes_at, passed_ways, call_ways, use_ways, ways_in, parameters_of, known_from, known_macros, each_parameter}
+use Rattle.pgo_scope.specs.Ways.{Known as WaysKnown, join, left_shape, left_uses, read_way, write_way, ways_if, no_ways, passed_ways, call_ways, use_ways, ways_in, known_from, known_macros, each_parameter}
 use Rattle.pgo_scope.specs.declared.errors.ScopeError.TheVariants as errors
 use Rattle.pgo_scope.specs.declared.ways.Ways.{Ways}
 use Rattle.pgo_bound.specs.Among.{IsAmong, among_left, among_right, all_at, some_is}
@@ -30,13 +30,13 @@ use Rattle.pgo_accept.proofs.Fitting.{ArgumentsFit}
 use Rattle.pgo_sections.specs.Among.{is_among}
 use Rattle.pgo_meaning.specs.LabelSections.{AreUnlabelled}
 use Rattle.pgo_meaning.specs.MacrosPlaced.{marked as marked', Body, Bodies, placed, bodies_with, bodies}
-use Rattle.pgo_agrees.specs.Accepted.{IsOfText, MacroOfText, MacroParameterOfText, has_letter, has_name_bytes, is_identifier}
+use Rattle.pgo_agrees.specs.Accepted.{IsOfText, MacroOfText, MacroParameterOfText, has_letter, has_name_bytes}
 use Rattle.pgo_agrees.specs.Spoken.{ArgumentsSpoken}
 use Rattle.pgo_agrees.proofs.Arguments.{Joins, Given}
 use Rattle.pgo_agrees.proofs.Calls.{rows, each_rows, InPairs, assigned_at, Among, among_trans, read_way_is, write_way_is, use_among, read_among, passed_read, passed_write, base_among, path_among, call_among}
 use Rattle.pgo_agrees.proofs.Closed.{all_among}
-use Rattle.pgo_agrees.proofs.Env.{C, B, Common, D, Known', Inside, InStatements, NamedFacts, named_facts, named_uncommon, applicable_no_bang, bytes_no_bang, UnitRules, tells_all}
-use Rattle.pgo_agrees.proofs.Fine.{Fine, LabeledFine}
+use Rattle.pgo_agrees.proofs.Env.{C, B, Common, D, Known', Inside, InStatements, named_facts, named_uncommon, applicable_no_bang, bytes_no_bang, UnitRules, tells_all}
+use Rattle.pgo_agrees.proofs.Fine.{Fine}
 use Rattle.pgo_agrees.proofs.FineUses.{Within, labeled_fine}
 use Rattle.pgo_agrees.proofs.FromUses.{Known, IsAt}
 use Rattle.pgo_agrees.proofs.Hoist.{never}
@@ -44,8 +44,8 @@ use Rattle.pgo_agrees.proofs.Kept.{NoFindings, nothing_if, not_false}
 use Rattle.pgo_agrees.proofs.MacroCalls.{MacroOk, all_names, called_known, parameters_are, call_ok, assigned_base}
 use Rattle.pgo_agrees.proofs.MacroNames.{FirstMacro, first_macro, one_macro, earlier_first}
 use Rattle.pgo_agrees.proofs.Names.{and_right}
-use Rattle.pgo_agrees.proofs.Placing.{reads_so, writes_so, has_bang, marked_bang, marked_single, bang_apart, MacroName, MacroAssigned, MacroWith, AnyCall, Target, CallOk, fine_placed}
-use Rattle.pgo_agrees.proofs.Stands.{or_first, or_second}
+use Rattle.pgo_agrees.proofs.Placing.{reads_so, writes_so, has_bang, marked_bang, marked_single, bang_apart, MacroName, MacroAssigned, MacroWith, Target, CallOk, fine_placed}
+use Rattle.pgo_agrees.proofs.Stands.{or_second}
 use Rattle.pgo_agrees.proofs.Uses.{FineUse, fine_use, of_macro_at}
 
 -- ---- names of parameters
@@ -188,7 +188,7 @@ module _ (s : Spec) (k : NoFindings s) (fit : AllByRecursion (ArgumentsFit s.arc
     own_assigned ns u h p g e = (
       may_be u.name (ap (λ z. may_assign s z u.name) (sym g.0) ∙ not_false (may_assign s u.around.home u.name) (nothing_if (not (may_assign s u.around.home u.name)) u.around.place (errors.AssignedNotRef u.name) (subst (λ f. assigned_of s (known_macros s.macros) u f ≡ []) e p.0.assigned))),
       (use_among K u.name us u p.1).writes h
-      (ap (λ f. writes_so (use_ways K u.name u f) h) e ∙ ap (λ b. writes_so (ways_if b (write_way h)) h) (same_name-self u.name) ∙ write_way_is h),
+          (ap (λ f. writes_so (use_ways K u.name u f) h) e ∙ ap (λ b. writes_so (ways_if b (write_way h)) h) (same_name-self u.name) ∙ write_way_is h),
     )
 
     -- ---- a call in the body
@@ -301,17 +301,19 @@ module _ (s : Spec) (k : NoFindings s) (fit : AllByRecursion (ArgumentsFit s.arc
           let none = all_unlabelled m s.macros unlabelled among in
           let ways = w m among i at_i (uses_there m i at_i) none known bs before in
           let here : slice_get (known ++ each_parameter (macro_rows s.macros, known) (macro_uses i m) (names_of m.params) ∷ []) j ≡ Some (rows ways (names_of m.params)) =
-              ap (slice_get (known ++ each_parameter (macro_rows s.macros, known) (macro_uses i m) (names_of m.params) ∷ [])) (e ∙ sym size) ∙ last_get known (each_parameter (macro_rows s.macros, known) (macro_uses i m) (names_of m.params)) ∙ ap Some (each_rows (macro_rows s.macros, known) (macro_uses i m) (names_of m.params)) in
-          (record {
-            macro = record { it = m; at' = ap (slice_get s.macros) e ∙ at_i; named = ap (λ (z : Macro). z.name.name) (sym same) ∙ f.named; row = f.row ∙ ap (λ (z : Macro). Some (length z.params)) same };
-            ways = ways;
-            known = sym (ap (λ (z : WaysKnown). slice_get z.1 j) full) ∙ later_get ms (macro_rows s.macros, known ++ each_parameter (macro_rows s.macros, known) (macro_uses i m) (names_of m.params) ∷ []) (suc i) j (rows ways (names_of m.params)) here;
-            body = record { parameters = map (λ (p : PlacedName). p.name) m.params; statement = placed bs (block 0 (labeled m.body)) };
-            found = ap (λ b. if b then Some (record { parameters = map (λ (p : PlacedName). p.name) m.params; statement = placed bs (block 0 (labeled m.body)) }) else find x bs) (ap (λ y. same_name y m.name.name) (sym f.named ∙ ap (λ (z : Macro). z.name.name) same) ∙ same_name-self m.name.name);
-            parameters = names_map m.params;
-            fine = body_fine m among i at_i (uses_there m i at_i) none known bs before;
-            apart = parameters_apart m among i at_i (uses_there m i at_i) none known bs before;
-          }, here)
+          ap (slice_get (known ++ each_parameter (macro_rows s.macros, known) (macro_uses i m) (names_of m.params) ∷ [])) (e ∙ sym size) ∙ last_get known (each_parameter (macro_rows s.macros, known) (macro_uses i m) (names_of m.params)) ∙ ap Some (each_rows (macro_rows s.macros, known) (macro_uses i m) (names_of m.params)) in (
+            record {
+              macro = record { it = m; at' = ap (slice_get s.macros) e ∙ at_i; named = ap (λ (z : Macro). z.name.name) (sym same) ∙ f.named; row = f.row ∙ ap (λ (z : Macro). Some (length z.params)) same };
+              ways = ways;
+              known = sym (ap (λ (z : WaysKnown). slice_get z.1 j) full) ∙ later_get ms (macro_rows s.macros, known ++ each_parameter (macro_rows s.macros, known) (macro_uses i m) (names_of m.params) ∷ []) (suc i) j (rows ways (names_of m.params)) here;
+              body = record { parameters = map (λ (p : PlacedName). p.name) m.params; statement = placed bs (block 0 (labeled m.body)) };
+              found = ap (λ b. if b then Some (record { parameters = map (λ (p : PlacedName). p.name) m.params; statement = placed bs (block 0 (labeled m.body)) }) else find x bs) (ap (λ y. same_name y m.name.name) (sym f.named ∙ ap (λ (z : Macro). z.name.name) same) ∙ same_name-self m.name.name);
+              parameters = names_map m.params;
+              fine = body_fine m among i at_i (uses_there m i at_i) none known bs before;
+              apart = parameters_apart m among i at_i (uses_there m i at_i) none known bs before;
+            },
+            here,
+          )
 
   all_from : (ms : List Macro) (i : ℕ) (bs : Bodies) (known : List (List (Name × Ways))) → ((n : ℕ) → slice_get s.macros (i + n) ≡ slice_get ms n) → length known ≡ i → known_from (macro_rows s.macros, known) i ms ≡ known_macros s.macros → Before bs known i
       → (x : Name) (j : ℕ) → first_at x (macro_rows s.macros) ≡ Some j → MacroOk s k fit of_text (bodies_with bs ms) x j

@@ -1,7 +1,6 @@
 -- Where nothing is refused, no rule finds anything.
 use Rattle.std.proofs.Common.{◌≡◌, ℕ, Bool, true, false, not, if◌then◌else◌, nat_lt, List, [], ◌∷◌, ◌++◌, map, Option, Some, None, option_map, refl, ap, ◌∙◌, inl, inr}
 use Rattle.std.specs.List.{AllByRecursion, flat_map}
-use Rattle.pgo_base.specs.Lookup.{Name}
 use Rattle.pgo_syntax.specs.declared.name.PlacedName.{PlacedName}
 use Rattle.pgo_syntax.specs.declared.spec.Spec.{Spec}
 use Rattle.pgo_uses.specs.declared.uses.Use.{Use}
@@ -26,7 +25,7 @@ use Rattle.pgo_labels.specs.declared.errors.LabelError.{LabelError}
 use Rattle.pgo_labels.specs.declared.finding.Finding as labels
 use Rattle.pgo_labels.specs.Least.{sooner_of, least}
 use Rattle.pgo_labels.specs.Refusal.{findings, first_refusal, label_refusal}
-use Rattle.pgo_labels.specs.Rules.{label_in_with, label_in_macro, label_in_mapping, reserved_done, needs_label, unknown_label, label_twice, yield_rule, too_many_labels}
+use Rattle.pgo_labels.specs.Rules.{label_in_with, label_in_macro, label_in_mapping, reserved_done, yield_rule}
 use Rattle.pgo_bound.specs.Among.{IsAmong, none_left, none_right}
 
 -- ---- names

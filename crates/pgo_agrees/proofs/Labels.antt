@@ -1,10 +1,8 @@
 -- At a label of a process the trees of the whole specification have the expansion of that process.
-use Rattle.std.proofs.Common.{◌≡◌, ◌≤◌, ◌<◌, ◌^◌, ◌-◌, ℕ, suc, ◌+◌, max, Bool, true, false, ◌||◌, if◌then◌else◌, List, [], ◌∷◌, ◌++◌, map, Option, Some, None, option_map, refl, ap, sym, ◌∙◌, subst, inl, inr, arith}
+use Rattle.std.proofs.Common.{◌≡◌, ◌≤◌, ◌<◌, ◌^◌, ℕ, suc, Bool, true, false, if◌then◌else◌, List, [], ◌∷◌, ◌++◌, map, Option, Some, None, option_map, refl, ap, sym, ◌∙◌, subst, inl, inr, arith}
 use Rattle.std.specs.Prelude.{◌⊎◌, is_some}
-use Rattle.std.specs.List.{AllByRecursion, flat_map}
+use Rattle.std.specs.List.{flat_map}
 use Rattle.pgo_base.specs.Lookup.{Name, same_name, find}
-use Rattle.pgo_base.specs.Tree.{Tree}
-use Rattle.pgo_model.specs.Machine.{nth}
 use Rattle.pgo_model.specs.Names.{same_name-self, same_name-is, or_that, find_append}
 use Rattle.pgo_model.specs.Options.{on}
 use Rattle.pgo_model.specs.Written.{done, written}
@@ -18,14 +16,13 @@ use Rattle.pgo_uses.specs.Names.{Rows, is_among, is_member}
 use Rattle.pgo_uses.specs.StatementUses.{at_place, label_uses, with_uses, with_names, statement_uses, uses_of_alternatives, uses_of_block, uses_of_branches}
 use Rattle.pgo_uses.specs.Uses.{uses}
 use Rattle.pgo_uses.specs.declared.uses.Around.{Around}
-use Rattle.pgo_uses.specs.declared.uses.Form.{Form}
 use Rattle.pgo_uses.specs.declared.uses.Form.TheVariants as forms
 use Rattle.pgo_uses.specs.declared.uses.Home.TheVariants as homes
 use Rattle.pgo_uses.specs.declared.uses.Use.{Use}
-use Rattle.pgo_scope.specs.Clash.{fixed_names, fixed_things, shared_things, value_names, new_label, labels_from, own_names, own_rows, or_none, own_thing, own_things, process_things, name_clashes}
+use Rattle.pgo_scope.specs.Clash.{value_names, new_label, labels_from, own_names, own_rows, or_none, own_thing, own_things, process_things, name_clashes}
 use Rattle.pgo_scope.specs.declared.things.Thing.{Thing}
 use Rattle.pgo_labels.specs.Rules.{reserved_done}
-use Rattle.pgo_bound.specs.Among.{IsAmong, among_left, among_right, among_append, from_map, among_map, among_nth, nth_among, none_flat_map}
+use Rattle.pgo_bound.specs.Among.{IsAmong, among_left, among_right, among_append, from_map, nth_among, none_flat_map}
 use Rattle.pgo_bound.specs.Instances.{archetype_among}
 use Rattle.pgo_bound.specs.Runs.{archetype_named}
 use Rattle.pgo_bound.specs.Sound.{labels_in, labels_each, labels_among, labels_guarded}
@@ -43,8 +40,7 @@ use Rattle.pgo_meaning.specs.Sections.{sections_of}
 use Rattle.pgo_meaning.specs.Statements.{label_of}
 use Rattle.pgo_meaning.proofs.LabelSections.{sections_are}
 use Rattle.pgo_agrees.specs.Accepted.{AreSmall}
-use Rattle.pgo_agrees.proofs.Kept.{NoLabelFindings}
-use Rattle.pgo_agrees.proofs.Things.{writes_some, counted, written_by, rows_of}
+use Rattle.pgo_agrees.proofs.Things.{writes_some, counted, rows_of}
 use Rattle.pgo_agrees.proofs.Unlabelled.{none_is_done}
 
 -- ---- a label is used as a label

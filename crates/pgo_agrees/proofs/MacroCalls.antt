@@ -1,6 +1,6 @@
 -- A call of a macro that the rules of names let pass.
-use Rattle.std.proofs.Common.{◌≡◌, ◌<◌, ℕ, zero, suc, ◌+◌, Bool, true, false, not, ◌&&◌, ◌||◌, if◌then◌else◌, nat_eq, List, [], ◌∷◌, ◌++◌, map, length, Option, Some, None, refl, ap, sym, ◌∙◌, subst, inl, inr, arith}
-use Rattle.std.specs.Prelude.{◌⊎◌, is_some, slice_get}
+use Rattle.std.proofs.Common.{◌≡◌, ℕ, suc, Bool, true, false, not, ◌||◌, if◌then◌else◌, nat_eq, List, [], ◌∷◌, ◌++◌, length, Option, Some, None, refl, ap, sym, ◌∙◌, subst, arith}
+use Rattle.std.specs.Prelude.{slice_get}
 use Rattle.std.specs.List.{AllByRecursion}
 use Rattle.pgo_base.specs.Lookup.{Name, same_name, find}
 use Rattle.pgo_base.specs.Tree.{Tree}
@@ -11,35 +11,32 @@ use Rattle.pgo_uses.specs.AllUses.{macro_uses, names_of}
 use Rattle.pgo_uses.specs.Names.{is_member, first_at}
 use Rattle.pgo_uses.specs.StatementUses.{at_place, as_passed, argument_uses}
 use Rattle.pgo_uses.specs.Tables.{macro_rows, tables_of, value_name}
-use Rattle.pgo_uses.specs.Uses.{inside, uses}
 use Rattle.pgo_uses.specs.declared.uses.Around.{Around}
 use Rattle.pgo_uses.specs.declared.uses.Form.TheVariants as forms
 use Rattle.pgo_uses.specs.declared.uses.Home.{Home}
 use Rattle.pgo_uses.specs.declared.uses.Shape.{Shape}
 use Rattle.pgo_uses.specs.declared.uses.Shape.TheVariants.{Bare, OneIndex, Further}
 use Rattle.pgo_uses.specs.declared.uses.Use.{Use}
-use Rattle.pgo_scope.specs.Arity.{or_number, other_number, wrong_number, arity_of}
-use Rattle.pgo_scope.specs.Assigned.{may_assign, assigned_argument, assigned_if, assigned_arguments, assigned_of}
+use Rattle.pgo_scope.specs.Arity.{or_number, arity_of}
+use Rattle.pgo_scope.specs.Assigned.{may_assign, assigned_argument, assigned_if}
 use Rattle.pgo_scope.specs.Findings.{found_if, found_where}
-use Rattle.pgo_scope.specs.Mapped.{arguments_findings, mapped_use_of}
 use Rattle.pgo_scope.specs.Unknown.{may_call, is_unknown}
 use Rattle.pgo_scope.specs.Ways.{Known as WaysKnown, known_from, each_parameter, known_macros, known_at, or_none, parameters_of, is_assigned, left_base}
 use Rattle.pgo_scope.specs.declared.errors.ScopeError.TheVariants as errors
-use Rattle.pgo_scope.specs.declared.finding.Finding.{Finding}
 use Rattle.pgo_scope.specs.declared.ways.Ways.{Ways}
 use Rattle.pgo_accept.proofs.Fitting.{ArgumentsFit}
 use Rattle.pgo_meaning.specs.MacrosPlaced.{Body, Bodies, handed}
 use Rattle.pgo_agrees.specs.Accepted.{IsOfText}
 use Rattle.pgo_agrees.specs.Spoken.{ArgumentsSpoken}
 use Rattle.pgo_agrees.proofs.Arguments.{Joins, Given, handed_so}
-use Rattle.pgo_agrees.proofs.Calls.{rows, InPairs, pair_of, not_handed, assigned_at, mapped_at, spoken_at, uses_at}
-use Rattle.pgo_agrees.proofs.Env.{C, B, Common, D, Known', Inside, InStatements, argument_first}
+use Rattle.pgo_agrees.proofs.Calls.{rows, InPairs, pair_of, not_handed, spoken_at, uses_at}
+use Rattle.pgo_agrees.proofs.Env.{C, B, Common, Known', Inside, InStatements, argument_first}
 use Rattle.pgo_agrees.proofs.Fine.{Fine}
 use Rattle.pgo_agrees.proofs.FromUses.{Known, IsAt}
 use Rattle.pgo_agrees.proofs.Hoist.{never}
 use Rattle.pgo_agrees.proofs.Kept.{NoFindings, nothing_if, not_false}
-use Rattle.pgo_agrees.proofs.MacroNames.{FirstMacro, first_macro}
-use Rattle.pgo_agrees.proofs.Placing.{MacroName, MacroAssigned, MacroWith, AnyCall, Target, CallOk, writes_so}
+use Rattle.pgo_agrees.proofs.MacroNames.{FirstMacro}
+use Rattle.pgo_agrees.proofs.Placing.{MacroName, MacroAssigned, MacroWith, Target, CallOk, writes_so}
 use Rattle.pgo_agrees.proofs.Stands.{or_first, or_second}
 use Rattle.pgo_agrees.proofs.Uses.{FineUse}
 

@@ -1,10 +1,8 @@
 -- What the parameters of a process are, mapped or not, by the rules on arguments.
-use Rattle.std.proofs.Common.{◌≡◌, ℕ, zero, suc, ◌+◌, Bool, true, false, not, ◌&&◌, ◌||◌, if◌then◌else◌, List, [], ◌∷◌, ◌++◌, map, filter, cond, length, Option, Some, None, option_map, refl, ap, sym, ◌∙◌, subst, inl, inr, arith}
-use Rattle.std.specs.Prelude.{◌⊎◌, slice_get, nat_lt}
-use Rattle.std.specs.List.{AllByRecursion, filter_map, flat_map, cons_option}
+use Rattle.std.proofs.Common.{◌≡◌, ℕ, suc, Bool, true, false, not, ◌&&◌, ◌||◌, if◌then◌else◌, List, [], ◌∷◌, map, filter, length, Option, Some, None, option_map, refl, ap, sym, ◌∙◌, subst, inl, inr, arith}
+use Rattle.std.specs.Prelude.{◌⊎◌, nat_lt}
 use Rattle.pgo_base.specs.Data.{Data}
 use Rattle.pgo_base.specs.Lookup.{Name, same_name, find}
-use Rattle.pgo_base.specs.declared.module.Defined.{Defined}
 use Rattle.pgo_model.specs.Names.{same_name-self, same_name-is}
 use Rattle.pgo_model.specs.Written.{written}
 use Rattle.pgo_syntax.specs.declared.name.PlacedName.{PlacedName}
@@ -14,31 +12,24 @@ use Rattle.pgo_syntax.specs.declared.archetype.Extent.TheVariants.{Whole as Whol
 use Rattle.pgo_syntax.specs.declared.archetype.Parameter.{Parameter}
 use Rattle.pgo_syntax.specs.declared.archetype.ParameterKind.{ParameterKind}
 use Rattle.pgo_syntax.specs.declared.archetype.ParameterKind.TheVariants as kinds
-use Rattle.pgo_syntax.specs.declared.bound.Binding.{Binding}
 use Rattle.pgo_syntax.specs.declared.bound.Mapping.{Mapping}
-use Rattle.pgo_syntax.specs.declared.bound.Mapping.TheVariants.{Identity, Macro}
 use Rattle.pgo_syntax.specs.declared.bound.Target.TheVariants as targets
 use Rattle.pgo_syntax.specs.declared.declaration.Declaration.{Declaration}
-use Rattle.pgo_syntax.specs.declared.macros.MappingMacro.{MappingMacro}
 use Rattle.pgo_syntax.specs.declared.process.Argument.{Argument}
 use Rattle.pgo_syntax.specs.declared.process.Argument.TheVariants as arguments
 use Rattle.pgo_syntax.specs.declared.process.MappingClause.{MappingClause}
 use Rattle.pgo_syntax.specs.declared.process.Process.{Process}
 use Rattle.pgo_syntax.specs.declared.spec.Spec.{Spec}
-use Rattle.pgo_bound.specs.Among.{IsAmong, among_left, among_right, among_map, among_filter_map, among_filter, none_flat_map, none_left, none_right, empty_map, empty_none, some_is}
-use Rattle.pgo_bound.specs.BoundOf.{GlobalStart, globals_of}
-use Rattle.pgo_bound.specs.Runs.{Run, Handed, handed_from, archetype_named, mapping_named, mapping_without, mapping_by, speaking, target_of, binding_of, run_with, run_of, runs_of, has_ids}
+use Rattle.pgo_bound.specs.Among.{IsAmong, among_left, among_right, among_map, among_filter_map, among_filter, none_flat_map, none_left, empty_map, empty_none, some_is}
+use Rattle.pgo_bound.specs.BoundOf.{globals_of}
+use Rattle.pgo_bound.specs.Runs.{Run, Handed, handed_from, archetype_named, mapping_by, speaking, target_of, binding_of, run_with, run_of, runs_of, has_ids}
 use Rattle.pgo_bound.specs.Values.{defs_of}
 use Rattle.pgo_heads.specs.declared.errors.BindError.{BindError}
 use Rattle.pgo_heads.specs.declared.errors.BindError.TheVariants as errors
-use Rattle.pgo_heads.specs.Refusals.{or_next, first, same_extent, differs, names_no_elements, is_bad_ref, is_bad_argument, is_bad_handed, bad_arguments, bad_clauses, bad_places, bad_mappings, constants_refused, ids_refused, starts_refused, heads_refused, bind_refusal}
-use Rattle.pgo_scope.specs.Mapped.{some_process, mapped_kind, mapped_among}
-use Rattle.pgo_scope.specs.declared.mapped.Mapped.{Mapped as Kind}
-use Rattle.pgo_scope.specs.declared.mapped.Mapped.TheVariants.{Unmapped, AsWhole, ByElement}
-use Rattle.pgo_sections.specs.Access.{Mapped, MappedNames}
+use Rattle.pgo_heads.specs.Refusals.{or_next, first, same_extent, differs, names_no_elements, is_bad_argument, is_bad_handed, bad_arguments, bad_clauses, bad_places, bad_mappings, constants_refused, ids_refused, starts_refused, heads_refused, bind_refusal}
+use Rattle.pgo_sections.specs.Access.{Mapped}
 use Rattle.pgo_sections.specs.Code.{Place, Whole, Own}
 use Rattle.pgo_meaning.specs.Parameters.{by_element, mapped_of, all_mapped, place_of, parameter_places, local_places, places_of, reads_by, writes_by}
-use Rattle.pgo_agrees.proofs.Names.{or_left}
 use Rattle.pgo_agrees.proofs.Places.{hands, binds}
 
 -- ---- arguments fit their parameters

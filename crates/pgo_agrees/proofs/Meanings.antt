@@ -1,10 +1,10 @@
 -- What a name means where nothing around it gives it a meaning: a constant, an operator, a definition or `self`, and no variable.
-use Rattle.std.proofs.Common.{◌≡◌, ◌≤◌, ℕ, suc, ◌+◌, Bool, true, false, not, ◌&&◌, ◌||◌, if◌then◌else◌, nat_eq, List, [], ◌∷◌, ◌++◌, length, Option, Some, None, option_map, refl, ap, sym, ◌∙◌, subst, inl, inr, arith}
+use Rattle.std.proofs.Common.{◌≡◌, ℕ, suc, Bool, true, false, not, ◌&&◌, ◌||◌, if◌then◌else◌, nat_eq, List, [], ◌∷◌, ◌++◌, length, Option, Some, None, option_map, refl, ap, sym, ◌∙◌, subst, inl, inr, arith}
 use Rattle.std.specs.Prelude.{◌⊎◌, is_some}
 use Rattle.std.specs.List.{AllByRecursion}
 use Rattle.pgo_base.specs.Lookup.{Name, same_name, find}
 use Rattle.pgo_model.specs.Names.{same_name-self, same_name-is, same_name-not}
-use Rattle.pgo_model.specs.Written.{pc, self_name, default_init_value, written}
+use Rattle.pgo_model.specs.Written.{self_name, default_init_value}
 use Rattle.pgo_syntax.specs.declared.name.PlacedName.{PlacedName}
 use Rattle.pgo_syntax.specs.declared.declaration.Definition.{Definition}
 use Rattle.pgo_syntax.specs.declared.spec.Spec.{Spec}
@@ -12,14 +12,12 @@ use Rattle.pgo_uses.specs.Heads.{definition_names, declared_names, shared_names,
 use Rattle.pgo_uses.specs.Names.{Rows, is_among, first_at, is_below, is_earlier}
 use Rattle.pgo_uses.specs.Tables.{all_definitions, name_rows, definition_rows, tables_of, operator_rows}
 use Rattle.pgo_uses.specs.declared.uses.Form.TheVariants as forms
-use Rattle.pgo_uses.specs.declared.uses.Form.{Form}
-use Rattle.pgo_uses.specs.declared.uses.Home.{Home}
 use Rattle.pgo_uses.specs.declared.uses.Home.TheVariants as homes
 use Rattle.pgo_uses.specs.declared.uses.Use.{Use}
 use Rattle.pgo_scope.specs.Arity.{or_number, takes, other_number, arity_of}
 use Rattle.pgo_scope.specs.Clash.{itself, fixed_names, fixed_things, shared_things}
 use Rattle.pgo_scope.specs.Globals.{is_global}
-use Rattle.pgo_scope.specs.Twice.{is_reserved, reserved_name, hides, hiding_of}
+use Rattle.pgo_scope.specs.Twice.{is_reserved, reserved_name}
 use Rattle.pgo_scope.specs.Underscores.{has_double}
 use Rattle.pgo_scope.specs.Unknown.{is_constant, is_common, means, is_unknown}
 use Rattle.pgo_scope.specs.declared.errors.ScopeError.TheVariants as errors
@@ -28,7 +26,7 @@ use Rattle.pgo_accept.proofs.Fitting.{ArgumentsFit}
 use Rattle.pgo_sections.specs.WellFormed.{NotMade}
 use Rattle.pgo_agrees.specs.Accepted.{IsOfText}
 use Rattle.pgo_agrees.proofs.Kept.{NoFindings, nothing_if, not_false, none_of_name}
-use Rattle.pgo_agrees.proofs.Names.{or_left, or_right, single, written_marked, has_mark}
+use Rattle.pgo_agrees.proofs.Names.{single, written_marked, has_mark}
 use Rattle.pgo_agrees.proofs.Stands.{or_in}
 use Rattle.pgo_agrees.proofs.Things.{writes_some, counted, shared_among}
 use Rattle.pgo_agrees.proofs.Uses.{FineUse}

@@ -1,9 +1,9 @@
 -- Names that no expansion makes.
-use Rattle.std.proofs.Common.{◌≡◌, ◌≤◌, ℕ, Bool, true, false, ◌&&◌, ◌||◌, nat_eq, List, [], ◌∷◌, ◌++◌, codes, refl, ap, sym, ◌∙◌, subst, arith}
+use Rattle.std.proofs.Common.{◌≡◌, ◌≤◌, ℕ, Bool, true, false, ◌&&◌, ◌||◌, nat_eq, [], ◌∷◌, ◌++◌, codes, refl, ap, sym, ◌∙◌, arith}
 use Rattle.std.specs.Prelude.{nat_le}
 use Rattle.pgo_base.specs.Lookup.{Name, same_name}
-use Rattle.pgo_model.specs.Names.{same_name-is, same_name-not}
-use Rattle.pgo_model.specs.Written.{self_name, written}
+use Rattle.pgo_model.specs.Names.{same_name-not}
+use Rattle.pgo_model.specs.Written.{written}
 use Rattle.pgo_scope.specs.Underscores.{has_double}
 use Rattle.pgo_sections.specs.PlainTest.{is_digit_code, all_digit_codes, digits_behind, looks_made}
 use Rattle.pgo_sections.specs.WellFormed.{NotMade}

@@ -1,10 +1,8 @@
 -- What the parameters and locals of a process are: own variables, or globals as a whole.
-use Rattle.std.proofs.Common.{◌≡◌, ℕ, suc, Bool, true, false, ◌&&◌, if◌then◌else◌, List, [], ◌∷◌, ◌++◌, map, filter, cond, Option, Some, None, option_map, refl, ap, sym, ◌∙◌, subst, inl, inr, arith}
+use Rattle.std.proofs.Common.{◌≡◌, ℕ, suc, Bool, true, false, ◌&&◌, if◌then◌else◌, List, [], ◌∷◌, ◌++◌, map, filter, cond, Option, Some, None, option_map, refl, ap, sym, ◌∙◌, subst, inl, inr}
 use Rattle.std.specs.Prelude.{◌⊎◌}
 use Rattle.std.specs.List.{filter_map, flat_map, cons_option, list_all}
-use Rattle.pgo_base.specs.Data.{Data}
-use Rattle.pgo_base.specs.Lookup.{Name, Vars, same_name, find}
-use Rattle.pgo_model.specs.Machine.{nth}
+use Rattle.pgo_base.specs.Lookup.{Name, same_name, find}
 use Rattle.pgo_model.specs.Names.{same_name-self, same_name-is}
 use Rattle.pgo_model.specs.Written.{pc, written}
 use Rattle.pgo_syntax.specs.declared.name.PlacedName.{PlacedName}
@@ -17,23 +15,20 @@ use Rattle.pgo_syntax.specs.declared.bound.Bound.{Bound}
 use Rattle.pgo_syntax.specs.declared.bound.Instance.{Instance}
 use Rattle.pgo_syntax.specs.declared.bound.Mapping.{Mapping}
 use Rattle.pgo_syntax.specs.declared.bound.Mapping.TheVariants.{Macro}
-use Rattle.pgo_syntax.specs.declared.bound.Target.{Target}
 use Rattle.pgo_syntax.specs.declared.bound.Target.TheVariants as targets
 use Rattle.pgo_syntax.specs.declared.declaration.Declaration.{Declaration}
-use Rattle.pgo_syntax.specs.declared.macros.MappingMacro.{MappingMacro}
 use Rattle.pgo_syntax.specs.declared.process.Argument.{Argument}
 use Rattle.pgo_syntax.specs.declared.process.Argument.TheVariants as arguments
 use Rattle.pgo_syntax.specs.declared.process.MappingClause.{MappingClause}
 use Rattle.pgo_syntax.specs.declared.process.Process.{Process}
 use Rattle.pgo_syntax.specs.declared.spec.Spec.{Spec}
-use Rattle.pgo_bound.specs.declared.kinds.Kind.TheVariants.{Unbound, AsWhole, ByElement}
+use Rattle.pgo_bound.specs.declared.kinds.Kind.TheVariants.{AsWhole, ByElement}
 use Rattle.pgo_bound.specs.Among.{IsAmong, among_left, among_right, among_append, among_map, among_filter_map, among_flat_map, from_map, from_filter_map}
-use Rattle.pgo_bound.specs.Runs.{Handed, handed_from, archetype_named, mapping_named, mapping_without, mapping_by, speaking, unless_any, is_of_number, is_of_name, target_of, binding_of, is_element, kind_of_extents}
+use Rattle.pgo_bound.specs.Runs.{Handed, handed_from, archetype_named, mapping_without, mapping_by, speaking, unless_any, is_of_number, is_of_name, target_of, binding_of, is_element, kind_of_extents}
 use Rattle.pgo_bound.specs.State as bind
 use Rattle.pgo_bound.specs.State.{variables_of, names_with, names_or_none, target_extent, kind_in}
 use Rattle.pgo_sections.specs.Among.{is_among}
 use Rattle.pgo_sections.specs.Code.{Place, Whole, Own, variable_of}
-use Rattle.pgo_sections.specs.SectionsAgree.{IsPlace}
 use Rattle.pgo_uses.specs.Tables.{tables_of}
 use Rattle.pgo_scope.specs.Unknown.{unknown_heads}
 use Rattle.pgo_meaning.specs.Parameters.{place_of, parameter_places, local_places, places_of, own_name, own_variables}

@@ -1,5 +1,5 @@
 -- A macro's body in the place of its call: names stand in it as they do where the call stands.
-use Rattle.std.proofs.Common.{◌≡◌, ℕ, Bool, true, false, ◌&&◌, ◌||◌, nat_eq, if◌then◌else◌, List, [], ◌∷◌, ◌++◌, map, Option, Some, None, option_map, refl, ap, sym, ◌∙◌, subst, inl, inr}
+use Rattle.std.proofs.Common.{◌≡◌, ℕ, Bool, true, false, ◌&&◌, ◌||◌, nat_eq, if◌then◌else◌, List, [], ◌∷◌, ◌++◌, map, Option, Some, None, refl, ap, sym, ◌∙◌, subst, inl, inr}
 use Rattle.std.specs.Prelude.{◌⊎◌, unwrap_or}
 use Rattle.pgo_base.specs.Lookup.{Name, same_name, find}
 use Rattle.pgo_base.specs.Tree.{Tree, name}
@@ -22,11 +22,11 @@ use Rattle.pgo_scope.specs.Underscores.{has_double}
 use Rattle.pgo_scope.specs.Ways.{join}
 use Rattle.pgo_scope.specs.declared.ways.Ways.{Ways}
 use Rattle.pgo_sections.specs.Among.{is_among}
-use Rattle.pgo_meaning.specs.MacrosPlaced.{mark, marked, Arguments, argument, put_tree, put_step, left_of, put_left, put_assignment, put_origin, with_marked, put_names, under_names, put, put_each, put_among, put_guarded, Body, Bodies, handed, walked, placed, placed_each, placed_among, placed_guarded}
-use Rattle.pgo_agrees.proofs.Fine.{in_with, MayLabel, Expr, PathFine, AssignsFine, WithsFine, Fine, EachFine, LabeledFine, GuardedFine}
+use Rattle.pgo_meaning.specs.MacrosPlaced.{marked, Arguments, argument, put_tree, put_step, left_of, put_left, put_assignment, put_origin, with_marked, put_names, under_names, put, put_each, put_among, put_guarded, Body, Bodies, handed, walked, placed, placed_each, placed_among, placed_guarded}
+use Rattle.pgo_agrees.proofs.Fine.{in_with, MayLabel, PathFine, AssignsFine, WithsFine, Fine, EachFine, LabeledFine, GuardedFine}
 use Rattle.pgo_agrees.proofs.Hoist.{never}
 use Rattle.pgo_agrees.proofs.Replaced as replacing
-use Rattle.pgo_agrees.proofs.Stands.{Stands, Meet, Above, or_in, or_first, or_second}
+use Rattle.pgo_agrees.proofs.Stands.{Stands, Meet, Above, or_first, or_second}
 use Rattle.pgo_agrees.proofs.Weaker.{weaker}
 
 -- ---- ways in which a parameter stands

@@ -1,11 +1,10 @@
 -- The premises of the law of trees, of every accepted specification.
-use Rattle.std.proofs.Common.{◌≡◌, ℕ, List, [], map, length, Option, Some, refl, ap, sym, ◌∙◌, subst}
+use Rattle.std.proofs.Common.{◌≡◌, ℕ, List, [], map, length, Some, ap, sym, ◌∙◌, subst}
 use Rattle.std.specs.Prelude.{slice_get}
 use Rattle.std.specs.List.{AllByRecursion}
 use Rattle.pgo_base.specs.Data.{Data}
 use Rattle.pgo_base.specs.Lookup.{Name, Vars, find}
 use Rattle.pgo_model.specs.Machine.{nth}
-use Rattle.pgo_model.specs.Written.{done}
 use Rattle.pgo_syntax.specs.Statement.{labeled}
 use Rattle.pgo_syntax.specs.declared.archetype.Archetype.{Archetype}
 use Rattle.pgo_syntax.specs.declared.bound.Instance.{Instance}
@@ -23,7 +22,7 @@ use Rattle.pgo_bound.specs.State.{kind_in, variables_of}
 use Rattle.pgo_bound.specs.Values.{defs_of}
 use Rattle.pgo_accept.proofs.Accepted.{accepted_well_named}
 use Rattle.pgo_accept.proofs.Fitting.{ArgumentsFit, arguments_fit}
-use Rattle.pgo_sections.specs.Code.{Place, Whole, Own, Code, Goto}
+use Rattle.pgo_sections.specs.Code.{Place, Whole, Own, Code}
 use Rattle.pgo_sections.specs.Domains.{ByElements}
 use Rattle.pgo_sections.specs.Expand.{expansion}
 use Rattle.pgo_sections.specs.SectionsAgree.{IsPlace}

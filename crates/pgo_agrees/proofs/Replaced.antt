@@ -7,7 +7,7 @@ use Rattle.pgo_sections.specs.Among.{is_among}
 use Rattle.pgo_sections.specs.Bound.{names_of, names_bound, below}
 use Rattle.pgo_sections.specs.Plain.{All}
 use Rattle.pgo_sections.specs.Replaced.{replaced, replaced_all, replaced_arms, replaced_fields, replaced_let, replaced_bound, replaced_paths}
-use Rattle.pgo_agrees.proofs.Stands.{is_one, Stands, AllStand, ArmsStand, FieldsStand, LetStand, BoundStand, PathsStand, Meet, meet_one, meet_below, let_all, bound_all}
+use Rattle.pgo_agrees.proofs.Stands.{Stands, AllStand, ArmsStand, FieldsStand, LetStand, BoundStand, PathsStand, Meet, meet_one, meet_below, let_all, bound_all}
 
 module _ (f : List Name → Name → Tree) where
   let_names : (u : List Name) (ds : NamedTrees) → names_of (replaced_let f u ds) ≡ names_of ds

@@ -1,9 +1,9 @@
 -- The body of an archetype that a process runs, with macros in the place of their calls.
-use Rattle.std.proofs.Common.{◌≡◌, ◌≤◌, ℕ, Bool, true, false, not, ◌&&◌, ◌||◌, if◌then◌else◌, List, [], ◌∷◌, ◌++◌, map, length, Option, Some, None, refl, ap, sym, ◌∙◌, subst, inl, inr, arith}
+use Rattle.std.proofs.Common.{◌≡◌, ℕ, Bool, true, false, if◌then◌else◌, List, [], ◌∷◌, ◌++◌, length, Some, None, refl, ap, sym, ◌∙◌, subst, inl, inr}
 use Rattle.std.specs.Prelude.{◌⊎◌, slice_get}
 use Rattle.std.specs.List.{AllByRecursion}
 use Rattle.pgo_base.specs.Data.{Data}
-use Rattle.pgo_base.specs.Lookup.{Name, same_name, find}
+use Rattle.pgo_base.specs.Lookup.{Name, same_name}
 use Rattle.pgo_base.specs.Tree.{Tree}
 use Rattle.pgo_syntax.specs.Statement.{labeled}
 use Rattle.pgo_syntax.specs.declared.archetype.Archetype.{Archetype}
@@ -26,7 +26,7 @@ use Rattle.pgo_uses.specs.declared.uses.Shape.TheVariants.{Bare, OneIndex, Furth
 use Rattle.pgo_uses.specs.declared.uses.Use.{Use}
 use Rattle.pgo_scope.specs.Assigned.{ref_names, assignable_in, may_assign, assigned_arguments, assigned_of}
 use Rattle.pgo_scope.specs.Findings.{found_where, each_use}
-use Rattle.pgo_scope.specs.Mapped.{mapped_read, mapped_write, read_of, read_use, argument_read, base_written, argument_written, argument_reads, argument_findings, arguments_findings, mapped_use_of}
+use Rattle.pgo_scope.specs.Mapped.{read_of, read_use, argument_read, base_written, argument_written, argument_reads, argument_findings, arguments_findings, mapped_use_of}
 use Rattle.pgo_scope.specs.Unknown.{may_call}
 use Rattle.pgo_scope.specs.Ways.{join, left_base, left_shape, left_uses, known_macros}
 use Rattle.pgo_scope.specs.declared.finding.Finding.{Finding}
@@ -44,7 +44,7 @@ use Rattle.pgo_agrees.specs.Spoken.{ArgumentsSpoken}
 use Rattle.pgo_agrees.proofs.Arguments.{Joins, Given}
 use Rattle.pgo_agrees.proofs.Calls.{rows, InPairs, assigned_at, mapped_at}
 use Rattle.pgo_agrees.proofs.Closed.{all_among, apart}
-use Rattle.pgo_agrees.proofs.Env.{C, B, Common, D, Known', Inside, InStatements, applicable_no_bang, UnitRules, tells_all}
+use Rattle.pgo_agrees.proofs.Env.{C, B, Common, D, Known', Inside, applicable_no_bang, UnitRules, tells_all}
 use Rattle.pgo_agrees.proofs.Fine.{LabeledFine}
 use Rattle.pgo_agrees.proofs.FineUses.{Within, labeled_fine}
 use Rattle.pgo_agrees.proofs.FreeWiths.{body_free}
@@ -57,8 +57,8 @@ use Rattle.pgo_agrees.proofs.MacroCalls.{MacroOk, all_names, called_known, param
 use Rattle.pgo_agrees.proofs.MacroNames.{there_first}
 use Rattle.pgo_agrees.proofs.Names.{single}
 use Rattle.pgo_agrees.proofs.Meanings.{common_apart, common_single}
-use Rattle.pgo_agrees.proofs.Placing.{reads_so, writes_so, marked_bang, marked_single, bang_apart, AnyCall, Target, CallOk, among_placed}
-use Rattle.pgo_agrees.proofs.Stands.{or_in, or_first, or_second}
+use Rattle.pgo_agrees.proofs.Placing.{reads_so, writes_so, marked_bang, marked_single, bang_apart, Target, CallOk, among_placed}
+use Rattle.pgo_agrees.proofs.Stands.{or_in, or_second}
 use Rattle.pgo_agrees.proofs.Uses.{FineUse}
 
 all_empty : (f : Use → List Finding) (us : List Use) → each_use f us ≡ [] → AllByRecursion (λ u. f u ≡ []) us

@@ -1,10 +1,9 @@
 -- The sections of an instance have well-formed names, and change element-bound globals by their elements alone.
-use Rattle.std.proofs.Common.{◌≡◌, ◌≤◌, ℕ, Bool, true, false, if◌then◌else◌, List, [], ◌∷◌, ◌++◌, map, length, Option, Some, None, option_map, refl, ap, sym, ◌∙◌, subst, inl, inr, arith}
+use Rattle.std.proofs.Common.{◌≡◌, ℕ, Bool, true, false, if◌then◌else◌, List, [], ◌∷◌, map, length, Some, None, refl, ap, sym, ◌∙◌, subst, inl, inr, arith}
 use Rattle.std.specs.Prelude.{◌⊎◌, slice_get}
 use Rattle.std.specs.List.{AllByRecursion, filter_map, flat_map}
 use Rattle.pgo_base.specs.Data.{Data}
 use Rattle.pgo_base.specs.Lookup.{Name, same_name, find}
-use Rattle.pgo_base.specs.Tree.{Tree}
 use Rattle.pgo_model.specs.Names.{same_name-self, same_name-is}
 use Rattle.pgo_model.specs.Written.{written, done}
 use Rattle.pgo_syntax.specs.declared.name.PlacedName.{PlacedName}
@@ -12,12 +11,9 @@ use Rattle.pgo_syntax.specs.declared.archetype.Archetype.{Archetype}
 use Rattle.pgo_syntax.specs.declared.archetype.Extent.{Extent}
 use Rattle.pgo_syntax.specs.declared.archetype.Extent.TheVariants.{Whole as WholeExtent, Element}
 use Rattle.pgo_syntax.specs.declared.bound.Binding.{Binding}
-use Rattle.pgo_syntax.specs.declared.bound.Bound.{Bound}
 use Rattle.pgo_syntax.specs.declared.bound.Instance.{Instance}
 use Rattle.pgo_syntax.specs.declared.bound.Mapping.{Mapping}
 use Rattle.pgo_syntax.specs.declared.bound.Mapping.TheVariants.{Identity, Macro}
-use Rattle.pgo_syntax.specs.declared.bound.Target.{Target}
-use Rattle.pgo_syntax.specs.declared.bound.Target.TheVariants as targets
 use Rattle.pgo_syntax.specs.declared.declaration.Declaration.{Declaration}
 use Rattle.pgo_syntax.specs.declared.macros.MappingMacro.{MappingMacro}
 use Rattle.pgo_syntax.specs.declared.process.Argument.{Argument}
@@ -25,14 +21,13 @@ use Rattle.pgo_syntax.specs.declared.process.Argument.TheVariants as arguments
 use Rattle.pgo_syntax.specs.declared.process.MappingClause.{MappingClause}
 use Rattle.pgo_syntax.specs.declared.process.Process.{Process}
 use Rattle.pgo_syntax.specs.declared.spec.Spec.{Spec}
-use Rattle.pgo_syntax.specs.Statement.{LabeledStatements, labeled}
+use Rattle.pgo_syntax.specs.Statement.{LabeledStatements}
 use Rattle.pgo_uses.specs.AllUses.{archetype_uses}
 use Rattle.pgo_uses.specs.Heads.{declared_names}
 use Rattle.pgo_uses.specs.declared.uses.Shape.{Shape}
 use Rattle.pgo_uses.specs.declared.uses.Use.{Use}
 use Rattle.pgo_scope.specs.Clash.{itself, own_thing, shared_things}
 use Rattle.pgo_labels.specs.Rules.{label_in_mapping}
-use Rattle.pgo_bound.specs.declared.kinds.Kind.{Kind}
 use Rattle.pgo_bound.specs.Among.{IsAmong, among_map, from_map, from_flat_map, from_filter_map, nth_among, some_is, mapped_some}
 use Rattle.pgo_bound.specs.BoundOf.{bound_of}
 use Rattle.pgo_bound.specs.Runs.{Handed, archetype_named, mapping_named, mapping_without, mapping_by, speaking, target_of, binding_of, kind_of_extents}
@@ -41,11 +36,11 @@ use Rattle.pgo_heads.specs.Refusals.{bind_refusal}
 use Rattle.pgo_accept.proofs.Fitting.{ArgumentsFit}
 use Rattle.pgo_sections.specs.Access.{Mapped}
 use Rattle.pgo_sections.specs.Among.{is_among}
-use Rattle.pgo_sections.specs.Code.{Place, Whole, Own, variable_of, Code, Goto, content_name, content_places, value_name}
+use Rattle.pgo_sections.specs.Code.{Place, variable_of, Code, Goto, content_name, content_places, value_name}
 use Rattle.pgo_sections.specs.Domains.{ByElements}
 use Rattle.pgo_sections.specs.WellFormed.{PlainCode}
 use Rattle.pgo_meaning.specs.Labels.{within_order}
-use Rattle.pgo_meaning.specs.Parameters.{by_element, all_mapped, places_of, setting_of, reads_by, writes_by}
+use Rattle.pgo_meaning.specs.Parameters.{by_element, all_mapped, places_of, setting_of}
 use Rattle.pgo_meaning.specs.Sect.{is_by_element}
 use Rattle.pgo_agrees.specs.Accepted.{IsOfText}
 use Rattle.pgo_agrees.proofs.Blocks.{mapping_plain}
@@ -53,11 +48,11 @@ use Rattle.pgo_agrees.proofs.Env.{C, B, D, Common, place_apart}
 use Rattle.pgo_agrees.proofs.Fine.{LabeledFine}
 use Rattle.pgo_agrees.proofs.GoodCode.{CodeRules, section_good}
 use Rattle.pgo_agrees.proofs.Heads.{ref_declared}
-use Rattle.pgo_agrees.proofs.Hoist.{Hoistable, Base, never}
+use Rattle.pgo_agrees.proofs.Hoist.{Hoistable, never}
 use Rattle.pgo_agrees.proofs.InArchetype as run
-use Rattle.pgo_agrees.proofs.Instances.{RunsAs, runs_as}
+use Rattle.pgo_agrees.proofs.Instances.{runs_as}
 use Rattle.pgo_agrees.proofs.Kept.{NoFindings}
-use Rattle.pgo_agrees.proofs.MappedPlaces.{MappedFrom, mapped_from}
+use Rattle.pgo_agrees.proofs.MappedPlaces.{mapped_from}
 use Rattle.pgo_agrees.proofs.Meanings.{applicable_apart, applicable_single, applicable_not_self}
 use Rattle.pgo_agrees.proofs.Closed.{apart}
 use Rattle.pgo_agrees.proofs.Placing.{AnyCall}
@@ -65,7 +60,6 @@ use Rattle.pgo_agrees.proofs.Places.{PlaceFrom, is_own, is_whole, hands, binds, 
 use Rattle.pgo_agrees.proofs.Things.{writes_some, counted, shared_among, written_by}
 use Rattle.pgo_agrees.proofs.Uses.{FineUse}
 use Rattle.pgo_agrees.proofs.Variables.{own_there}
-use Rattle.pgo_accept.proofs.WrittenOnce.{writes}
 
 -- ---- a variable of a process is bound by none
 

@@ -1,12 +1,12 @@
 -- How names stand in an expression: each with whether it is hidden there, and whether it stands directly before one index.
-use Rattle.std.proofs.Common.{◌≡◌, Bool, true, false, List, [], ◌∷◌, ◌++◌, inl, inr, refl, ap, sym, subst}
+use Rattle.std.proofs.Common.{◌≡◌, Bool, true, false, List, [], ◌∷◌, ◌++◌, inl, inr, refl, sym, subst}
 use Rattle.std.specs.Prelude.{◌⊎◌, ◌||◌}
 use Rattle.pgo_base.specs.Lookup.{Name, same_name}
 use Rattle.pgo_base.specs.Tree.{Tree, name, primed, number, text, truth, at, word, unary, binary, product, cond_of, case_of, case_other, let_in, quantified, choose, tuple, set_of, filter_of, image, fun_of, fun_set, record_of, record_set, except, index, field, call, unchanged, Trees, no_trees, more_trees, NamedTrees, no_named, more_named, TreePairs, no_arms, more_arms, BoundTrees, no_bound, more_bound, PathTrees, no_paths, more_paths}
 use Rattle.pgo_model.specs.Names.{same_name-is}
 use Rattle.pgo_sections.specs.Among.{is_among}
 use Rattle.pgo_sections.specs.Bound.{names_of, names_bound, below}
-use Rattle.pgo_sections.specs.Plain.{All, Plain, PlainAll, PlainArms, PlainFields, PlainLet, PlainBound, PlainPaths}
+use Rattle.pgo_sections.specs.Plain.{All}
 
 -- one index alone
 abbrev pub is_one : Trees → Bool

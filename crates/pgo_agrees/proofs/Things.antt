@@ -1,10 +1,8 @@
 -- What is written is written once: a constant, a definition or a fixed name is no variable, nor is what an expression binds.
-use Rattle.std.proofs.Common.{◌≡◌, ◌≤◌, ℕ, suc, ◌+◌, Bool, true, false, not, ◌&&◌, if◌then◌else◌, List, [], ◌∷◌, ◌++◌, map, Option, Some, None, refl, ap, sym, ◌∙◌, subst, inl, inr, append_assoc, append-nil, arith}
+use Rattle.std.proofs.Common.{◌≡◌, ◌≤◌, ℕ, ◌+◌, Bool, true, false, not, ◌&&◌, if◌then◌else◌, List, [], ◌∷◌, ◌++◌, refl, ap, sym, ◌∙◌, subst, inl, inr, append_assoc, append-nil, arith}
 use Rattle.std.specs.Prelude.{nat_le, ◌⊎◌}
-use Rattle.std.specs.List.{flat_map}
 use Rattle.pgo_base.specs.Lookup.{Name, same_name, find}
-use Rattle.pgo_model.specs.Names.{same_name-self, same_name-is, same_name-not}
-use Rattle.pgo_model.specs.Written.{pc, self_name, written}
+use Rattle.pgo_model.specs.Names.{same_name-self}
 use Rattle.pgo_syntax.specs.declared.name.PlacedName.{PlacedName}
 use Rattle.pgo_syntax.specs.declared.process.Process.{Process}
 use Rattle.pgo_syntax.specs.declared.spec.Spec.{Spec}
@@ -18,7 +16,7 @@ use Rattle.pgo_scope.specs.declared.finding.Finding.{Finding}
 use Rattle.pgo_scope.specs.declared.things.Thing.{Thing}
 use Rattle.pgo_scope.specs.TextOrder.{in_place, in_text_order}
 use Rattle.pgo_scope.specs.Clash.{itself, fixed_names, fixed_things, shared_things, bound_thing, bound_things, own_rows, or_none, own_thing, own_things, process_things, things_with, clash, clash_with, clashes_from, name_clashes}
-use Rattle.pgo_bound.specs.Among.{IsAmong, among_left, among_right, among_append, none_left, none_right}
+use Rattle.pgo_bound.specs.Among.{IsAmong, among_left, among_right, none_left, none_right}
 use Rattle.pgo_accept.proofs.Counted.{one_if}
 use Rattle.pgo_accept.proofs.WrittenOnce.{is_written, writes, writes-append, writes_in_order, written_once}
 

@@ -1,7 +1,6 @@
 -- The uses of names in each unit are uses of the specification, and none of them breaks a rule.
-use Rattle.std.proofs.Common.{◌≡◌, ℕ, zero, suc, ◌+◌, Bool, false, List, [], ◌∷◌, ◌++◌, Option, Some, None, refl, ap, sym, ◌∙◌, subst, inl, inr, arith}
+use Rattle.std.proofs.Common.{◌≡◌, ℕ, zero, suc, ◌+◌, false, List, [], ◌∷◌, ◌++◌, Some, refl, ap, sym, subst, inl, inr, arith}
 use Rattle.std.specs.Prelude.{slice_get}
-use Rattle.pgo_base.specs.Lookup.{Name}
 use Rattle.pgo_syntax.specs.declared.archetype.Archetype.{Archetype}
 use Rattle.pgo_syntax.specs.declared.declaration.Definition.{Definition}
 use Rattle.pgo_syntax.specs.declared.macros.Macro.{Macro}
@@ -12,10 +11,8 @@ use Rattle.pgo_uses.specs.Tables.{all_definitions, tables_of}
 use Rattle.pgo_uses.specs.declared.uses.Use.{Use}
 use Rattle.pgo_scope.specs.Arity.{arity_of, arity_use}
 use Rattle.pgo_scope.specs.Assigned.{assigned_of, assigned_use}
-use Rattle.pgo_scope.specs.Findings.{found_if}
 use Rattle.pgo_scope.specs.Globals.{is_global, global_finding}
 use Rattle.pgo_scope.specs.Mapped.{mapped_use_of, mapped_use}
-use Rattle.pgo_scope.specs.Refusal.{scope_refusal}
 use Rattle.pgo_scope.specs.Twice.{hiding_of, hiding_use}
 use Rattle.pgo_scope.specs.Underscores.{has_double, double_use}
 use Rattle.pgo_scope.specs.Unknown.{is_unknown, unknown_use}
@@ -82,14 +79,19 @@ module _ {A : Type 0} (one : ℕ → A → List Use) (all : ℕ → List A → L
 module _ (s : Spec) where
   abbrev ds : List Use
   ds = definitions_uses 0 (all_definitions s)
+
   abbrev gs : List Use
   gs = globals_uses 0 s.globals
+
   abbrev ms : List Use
   ms = macros_uses 0 s.macros
+
   abbrev ps : List Use
   ps = mappings_uses s.mappings
+
   abbrev rs : List Use
   rs = archetypes_uses 0 s.archetypes
+
   abbrev qs : List Use
   qs = processes_uses s.processes
 

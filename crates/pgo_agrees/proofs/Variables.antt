@@ -1,8 +1,7 @@
 -- The variables of a specification: no two things are written as one of them.
-use Rattle.std.proofs.Common.{◌≡◌, ◌≤◌, ℕ, suc, ◌+◌, Bool, true, false, ◌||◌, ◌==◌, if◌then◌else◌, List, [], ◌∷◌, ◌++◌, map, Option, Some, None, refl, ap, sym, ◌∙◌, subst, inl, inr, arith}
+use Rattle.std.proofs.Common.{◌≡◌, ℕ, suc, ◌+◌, Bool, true, false, ◌||◌, ◌==◌, if◌then◌else◌, List, [], ◌∷◌, ◌++◌, map, Option, Some, None, refl, ap, sym, ◌∙◌, subst, inl, inr, arith}
 use Rattle.std.specs.Prelude.{◌⊎◌}
 use Rattle.std.specs.List.{AllByRecursion, filter_map, flat_map, cons_option}
-use Rattle.pgo_base.specs.Data.{Data}
 use Rattle.pgo_base.specs.Lookup.{Name, same_name, find}
 use Rattle.pgo_model.specs.Names.{same_name-self, same_name-is, same_name-not}
 use Rattle.pgo_model.specs.Written.{pc, self_name, written}
@@ -19,19 +18,17 @@ use Rattle.pgo_syntax.specs.declared.process.Process.{Process}
 use Rattle.pgo_syntax.specs.declared.spec.Spec.{Spec}
 use Rattle.pgo_uses.specs.AllUses.{all_uses, variable_names, parameter_names, parameter_uses, local_uses, initial_uses, start, archetype_uses}
 use Rattle.pgo_uses.specs.Heads.{declared_names, definition_names, shared_names, head_names, unit_names, macro_names, mapping_names, archetype_names, process_names, named_by}
-use Rattle.pgo_uses.specs.StatementUses.{placed, at_place, uses_of_block}
+use Rattle.pgo_uses.specs.StatementUses.{at_place, uses_of_block}
 use Rattle.pgo_uses.specs.Tables.{all_definitions}
 use Rattle.pgo_uses.specs.Names.{is_member}
 use Rattle.pgo_uses.specs.declared.uses.Around.{Around}
 use Rattle.pgo_uses.specs.declared.uses.Home.TheVariants as homes
 use Rattle.pgo_uses.specs.declared.uses.Use.{Use}
-use Rattle.pgo_uses.specs.declared.uses.Form.{Form}
 use Rattle.pgo_uses.specs.declared.uses.Form.TheVariants as forms
-use Rattle.pgo_scope.specs.Clash.{itself, fixed_names, fixed_things, shared_things, value_names, labels_from, own_names, own_rows, or_none, own_thing, process_things, name_clashes}
+use Rattle.pgo_scope.specs.Clash.{itself, fixed_names, fixed_things, shared_things, value_names, labels_from, own_names, own_rows, or_none, own_thing, name_clashes}
 use Rattle.pgo_scope.specs.Underscores.{has_double, double_name}
 use Rattle.pgo_scope.specs.declared.errors.ScopeError.TheVariants as errors
-use Rattle.pgo_scope.specs.declared.things.Thing.{Thing}
-use Rattle.pgo_bound.specs.Among.{IsAmong, among_left, among_right, among_append, among_map, from_map, from_flat_map, from_filter_map, all_at}
+use Rattle.pgo_bound.specs.Among.{IsAmong, among_left, among_right, among_append, from_map, from_flat_map, all_at}
 use Rattle.pgo_bound.specs.Runs.{Handed, handed_from, archetype_named}
 use Rattle.pgo_bound.specs.Instances.{archetype_among}
 use Rattle.pgo_bound.specs.State as bind
@@ -42,9 +39,9 @@ use Rattle.pgo_sections.specs.Among.{is_among}
 use Rattle.pgo_sections.specs.WellFormed.{NotMade}
 use Rattle.pgo_agrees.specs.Accepted.{IsOfText, ArchetypeOfText, ParameterOfText, DeclarationOfText, has_letter, has_name_bytes, is_identifier}
 use Rattle.pgo_agrees.proofs.Kept.{NoFindings, nothing_if, none_of_name}
-use Rattle.pgo_agrees.proofs.Names.{and_left, single, written_single, written_marked, marked_apart, has_mark}
+use Rattle.pgo_agrees.proofs.Names.{and_left, single, written_single, written_marked, has_mark}
 use Rattle.pgo_agrees.proofs.Things.{writes_some, counted, shared_among, process_among, bound_apart, bound_not_fixed, written_by, rows_of}
-use Rattle.pgo_agrees.proofs.Uses.{Within, FineUse, fine_use, of_archetype}
+use Rattle.pgo_agrees.proofs.Uses.{FineUse, fine_use, of_archetype}
 
 -- ---- membership by tests
 
