@@ -1,0 +1,4 @@
+// The expansion of a specification, within its limits.
+#![tactic(auto)]
+
+pub mod errors;
