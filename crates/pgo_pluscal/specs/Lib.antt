@@ -1,0 +1,6 @@
+pub mod PartView
+pub mod PartCode
+pub mod PartSize
+pub mod PartFalls
+pub mod PlusCalOf
+pub mod Expanded
