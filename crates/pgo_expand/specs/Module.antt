@@ -11,15 +11,14 @@ use Rattle.pgo_syntax.specs.declared.binding.Origin.{Origin}
 use Rattle.pgo_syntax.specs.declared.binding.Origin.TheVariants.{Equals, In}
 use Rattle.pgo_syntax.specs.declared.declaration.Declaration.{Declaration}
 use Rattle.pgo_syntax.specs.declared.declaration.Definition.{Definition}
-use Rattle.pgo_syntax.specs.declared.process.Argument.{Argument}
-use Rattle.pgo_syntax.specs.declared.process.Argument.TheVariants as arguments
 use Rattle.pgo_syntax.specs.declared.process.Process.{Process}
 use Rattle.pgo_syntax.specs.declared.spec.Spec.{Spec}
-use Rattle.pgo_bound.specs.Runs.{archetype_named, handed_from}
+use Rattle.pgo_bound.specs.Runs.{archetype_named}
 use Rattle.pgo_bound.specs.State.{variables_of}
 use Rattle.pgo_expr_read.specs.Heights.{height}
 use Rattle.pgo_sections.specs.Expansion.{Expansion}
 use Rattle.pgo_meaning.specs.Expansions.{process_expansions}
+use Rattle.pgo_pluscal.specs.PlusCalOf.{own_declarations}
 use Rattle.pgo_walk.specs.Heights.{join, label_height}
 
 abbrev pub highest : List ℕ → ℕ
@@ -48,6 +47,10 @@ start_height (Some (In e)) = height e
 
 -- ---- Init
 
+-- the value parameters and the locals of a process, with what they start with
+abbrev pub own_in : List Archetype → Process → List Declaration
+own_in as' p = on [] (archetype_named p.archetype.name as') (own_declarations p)
+
 -- `x = e`, `x \in e`
 abbrev pub global_item : Declaration → ℕ
 global_item d = suc (start_height d.initial)
@@ -56,25 +59,19 @@ global_item d = suc (start_height d.initial)
 abbrev pub own_item : (ids start : ℕ) → ℕ
 own_item ids start = suc (suc (max ids start))
 
-abbrev pub argument_item : (ids : ℕ) → Argument → Option ℕ
-argument_item ids (arguments.Ref g e) = None
-argument_item ids (arguments.Value place e) = Some (own_item ids (height e))
-
 -- value parameters, and then locals
-abbrev pub own_items_in : Process → Archetype → List ℕ
-own_items_in p a =
-    filter_map (λ h. argument_item (ids_height p.ids) h.argument) (handed_from 1 a.params p.arguments)
-    ++ map (λ d. own_item (ids_height p.ids) (start_height d.initial)) a.locals
+abbrev pub own_items : List Archetype → Process → List ℕ
+own_items as' p = map (λ d. own_item (ids_height p.ids) (start_height d.initial)) (own_in as' p)
 
-abbrev pub own_items : Spec → Process → List ℕ
-own_items s p = on [] (archetype_named p.archetype.name s.archetypes) (own_items_in p)
+abbrev pub ids_heights : Spec → List ℕ
+ids_heights s = map (λ p. ids_height p.ids) s.processes
 
--- `pc = [self \in ProcSet |-> (CASE (self \in ids) -> "P_l" [] ..)]`
-abbrev pub place_item : List Process → ℕ
-place_item ps = suc (suc (suc (highest (map (λ p. suc (ids_height p.ids)) ps))))
+-- `pc = [self \in ProcSet |-> (CASE (self \in ids) -> "P_l" [] ..)]`; there is at least one process
+abbrev pub place_item : (ids : List ℕ) → ℕ
+place_item ids = suc (suc (suc (suc (highest ids))))
 
 abbrev pub init_items : Spec → List ℕ
-init_items s = map global_item s.globals ++ (place_item s.processes ∷ []) ++ flat_map (own_items s) s.processes
+init_items s = map global_item s.globals ++ (place_item (ids_heights s) ∷ []) ++ flat_map (own_items s.archetypes) s.processes
 
 -- ---- definitions, processes and steps
 
@@ -101,28 +98,31 @@ abbrev pub process_height : Spec → Process → ℕ
 process_height s p = joined (map (λ t. call_height) (process_expansions s p))
 
 -- `\E self \in ids : P(self)`
-abbrev pub step_height : Process → ℕ
-step_height p = suc (max (ids_height p.ids) call_height)
+abbrev pub step_height : ℕ → ℕ
+step_height ids = suc (max ids call_height)
 
 -- `(\E self \in ids : P(self)) \/ .. \/ Terminating`
-abbrev pub next_items : Spec → List ℕ
-next_items s = map step_height s.processes ++ 1 ∷ []
+abbrev pub next_items : (ids : List ℕ) → List ℕ
+next_items ids = map step_height ids ++ 1 ∷ []
 
 -- `(\A self \in ProcSet : (pc[self] = "Done")) /\ UNCHANGED ..`
 abbrev pub terminating_height : ℕ
 terminating_height = 5
 
-abbrev pub proc_set_items : Spec → List ℕ
-proc_set_items s = map (λ p. ids_height p.ids) s.processes
-
--- the greatest height of the module's expressions; of `vars` it is 2, so never the greatest
-abbrev pub module_height : Spec → ℕ
-module_height s =
+-- of the module's expressions but those of its labels and processes; of `vars` it is 2, so never the greatest
+abbrev pub heads_height : Spec → ℕ
+heads_height s =
     highest
     (terminating_height
-    ∷ joined (proc_set_items s)
+    ∷ joined (ids_heights s)
     ∷ joined (init_items s)
-    ∷ joined (next_items s)
-    ∷ all_definitions s
-    ++ map (process_height s) s.processes
-    ++ flat_map (actions s) s.processes)
+    ∷ joined (next_items (ids_heights s))
+    ∷ all_definitions s)
+
+-- of a process's own expressions
+abbrev pub labels_height : Spec → Process → ℕ
+labels_height s p = max (process_height s p) (highest (actions s p))
+
+-- the greatest height of the module's expressions
+abbrev pub module_height : Spec → ℕ
+module_height s = max (heads_height s) (highest (map (labels_height s) s.processes))

@@ -3,3 +3,5 @@
 
 pub mod errors;
 pub mod expand;
+//mod heads;
+mod names;

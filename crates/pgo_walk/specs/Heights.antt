@@ -1,5 +1,5 @@
 -- How high an expansion is in the module.
-use Rattle.std.specs.Prelude.{ℕ, suc, max, Bool, true, false, if◌then◌else◌, List, [], ◌∷◌, ◌++◌, ◌||◌, not, is_some, Option, Some, None}
+use Rattle.std.specs.Prelude.{ℕ, suc, max, Bool, true, false, if◌then◌else◌, List, [], ◌∷◌, min, Option, Some, None, option_map}
 use Rattle.pgo_base.specs.Lookup.{Name, same_name, find}
 use Rattle.pgo_model.specs.Options.{on}
 use Rattle.pgo_model.specs.Written.{pc}
@@ -37,29 +37,32 @@ place_test = 3
 abbrev pub kept_height : ℕ
 kept_height = 1
 
--- variables: in their order; globals: those of them that are assigned as a whole
-module _ (variables globals : List Name) where
-  -- whether x is assigned
-  abbrev pub is_changed : List (Name × Name) → Name → Bool
-  is_changed changes x = same_name x pc || is_some (find x changes)
+-- the most that a height is told apart: what is higher is as high as this
+abbrev pub most_height : ℕ
+most_height = 513
 
-  abbrev pub change_height : Name → ℕ
-  change_height x = if same_name x pc then place_change else (if is_among x globals then global_change else own_change)
+abbrev pub capped : ℕ → ℕ
+capped h = min most_height h
 
-  abbrev pub change_heights : List (Name × Name) → List Name → List ℕ
-  change_heights changes [] = []
-  change_heights changes (x ∷ xs) =
-      if is_changed changes x then change_height x ∷ change_heights changes xs else change_heights changes xs
+-- globals: the variables that are assigned as a whole
+module _ (globals : List Name) where
+  abbrev pub assigned_height : Name → ℕ
+  assigned_height x = if is_among x globals then global_change else own_change
 
-  abbrev pub is_kept : List (Name × Name) → List Name → Bool
-  is_kept changes [] = false
-  is_kept changes (x ∷ xs) = not (is_changed changes x) || is_kept changes xs
+  -- of the assignment of x, if it has one
+  abbrev pub change_height : List (Name × Name) → Name → Option ℕ
+  change_height changes x = if same_name x pc then Some place_change else option_map (λ y. assigned_height x) (find x changes)
 
   -- one item for each assignment, in the order of the variables, and then UNCHANGED of the others, if there are others
-  abbrev pub end_height : Option ℕ → List (Name × Name) → ℕ
-  end_height a changes =
-      all_joined a (change_heights changes variables ++ (if is_kept changes variables then kept_height ∷ [] else []))
+  abbrev pub items_of : List (Name × Name) → Bool → List Name → List ℕ
+  items_of changes kept [] = if kept then kept_height ∷ [] else []
+  items_of changes kept (x ∷ xs) = on (items_of changes true xs) (change_height changes x) (λ h. h ∷ items_of changes kept xs)
 
+  abbrev pub end_height : List Name → Option ℕ → List (Name × Name) → ℕ
+  end_height variables a changes = all_joined a (items_of changes false variables)
+
+-- variables: in their order
+module _ (variables globals : List Name) where
   abbrev mutual
     -- the action of an expansion: a conjunction from the left, of which a items stand before it
     pub action_height : Option ℕ → Expansion → ℕ
@@ -71,7 +74,7 @@ module _ (variables globals : List Name) where
     action_height a (Print e rest) = action_height (Some (join a (suc (height e)))) rest
     action_height a (If e x y) = join a (suc (max (height e) (max (action_height None x) (action_height None y))))
     action_height a (Either arms) = join a (either_height None arms)
-    action_height a (End changes label) = end_height a changes
+    action_height a (End changes label) = end_height globals variables a changes
 
     -- a disjunction from the left, of which h is the height of the arms so far; no arm is FALSE
     pub either_height : Option ℕ → Expansions → ℕ

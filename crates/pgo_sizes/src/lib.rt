@@ -1,0 +1,4 @@
+// How large and how high expressions are.
+#![tactic(auto)]
+
+pub mod height;
