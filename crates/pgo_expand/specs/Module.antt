@@ -78,9 +78,13 @@ init_items s = map global_item s.globals ++ (place_item (ids_heights s) ∷ []) 
 abbrev pub definitions_heights : List Definition → List ℕ
 definitions_heights ds = map (λ d. height d.body) ds
 
+abbrev pub define_heights : Option (List Definition) → List ℕ
+define_heights None = []
+define_heights (Some ds) = definitions_heights ds
+
 -- those of the module's head, and then those of `define`
 abbrev pub all_definitions : Spec → List ℕ
-all_definitions s = definitions_heights s.definitions ++ on [] s.define definitions_heights
+all_definitions s = definitions_heights s.definitions ++ define_heights s.define
 
 -- a call with one name: `P_l(self)`, `P(self)`
 abbrev pub call_height : ℕ

@@ -1,16 +1,14 @@
 // Heights of what a module has beside its labels and processes, up to the most that is told apart.
 ghost use Rattle.std.specs.Prelude.{◌≡◌, ℕ, ◌++◌, length, map, max, IfOk};
 
-
 ghost use Rattle.pgo_walk.specs.Heights.{capped};
 ghost use Rattle.pgo_expand.specs.Items.{capped_items};
 ghost use Rattle.pgo_expand.specs.Module as expected;
 
-
-use pgo_sizes::height::height_up_to;
+use pgo_sizes::heights::height_up_to;
 
 use pgo_syntax::binding::Origin;
-use pgo_syntax::declaration::{Declaration, Declarations, Definition};
+use pgo_syntax::declaration::{Declaration, Declarations, Definition, Definitions};
 use pgo_syntax::process::Process;
 use pgo_syntax::spec::Spec;
 use pgo_walk::heights::{joined, one_higher};
@@ -42,22 +40,22 @@ pub fn joined_all(heights: &[u64]) -> u64
 const MOST_HEIGHT: u64 = 513;
 
 /// Of the set of a process's identifiers.
-pub fn height_of_ids(ids: &Origin) -> u64
-    ensures { result ≡ capped (expected.ids_height ids.now) }
+fn height_of_ids(alloc: Global, ids: &Origin) -> Result<u64, AllocError>
+    ensures { IfOk result (λ h. h ≡ capped (expected.ids_height ids.now)) }
 {
     match ids {
-        Origin::Equals(e) => one_higher(height_up_to(e.get(), MOST_HEIGHT)),
-        Origin::In(e) => height_up_to(e.get(), MOST_HEIGHT),
+        Origin::Equals(e) => Ok(one_higher(height_up_to(alloc, e.get(), MOST_HEIGHT)?)),
+        Origin::In(e) => height_up_to(alloc, e.get(), MOST_HEIGHT),
     }
 }
 
 /// Of what a variable starts with, or of the set that it starts in.
-fn height_of_start(initial: &Option<Origin>) -> u64
-    ensures { result ≡ capped (expected.start_height initial.now) }
+fn height_of_start(alloc: Global, initial: &Option<Origin>) -> Result<u64, AllocError>
+    ensures { IfOk result (λ h. h ≡ capped (expected.start_height initial.now)) }
 {
     match initial {
-        None => 1,
-        Some(Origin::Equals(e) | Origin::In(e)) => height_up_to(e.get(), MOST_HEIGHT),
+        None => Ok(1),
+        Some(Origin::Equals(e) | Origin::In(e)) => height_up_to(alloc, e.get(), MOST_HEIGHT),
     }
 }
 
@@ -67,20 +65,24 @@ fn heights_of_ids(alloc: Global, processes: &[Process]) -> Result<Vec<u64>, Allo
 {
     let mut heights = Vec::with_capacity(alloc, processes.len())?;
     for p in processes {
-        heights.push(height_of_ids(&p.ids))?;
+        heights.push(height_of_ids(alloc, &p.ids)?)?;
     }
     Ok(heights)
 }
 
 /// The greatest height of the bodies of these definitions and of what stood before.
-fn with_definitions(before: u64, definitions: &[Definition]) -> u64
-    ensures { (h : ℕ) → before ≡ capped h → result ≡ capped (max h (expected.highest (expected.definitions_heights definitions.now))) }
+fn with_definitions(
+    alloc: Global,
+    before: u64,
+    definitions: &[Definition],
+) -> Result<u64, AllocError>
+    ensures { IfOk result (λ g. g ≡ max before (capped (expected.highest (expected.definitions_heights definitions.now)))) }
 {
     let mut greatest = before;
     for d in definitions {
-        greatest = greatest.max(height_up_to(d.body.get(), MOST_HEIGHT));
+        greatest = greatest.max(height_up_to(alloc, d.body.get(), MOST_HEIGHT)?);
     }
-    greatest
+    Ok(greatest)
 }
 
 /// Of the item of a value parameter or a local.
@@ -91,21 +93,30 @@ fn own_item(ids: u64, start: u64) -> u64
 }
 
 /// Adds the items of Init of the globals.
-fn add_globals(items: &mut Vec<u64>, globals: &[Declaration]) -> Result<(), AllocError>
+fn add_globals(
+    alloc: Global,
+    items: &mut Vec<u64>,
+    globals: &[Declaration],
+) -> Result<(), AllocError>
     ensures { IfOk result (λ _. items.new.items ≡ items.old.items ++ map (λ d. capped (expected.global_item d)) globals.now) }
 {
     for d in globals {
-        items.push(one_higher(height_of_start(&d.initial)))?;
+        items.push(one_higher(height_of_start(alloc, &d.initial)?))?;
     }
     Ok(())
 }
 
 /// Adds the items of Init of a process's value parameters and locals; `ids` is the height of the set of its identifiers.
-fn add_own(items: &mut Vec<u64>, ids: u64, own: &[Declaration]) -> Result<(), AllocError>
+fn add_own(
+    alloc: Global,
+    items: &mut Vec<u64>,
+    ids: u64,
+    own: &[Declaration],
+) -> Result<(), AllocError>
     ensures { IfOk result (λ _. items.new.items ≡ items.old.items ++ map (λ d. capped (expected.own_item ids (expected.start_height d.initial))) own.now) }
 {
     for d in own {
-        items.push(own_item(ids, height_of_start(&d.initial)))?;
+        items.push(own_item(ids, height_of_start(alloc, &d.initial)?))?;
     }
     Ok(())
 }
@@ -119,6 +130,7 @@ fn place_item(ids: &[u64]) -> u64
 
 /// Adds the items of Init of all processes' value parameters and locals.
 fn add_all_own(
+    alloc: Global,
     items: &mut Vec<u64>,
     ids: &[u64],
     own: &[Declarations],
@@ -127,7 +139,7 @@ fn add_all_own(
     ensures { IfOk result (λ _. items.new.items ≡ items.old.items ++ capped_items ids.now own.now) }
 {
     for i in 0..own.len() {
-        add_own(items, ids[i], own[i].as_slice())?;
+        add_own(alloc, items, ids[i], own[i].as_slice())?;
     }
     Ok(())
 }
@@ -144,9 +156,9 @@ fn init_height(
     ensures { IfOk result (λ h. h ≡ capped (expected.joined (expected.init_items spec.now))) }
 {
     let mut items = Vec::new(alloc);
-    add_globals(&mut items, spec.globals.as_slice())?;
+    add_globals(alloc, &mut items, spec.globals.as_slice())?;
     items.push(place_item(ids))?;
-    add_all_own(&mut items, ids, own)?;
+    add_all_own(alloc, &mut items, ids, own)?;
     Ok(joined_all(items.as_slice()))
 }
 
@@ -162,15 +174,26 @@ fn next_height(alloc: Global, ids: &[u64]) -> Result<u64, AllocError>
     Ok(joined_all(items.as_slice()))
 }
 
-/// The greatest height of the bodies of all definitions and of what stood before.
-fn with_all_definitions(before: u64, spec: &Spec) -> u64
-    ensures { (h : ℕ) → before ≡ capped h → result ≡ capped (max h (expected.highest (expected.all_definitions spec.now))) }
+/// The same of the definitions of `define`, where it stands there.
+fn with_define(
+    alloc: Global,
+    before: u64,
+    define: &Option<Definitions>,
+) -> Result<u64, AllocError>
+    ensures { IfOk result (λ g. g ≡ max before (capped (expected.highest (expected.define_heights define.now)))) }
 {
-    let head = with_definitions(before, spec.definitions.as_slice());
-    match &spec.define {
-        None => head,
-        Some(definitions) => with_definitions(head, definitions.as_slice()),
+    match define {
+        None => Ok(before),
+        Some(definitions) => with_definitions(alloc, before, definitions.as_slice()),
     }
+}
+
+/// The greatest height of the bodies of all definitions and of what stood before.
+fn with_all_definitions(alloc: Global, before: u64, spec: &Spec) -> Result<u64, AllocError>
+    ensures { IfOk result (λ g. g ≡ max before (capped (expected.highest (expected.all_definitions spec.now)))) }
+{
+    let head = with_definitions(alloc, before, spec.definitions.as_slice())?;
+    with_define(alloc, head, &spec.define)
 }
 
 /// The greatest height of the module's expressions but those of its labels and processes.
@@ -186,5 +209,5 @@ pub fn heads_height(
     let init = init_height(alloc, spec, ids.as_slice(), own)?;
     let next = next_height(alloc, ids.as_slice())?;
     let sets = joined_all(ids.as_slice());
-    Ok(with_all_definitions(init.max(next).max(sets).max(5), spec))
+    with_all_definitions(alloc, init.max(next).max(sets).max(5), spec)
 }

@@ -3,5 +3,6 @@
 
 pub mod errors;
 pub mod expand;
-//mod heads;
+mod heads;
 mod names;
+mod own;

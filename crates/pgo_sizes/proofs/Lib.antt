@@ -1,0 +1,3 @@
+pub mod HighestOf
+pub mod NodesIn
+pub mod Several
