@@ -1,0 +1,3 @@
+pub mod Module
+pub mod Items
+pub mod Limits

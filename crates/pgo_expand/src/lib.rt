@@ -1,0 +1,8 @@
+// The expansion of a specification, within its limits.
+#![tactic(auto)]
+
+pub mod errors;
+pub mod expand;
+mod heads;
+mod names;
+mod own;
