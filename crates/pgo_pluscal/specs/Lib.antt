@@ -3,4 +3,6 @@ pub mod PartCode
 pub mod PartSize
 pub mod PartFalls
 pub mod PlusCalOf
-pub mod Expanded
+pub mod Text
+pub mod Words
+pub mod Steps

@@ -1,6 +1,6 @@
 -- The specification whose labels are expanded that belongs to a specification: its heads, each process with its own variables
 -- by their written names, and one tree for each label.
-use Rattle.std.specs.Prelude.{List, [], ◌∷◌, ◌++◌, map, Option, Some, None}
+use Rattle.std.specs.Prelude.{List, [], ◌++◌, map, Option, Some, None}
 use Rattle.std.specs.List.{filter_map}
 use Rattle.pgo_base.specs.Lookup.{Name}
 use Rattle.pgo_base.specs.Tree.{Tree, set_of, no_trees, more_trees}
@@ -16,7 +16,7 @@ use Rattle.pgo_syntax.specs.declared.process.Argument.TheVariants as arguments
 use Rattle.pgo_syntax.specs.declared.process.Process.{Process}
 use Rattle.pgo_syntax.specs.declared.spec.Spec.{Spec}
 use Rattle.pgo_bound.specs.Runs.{archetype_named, handed_from}
-use Rattle.pgo_sections.specs.Expansion.{Expansion}
+use Rattle.pgo_meaning.specs.Expansions.{process_expansions}
 use Rattle.pgo_pluscal.specs.declared.pluscal.ExpandedProcess.{ExpandedProcess}
 use Rattle.pgo_pluscal.specs.declared.pluscal.PlusCal.{PlusCal}
 
@@ -43,20 +43,18 @@ own_declarations p a =
     filter_map (λ h. parameter_declaration p.name.name h.parameter.name h.argument) (handed_from 1 a.params p.arguments)
     ++ map (local_declaration p.name.name) a.locals
 
--- trees: the labels of a process with their trees
-module _ (trees : Process → List (Name × Expansion)) where
-  abbrev pub process_with : Spec → Process → ExpandedProcess
-  process_with s p = record {
-    name = p.name.name;
-    ids = ids_tree p.ids;
-    variables = on [] (archetype_named p.archetype.name s.archetypes) (own_declarations p);
-    trees = trees p;
-  }
+abbrev pub process_of : Spec → Process → ExpandedProcess
+process_of s p = record {
+  name = p.name.name;
+  ids = ids_tree p.ids;
+  variables = on [] (archetype_named p.archetype.name s.archetypes) (own_declarations p);
+  trees = process_expansions s p;
+}
 
-  abbrev pub pluscal_with : Spec → PlusCal
-  pluscal_with s = record {
-    name = s.algorithm.name;
-    globals = s.globals;
-    define = s.define;
-    processes = map (process_with s) s.processes;
-  }
+abbrev pub pluscal_of : Spec → PlusCal
+pluscal_of s = record {
+  name = s.algorithm.name;
+  globals = s.globals;
+  define = s.define;
+  processes = map (process_of s) s.processes;
+}

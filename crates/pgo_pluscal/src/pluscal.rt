@@ -31,7 +31,7 @@ pub type ExpandedProcesses = Items<ExpandedProcess>;
 
 /// A specification whose labels are expanded: its heads, and one tree for each label.
 ///
-/// `pluscal_of` of `specs/Expanded` says which one a specification has.
+/// `pluscal_of` of `specs/PlusCalOf` says which one a specification has.
 #[derive(Drop)]
 pub struct PlusCal {
     /// the algorithm's name
@@ -42,7 +42,7 @@ pub struct PlusCal {
     pub processes: ExpandedProcesses,
 }
 
-/// The set of the identifiers: `{e}` for `= e`, and e for `\in e`.
+/// The set of the identifiers: `{e}` for `= e`, and e for `\in e`. `AllocError` comes where there is no memory.
 ///
 /// Source: this project's choice.
 pub fn set_of_ids(alloc: Global, ids: &Origin) -> Result<Sub, AllocError>
