@@ -17,7 +17,7 @@ use Rattle.pgo_heads.specs.Refusals.{bind_refusal}
 use Rattle.pgo_expand.specs.declared.errors.ExpandStop.{ExpandStop}
 use Rattle.pgo_expand.specs.Limits as limits
 use Rattle.pgo_expand.specs.Limits.{expand_refusal}
-use Rattle.pgo_pluscal.specs.Expanded.{pluscal_of}
+use Rattle.pgo_pluscal.specs.PlusCalOf.{pluscal_of}
 use Rattle.pgo_pluscal.specs.declared.pluscal.PlusCal.{PlusCal}
 use Rattle.pgo_mpcal_read.specs.Texts.{SpellsSpec}
 use Rattle.pgo_accept.specs.declared.errors.Rejection.{Rejection}

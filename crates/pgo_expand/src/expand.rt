@@ -1,7 +1,7 @@
 // The expansion of a specification.
 ghost use Rattle.pgo_expand.specs.Limits.{Answers, expand_refusal};
 ghost use Rattle.pgo_meaning.specs.LabelSections.{AreUnlabelled};
-ghost use Rattle.pgo_pluscal.specs.Expanded.{pluscal_of};
+ghost use Rattle.pgo_pluscal.specs.PlusCalOf.{pluscal_of};
 
 use crate::errors::ExpandStop;
 use pgo_pluscal::pluscal::PlusCal;

@@ -5,7 +5,7 @@ use Rattle.pgo_base.specs.Lookup.{Name}
 use Rattle.pgo_syntax.specs.declared.spec.Spec.{Spec}
 use Rattle.pgo_mpcal_read.specs.Texts.{SpellsSpec}
 use Rattle.pgo_accept.specs.Answers.{NothingRefuses, IsExpandable}
-use Rattle.pgo_pluscal.specs.Expanded.{pluscal_of}
+use Rattle.pgo_pluscal.specs.PlusCalOf.{pluscal_of}
 use Rattle.pgo_pluscal.specs.Text.{pluscal_text}
 use Rattle.pgo_front.specs.Spells.{most_bytes}
 use Rattle.pgo_front.specs.Turns.{AsksExpand}
