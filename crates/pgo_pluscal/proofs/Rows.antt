@@ -13,7 +13,7 @@ use Rattle.pgo_sections.specs.Expansion.{With, In, Skip, Await, Assert, Print, I
 use Rattle.pgo_pluscal.specs.PlusCalOf.{pluscal_of}
 use Rattle.pgo_pluscal.specs.Text.{tree_text, pluscal_text}
 
-abbrev placed : List (Name) → List PlacedName
+abbrev placed : List Name → List PlacedName
 placed [] = []
 placed (x ∷ xs) = record { name = x; place = 0 } ∷ placed xs
 
