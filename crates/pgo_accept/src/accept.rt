@@ -110,7 +110,7 @@ fn expanded(alloc: Global, system: &Spec, consts: &Consts) -> Result<PlusCal, Re
 {
     match checked(alloc, system, consts) {
         Ok(()) => match expand(alloc, system) {
-            Ok(made) => Ok(made),
+            Ok(pluscal) => Ok(pluscal),
             Err(error) => Err(Rejection::Expand(error)),
         },
         Err(rejection) => Err(rejection),
