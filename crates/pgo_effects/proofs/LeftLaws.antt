@@ -1,15 +1,20 @@
--- A list that is not one expression.
-use Rattle.std.proofs.Common.{◌≡◌, ℕ, ◌<◌, ◌⊎◌, inl, inr, List, [], ◌∷◌, map, length, Option, None, refl, ap, sym, ◌∙◌, arith}
+-- The one expression of a list.
+use Rattle.std.proofs.Common.{◌≡◌, ℕ, List, [], ◌∷◌, map, length, Option, Some, None, refl, ap, sym, ◌∙◌, arith}
 use Rattle.pgo_base.specs.ExprView.{tree}
 use Rattle.pgo_base.specs.Tree.{Tree, trees}
 use Rattle.pgo_base.specs.declared.expr.Expr.{Expr}
 use Rattle.pgo_meaning.specs.MacrosPlaced.{only}
 
-not_one : (es : List Expr) → ((length es < 1) ⊎ (1 < length es)) → None ≡ only (trees (map tree es))
-not_one [] h = refl
-not_one (e ∷ []) (inl h) = absurd (omega arith)
-not_one (e ∷ []) (inr h) = absurd (omega arith)
-not_one (e ∷ f ∷ es) h = refl
+pub one_alone : (e : Tree) (rest : List Expr) → length rest ≡ 0 → Some e ≡ only (trees (e ∷ map tree rest))
+one_alone e [] h = refl
+one_alone e (f ∷ rest) h = absurd (omega arith)
 
-pub only_none : (es : List Expr) (ts : List Tree) → map tree es ≡ ts → ((length es < 1) ⊎ (1 < length es)) → None ≡ only (trees ts)
-only_none es ts e h = not_one es h ∙ ap (λ l. only (trees l)) e
+pub not_alone : (e : Tree) (rest : List Expr) (f : Expr) (more : List Expr) → rest ≡ f ∷ more → None ≡ only (trees (e ∷ map tree rest))
+not_alone e rest f more h = sym (ap (λ (l : List Expr). only (trees (e ∷ map tree l))) h)
+
+pub none_at_all : (es : List Expr) (ts : List Tree) → length es ≡ 0 → map tree es ≡ ts → None ≡ only (trees ts)
+none_at_all [] ts h e = ap (λ l. only (trees l)) e
+none_at_all (f ∷ es) ts h e = absurd (omega arith)
+
+pub first_alone : (o : Option Tree) (es : List Expr) (ts : List Tree) (f : Expr) (rest : List Expr) → es ≡ f ∷ rest → map tree es ≡ ts → o ≡ only (trees (tree f ∷ map tree rest)) → o ≡ only (trees ts)
+first_alone o es ts f rest h e eo = eo ∙ sym (ap (λ (l : List Expr). only (trees (map tree l))) h) ∙ ap (λ l. only (trees l)) e

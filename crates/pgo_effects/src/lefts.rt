@@ -1,5 +1,5 @@
 // Left sides with the arguments of macros in place.
-ghost use Rattle.std.specs.Prelude.{◌≡◌, ◌++◌, None, map, option_map, IfOk};
+ghost use Rattle.std.specs.Prelude.{◌≡◌, ◌∷◌, ◌++◌, None, map, option_map, IfOk};
 ghost use Rattle.pgo_base.specs.ExprView.{tree};
 ghost use Rattle.pgo_base.specs.Lookup.{find};
 ghost use Rattle.pgo_base.specs.Tree.{name, trees};
@@ -60,13 +60,23 @@ fn extended(left: Option<Left>, step: Step) -> Result<Option<Left>, AllocError>
     }
 }
 
+/// The first of a list, where nothing is behind it.
+fn alone<'a>(e: &'a Expr, rest: &[Expr]) -> Option<&'a Expr>
+    ensures { option_map (λ e. tree e.now) result ≡ spec.only (trees (tree e.entry.now ∷ map tree rest.now)) }
+{
+    match rest.split_first() {
+        None => Some(e),
+        Some(_) => None,
+    }
+}
+
 /// The one expression of a list.
 fn only(list: &Exprs) -> Option<&Expr>
     ensures { option_map (λ e. tree e.now) result ≡ spec.only (trees list.now) }
 {
-    match list.as_slice() {
-        [e] => Some(e),
-        _ => None,
+    match list.as_slice().split_first() {
+        None => None,
+        Some((e, rest)) => alone(e, rest),
     }
 }
 

@@ -1,11 +1,11 @@
-use Rattle.std.proofs.Common.{◌<◌, length, inl, inr, arith}
-use Rattle.pgo_effects.proofs.LeftLaws.{only_none}
+use Rattle.std.specs.Prelude.{option_map}
+use Rattle.pgo_base.specs.ExprView.{tree}
+use Rattle.pgo_effects.proofs.LeftLaws.{none_at_all, first_alone}
 use Rattle.pgo_effects.proofs.lefts.only.Goals as goal
-use Rattle.pgo_effects.proofs.lefts.only.Goals.{in_default-via-then-as_slice-lt1, in_default-via-else-as_slice-lt1+else-this-lt2}
 
-pub returns-in_default : goal.returns-in_default
-returns-in_default c =
-    elim c.in_default.branch [
-      in_default-via-then-as_slice-lt1 w ↦ only_none c.as_slice.result.now c.args.list.now c.as_slice.ensures (inl (omega arith))
-    | in_default-via-else-as_slice-lt1+else-this-lt2 w ↦ only_none c.as_slice.result.now c.args.list.now c.as_slice.ensures (inr (omega arith))
-    ]
+pub returns-in-None : goal.returns-in-None
+returns-in-None c = none_at_all c.as_slice.result.now c.args.list.now c.in-None.ensures.cases c.as_slice.ensures
+
+pub returns-in-Some : goal.returns-in-Some
+returns-in-Some c =
+    first_alone (option_map (λ e. tree e.now) c.alone.result) c.as_slice.result.now c.args.list.now c.in-Some.e.now c.in-Some.rest.now c.in-Some.ensures.cases.0 c.as_slice.ensures c.alone.ensures

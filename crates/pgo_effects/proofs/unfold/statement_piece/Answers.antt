@@ -26,27 +26,27 @@ returns-in-Assign c =
 pub returns-in-If : goal.returns-in-If
 returns-in-If c =
     let s = setting_view c.args.setting in let a = around_view c.args.around.now in let t = statement c.args.t.now in
-    IfOk-weaker c.branches_piece.result (λ p. piece_code s p ≡ branches s (above s a) (stands_guarded a (guarded (map branch_parts c.as_slice.result.now))) Empty) (λ p. piece_code s p ≡ meant s a t) (λ p h. if_at s a (piece_code s p) t _ _ (guarded (map branch_parts c.as_slice.result.now)) (ap guarded c.as_slice.ensures) (ap statement c.in-If.is) h) c.branches_piece.ensures
+    IfOk-weaker c.branches_piece.result (λ p. piece_code s p ≡ branches s (above s a) (stands_guarded a (guarded (map branch_parts c.as_slice-in-If.result.now))) Empty) (λ p. piece_code s p ≡ meant s a t) (λ p h. if_at s a (piece_code s p) t _ _ (guarded (map branch_parts c.as_slice-in-If.result.now)) (ap guarded c.as_slice-in-If.ensures) (ap statement c.in-If.is) h) c.branches_piece.ensures
 
 pub returns-in-IfElse : goal.returns-in-IfElse
 returns-in-IfElse c =
     let s = setting_view c.args.setting in let a = around_view c.args.around.now in let t = statement c.args.t.now in
-    IfOk-weaker c.branches_piece.result (λ p. piece_code s p ≡ branches s (above s a) (stands_guarded a (guarded (map branch_parts c.as_slice.result.now))) (meant s a (statement c.get.result.now))) (λ p. piece_code s p ≡ meant s a t) (λ p h. if_else_at s a (piece_code s p) t _ _ (guarded (map branch_parts c.as_slice.result.now)) _ (statement c.get.result.now) (ap guarded c.as_slice.ensures) c.get.ensures (ap statement c.in-IfElse.is) h) c.branches_piece.ensures
+    IfOk-weaker c.branches_piece-in-IfElse.result (λ p. piece_code s p ≡ branches s (above s a) (stands_guarded a (guarded (map branch_parts c.as_slice-in-IfElse.result.now))) (meant s a (statement c.get.result.now))) (λ p. piece_code s p ≡ meant s a t) (λ p h. if_else_at s a (piece_code s p) t _ _ (guarded (map branch_parts c.as_slice-in-IfElse.result.now)) _ (statement c.get.result.now) (ap guarded c.as_slice-in-IfElse.ensures) c.get.ensures (ap statement c.in-IfElse.is) h) c.branches_piece-in-IfElse.ensures
 
 pub returns-in-While : goal.returns-in-While
 returns-in-While c =
     let s = setting_view c.args.setting in let a = around_view c.args.around.now in let t = statement c.args.t.now in
-    IfOk-weaker c.while_piece.result (λ p. (n : ℕ) → piece_code s p ≡ meant s a (while_do n (tree c.get.result.now) (statement c.get-2.result.now))) (λ p. piece_code s p ≡ meant s a t) (λ p h. while_at s a (piece_code s p) t c.in-While.field-0 _ (tree c.get.result.now) _ (statement c.get-2.result.now) c.get.ensures c.get-2.ensures (ap statement c.in-While.is) (h c.in-While.field-0)) c.while_piece.ensures
+    IfOk-weaker c.while_piece.result (λ p. (n : ℕ) → piece_code s p ≡ meant s a (while_do n (tree c.get-in-While.result.now) (statement c.get-in-While-2.result.now))) (λ p. piece_code s p ≡ meant s a t) (λ p h. while_at s a (piece_code s p) t c.in-While.field-0 _ (tree c.get-in-While.result.now) _ (statement c.get-in-While-2.result.now) c.get-in-While.ensures c.get-in-While-2.ensures (ap statement c.in-While.is) (h c.in-While.field-0)) c.while_piece.ensures
 
 pub returns-in-Either : goal.returns-in-Either
 returns-in-Either c =
     let s = setting_view c.args.setting in let a = around_view c.args.around.now in let t = statement c.args.t.now in
-    IfOk-weaker c.either_piece.result (λ p. (s' : Setting) → piece_code s' p ≡ Either (arms s' (above s' a) (stands_each a (statements (map statement c.as_slice.result.now))))) (λ p. piece_code s p ≡ meant s a t) (λ p h. either_at s a (piece_code s p) t _ _ (statements (map statement c.as_slice.result.now)) (ap statements c.as_slice.ensures) (ap statement c.in-Either.is) (h s)) c.either_piece.ensures
+    IfOk-weaker c.either_piece.result (λ p. (s' : Setting) → piece_code s' p ≡ Either (arms s' (above s' a) (stands_each a (statements (map statement c.as_slice-in-Either.result.now))))) (λ p. piece_code s p ≡ meant s a t) (λ p h. either_at s a (piece_code s p) t _ _ (statements (map statement c.as_slice-in-Either.result.now)) (ap statements c.as_slice-in-Either.ensures) (ap statement c.in-Either.is) (h s)) c.either_piece.ensures
 
 pub returns-in-With : goal.returns-in-With
 returns-in-With c =
     let s = setting_view c.args.setting in let a = around_view c.args.around.now in let t = statement c.args.t.now in
-    IfOk-weaker c.with_piece.result (λ p. (n : ℕ) → piece_code s p ≡ meant s a (with_in n c.as_slice.result.now (statement c.get.result.now))) (λ p. piece_code s p ≡ meant s a t) (λ p h. with_same s a (piece_code s p) t (with_in c.in-With.field-0 c.as_slice.result.now (statement c.get.result.now)) (ap statement c.in-With.is ∙ (λ i. with_in c.in-With.field-0 (sym c.as_slice.ensures i) (sym c.get.ensures i))) (h c.in-With.field-0)) c.with_piece.ensures
+    IfOk-weaker c.with_piece.result (λ p. (n : ℕ) → piece_code s p ≡ meant s a (with_in n c.as_slice-in-With.result.now (statement c.get-in-With.result.now))) (λ p. piece_code s p ≡ meant s a t) (λ p h. with_same s a (piece_code s p) t (with_in c.in-With.field-0 c.as_slice-in-With.result.now (statement c.get-in-With.result.now)) (ap statement c.in-With.is ∙ (λ i. with_in c.in-With.field-0 (sym c.as_slice-in-With.ensures i) (sym c.get-in-With.ensures i))) (h c.in-With.field-0)) c.with_piece.ensures
 
 pub returns-in-Goto : goal.returns-in-Goto
 returns-in-Goto c =
@@ -56,29 +56,29 @@ returns-in-Goto c =
 pub returns-in-Call : goal.returns-in-Call
 returns-in-Call c =
     let s = setting_view c.args.setting in let a = around_view c.args.around.now in let t = statement c.args.t.now in
-    IfOk-weaker c.call_piece.result (λ p. (s' : Setting) (n : ℕ) → piece_code s' p ≡ meant s' a (call_macro n c.in-Call.m (map tree c.as_slice.result.now))) (λ p. piece_code s p ≡ meant s a t) (λ p h. with_same s a (piece_code s p) t (call_macro c.in-Call.field-0 c.in-Call.m (map tree c.as_slice.result.now)) (ap statement c.in-Call.is ∙ ap (call_macro c.in-Call.field-0 c.in-Call.m) (sym c.as_slice.ensures)) (h s c.in-Call.field-0)) c.call_piece.ensures
+    IfOk-weaker c.call_piece.result (λ p. (s' : Setting) (n : ℕ) → piece_code s' p ≡ meant s' a (call_macro n c.in-Call.m (map tree c.as_slice-in-Call.result.now))) (λ p. piece_code s p ≡ meant s a t) (λ p h. with_same s a (piece_code s p) t (call_macro c.in-Call.field-0 c.in-Call.m (map tree c.as_slice-in-Call.result.now)) (ap statement c.in-Call.is ∙ ap (call_macro c.in-Call.field-0 c.in-Call.m) (sym c.as_slice-in-Call.ensures)) (h s c.in-Call.field-0)) c.call_piece.ensures
 
 pub returns-in-Yield : goal.returns-in-Yield
 returns-in-Yield c =
     let s = setting_view c.args.setting in let a = around_view c.args.around.now in let t = statement c.args.t.now in
-    IfOk-weaker c.yield_piece.result (λ p. (s' : Setting) → piece_code s' p ≡ Yield (puts_tree a.layers (tree c.get.result.now))) (λ p. piece_code s p ≡ meant s a t) (λ p h. yield_at s a (piece_code s p) t _ _ (tree c.get.result.now) c.get.ensures (ap statement c.in-Yield.is) (h s)) c.yield_piece.ensures
+    IfOk-weaker c.yield_piece.result (λ p. (s' : Setting) → piece_code s' p ≡ Yield (puts_tree a.layers (tree c.get-in-Yield.result.now))) (λ p. piece_code s p ≡ meant s a t) (λ p h. yield_at s a (piece_code s p) t _ _ (tree c.get-in-Yield.result.now) c.get-in-Yield.ensures (ap statement c.in-Yield.is) (h s)) c.yield_piece.ensures
 
 pub returns-in-Block : goal.returns-in-Block
 returns-in-Block c =
     let s = setting_view c.args.setting in let a = around_view c.args.around.now in let t = statement c.args.t.now in
-    IfOk-weaker c.order_piece.result (λ p. piece_code s p ≡ in_order s (above s a) (stands_among a (labeled (map labeled_pair c.as_slice.result.now)))) (λ p. piece_code s p ≡ meant s a t) (λ p h. block_at s a (piece_code s p) t _ _ (labeled (map labeled_pair c.as_slice.result.now)) (ap labeled c.as_slice.ensures) (ap statement c.in-Block.is) h) c.order_piece.ensures
+    IfOk-weaker c.order_piece.result (λ p. piece_code s p ≡ in_order s (above s a) (stands_among a (labeled (map labeled_pair c.as_slice-in-Block.result.now)))) (λ p. piece_code s p ≡ meant s a t) (λ p h. block_at s a (piece_code s p) t _ _ (labeled (map labeled_pair c.as_slice-in-Block.result.now)) (ap labeled c.as_slice-in-Block.ensures) (ap statement c.in-Block.is) h) c.order_piece.ensures
 
 pub returns-in-Await : goal.returns-in-Await
 returns-in-Await c =
     let s = setting_view c.args.setting in let a = around_view c.args.around.now in let t = statement c.args.t.now in
-    IfOk-weaker c.await_piece.result (λ p. (s' : Setting) → piece_code s' p ≡ evaluated s.mapped (puts_tree a.layers (tree c.get.result.now)) 0 (λ e' k. Await e')) (λ p. piece_code s p ≡ meant s a t) (λ p h. await_at s a (piece_code s p) t _ _ (tree c.get.result.now) c.get.ensures (ap statement c.in-Await.is) (h s)) c.await_piece.ensures
+    IfOk-weaker c.await_piece.result (λ p. (s' : Setting) → piece_code s' p ≡ evaluated s.mapped (puts_tree a.layers (tree c.get-in-Await.result.now)) 0 (λ e' k. Await e')) (λ p. piece_code s p ≡ meant s a t) (λ p h. await_at s a (piece_code s p) t _ _ (tree c.get-in-Await.result.now) c.get-in-Await.ensures (ap statement c.in-Await.is) (h s)) c.await_piece.ensures
 
 pub returns-in-Print : goal.returns-in-Print
 returns-in-Print c =
     let s = setting_view c.args.setting in let a = around_view c.args.around.now in let t = statement c.args.t.now in
-    IfOk-weaker c.print_piece.result (λ p. (s' : Setting) → piece_code s' p ≡ evaluated s.mapped (puts_tree a.layers (tree c.get.result.now)) 0 (λ e' k. Print e')) (λ p. piece_code s p ≡ meant s a t) (λ p h. print_at s a (piece_code s p) t _ _ (tree c.get.result.now) c.get.ensures (ap statement c.in-Print.is) (h s)) c.print_piece.ensures
+    IfOk-weaker c.print_piece.result (λ p. (s' : Setting) → piece_code s' p ≡ evaluated s.mapped (puts_tree a.layers (tree c.get-in-Print.result.now)) 0 (λ e' k. Print e')) (λ p. piece_code s p ≡ meant s a t) (λ p h. print_at s a (piece_code s p) t _ _ (tree c.get-in-Print.result.now) c.get-in-Print.ensures (ap statement c.in-Print.is) (h s)) c.print_piece.ensures
 
 pub returns-in-Assert : goal.returns-in-Assert
 returns-in-Assert c =
     let s = setting_view c.args.setting in let a = around_view c.args.around.now in let t = statement c.args.t.now in
-    IfOk-weaker c.assert_piece.result (λ p. (s' : Setting) → piece_code s' p ≡ evaluated s.mapped (puts_tree a.layers (tree c.get.result.now)) 0 (λ e' k. Assert e')) (λ p. piece_code s p ≡ meant s a t) (λ p h. assert_at s a (piece_code s p) t _ _ (tree c.get.result.now) c.get.ensures (ap statement c.in-Assert.is) (h s)) c.assert_piece.ensures
+    IfOk-weaker c.assert_piece.result (λ p. (s' : Setting) → piece_code s' p ≡ evaluated s.mapped (puts_tree a.layers (tree c.get-in-Assert.result.now)) 0 (λ e' k. Assert e')) (λ p. piece_code s p ≡ meant s a t) (λ p h. assert_at s a (piece_code s p) t _ _ (tree c.get-in-Assert.result.now) c.get-in-Assert.ensures (ap statement c.in-Assert.is) (h s)) c.assert_piece.ensures

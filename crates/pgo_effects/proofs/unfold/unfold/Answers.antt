@@ -14,7 +14,7 @@ pub returns-in-Empty : goal.returns-in-Empty
 returns-in-Empty c = let s = setting_view c.args.setting in c.last_alone.ensures s ∙ ap (code_of s) (sym c.in-Empty.is)
 
 pub returns-in-Skip : goal.returns-in-Skip
-returns-in-Skip c = let s = setting_view c.args.setting in c.last_alone.ensures s ∙ ap (code_of s) (sym c.in-Skip.is)
+returns-in-Skip c = let s = setting_view c.args.setting in c.last_alone-in-Skip.ensures s ∙ ap (code_of s) (sym c.in-Skip.is)
 
 pub returns-in-End : goal.returns-in-End
 returns-in-End c =
@@ -39,7 +39,7 @@ returns-in-Content c =
 pub returns-in-Value : goal.returns-in-Value
 returns-in-Value c =
     let s = setting_view c.args.setting in
-    IfOk-weaker c.yielded_piece.result (λ p. (s' : Setting) → piece_code s' p ≡ Yield (name value_name)) (λ p. piece_code s p ≡ code_of s c.args.todo.now) (λ p h. h s ∙ ap (code_of s) (sym c.in-Value.is)) c.yielded_piece.ensures
+    IfOk-weaker c.yielded_piece-in-Value.result (λ p. (s' : Setting) → piece_code s' p ≡ Yield (name value_name)) (λ p. piece_code s p ≡ code_of s c.args.todo.now) (λ p h. h s ∙ ap (code_of s) (sym c.in-Value.is)) c.yielded_piece-in-Value.ensures
 
 pub returns-in-Text : goal.returns-in-Text
 returns-in-Text c =
