@@ -1,7 +1,7 @@
 // The law of trees, of every specification that the rules of names, labels and binding let pass.
 #![tactic(auto)]
 
-ghost use Rattle.std.specs.Prelude.{◌≡◌, ◌↔◌, ℕ, true, List, Some};
+ghost use Rattle.std.specs.Prelude.{◌≡◌, ◌↔◌, ℕ, true, List, Some, None};
 ghost use Rattle.std.specs.List.{AllByRecursion};
 ghost use Rattle.pgo_base.specs.Data.{Data, string};
 ghost use Rattle.pgo_base.specs.Lookup.{Name, Vars};
@@ -27,9 +27,25 @@ ghost use Rattle.pgo_meaning.specs.System.{globals_in, system_of};
 ghost use Rattle.pgo_meaning.specs.SystemStates.{RefsDeclared};
 ghost use Rattle.pgo_meaning.specs.TreeAllows.{TreeAllows};
 ghost use Rattle.pgo_meaning.specs.TreesAgree.{Named, OwnLabels};
-ghost use Rattle.pgo_agrees.specs.Accepted.{IsAccepted, AreSmall};
+ghost use Rattle.pgo_scope.specs.Refusal.{scope_refusal};
+ghost use Rattle.pgo_labels.specs.Refusal.{label_refusal};
+ghost use Rattle.pgo_heads.specs.Refusals.{bind_refusal};
+ghost use Rattle.pgo_mpcal_read.specs.Texts.{SpellsSpec};
+ghost use Rattle.pgo_agrees.specs.Accepted.{IsOfText, IsAccepted, AreSmall};
 
 use pgo_meaning::{ends_are_states, sections_touch, system_states, trees_agree};
+
+/// What a text gives of the specification that it spells.
+///
+/// - `of_text` (`IsOfText`): no expression in it has `'` or UNCHANGED, each call has an argument, names are identifiers, and a
+///   `yield` stands in mapping macros alone.
+/// - `accepted` (`IsAccepted`): so it is accepted with constants with which no rule refuses it.
+///
+/// Source: the grammar, and which texts spell a specification (`SpellsSpec`).
+pub fn texts_are_accepted()
+    ensures of_text { (text : List ℕ) (s : Spec) → SpellsSpec text s → IsOfText s }
+    ensures accepted { (text : List ℕ) (s : Spec) (consts : List (Name × Data)) → SpellsSpec text s → scope_refusal s ≡ None → label_refusal s ≡ None → bind_refusal s consts ≡ None → IsAccepted s consts }
+{}
 
 /// What the rules on names, on labels and of binding give of an accepted specification (`IsAccepted`), and so of each instance
 /// of what it is bound to: the premises of the laws of `pgo_meaning`.
