@@ -36,3 +36,4 @@ pub mod Premises
 pub mod SpokenExpressions
 pub mod SpokenStatements
 pub mod OfText
+mod Rows
