@@ -30,7 +30,7 @@ use Rattle.pgo_sections.specs.Among.{is_among}
 use Rattle.pgo_sections.specs.Code.{Place, Whole, content_name, content_places}
 use Rattle.pgo_sections.specs.WellFormed.{NotMade, PlainCode}
 use Rattle.pgo_meaning.specs.Parameters.{block_setting, block_code, reads_by, writes_by}
-use Rattle.pgo_agrees.specs.Accepted.{IsOfText, MappingOfText, DefinitionOfText, DeclarationOfText, is_name_byte, has_letter, has_name_bytes}
+use Rattle.pgo_agrees.specs.Accepted.{IsOfText, MappingOfText, DefinitionOfText, DeclarationOfText}
 use Rattle.pgo_agrees.specs.Spoken.{LabeledSpoken}
 use Rattle.pgo_agrees.proofs.Closed.{all_among, apart}
 use Rattle.pgo_agrees.proofs.Env.{C, B, D, Known', Inside, InStatements, place_apart, UnitRules, tells_all}
@@ -40,24 +40,25 @@ use Rattle.pgo_agrees.proofs.GoodCode.{CodeRules, order_good}
 use Rattle.pgo_agrees.proofs.Hoist.{InScope, Hoistable, never}
 use Rattle.pgo_agrees.proofs.Kept.{NoFindings}
 use Rattle.pgo_agrees.proofs.Meanings.{common_apart, common_single, applicable_apart, applicable_single, applicable_not_self, defined_row, row_test}
-use Rattle.pgo_agrees.proofs.Names.{and_left, and_right, single, written_marked, has_mark}
+use Rattle.pgo_agrees.proofs.Names.{and_left, single, written_marked, has_mark, identifier_bytes}
 use Rattle.pgo_agrees.proofs.Unlabelled.{body_names, placed_name}
 use Rattle.pgo_agrees.proofs.Uses.{FineUse, fine_use, of_mapping}
 use Rattle.pgo_agrees.proofs.Variables.{IsVariable, is_global, is_place, is_own}
+use Rattle.pgo_model.specs.ValueText.{is_word_byte, all_word_bytes}
 
 -- `$`: no identifier begins with it
 abbrev dollar_first : Name → Bool
 dollar_first [] = false
 dollar_first (b ∷ bs) = nat_eq b 36
 
-bytes_no_dollar : (x : Name) → has_name_bytes x ≡ true → dollar_first x ≡ false
+bytes_no_dollar : (x : Name) → all_word_bytes x ≡ true → dollar_first x ≡ false
 bytes_no_dollar [] h = refl
 bytes_no_dollar (b ∷ bs) h = go (nat_eq b 36) refl
   where
     go : (c : Bool) → nat_eq b 36 ≡ c → nat_eq b 36 ≡ false
     go false e = e
     go true e =
-        absurd (let f : b ≡ 36 = grind (arith, e) in let g : is_name_byte b ≡ false = ap is_name_byte f in let q : true ≡ false = sym (and_left (is_name_byte b) (has_name_bytes bs) h) ∙ g in cc)
+        absurd (let f : b ≡ 36 = grind (arith, e) in let g : is_word_byte b ≡ false = ap is_word_byte f in let q : true ≡ false = sym (and_left (is_word_byte b) (all_word_bytes bs) h) ∙ g in cc)
 
 no_dollar_operators : AllByRecursion (λ r. dollar_first r.0 ≡ false) operator_rows
 no_dollar_operators = (refl, (refl, (refl, (refl, (refl, (refl, (refl, (refl, tt))))))))
@@ -77,7 +78,7 @@ module _ (s : Spec) (k : NoFindings s) (fit : AllByRecursion (ArgumentsFit s.arc
       none x (inl e) =
           let d = defined_row x (all_definitions s) e in
           let t = all_at DefinitionOfText d.0 (all_definitions s) of_text.definitions d.1 in
-          ap dollar_first d.2 ∙ bytes_no_dollar d.0.name.name (and_right (has_letter d.0.name.name) (has_name_bytes d.0.name.name) t.0)
+          ap dollar_first d.2 ∙ bytes_no_dollar d.0.name.name (identifier_bytes d.0.name.name t.0)
 
   -- no variable is `$value`
   value_apart : is_among value_name vs ≡ false
@@ -86,7 +87,7 @@ module _ (s : Spec) (k : NoFindings s) (fit : AllByRecursion (ArgumentsFit s.arc
       not_here : IsVariable s value_name → ⊥
       not_here (is_global d a e) =
           let t = all_at DeclarationOfText d s.globals of_text.globals a in
-          let n = bytes_no_dollar d.name.name (and_right (has_letter d.name.name) (has_name_bytes d.name.name) t) in
+          let n = bytes_no_dollar d.name.name (identifier_bytes d.name.name t) in
           let q : true ≡ false = ap dollar_first e ∙ n in cc
       not_here (is_place e) = let q : true ≡ false = ap dollar_first e in cc
       not_here (is_own p a y b e n q) = let z : false ≡ true = ap has_mark q ∙ written_marked p.name.name y in cc

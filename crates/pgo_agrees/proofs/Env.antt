@@ -25,29 +25,30 @@ use Rattle.pgo_accept.proofs.Fitting.{ArgumentsFit}
 use Rattle.pgo_sections.specs.Access.{place}
 use Rattle.pgo_sections.specs.Among.{is_among}
 use Rattle.pgo_sections.specs.WellFormed.{Bindable}
-use Rattle.pgo_agrees.specs.Accepted.{IsOfText, DefinitionOfText, is_name_byte, has_letter, has_name_bytes}
+use Rattle.pgo_agrees.specs.Accepted.{IsOfText, DefinitionOfText}
 use Rattle.pgo_agrees.specs.Spoken.{Spoken, ArgumentsSpoken}
 use Rattle.pgo_agrees.proofs.Closed.{bound_use_apart}
 use Rattle.pgo_agrees.proofs.FineUses.{TellsAll, Within}
 use Rattle.pgo_agrees.proofs.FromUses.{Known, IsAt, Tells, stands}
 use Rattle.pgo_agrees.proofs.Kept.{NoFindings}
 use Rattle.pgo_agrees.proofs.Meanings.{IsCommon, IsApplicable, defined_row, row_test, alone_means, alone_no_global, common_here, applied_is}
-use Rattle.pgo_agrees.proofs.Names.{or_left, or_right, and_left, and_right, single}
+use Rattle.pgo_agrees.proofs.Names.{or_left, or_right, and_left, and_right, single, identifier_bytes}
 use Rattle.pgo_agrees.proofs.Placing.{has_bang, Declared}
 use Rattle.pgo_agrees.proofs.Stands.{Stands, or_in, or_first, or_second}
 use Rattle.pgo_agrees.proofs.Things.{bound_not_fixed}
 use Rattle.pgo_agrees.proofs.Uses.{FineUse}
+use Rattle.pgo_model.specs.ValueText.{is_word_byte, all_word_bytes}
 
 -- ---- bytes of names
 
-pub bytes_no_bang : (x : Name) → has_name_bytes x ≡ true → has_bang x ≡ false
+pub bytes_no_bang : (x : Name) → all_word_bytes x ≡ true → has_bang x ≡ false
 bytes_no_bang [] h = refl
-bytes_no_bang (b ∷ bs) h = go (nat_eq b 33) refl (bytes_no_bang bs (and_right (is_name_byte b) (has_name_bytes bs) h))
+bytes_no_bang (b ∷ bs) h = go (nat_eq b 33) refl (bytes_no_bang bs (and_right (is_word_byte b) (all_word_bytes bs) h))
   where
     go : (c : Bool) → nat_eq b 33 ≡ c → has_bang bs ≡ false → c || has_bang bs ≡ false
     go false e r = r
     go true e r =
-        absurd (let f : b ≡ 33 = grind (arith, e) in let g : is_name_byte b ≡ false = ap is_name_byte f in let q : true ≡ false = sym (and_left (is_name_byte b) (has_name_bytes bs) h) ∙ g in cc)
+        absurd (let f : b ≡ 33 = grind (arith, e) in let g : is_word_byte b ≡ false = ap is_word_byte f in let q : true ≡ false = sym (and_left (is_word_byte b) (all_word_bytes bs) h) ∙ g in cc)
 
 no_bang_operators : AllByRecursion (λ r. has_bang r.0 ≡ false) operator_rows
 no_bang_operators = (refl, (refl, (refl, (refl, (refl, (refl, (refl, (refl, tt))))))))
@@ -59,14 +60,14 @@ hash_first (b ∷ bs) = nat_eq b 35
 no_hash_operators : AllByRecursion (λ r. hash_first r.0 ≡ false) operator_rows
 no_hash_operators = (refl, (refl, (refl, (refl, (refl, (refl, (refl, (refl, tt))))))))
 
-bytes_no_hash : (x : Name) → has_name_bytes x ≡ true → hash_first x ≡ false
+bytes_no_hash : (x : Name) → all_word_bytes x ≡ true → hash_first x ≡ false
 bytes_no_hash [] h = refl
 bytes_no_hash (b ∷ bs) h = go (nat_eq b 35) refl
   where
     go : (c : Bool) → nat_eq b 35 ≡ c → nat_eq b 35 ≡ false
     go false e = e
     go true e =
-        absurd (let f : b ≡ 35 = grind (arith, e) in let g : is_name_byte b ≡ false = ap is_name_byte f in let q : true ≡ false = sym (and_left (is_name_byte b) (has_name_bytes bs) h) ∙ g in cc)
+        absurd (let f : b ≡ 35 = grind (arith, e) in let g : is_word_byte b ≡ false = ap is_word_byte f in let q : true ≡ false = sym (and_left (is_word_byte b) (all_word_bytes bs) h) ∙ g in cc)
 
 module _ (s : Spec) (k : NoFindings s) (fit : AllByRecursion (ArgumentsFit s.archetypes) s.processes) (of_text : IsOfText s) where
   abbrev pub C : Name → Type 0
@@ -86,14 +87,14 @@ module _ (s : Spec) (k : NoFindings s) (fit : AllByRecursion (ArgumentsFit s.arc
   applicable_no_bang x (inl e) =
       let d = defined_row x (all_definitions s) e in
       let t = all_at DefinitionOfText d.0 (all_definitions s) of_text.definitions d.1 in
-      ap has_bang d.2 ∙ bytes_no_bang d.0.name.name (and_right (has_letter d.0.name.name) (has_name_bytes d.0.name.name) t.0)
+      ap has_bang d.2 ∙ bytes_no_bang d.0.name.name (identifier_bytes d.0.name.name t.0)
 
   hash_apart : (x : Name) → C x → hash_first x ≡ false
   hash_apart x (inr e) = row_test hash_first x operator_rows no_hash_operators e
   hash_apart x (inl e) =
       let d = defined_row x (all_definitions s) e in
       let t = all_at DefinitionOfText d.0 (all_definitions s) of_text.definitions d.1 in
-      ap hash_first d.2 ∙ bytes_no_hash d.0.name.name (and_right (has_letter d.0.name.name) (has_name_bytes d.0.name.name) t.0)
+      ap hash_first d.2 ∙ bytes_no_hash d.0.name.name (identifier_bytes d.0.name.name t.0)
 
   pub place_apart : (j : ℕ) (x : Name) → C x → same_name x (place j) ≡ false
   place_apart j x c = same_name-not x (place j) (λ e. (let q : true ≡ false = sym (ap hash_first e) ∙ hash_apart x c in cc))

@@ -30,7 +30,7 @@ use Rattle.pgo_accept.proofs.Fitting.{ArgumentsFit}
 use Rattle.pgo_sections.specs.Among.{is_among}
 use Rattle.pgo_meaning.specs.LabelSections.{AreUnlabelled}
 use Rattle.pgo_meaning.specs.MacrosPlaced.{marked as marked', Body, Bodies, placed, bodies_with, bodies}
-use Rattle.pgo_agrees.specs.Accepted.{IsOfText, MacroOfText, MacroParameterOfText, has_letter, has_name_bytes}
+use Rattle.pgo_agrees.specs.Accepted.{IsOfText, MacroOfText, MacroParameterOfText}
 use Rattle.pgo_agrees.specs.Spoken.{ArgumentsSpoken}
 use Rattle.pgo_agrees.proofs.Arguments.{Joins, Given}
 use Rattle.pgo_agrees.proofs.Calls.{rows, each_rows, InPairs, assigned_at, Among, among_trans, read_way_is, write_way_is, use_among, read_among, passed_read, passed_write, base_among, path_among, call_among}
@@ -43,7 +43,7 @@ use Rattle.pgo_agrees.proofs.Hoist.{never}
 use Rattle.pgo_agrees.proofs.Kept.{NoFindings, nothing_if, not_false}
 use Rattle.pgo_agrees.proofs.MacroCalls.{MacroOk, all_names, called_known, parameters_are, call_ok, assigned_base}
 use Rattle.pgo_agrees.proofs.MacroNames.{FirstMacro, first_macro, one_macro, earlier_first}
-use Rattle.pgo_agrees.proofs.Names.{and_right}
+use Rattle.pgo_agrees.proofs.Names.{identifier_bytes}
 use Rattle.pgo_agrees.proofs.Placing.{reads_so, writes_so, has_bang, marked_bang, marked_single, bang_apart, MacroName, MacroAssigned, MacroWith, Target, CallOk, fine_placed}
 use Rattle.pgo_agrees.proofs.Stands.{or_second}
 use Rattle.pgo_agrees.proofs.Uses.{FineUse, fine_use, of_macro_at}
@@ -134,7 +134,7 @@ module _ (s : Spec) (k : NoFindings s) (fit : AllByRecursion (ArgumentsFit s.arc
       where
         go : (ps : List PlacedName) → AllByRecursion MacroParameterOfText ps → AllByRecursion (λ q. has_bang q ≡ false) (names_of ps)
         go [] h = tt
-        go (p ∷ ps) h = (bytes_no_bang p.name (and_right (has_letter p.name) (has_name_bytes p.name) h.0), go ps h.1)
+        go (p ∷ ps) h = (bytes_no_bang p.name (identifier_bytes p.name h.0), go ps h.1)
 
     target : Target (C s k fit of_text) (B s k fit of_text) (Common s k fit of_text) N W A ⊥
     target = record {

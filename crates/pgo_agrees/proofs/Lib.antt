@@ -33,3 +33,8 @@ pub mod MacroCalls
 pub mod InMacro
 pub mod RunBody
 pub mod Premises
+pub mod SpokenExpressions
+pub mod SpokenStatements
+pub mod OfText
+mod Rows
+mod Limits

@@ -1,5 +1,5 @@
 -- Names that no expansion makes.
-use Rattle.std.proofs.Common.{◌≡◌, ◌≤◌, ℕ, Bool, true, false, ◌&&◌, ◌||◌, nat_eq, [], ◌∷◌, ◌++◌, codes, refl, ap, sym, ◌∙◌, arith}
+use Rattle.std.proofs.Common.{◌≡◌, ◌≤◌, ℕ, Bool, true, false, ◌&&◌, ◌||◌, if◌then◌else◌, nat_eq, [], ◌∷◌, ◌++◌, codes, refl, ap, sym, ◌∙◌, arith}
 use Rattle.std.specs.Prelude.{nat_le}
 use Rattle.pgo_base.specs.Lookup.{Name, same_name}
 use Rattle.pgo_model.specs.Names.{same_name-not}
@@ -8,7 +8,7 @@ use Rattle.pgo_scope.specs.Underscores.{has_double}
 use Rattle.pgo_sections.specs.PlainTest.{is_digit_code, all_digit_codes, digits_behind, looks_made}
 use Rattle.pgo_sections.specs.WellFormed.{NotMade}
 use Rattle.pgo_sections.proofs.PlainTest.{not_made}
-use Rattle.pgo_agrees.specs.Accepted.{is_letter, has_letter}
+use Rattle.pgo_model.specs.ValueText.{is_letter, all_word_bytes, has_letter, is_identifier, is_one_of, reserved_words}
 
 pub or_left : (a b : Bool) → a || b ≡ false → a ≡ false
 or_left true b h = absurd (cc)
@@ -53,6 +53,16 @@ looks_single (b ∷ c ∷ cs) h =
 
 pub single : (x : Name) → has_double x ≡ false → NotMade x
 single x h = not_made x (looks_single x h)
+
+-- ---- identifiers
+
+pub identifier_letter : (x : Name) → is_identifier x ≡ true → has_letter x ≡ true
+identifier_letter x h =
+    and_right (all_word_bytes x) (has_letter x) (and_left (all_word_bytes x && has_letter x) (if is_one_of x reserved_words then false else true) h)
+
+pub identifier_bytes : (x : Name) → is_identifier x ≡ true → all_word_bytes x ≡ true
+identifier_bytes x h =
+    and_left (all_word_bytes x) (has_letter x) (and_left (all_word_bytes x && has_letter x) (if is_one_of x reserved_words then false else true) h)
 
 -- ---- behind a letter
 

@@ -37,11 +37,12 @@ use Rattle.pgo_accept.proofs.Fitting.{Fits, ArgumentsFit, is_stray}
 use Rattle.pgo_accept.proofs.WrittenOnce.{writes}
 use Rattle.pgo_sections.specs.Among.{is_among}
 use Rattle.pgo_sections.specs.WellFormed.{NotMade}
-use Rattle.pgo_agrees.specs.Accepted.{IsOfText, ArchetypeOfText, ParameterOfText, DeclarationOfText, has_letter, has_name_bytes, is_identifier}
+use Rattle.pgo_agrees.specs.Accepted.{IsOfText, ArchetypeOfText, ParameterOfText, DeclarationOfText}
 use Rattle.pgo_agrees.proofs.Kept.{NoFindings, nothing_if, none_of_name}
-use Rattle.pgo_agrees.proofs.Names.{and_left, single, written_single, written_marked, has_mark}
+use Rattle.pgo_agrees.proofs.Names.{single, written_single, written_marked, has_mark, identifier_letter}
 use Rattle.pgo_agrees.proofs.Things.{writes_some, counted, shared_among, process_among, bound_apart, bound_not_fixed, written_by, rows_of}
 use Rattle.pgo_agrees.proofs.Uses.{FineUse, fine_use, of_archetype}
+use Rattle.pgo_model.specs.ValueText.{has_letter, is_identifier}
 
 -- ---- membership by tests
 
@@ -273,14 +274,14 @@ module _ (s : Spec) (k : NoFindings s) where
             let u = parameter_fine a there q.0 q.1 in
             let is : is_identifier q.0.name.name ≡ true = all_at ParameterOfText q.0 a.params text.0 q.1 in (
               ap has_double (q.2 ∙ sym u.2) ∙ u.1.double,
-              ap has_letter q.2 ∙ and_left (has_letter q.0.name.name) (has_name_bytes q.0.name.name) is,
+              ap has_letter q.2 ∙ identifier_letter q.0.name.name is,
             )
         go (inr v) =
             let q = from_map (λ (d : Declaration). d.name.name) y a.locals v in
             let u = local_fine a there q.0 q.1 in
             let is : is_identifier q.0.name.name ≡ true = all_at DeclarationOfText q.0 a.locals text.1 q.1 in (
               ap has_double (q.2 ∙ sym u.2) ∙ u.1.double,
-              ap has_letter q.2 ∙ and_left (has_letter q.0.name.name) (has_name_bytes q.0.name.name) is,
+              ap has_letter q.2 ∙ identifier_letter q.0.name.name is,
             )
 
     shared_in_heads : (x : PlacedName) → IsAmong x (shared_names s) → IsAmong x (head_names s)

@@ -1,8 +1,9 @@
 -- What is accepted: a specification of a text that no rule of names, labels or binding refuses.
-use Rattle.std.specs.Prelude.{◌≡◌, ℕ, ◌≤◌, ◌-◌, ◌^◌, Bool, true, false, ◌&&◌, ◌||◌, nat_eq, nat_le, List, [], ◌∷◌, None, Some}
+use Rattle.std.specs.Prelude.{◌≡◌, ◌≤◌, ◌-◌, ◌^◌, true, List, None, Some}
 use Rattle.std.specs.List.{AllByRecursion}
 use Rattle.pgo_base.specs.Data.{Data}
 use Rattle.pgo_base.specs.Lookup.{Name, find}
+use Rattle.pgo_model.specs.ValueText.{is_identifier}
 use Rattle.pgo_syntax.specs.Statement.{labeled}
 use Rattle.pgo_syntax.specs.declared.archetype.Archetype.{Archetype}
 use Rattle.pgo_syntax.specs.declared.archetype.Parameter.{Parameter}
@@ -20,26 +21,6 @@ use Rattle.pgo_sections.specs.Expansion.{Expansion}
 use Rattle.pgo_sections.specs.Nodes.{nodes}
 use Rattle.pgo_meaning.specs.Expansions.{trees_of}
 use Rattle.pgo_agrees.specs.Spoken.{Spoken, LabeledSpoken}
-
--- an ASCII letter
-abbrev pub is_letter : ℕ → Bool
-is_letter b = (nat_le 65 b && nat_le b 90) || (nat_le 97 b && nat_le b 122)
-
--- a letter, a digit or `_`
-abbrev pub is_name_byte : ℕ → Bool
-is_name_byte b = is_letter b || (nat_le 48 b && nat_le b 57) || nat_eq b 95
-
-abbrev pub has_letter : Name → Bool
-has_letter [] = false
-has_letter (b ∷ bs) = is_letter b || has_letter bs
-
-abbrev pub has_name_bytes : Name → Bool
-has_name_bytes [] = true
-has_name_bytes (b ∷ bs) = is_name_byte b && has_name_bytes bs
-
--- letters, digits and `_`, with a letter among them
-abbrev pub is_identifier : Name → Bool
-is_identifier x = has_letter x && has_name_bytes x
 
 abbrev pub DefinitionOfText : Definition → Type 0
 DefinitionOfText d = (is_identifier d.name.name ≡ true) × Spoken d.body

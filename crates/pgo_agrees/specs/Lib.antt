@@ -1,2 +1,4 @@
 pub mod Accepted
 pub mod Spoken
+pub mod TextTokens
+pub mod Trees

@@ -1,7 +1,7 @@
 // The law of trees, of every specification that the rules of names, labels and binding let pass.
 #![tactic(auto)]
 
-ghost use Rattle.std.specs.Prelude.{◌≡◌, ◌↔◌, ℕ, true, List, Some};
+ghost use Rattle.std.specs.Prelude.{◌≡◌, ◌↔◌, ℕ, true, List, Some, None};
 ghost use Rattle.std.specs.List.{AllByRecursion};
 ghost use Rattle.pgo_base.specs.Data.{Data, string};
 ghost use Rattle.pgo_base.specs.Lookup.{Name, Vars};
@@ -27,9 +27,30 @@ ghost use Rattle.pgo_meaning.specs.System.{globals_in, system_of};
 ghost use Rattle.pgo_meaning.specs.SystemStates.{RefsDeclared};
 ghost use Rattle.pgo_meaning.specs.TreeAllows.{TreeAllows};
 ghost use Rattle.pgo_meaning.specs.TreesAgree.{Named, OwnLabels};
-ghost use Rattle.pgo_agrees.specs.Accepted.{IsAccepted, AreSmall};
+ghost use Rattle.pgo_scope.specs.Refusal.{scope_refusal};
+ghost use Rattle.pgo_labels.specs.Refusal.{label_refusal};
+ghost use Rattle.pgo_heads.specs.Refusals.{bind_refusal};
+ghost use Rattle.pgo_mpcal_read.specs.Texts.{SpellsSpec};
+ghost use Rattle.pgo_agrees.specs.Accepted.{IsOfText, IsAccepted, AreSmall};
+
+ghost use Rattle.pgo_accept.specs.Answers.{NothingRefuses};
+ghost use Rattle.pgo_pluscal.specs.declared.pluscal.PlusCal.{PlusCal};
+ghost use Rattle.pgo_pluscal.specs.PlusCalOf.{pluscal_of};
+ghost use Rattle.pgo_agrees.specs.Trees.{trees_in};
 
 use pgo_meaning::{ends_are_states, sections_touch, system_states, trees_agree};
+
+/// What a text gives of the specification that it spells.
+///
+/// - `of_text` (`IsOfText`): no expression in it has `'` or UNCHANGED, each call has an argument, names are identifiers, and a
+///   `yield` stands in mapping macros alone.
+/// - `accepted` (`IsAccepted`): so it is accepted with constants with which no rule refuses it.
+///
+/// Source: the grammar, and which texts spell a specification (`SpellsSpec`).
+pub fn texts_are_accepted()
+    ensures of_text { (text : List ℕ) (s : Spec) → SpellsSpec text s → IsOfText s }
+    ensures accepted { (text : List ℕ) (s : Spec) (consts : List (Name × Data)) → SpellsSpec text s → scope_refusal s ≡ None → label_refusal s ≡ None → bind_refusal s consts ≡ None → IsAccepted s consts }
+{}
 
 /// What the rules on names, on labels and of binding give of an accepted specification (`IsAccepted`), and so of each instance
 /// of what it is bound to: the premises of the laws of `pgo_meaning`.
@@ -82,4 +103,17 @@ pub fn accepted_sections()
     ends_are_states();
     sections_touch();
     system_states();
+}
+
+/// The law of expansions: of the one specification that a text spells, where nothing refuses it with these constants, neither the
+/// rules of names, of labels and of binding nor the limits of its expansion, let p be its expansion. Then for each instance at a
+/// label of its process, and all states, the tree that p has at the label allows exactly the steps that the label's section allows
+/// through its mapping macros.
+///
+/// Source: this project's choice.
+pub fn expansions_agree()
+    ensures { (text : List ℕ) (s : Spec) (consts : List (Name × Data)) (p : PlusCal) (k : ℕ) (i : Instance) (l : Name) (t u : Vars) → SpellsSpec text s → NothingRefuses s consts → p ≡ pluscal_of s → nth (bound_of s consts).instances k ≡ Some i → IsLabel i l → IsState (bound_of s consts) t → IsState (bound_of s consts) u → value_in t pc (id_of i) ≡ Some (string l) → TreeAllows (trees_in p) (bound_of s consts) l (id_of i) t u ↔ Allows (bound_of s consts) k t u }
+{
+    texts_are_accepted();
+    accepted_trees_agree();
 }
