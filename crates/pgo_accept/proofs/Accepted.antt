@@ -26,16 +26,19 @@ use Rattle.pgo_accept.proofs.FirstLabels.{archetype_labeled}
 use Rattle.pgo_accept.proofs.Fitting.{ArgumentsFit, arguments_fit}
 use Rattle.pgo_accept.proofs.Variables.{processes_once, variables_once}
 
--- the rules of labels behind the first
-abbrev later_rules : Spec → List (List Finding)
-later_rules s =
-    (flat_map label_in_with s.archetypes ++ flat_map label_in_macro s.macros ++ flat_map label_in_mapping s.mappings)
-    ∷ flat_map unknown_label s.archetypes
+-- the rules of labels behind the second
+abbrev pub rules_behind : Spec → List (List Finding)
+rules_behind s =
+    flat_map unknown_label s.archetypes
     ∷ flat_map label_twice s.archetypes
     ∷ flat_map reserved_done s.archetypes
     ∷ flat_map yield_rule s.mappings
     ∷ flat_map too_many_labels s.archetypes
     ∷ []
+
+-- and behind the first
+abbrev pub later_rules : Spec → List (List Finding)
+later_rules s = (flat_map label_in_with s.archetypes ++ flat_map label_in_macro s.macros ++ flat_map label_in_mapping s.mappings) ∷ rules_behind s
 
 -- names and labels alone, where no `ref` parameter is handed a value
 well_named : (s : Spec) → scope_refusal s ≡ None → label_refusal s ≡ None → AllByRecursion (ArgumentsFit s.archetypes) s.processes → WellNamed s

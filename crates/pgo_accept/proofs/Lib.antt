@@ -6,5 +6,6 @@ pub mod Heads
 pub mod Refused
 mod Rows
 pub mod Unbroken
+pub mod Unlabelled
 pub mod Variables
 pub mod WrittenOnce

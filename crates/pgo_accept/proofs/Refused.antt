@@ -1,5 +1,5 @@
 -- The line of a refusal is that of the first rule that is broken.
-use Rattle.std.proofs.Common.{◌≡◌, ◌⊎◌, inl, inr, ℕ, List, Option, Some, None, Result, Ok, Err, IfOk, refl, sym, ◌∙◌, ap, subst}
+use Rattle.std.proofs.Common.{◌≡◌, inl, inr, ℕ, List, Option, Some, None, Result, Ok, Err, refl, sym, ◌∙◌, ap, subst}
 use Rattle.pgo_base.specs.Data.{Data}
 use Rattle.pgo_base.specs.Lookup.{Name}
 use Rattle.pgo_syntax.specs.declared.bound.Bound.{Bound}
@@ -14,12 +14,15 @@ use Rattle.pgo_labels.specs.declared.errors.LabelError.{LabelError}
 use Rattle.pgo_scope.specs.Refusal as named
 use Rattle.pgo_scope.specs.Refusal.{scope_refusal}
 use Rattle.pgo_scope.specs.declared.errors.ScopeError.{ScopeError}
-use Rattle.pgo_mpcal_read.specs.Texts.{SpellsSpec}
+use Rattle.pgo_expand.specs.Limits as limits
+use Rattle.pgo_expand.specs.Limits.{expand_refusal}
+use Rattle.pgo_expand.specs.declared.errors.ExpandStop.{ExpandStop}
+use Rattle.pgo_expand.specs.declared.errors.ExpandStop.TheVariants as expand
+use Rattle.pgo_pluscal.specs.declared.pluscal.PlusCal.{PlusCal}
 use Rattle.pgo_accept.specs.declared.errors.Rejection.{Rejection}
-use Rattle.pgo_accept.specs.declared.errors.Rejection.TheVariants as rejections
-use Rattle.pgo_accept.specs.Answers.{Judges, Answers}
+use Rattle.pgo_accept.specs.Answers.{Judges, PassesRules, NothingRefuses, Expands, OfText, GivesExpansion, IsExpandable}
 use Rattle.pgo_accept.specs.Answers as answers
-use Rattle.pgo_accept.specs.Refusals.{or_line, scope_line, label_line, bind_line, rejection_line, not_built, syntax_line, bound_line, labeled_line, spec_line, RefusedWith}
+use Rattle.pgo_accept.specs.Refusals.{or_line, scope_line, label_line, bind_line, expand_line, rejection_line, not_built, syntax_line, spec_line, RefusedWith}
 use Rattle.pgo_accept.specs.Refusals as refusals
 
 no_line : {l : List ℕ} → None ≡ Some l → ⊥
@@ -59,55 +62,102 @@ bind_some o (bind.InitNoValue x) l h k = h
 bind_some o (bind.InitEmpty x) l h k = h
 bind_some o bind.NoMemory l h k = absurd (no_line k)
 
--- ---- the line of a specification, over any three answers of the rules
+expand_some : (o : Option ExpandStop) (e : ExpandStop) (l : List ℕ) → limits.Refuses o e → expand_line e ≡ Some l → o ≡ Some e
+expand_some o (expand.Wide n) l h k = h
+expand_some o (expand.Deep n) l h k = h
+expand_some o expand.NoMemory l h k = absurd (no_line k)
 
--- the line of the first refusal of names, labels and binding
-abbrev line_by : Option ScopeError → Option LabelError → Option BindError → List ℕ
-line_by o p q = or_line scope_line o (or_line label_line p (or_line bind_line q not_built))
+-- what is refused isn't passed
+not_passed : {E : Type 0} {o : Option E} {e : E} → o ≡ Some e → o ≡ None → ⊥
+not_passed h g = absurd (cc)
 
-accepted_line : (o : Option ScopeError) (p : Option LabelError) (q : Option BindError) → o ≡ None → p ≡ None → q ≡ None → line_by o p q ≡ not_built
-accepted_line o p q a b c =
-    passed scope_line o (or_line label_line p (or_line bind_line q not_built)) a
-    ∙ passed label_line p (or_line bind_line q not_built) b
-    ∙ passed bind_line q not_built c
+-- ---- the line of a specification, over any four answers of the rules
 
-scope_refused : (o : Option ScopeError) (p : Option LabelError) (q : Option BindError) (e : ScopeError) (l : List ℕ) → named.Answers o (Err e) → scope_line e ≡ Some l
-    → line_by o p q ≡ l
-scope_refused o p q e l h k = given scope_line o e (or_line label_line p (or_line bind_line q not_built)) l (scope_some o e l h k) k
+-- the line of the first refusal of names, labels, binding and limits
+abbrev line_by : Option ScopeError → Option LabelError → Option BindError → Option ExpandStop → List ℕ
+line_by o p q r = or_line scope_line o (or_line label_line p (or_line bind_line q (or_line expand_line r not_built)))
 
-label_refused : (o : Option ScopeError) (p : Option LabelError) (q : Option BindError) (e : LabelError) (l : List ℕ) → o ≡ None
-    → labeled.Answers {A = Unit {0}} p (Err e) → label_line e ≡ Some l → line_by o p q ≡ l
-label_refused o p q e l a h k =
-    passed scope_line o (or_line label_line p (or_line bind_line q not_built)) a
-    ∙ given label_line p e (or_line bind_line q not_built) l (label_some p e l h k) k
+passed_names : (o : Option ScopeError) (p : Option LabelError) (q : Option BindError) (r : Option ExpandStop) → o ≡ None
+    → line_by o p q r ≡ or_line label_line p (or_line bind_line q (or_line expand_line r not_built))
+passed_names o p q r a = passed scope_line o (or_line label_line p (or_line bind_line q (or_line expand_line r not_built))) a
 
-bind_refused : (o : Option ScopeError) (p : Option LabelError) (q : Option BindError) (e : BindError) (l : List ℕ) → o ≡ None → p ≡ None → bound.Refuses q e
-    → bind_line e ≡ Some l → line_by o p q ≡ l
-bind_refused o p q e l a b h k =
-    passed scope_line o (or_line label_line p (or_line bind_line q not_built)) a
-    ∙ passed label_line p (or_line bind_line q not_built) b
-    ∙ given bind_line q e not_built l (bind_some q e l h k) k
+passed_labels : (o : Option ScopeError) (p : Option LabelError) (q : Option BindError) (r : Option ExpandStop) → o ≡ None → p ≡ None
+    → line_by o p q r ≡ or_line bind_line q (or_line expand_line r not_built)
+passed_labels o p q r a b = passed_names o p q r a ∙ passed label_line p (or_line bind_line q (or_line expand_line r not_built)) b
+
+passed_binding : (o : Option ScopeError) (p : Option LabelError) (q : Option BindError) (r : Option ExpandStop) → o ≡ None → p ≡ None → q ≡ None
+    → line_by o p q r ≡ or_line expand_line r not_built
+passed_binding o p q r a b c = passed_labels o p q r a b ∙ passed bind_line q (or_line expand_line r not_built) c
 
 -- the line of a refusal of a specification
 rejected_line : (s : Spec) (consts : List (Name × Data)) (e : Rejection) (l : List ℕ) → Judges s consts (Err e) → rejection_line e ≡ Some l → spec_line s consts ≡ l
 rejected_line s consts e l (answers.names f h) k =
-    scope_refused (scope_refusal s) (label_refusal s) (bind_refusal s consts) f l h k
+    given scope_line (scope_refusal s) f (or_line label_line (label_refusal s) (or_line bind_line (bind_refusal s consts) (or_line expand_line (expand_refusal s) not_built))) l
+    (scope_some (scope_refusal s) f l h k) k
 rejected_line s consts e l (answers.labels f a h) k =
-    label_refused (scope_refusal s) (label_refusal s) (bind_refusal s consts) f l a h k
+    passed_names (scope_refusal s) (label_refusal s) (bind_refusal s consts) (expand_refusal s) a
+    ∙ given label_line (label_refusal s) f (or_line bind_line (bind_refusal s consts) (or_line expand_line (expand_refusal s) not_built)) l (label_some (label_refusal s) f l h k) k
 rejected_line s consts e l (answers.binding f a b h) k =
-    bind_refused (scope_refusal s) (label_refusal s) (bind_refusal s consts) f l a b h k
+    passed_labels (scope_refusal s) (label_refusal s) (bind_refusal s consts) (expand_refusal s) a b
+    ∙ given bind_line (bind_refusal s consts) f (or_line expand_line (expand_refusal s) not_built) l (bind_some (bind_refusal s consts) f l h k) k
+
+stopped_line : (s : Spec) (consts : List (Name × Data)) (e : Rejection) (l : List ℕ) → Expands s consts (Err e) → rejection_line e ≡ Some l → spec_line s consts ≡ l
+stopped_line s consts e l (answers.judged f j) k = rejected_line s consts e l j k
+stopped_line s consts e l (answers.limited f a h) k =
+    passed_binding (scope_refusal s) (label_refusal s) (bind_refusal s consts) (expand_refusal s) a.0 a.1 a.2
+    ∙ given expand_line (expand_refusal s) f not_built l (expand_some (expand_refusal s) f l h k) k
+
+-- a specification that is refused isn't let pass
+rejected_not_passed : (s : Spec) (consts : List (Name × Data)) (e : Rejection) (l : List ℕ) → Judges s consts (Err e) → rejection_line e ≡ Some l → NothingRefuses s consts → ⊥
+rejected_not_passed s consts e l (answers.names f h) k n = not_passed (scope_some (scope_refusal s) f l h k) n.names
+rejected_not_passed s consts e l (answers.labels f a h) k n = not_passed (label_some (label_refusal s) f l h k) n.labels
+rejected_not_passed s consts e l (answers.binding f a b h) k n = not_passed (bind_some (bind_refusal s consts) f l h k) n.binding
+
+stopped_not_passed : (s : Spec) (consts : List (Name × Data)) (e : Rejection) (l : List ℕ) → Expands s consts (Err e) → rejection_line e ≡ Some l → NothingRefuses s consts → ⊥
+stopped_not_passed s consts e l (answers.judged f j) k n = rejected_not_passed s consts e l j k n
+stopped_not_passed s consts e l (answers.limited f a h) k n = not_passed (expand_some (expand_refusal s) f l h k) n.limits
 
 -- ---- the line of a text
 
 some_line : {k l : List ℕ} → Some k ≡ Some l → k ≡ l
 some_line e = cc
 
-pub accepted : (text : List ℕ) (consts : List (Name × Data)) (b : Bound) (l : List ℕ) → Answers text consts (Ok b) → l ≡ not_built → RefusedWith text consts l
-accepted text consts b l (answers.spelled s r sp (answers.bound c x y z w)) e =
-    subst (RefusedWith text consts) (accepted_line (scope_refusal s) (label_refusal s) (bind_refusal s consts) x y z ∙ sym e) (refusals.spelled s sp)
+pub accepted : (text : List ℕ) (consts : List (Name × Data)) (p : PlusCal) (l : List ℕ) → GivesExpansion text consts (Ok p) → l ≡ not_built → RefusedWith text consts l
+accepted text consts p l (answers.spelled s r sp only (answers.expanded q n m)) e =
+    subst (RefusedWith text consts)
+    (passed_binding (scope_refusal s) (label_refusal s) (bind_refusal s consts) (expand_refusal s) n.names n.labels n.binding
+    ∙ passed expand_line (expand_refusal s) not_built n.limits ∙ sym e)
+    (refusals.spelled s sp)
 
-pub refused : (text : List ℕ) (consts : List (Name × Data)) (e : Rejection) (l : List ℕ) → Answers text consts (Err e) → rejection_line e ≡ Some l
+pub refused : (text : List ℕ) (consts : List (Name × Data)) (e : Rejection) (l : List ℕ) → GivesExpansion text consts (Err e) → rejection_line e ≡ Some l
     → RefusedWith text consts l
 refused text consts e l (answers.syntax offset h) k = subst (RefusedWith text consts) (some_line k) (refusals.syntax offset h)
-refused text consts e l (answers.spelled s r sp j) k = subst (RefusedWith text consts) (rejected_line s consts e l j k) (refusals.spelled s sp)
+refused text consts e l (answers.spelled s r sp only j) k = subst (RefusedWith text consts) (stopped_line s consts e l j k) (refusals.spelled s sp)
 refused text consts e l answers.no_memory k = absurd (no_line k)
+
+-- a text that is refused with a line has no expansion
+pub not_expandable : (text : List ℕ) (consts : List (Name × Data)) (e : Rejection) (l : List ℕ) → GivesExpansion text consts (Err e) → rejection_line e ≡ Some l
+    → IsExpandable text consts → ⊥
+not_expandable text consts e l (answers.syntax offset h) k x = h x.0 x.1
+not_expandable text consts e l (answers.spelled s r sp only j) k x =
+    stopped_not_passed s consts e l j k (subst (λ t. NothingRefuses t consts) (sym (only x.0 x.1)) x.2)
+not_expandable text consts e l answers.no_memory k x = absurd (no_line k)
+
+-- ---- texts that spell no specification
+
+-- what stops the reading stops whatever comes behind it
+pub unread : {A : Type 0} (P : Spec → Result A Rejection → Type 0) (text : List ℕ) (e : Rejection) → OfText (λ s (r : Result Spec Rejection). r ≡ Ok s) text (Err e)
+    → OfText P text (Err e)
+unread P text e (answers.syntax offset h) = answers.syntax offset h
+unread P text e (answers.spelled s r sp only j) = absurd (cc)
+unread P text e answers.no_memory = answers.no_memory
+
+-- what is answered about the specification that was read is answered about the text
+pub of_read : {A : Type 0} (P : Spec → Result A Rejection → Type 0) (text : List ℕ) (s : Spec) (r : Result A Rejection) → OfText (λ s (r : Result Spec Rejection). r ≡ Ok s) text (Ok s)
+    → P s r → OfText P text r
+of_read P text s r (answers.spelled t q sp only j) h =
+    let e : t ≡ s = cc in answers.spelled t r sp only (subst (λ u. P u r) (sym e) h)
+
+-- the rules let pass what is bound
+pub passes : (s : Spec) (consts : List (Name × Data)) (b : Bound) → Judges s consts (Ok b) → PassesRules s consts
+passes s consts b (answers.bound c x y z w) = (x, y, z)

@@ -83,3 +83,10 @@ first_label_rule (f ∷ fs) rules h = absurd (go (least label_place fs) h)
     go : (o : Option labels.Finding) → elim (sooner_of label_place (Some f) o) as (λ o. Option LabelError) [ None ↦ first_refusal rules | Some g ↦ Some g.error ] ≡ None → ⊥
     go None e = cc
     go (Some g) e = cc
+
+pub next_label_rules : (fs : List labels.Finding) (rules : List (List labels.Finding)) → first_refusal (fs ∷ rules) ≡ None → first_refusal rules ≡ None
+next_label_rules fs rules h = go (least label_place fs) h
+  where
+    go : (o : Option labels.Finding) → elim o as (λ o. Option LabelError) [ None ↦ first_refusal rules | Some g ↦ Some g.error ] ≡ None → first_refusal rules ≡ None
+    go None e = e
+    go (Some g) e = absurd (cc)

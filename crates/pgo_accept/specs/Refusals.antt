@@ -1,5 +1,5 @@
 -- Why a specification's text isn't run, and the line that says so.
-use Rattle.std.specs.Prelude.{◌≡◌, ℕ, List, ◌++◌, codes, decimal, Option, Some, None}
+use Rattle.std.specs.Prelude.{ℕ, List, ◌++◌, codes, decimal, Option, Some, None}
 use Rattle.pgo_base.specs.Data.{Data}
 use Rattle.pgo_base.specs.Lookup.{Name}
 use Rattle.pgo_base.specs.View.{data_of}
@@ -14,6 +14,9 @@ use Rattle.pgo_labels.specs.Refusal.{label_refusal}
 use Rattle.pgo_heads.specs.declared.errors.BindError.{BindError}
 use Rattle.pgo_heads.specs.declared.errors.BindError.TheVariants as bind
 use Rattle.pgo_heads.specs.Refusals.{bind_refusal}
+use Rattle.pgo_expand.specs.declared.errors.ExpandStop.{ExpandStop}
+use Rattle.pgo_expand.specs.declared.errors.ExpandStop.TheVariants as expand
+use Rattle.pgo_expand.specs.Limits.{expand_refusal}
 use Rattle.pgo_mpcal_read.specs.Texts.{SpellsSpec}
 use Rattle.pgo_accept.specs.declared.errors.Rejection.{Rejection}
 use Rattle.pgo_accept.specs.declared.errors.Rejection.TheVariants as rejections
@@ -74,11 +77,17 @@ bind_line (bind.InitNoValue x) = Some (one_name (codes "pgo: bind 8 InitNoValue 
 bind_line (bind.InitEmpty x) = Some (one_name (codes "pgo: bind 9 InitEmpty ") x)
 bind_line bind.NoMemory = None
 
+abbrev pub expand_line : ExpandStop → Option (List ℕ)
+expand_line (expand.Wide n) = Some (one_number (codes "pgo: expand 1 Wide ") n)
+expand_line (expand.Deep n) = Some (one_number (codes "pgo: expand 2 Deep ") n)
+expand_line expand.NoMemory = None
+
 abbrev pub rejection_line : Rejection → Option (List ℕ)
 rejection_line (rejections.Syntax offset) = Some (syntax_line offset)
 rejection_line (rejections.Scope e) = scope_line e
 rejection_line (rejections.Labels e) = label_line e
 rejection_line (rejections.Bind e) = bind_line e
+rejection_line (rejections.Expand e) = expand_line e
 rejection_line rejections.NoMemory = None
 
 -- ---- what is refused
@@ -88,10 +97,13 @@ abbrev pub or_line : {E : Type 0} → (E → Option (List ℕ)) → Option E →
 or_line line None other = other
 or_line line (Some e) other = elim (line e) as (λ o. List ℕ) [ None ↦ other | Some l ↦ l ]
 
--- the line of a specification with these constants: that of the first refusal of scope, labels and bind, and where nothing
--- refuses it, that it isn't built
+-- the line of a specification with these constants: that of the first refusal of scope, labels, bind and the limits of its
+-- expansion, and where nothing refuses it, that it isn't built
+abbrev pub expanded_line : Spec → List ℕ
+expanded_line s = or_line expand_line (expand_refusal s) not_built
+
 abbrev pub bound_line : Spec → List (Name × Data) → List ℕ
-bound_line s consts = or_line bind_line (bind_refusal s consts) not_built
+bound_line s consts = or_line bind_line (bind_refusal s consts) (expanded_line s)
 
 abbrev pub labeled_line : Spec → List (Name × Data) → List ℕ
 labeled_line s consts = or_line label_line (label_refusal s) (bound_line s consts)

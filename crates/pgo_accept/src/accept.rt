@@ -1,20 +1,22 @@
-// What a specification's text is bound to with constants, or the first refusal, as an error and as a line.
-ghost use Rattle.std.specs.Prelude.{◌≡◌, None, IfOk};
+// What a specification's text is bound to with constants and its expansion, or the first refusal, as an error and as a line.
+ghost use Rattle.std.specs.Prelude.{◌≡◌, None, Ok, Err, IfOk, IfErr};
 ghost use Rattle.pgo_bound.specs.Declares.{Declares};
 ghost use Rattle.pgo_bound.specs.Sound.{Sound};
 ghost use Rattle.pgo_labels.specs.Refusal.{label_refusal};
 ghost use Rattle.pgo_scope.specs.Refusal.{scope_refusal};
-ghost use Rattle.pgo_accept.specs.Answers.{Answers, Judges};
+ghost use Rattle.pgo_accept.specs.Answers.{Answers, Expands, GivesExpansion, Judges, OfText, PassesRules};
 ghost use Rattle.pgo_accept.specs.Refusals.{RefusedWith};
 
 use crate::errors::Rejection;
 use crate::lines::{not_built_line, rejection_line};
 use pgo_base::consts::Consts;
 use pgo_bind::bind::bind;
+use pgo_expand::expand::expand;
 use pgo_labels::labels;
 use pgo_lexer::errors::TextStop;
 use pgo_module_write::line::Line;
 use pgo_mpcal_read::reader::read_spec;
+use pgo_pluscal::pluscal::PlusCal;
 use pgo_scope::scope::scope;
 use pgo_syntax::bound::Bound;
 use pgo_syntax::spec::Spec;
@@ -59,6 +61,17 @@ fn judged(alloc: Global, system: &Spec, consts: &Consts) -> Result<Bound, Reject
     }
 }
 
+/// The specification that a text spells, or why there is none.
+fn read(alloc: Global, text: &[u8]) -> Result<Spec, Rejection>
+    ensures { OfText (λ s r. r ≡ Ok s) text.now result }
+{
+    match read_spec(alloc, text) {
+        Ok(system) => Ok(system),
+        Err(TextStop::Syntax { offset }) => Err(Rejection::Syntax { offset }),
+        Err(TextStop::NoMemory) => Err(Rejection::NoMemory),
+    }
+}
+
 /// What a text is bound to with these constants: the bound system of the one specification that it spells, where the rules
 /// of names, of labels and of binding refuse nothing; else the first refusal, those of names before those of labels, and
 /// those of binding last.
@@ -74,23 +87,61 @@ pub fn accept(alloc: Global, text: &[u8], consts: &Consts) -> Result<Bound, Reje
     ensures sound { IfOk result Sound }
     ensures declared { IfOk result (λ b. Declares b b.start) }
 {
-    match read_spec(alloc, text) {
+    match read(alloc, text) {
         Ok(system) => judged(alloc, &system, consts),
-        Err(TextStop::Syntax { offset }) => Err(Rejection::Syntax { offset }),
-        Err(TextStop::NoMemory) => Err(Rejection::NoMemory),
+        Err(rejection) => Err(rejection),
+    }
+}
+
+/// Whether the rules of names, of labels and of binding let a specification pass.
+fn checked(alloc: Global, system: &Spec, consts: &Consts) -> Result<(), Rejection>
+    ensures passes { IfOk result (λ _. PassesRules system.now consts.now) }
+    ensures refused { IfErr result (λ e. Judges system.now consts.now (Err e)) }
+{
+    match judged(alloc, system, consts) {
+        Ok(_bound) => Ok(()),
+        Err(rejection) => Err(rejection),
+    }
+}
+
+/// The expansion of a specification, or why there is none.
+fn expanded(alloc: Global, system: &Spec, consts: &Consts) -> Result<PlusCal, Rejection>
+    ensures { Expands system.now consts.now result }
+{
+    match checked(alloc, system, consts) {
+        Ok(()) => match expand(alloc, system) {
+            Ok(made) => Ok(made),
+            Err(error) => Err(Rejection::Expand(error)),
+        },
+        Err(rejection) => Err(rejection),
+    }
+}
+
+/// The expansion of the one specification that a text spells, where the rules of names, of labels and of binding with these
+/// constants refuse nothing and it is within the limits; else the first refusal, of names, of labels, of binding, and last
+/// that of a limit. Or there was no memory.
+///
+/// Source: PlusCal; the limits and the order are this project's choice.
+pub fn expansion(alloc: Global, text: &[u8], consts: &Consts) -> Result<PlusCal, Rejection>
+    ensures { GivesExpansion text.now consts.now result }
+{
+    match read(alloc, text) {
+        Ok(system) => expanded(alloc, &system, consts),
+        Err(rejection) => Err(rejection),
     }
 }
 
 /// The line, with its newline, that says why a text isn't run with these constants: `pgo: syntax at` and an offset in bytes
-/// where it spells no specification; the first refusal of the rules of names, of labels and of binding, in this order, as
-/// `pgo: <scope|labels|bind> <number> <Name> <fields>`; and `pgo: not built` where nothing refuses it.
+/// where it spells no specification; the first refusal of the rules of names, of labels and of binding and of the limits of
+/// its expansion, in this order, as `pgo: <scope|labels|bind|expand> <number> <Name> <fields>`; and `pgo: not built` where
+/// nothing refuses it.
 ///
 /// This project's choice.
 pub fn refusal_line(alloc: Global, text: &[u8], consts: &Consts) -> Result<Line, AllocError>
     ensures { IfOk result (RefusedWith text.now consts.now) }
 {
-    match accept(alloc, text, consts) {
-        Ok(_bound) => not_built_line(alloc),
+    match expansion(alloc, text, consts) {
+        Ok(_expanded) => not_built_line(alloc),
         Err(rejection) => rejection_line(alloc, &rejection),
     }
 }

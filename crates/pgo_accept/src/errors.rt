@@ -1,5 +1,6 @@
 // Why a text is not accepted.
 use pgo_bind::errors::BindError;
+use pgo_expand::errors::ExpandStop;
 use pgo_labels::errors::LabelError;
 use pgo_scope::errors::ScopeError;
 use thiserror::Error;
@@ -9,7 +10,8 @@ use thiserror::Error;
 /// - `Syntax`: it spells no specification. The offset counts bytes from 0: it is that of the first token or byte that can't
 ///   stand at its place, or the text's length.
 /// - `Scope`, `Labels`, `Bind`: the first refusal of the rules of names, of labels, and of binding.
-/// - `NoMemory`: there was no memory to read it; want of memory later on is that of the three.
+/// - `Expand`: its expansion is beyond a limit. It comes of `expansion` alone.
+/// - `NoMemory`: there was no memory to read it; want of memory later on is that of the four.
 ///
 /// This project's choice.
 #[derive(Debug, Drop, Error)]
@@ -22,6 +24,8 @@ pub enum Rejection {
     Labels(LabelError),
     #[error("binding")]
     Bind(BindError),
+    #[error("expansion")]
+    Expand(ExpandStop),
     #[error("out of memory")]
     NoMemory,
 }

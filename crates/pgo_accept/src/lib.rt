@@ -1,7 +1,7 @@
-// What a specification's text is bound to, and the line of its refusal where it isn't.
+// What a specification's text is bound to, its expansion, and the line of its refusal where it is refused.
 #![tactic(auto)]
 
 pub mod accept;
 pub mod errors;
 pub mod laws;
-mod lines;
+pub mod lines;

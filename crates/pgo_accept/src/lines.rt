@@ -5,6 +5,7 @@ ghost use Rattle.pgo_accept.specs.Refusals as spec;
 use crate::errors::Rejection;
 use pgo_base::text::Text;
 use pgo_bind::errors::BindError;
+use pgo_expand::errors::ExpandStop;
 use pgo_labels::errors::LabelError;
 use pgo_module_write::line::Line;
 use pgo_module_write::line::Piece::{Bytes, Name, Number};
@@ -166,7 +167,21 @@ fn bind_line(alloc: Global, error: &BindError) -> Result<Line, AllocError>
     }
 }
 
-/// The line of a refusal; want of memory has none.
+/// The line of a limit of an expansion; want of memory has none.
+fn expand_line(alloc: Global, error: &ExpandStop) -> Result<Line, AllocError>
+    ensures { IfOk result (λ l. spec.expand_line error.now ≡ Some l) }
+{
+    match error {
+        ExpandStop::Wide { nodes } => one_number(alloc, b"pgo: expand 1 Wide ", *nodes),
+        ExpandStop::Deep { height } => one_number(alloc, b"pgo: expand 2 Deep ", *height),
+        ExpandStop::NoMemory => Err(AllocError),
+    }
+}
+
+/// The line of a refusal, with its newline; want of memory has none, and gives an error.
+///
+/// `pgo: syntax at` and an offset in bytes, or `pgo: <scope|labels|bind|expand> <number> <Name> <fields>`. This project's
+/// choice.
 pub fn rejection_line(alloc: Global, rejection: &Rejection) -> Result<Line, AllocError>
     ensures { IfOk result (λ l. spec.rejection_line rejection.now ≡ Some l) }
 {
@@ -175,6 +190,7 @@ pub fn rejection_line(alloc: Global, rejection: &Rejection) -> Result<Line, Allo
         Rejection::Scope(error) => scope_line(alloc, error),
         Rejection::Labels(error) => label_line(alloc, error),
         Rejection::Bind(error) => bind_line(alloc, error),
+        Rejection::Expand(error) => expand_line(alloc, error),
         Rejection::NoMemory => Err(AllocError),
     }
 }

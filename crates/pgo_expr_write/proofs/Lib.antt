@@ -15,3 +15,4 @@ pub mod ProductForms
 pub mod Canonical
 pub mod Formed
 pub mod ReadBack
+pub mod ByNames

@@ -1,13 +1,11 @@
 -- The canonical text of an expression is that of its pieces.
-use Rattle.std.proofs.Common.{◌≡◌, true, false, List, [], ◌∷◌, ◌++◌, map, refl, ap, ◌∙◌}
+use Rattle.std.proofs.Common.{◌≡◌, true, false, [], ◌∷◌, ◌++◌, refl, ap, ◌∙◌}
 use Rattle.std.specs.Prelude.{codes}
 use Rattle.std.specs.Fmt.{signed_decimal}
 use Rattle.std.proofs.lemmas.List.{append-nil}
 use Rattle.pgo_base.specs.Tree.{Tree, name, primed, number, text, truth, at, word, unary, binary, product, cond_of, case_of, case_other, let_in, quantified, choose, tuple, set_of, filter_of, image, fun_of, fun_set, record_of, record_set, except, index, field, call, unchanged}
 use Rattle.pgo_model.specs.ValueText.{string_text, truth_text}
 use Rattle.pgo_model.specs.ExprText.{prefix_text, infix_text, quantifier_text, word_text, expr_text, list_text, names_text, arms_text, lets_text, fields_text, binders_text, updates_text}
-use Rattle.pgo_expr_write.specs.declared.parts.Part.{Part}
-use Rattle.pgo_expr_write.specs.Parts.{see}
 use Rattle.pgo_expr_write.specs.Pieces.{written, operand, pieces_text, list_from, names_from, named_from, arms_from, binders_from, updates_from, pieces_of}
 use Rattle.pgo_expr_write.proofs.Nesting.{two, three, five, six, seven, two_more, three_more}
 use Rattle.pgo_expr_write.proofs.ListTexts.{around, list_is, product_is, names_is, lets_is, fields_is, arms_is, binders_is, updates_is}
@@ -62,6 +60,3 @@ text_is (call x xs) =
     ∙ around (x ++ codes "(") (list_text xs) (codes ")") (list_from (codes ", ") 0 xs) (written (codes ")") ∷ []) (list_is xs) refl
 text_is (unchanged xs) =
     around (codes "UNCHANGED <<") (names_text xs) (codes ">>") (names_from 0 xs) (written (codes ">>") ∷ []) (names_is xs) refl
-
-pub parts_text : (xs ys : List Part) (t : Tree) → xs ≡ ys → map see ys ≡ pieces_of t → pieces_text (map see xs) ≡ expr_text true t
-parts_text xs ys t e h = rw (e, h) (text_is t)

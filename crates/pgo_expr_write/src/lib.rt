@@ -6,5 +6,6 @@ mod forms;
 pub mod laws;
 mod lists;
 mod operators;
+mod own;
 mod parts;
 pub mod write;

@@ -15,14 +15,14 @@ use Rattle.pgo_front.specs.Constants.{AreConstants}
 use Rattle.pgo_front.specs.Turns.{AsksStep, AsksCheck}
 use Rattle.pgo_front.specs.Spells.{Spells, most_bytes}
 use Rattle.pgo_front.specs.Verdicts.{most_bundle_bytes, IsRunVerdict, IsBadVerdict}
-use Rattle.pgo_front.specs.Answers.{AsksNothing, AsksSomeStep, IsNotRun, IsRefused, Asked, WritesBundle, Checked, WritesVerdict, EndsWell, WritesPrefix, Stops, IsRefusal, OrNoMemory, IsToldToStep, IsToldToCheck}
+use Rattle.pgo_front.specs.Answers.{AsksNothing, AsksSomething, AsksSomeStep, AsksSomeExpand, IsNotRun, IsRefused, Asked, WritesBundle, Checked, WritesVerdict, EndsWell, WritesPrefix, Stops, IsRefusal, OrNoMemory, IsToldToStep, IsToldToCheck}
 use Rattle.pgo_front.proofs.Judging.{run_is_not_bad, no_run_is_not_run}
 
 -- what an input told is what holds of its text
-at_told : (input : Option (List ℕ)) (text : List ℕ) (P : List ℕ → Type 0) → input ≡ Some text → IfSome input P → P text
+pub at_told : (input : Option (List ℕ)) (text : List ℕ) (P : List ℕ → Type 0) → input ≡ Some text → IfSome input P → P text
 at_told input text P told h = subst (λ o. IfSome o P) told h
 
-not_short : {n : ℕ} → most_bytes < n → n ≤ most_bytes → ⊥
+pub not_short : {n : ℕ} → most_bytes < n → n ≤ most_bytes → ⊥
 not_short long short = omega (arith, long, short)
 
 not_short_bundle : {n : ℕ} → most_bundle_bytes < n → n ≤ most_bundle_bytes → ⊥
@@ -34,6 +34,18 @@ not_both step check = longer _ step.2.rest (sym step.2.words_are ∙ check)
   where
     longer : (list : List ℕ) (rest : List (List ℕ)) → codes "step" ∷ codes "--turns" ∷ list ∷ rest ≡ codes "check" ∷ [] → ⊥
     longer list rest e = let n : suc (suc (suc (length rest))) ≡ 1 = ap length e in omega (arith, n)
+
+-- how long the first word is
+abbrev first_length : List (List ℕ) → ℕ
+first_length [] = 0
+first_length (w ∷ ws) = length w
+
+-- words that ask for an expansion ask for nothing else
+pub expand_no_step : {words : List (List ℕ)} → AsksSomeExpand words → AsksSomeStep words → ⊥
+expand_no_step expand step = let n : 6 ≡ 4 = ap first_length (sym expand.1.words_are ∙ step.2.words_are) in omega (arith, n)
+
+pub expand_no_check : {words : List (List ℕ)} → AsksSomeExpand words → AsksCheck words → ⊥
+expand_no_check expand check = let n : 6 ≡ 5 = ap first_length (sym expand.1.words_are ∙ check) in omega (arith, n)
 
 -- words that may ask for turns without constants ask for no constants
 no_constants : {words : List (List ℕ)} {ts us : List ℕ} {cs : List (Name × Data)} → AsksStep words ts [] → AsksStep words us cs → cs ≡ []
@@ -55,9 +67,10 @@ no_constants {words} {ts} {us} {cs} a b = none b.rest cs (nothing a.rest a.const
     none ws (d ∷ ds) e each = absurd (subst (λ vs. AreConstants vs (d ∷ ds)) e each)
 
 -- words that ask for something don't ask for nothing
-pub some_or_check : {words : List (List ℕ)} → AsksSomeStep words ⊎ AsksCheck words → AsksNothing words → ⊥
-some_or_check (inl a) nothing = nothing.0 a.0 a.1 a.2
-some_or_check (inr a) nothing = nothing.1 a
+pub not_nothing : {words : List (List ℕ)} → AsksSomething words → AsksNothing words → ⊥
+not_nothing (inl a) nothing = nothing.0 a.0 a.1 a.2
+not_nothing (inr (inl a)) nothing = nothing.1 a
+not_nothing (inr (inr a)) nothing = nothing.2 a.0 a.1
 
 module _ (words : List (List ℕ)) (input : Option (List ℕ)) (before now : ℕ) (out_before out_now : ℕ) (old new : Option (List ℕ)) where
   -- what the statuses say of a call
@@ -69,29 +82,36 @@ module _ (words : List (List ℕ)) (input : Option (List ℕ)) (before now : ℕ
     pub write_fault : s ≡ status.WriteFault → Rose out_before out_now
     pub prefix : s ≡ status.WriteFault → WritesPrefix words input old new
 
-  fine_asks : EndsWell words input old new → AsksSomeStep words ⊎ AsksCheck words
+  fine_asks : EndsWell words input old new → AsksSomething words
   fine_asks (inl h) = inl h.0
-  fine_asks (inr h) = inr h.0
+  fine_asks (inr (inl h)) = inr (inl h.0)
+  fine_asks (inr (inr h)) = inr (inr h.0)
 
-  fault_asks : WritesPrefix words input old new → AsksSomeStep words ⊎ AsksCheck words
+  fault_asks : WritesPrefix words input old new → AsksSomething words
   fault_asks (inl h) = inl h.0
-  fault_asks (inr h) = inr h.0
+  fault_asks (inr (inl h)) = inr (inl h.0)
+  fault_asks (inr (inr h)) = inr (inr h.0)
+
+  refused_asks : Stops words input before now status.SpecRefused → AsksSomething words
+  refused_asks (inl h) = inl h.0
+  refused_asks (inr h) = inr (inr h.0)
 
   -- words that ask for nothing
   pub usage_comes : (s : Status) → Says s → AsksNothing words → OrNoMemory s status.Usage
-  usage_comes status.Fine h nothing = absurd (some_or_check (fine_asks (h.fine refl)) nothing)
+  usage_comes status.Fine h nothing = absurd (not_nothing (fine_asks (h.fine refl)) nothing)
   usage_comes status.Usage h nothing = inl refl
-  usage_comes status.SpecRefused h nothing = absurd (some_or_check (inl (h.stopped tt).0) nothing)
-  usage_comes status.ReadFault h nothing = absurd (some_or_check (h.stopped tt).0 nothing)
-  usage_comes status.WriteFault h nothing = absurd (some_or_check (fault_asks (h.prefix refl)) nothing)
-  usage_comes status.TooLong h nothing = absurd (some_or_check (long_asks (h.stopped tt)) nothing)
+  usage_comes status.SpecRefused h nothing = absurd (not_nothing (refused_asks (h.stopped tt)) nothing)
+  usage_comes status.ReadFault h nothing = absurd (not_nothing (h.stopped tt).0 nothing)
+  usage_comes status.WriteFault h nothing = absurd (not_nothing (fault_asks (h.prefix refl)) nothing)
+  usage_comes status.TooLong h nothing = absurd (not_nothing (long_asks (h.stopped tt)) nothing)
     where
-      long_asks : Stops words input before now status.TooLong → AsksSomeStep words ⊎ AsksCheck words
+      long_asks : Stops words input before now status.TooLong → AsksSomething words
       long_asks (inl h) = inl h.0
-      long_asks (inr h) = inr h.0
-  usage_comes status.Spent h nothing = absurd (some_or_check (inl (h.spent refl).0) nothing)
-  usage_comes status.NotARun h nothing = absurd (some_or_check (inr (h.not_a_run refl).0) nothing)
-  usage_comes status.BadBundle h nothing = absurd (some_or_check (inr (h.stopped tt).0) nothing)
+      long_asks (inr (inl h)) = inr (inl h.0)
+      long_asks (inr (inr h)) = inr (inr h.0)
+  usage_comes status.Spent h nothing = absurd (not_nothing (inl (h.spent refl).0) nothing)
+  usage_comes status.NotARun h nothing = absurd (not_nothing (inr (inl (h.not_a_run refl).0)) nothing)
+  usage_comes status.BadBundle h nothing = absurd (not_nothing (inr (inl (h.stopped tt).0)) nothing)
   usage_comes status.NoMemory h nothing = inr refl
 
   module _ (turns text : List ℕ) (consts : List (Name × Data)) (told : IsToldToStep words input turns consts text) (read : Rose before now → ⊥) where
@@ -104,16 +124,22 @@ module _ (words : List (List ℕ)) (input : Option (List ℕ)) (before now : ℕ
     no_check : {A : Type 0} → AsksCheck words → A
     no_check check = absurd (not_both (turns, consts, told.asks) check)
 
+    no_expand : {A : Type 0} → AsksSomeExpand words → A
+    no_expand expand = absurd (expand_no_step expand (turns, consts, told.asks))
+
     fine_asked : EndsWell words input old new → Run
     fine_asked (inl h) = ran_asked 0 h
-    fine_asked (inr h) = no_check h.0
+    fine_asked (inr (inl h)) = no_check h.0
+    fine_asked (inr (inr h)) = no_expand h.0
 
     fault_asked : WritesPrefix words input old new → Run
     fault_asked (inl h) = let g = at_told input text _ told.told h.1 in (g.0, g.1, g.2)
-    fault_asked (inr h) = no_check h.0
+    fault_asked (inr (inl h)) = no_check h.0
+    fault_asked (inr (inr h)) = no_expand h.0
 
-    refused_text : AsksSomeStep words × IfSome input (IsRefused words) → IsRefused words text
-    refused_text h = at_told input text (IsRefused words) told.told h.1
+    refused_text : Stops words input before now status.SpecRefused → IsRefused words text
+    refused_text (inl h) = at_told input text (IsRefused words) told.told h.1
+    refused_text (inr h) = no_expand h.0
 
     -- what was run isn't refused
     not_refused : {n : ℕ} {written : List ℕ} → IsNotRun text consts → Asked words text n written → ⊥
@@ -122,7 +148,8 @@ module _ (words : List (List ℕ)) (input : Option (List ℕ)) (before now : ℕ
 
     long_text : Stops words input before now status.TooLong → most_bytes < length text
     long_text (inl h) = at_told input text (λ t. most_bytes < length t) told.told h.1
-    long_text (inr h) = no_check h.0
+    long_text (inr (inl h)) = no_check h.0
+    long_text (inr (inr h)) = no_expand h.0
 
     not_usage : AsksNothing words → ⊥
     not_usage nothing = nothing.0 turns consts told.asks
@@ -178,23 +205,34 @@ module _ (words : List (List ℕ)) (input : Option (List ℕ)) (before now : ℕ
     no_step : {A : Type 0} → AsksSomeStep words → A
     no_step step = absurd (not_both step told.asks)
 
+    not_expand : {A : Type 0} → AsksSomeExpand words → A
+    not_expand expand = absurd (expand_no_check expand told.asks)
+
+    -- words that ask for a check aren't refused for a specification
+    not_refused_spec : {A : Type 0} → Stops words input before now status.SpecRefused → A
+    not_refused_spec (inl h) = no_step h.0
+    not_refused_spec (inr h) = not_expand h.0
+
     found : (Wanted : Verdict → Type 0) → WritesVerdict words input Wanted old new → (v : Verdict) × Wanted v × Checked text v
     found Wanted h = let g = at_told input text _ told.told h.1 in (g.0, g.1, g.2)
 
     fine_found : EndsWell words input old new → (v : Verdict) × IsRunVerdict v × Checked text v
     fine_found (inl h) = no_step h.0
-    fine_found (inr h) = found IsRunVerdict h
+    fine_found (inr (inl h)) = found IsRunVerdict h
+    fine_found (inr (inr h)) = not_expand h.0
 
     fault_found : WritesPrefix words input old new → (v : Verdict) × Checked text v
     fault_found (inl h) = no_step h.0
-    fault_found (inr h) = let g = at_told input text _ told.told h.1 in (g.0, g.1)
+    fault_found (inr (inr h)) = not_expand h.0
+    fault_found (inr (inl h)) = let g = at_told input text _ told.told h.1 in (g.0, g.1)
 
     refused_bundle : Stops words input before now status.BadBundle → (length text ≤ most_bundle_bytes) × IsNoBundle text
     refused_bundle h = at_told input text (λ t. (length t ≤ most_bundle_bytes) × IsNoBundle t) told.told h.1
 
     long_bundle : Stops words input before now status.TooLong → most_bundle_bytes < length text
     long_bundle (inl h) = no_step h.0
-    long_bundle (inr h) = at_told input text (λ t. most_bundle_bytes < length t) told.told h.1
+    long_bundle (inr (inr h)) = not_expand h.0
+    long_bundle (inr (inl h)) = at_told input text (λ t. most_bundle_bytes < length t) told.told h.1
 
     asks_something : AsksNothing words → ⊥
     asks_something nothing = nothing.1 told.asks
@@ -206,7 +244,7 @@ module _ (words : List (List ℕ)) (input : Option (List ℕ)) (before now : ℕ
     pub too_long_bundle_comes : (s : Status) → Says s → most_bundle_bytes < length text → OrNoMemory s status.TooLong
     too_long_bundle_comes status.Fine h long = absurd (not_short_bundle long (fine_found (h.fine refl)).2.0)
     too_long_bundle_comes status.Usage h long = absurd (asks_something (h.stopped tt))
-    too_long_bundle_comes status.SpecRefused h long = no_step (h.stopped tt).0
+    too_long_bundle_comes status.SpecRefused h long = not_refused_spec (h.stopped tt)
     too_long_bundle_comes status.ReadFault h long = absurd (read (h.stopped tt).1)
     too_long_bundle_comes status.WriteFault h long = absurd (not_short_bundle long (fault_found (h.prefix refl)).1.0)
     too_long_bundle_comes status.TooLong h long = inl refl
@@ -219,7 +257,7 @@ module _ (words : List (List ℕ)) (input : Option (List ℕ)) (before now : ℕ
     pub no_bundle_comes : (s : Status) → Says s → length text ≤ most_bundle_bytes → IsNoBundle text → OrNoMemory s status.BadBundle
     no_bundle_comes status.Fine h short nothing = absurd (is_some_bundle (fine_found (h.fine refl)).2 nothing)
     no_bundle_comes status.Usage h short nothing = absurd (asks_something (h.stopped tt))
-    no_bundle_comes status.SpecRefused h short nothing = no_step (h.stopped tt).0
+    no_bundle_comes status.SpecRefused h short nothing = not_refused_spec (h.stopped tt)
     no_bundle_comes status.ReadFault h short nothing = absurd (read (h.stopped tt).1)
     no_bundle_comes status.WriteFault h short nothing = absurd (is_some_bundle (fault_found (h.prefix refl)).1 nothing)
     no_bundle_comes status.TooLong h short nothing = absurd (not_short_bundle (long_bundle (h.stopped tt)) short)
@@ -233,7 +271,7 @@ module _ (words : List (List ℕ)) (input : Option (List ℕ)) (before now : ℕ
       pub is_run_comes : (s : Status) → Says s → IsRun m consts l.ids l.start l.entries → OrNoMemory s status.Fine
       is_run_comes status.Fine h run = inl refl
       is_run_comes status.Usage h run = absurd (asks_something (h.stopped tt))
-      is_run_comes status.SpecRefused h run = no_step (h.stopped tt).0
+      is_run_comes status.SpecRefused h run = not_refused_spec (h.stopped tt)
       is_run_comes status.ReadFault h run = absurd (read (h.stopped tt).1)
       is_run_comes status.WriteFault h run = absurd (wrote (h.write_fault refl))
       is_run_comes status.TooLong h run = absurd (not_short_bundle (long_bundle (h.stopped tt)) short)
@@ -246,7 +284,7 @@ module _ (words : List (List ℕ)) (input : Option (List ℕ)) (before now : ℕ
       pub is_no_run_comes : (s : Status) → Says s → (IsRun m consts l.ids l.start l.entries → ⊥) → OrNoMemory s status.NotARun
       is_no_run_comes status.Fine h none = let f = fine_found (h.fine refl) in absurd (no_run_is_not_run text m consts l bundle none f.0 f.2.1 f.1)
       is_no_run_comes status.Usage h none = absurd (asks_something (h.stopped tt))
-      is_no_run_comes status.SpecRefused h none = no_step (h.stopped tt).0
+      is_no_run_comes status.SpecRefused h none = not_refused_spec (h.stopped tt)
       is_no_run_comes status.ReadFault h none = absurd (read (h.stopped tt).1)
       is_no_run_comes status.WriteFault h none = absurd (wrote (h.write_fault refl))
       is_no_run_comes status.TooLong h none = absurd (not_short_bundle (long_bundle (h.stopped tt)) short)

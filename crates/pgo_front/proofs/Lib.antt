@@ -31,4 +31,6 @@ pub mod CounterRan
 pub mod Judging
 pub mod Making
 pub mod Caused
+pub mod CausedExpand
+pub mod Expanding
 pub mod LinesWritten

@@ -5,7 +5,6 @@ use Rattle.pgo_base.specs.Data.{Data}
 use Rattle.pgo_base.specs.Lookup.{Name}
 use Rattle.pgo_base.specs.View.{named_data}
 use Rattle.pgo_base.specs.declared.value.Value.{Value}
-use Rattle.pgo_model.specs.ModuleText.{flatten}
 use Rattle.pgo_check.specs.declared.verdict.Verdict.{Verdict}
 use Rattle.pgo_check.specs.declared.verdict.Verdict.TheVariants.{Run, Bad}
 use Rattle.pgo_log_text.specs.ReadBundle.{IsNoBundle}
@@ -14,11 +13,12 @@ use Rattle.pgo_front.specs.declared.ended.Ended.{Ended}
 use Rattle.pgo_front.specs.declared.status.Status.{Status}
 use Rattle.pgo_front.specs.declared.status.Status.TheVariants as status
 use Rattle.pgo_front.specs.Turns.{AsksStep, AsksCheck}
+use Rattle.pgo_front.specs.Asked.{ExpandsOnly}
 use Rattle.pgo_front.specs.Spells.{most_bytes}
 use Rattle.pgo_front.specs.Statuses.{number_of}
 use Rattle.pgo_front.specs.Verdicts.{IsRunVerdict, IsBadVerdict, most_bundle_bytes}
 use Rattle.pgo_front.specs.Answers.{AsksSomeStep, IsNotRun, Asked, WritesBundle, WritesVerdict, EndsWell, WritesPrefix}
-use Rattle.pgo_front.specs.Makes.{IsStepStatus, IsVerdictStatus, MakesOf, MakesAsked, MakesJudged, MakesVerdict, StopsAt, StopsStep, StopsJudging, StopsCheck}
+use Rattle.pgo_front.specs.Makes.{IsStepStatus, IsVerdictStatus, MakesOf, MakesAsked, MakesExpansion, MakesJudged, MakesVerdict, StopsAt, StopsFor, StopsInput, StopsJudging, StopsCheck, bytes_of}
 
 -- a list without an item gives no constant
 pub none_there : (xs : List (Name × Value)) (consts : List (Name × Data)) → map named_data xs ≡ consts → true ≡ nat_eq (length xs) 0 → consts ≡ []
@@ -33,12 +33,12 @@ pub refused_at : (text : List ℕ) (consts : List (Name × Data)) (s : Status) �
 refused_at text consts s h (inl e) = inl (e, h)
 refused_at text consts s h (inr e) = inr e
 
--- of a text that stopped a step, of the input that it came from
-pub stops_step : (consts : List (Name × Data)) (input : Option (List ℕ)) (before now : ℕ) (text : List ℕ) (s : Status)
-    → IfSome input (λ bs. text ≡ bs) → length text ≤ most_bytes → StopsAt text consts s → StopsStep consts input before now s
-stops_step consts None before now text s told short (inl h) = inl (h.0, tt)
-stops_step consts (Some bs) before now text s told short (inl h) = inl (h.0, subst (λ bs. (length bs ≤ most_bytes) × IsNotRun bs consts) told (short, h.1))
-stops_step consts input before now text s told short (inr e) = inr (inr (inr e))
+-- of a text that is refused for a cause, of the input that it came from
+pub stops_input : (Cause : List ℕ → Type 0) (input : Option (List ℕ)) (before now : ℕ) (text : List ℕ) (s : Status)
+    → IfSome input (λ bs. text ≡ bs) → length text ≤ most_bytes → StopsFor (Cause text) s → StopsInput Cause input before now s
+stops_input Cause None before now text s told short (inl h) = inl (h.0, tt)
+stops_input Cause (Some bs) before now text s told short (inl h) = inl (h.0, subst (λ bs. (length bs ≤ most_bytes) × Cause bs) told (short, h.1))
+stops_input Cause input before now text s told short (inr e) = inr (inr (inr e))
 
 pub stops_check : (input : Option (List ℕ)) (before now : ℕ) (text : List ℕ) (s : Status)
     → IfSome input (λ bs. text ≡ bs) → length text ≤ most_bundle_bytes → StopsJudging text s → StopsCheck input before now s
@@ -48,11 +48,11 @@ stops_check input before now text s told short (inr e) = inr (inr (inr e))
 
 -- ---- what a command made
 
--- of a text, of the input that it came from
-pub makes_step : (input : Option (List ℕ)) (turns : List ℕ) (consts : List (Name × Data)) (text : List ℕ) (m : Output)
-    → IfSome input (λ bs. text ≡ bs) → length text ≤ most_bytes → MakesOf text turns consts m → IfSome input (λ bs. (length bs ≤ most_bytes) × MakesOf bs turns consts m)
-makes_step None turns consts text m told short h = tt
-makes_step (Some bs) turns consts text m told short h = subst (λ bs. (length bs ≤ most_bytes) × MakesOf bs turns consts m) told (short, h)
+-- of a text that gives something, of the input that it came from
+pub makes_input : (Given : List ℕ → Type 0) (input : Option (List ℕ)) (text : List ℕ)
+    → IfSome input (λ bs. text ≡ bs) → length text ≤ most_bytes → Given text → IfSome input (λ bs. (length bs ≤ most_bytes) × Given bs)
+makes_input Given None text told short h = tt
+makes_input Given (Some bs) text told short h = subst (λ bs. (length bs ≤ most_bytes) × Given bs) told (short, h)
 
 pub makes_check : (input : Option (List ℕ)) (text : List ℕ) (m : Output)
     → IfSome input (λ bs. text ≡ bs) → length text ≤ most_bundle_bytes → MakesJudged text m → IfSome input (λ bs. (length bs ≤ most_bundle_bytes) × MakesJudged bs m)
@@ -68,8 +68,19 @@ step_asked words (Some text) turns consts m asks either h =
 
 pub check_asked : (words : List (List ℕ)) (input : Option (List ℕ)) (m : Output) → AsksCheck words → IsVerdictStatus m
     → IfSome input (λ text. (length text ≤ most_bundle_bytes) × MakesJudged text m) → MakesAsked words input m
-check_asked words None m asks either h = inr (asks, either, tt)
-check_asked words (Some text) m asks either h = inr (asks, either, (h.1.0, (h.0, h.1.1), h.1.2))
+check_asked words None m asks either h = inr (inl (asks, either, tt))
+check_asked words (Some text) m asks either h = inr (inl (asks, either, (h.1.0, (h.0, h.1.1), h.1.2)))
+
+expand_asked : (words : List (List ℕ)) (input : Option (List ℕ)) (consts : List (Name × Data)) (m : Output) → ExpandsOnly words (Some consts) → m.status ≡ status.Fine
+    → IfSome input (λ text. (length text ≤ most_bytes) × MakesExpansion text consts m) → MakesAsked words input m
+expand_asked words None consts m asks fine h = inr (inr ((consts, asks.0), fine, tt))
+expand_asked words (Some text) consts m asks fine h =
+    inr (inr ((consts, asks.0), fine, record { consts = consts; asks = asks.0; no_others = asks.1; short = h.0; expands = h.1 }))
+
+pub expand_made : (words : List (List ℕ)) (input : Option (List ℕ)) (consts : List (Name × Data)) (r : Result Output Ended) → ExpandsOnly words (Some consts)
+    → IfOk r (λ m. m.status ≡ status.Fine) → IfOk r (λ m. IfSome input (λ text. (length text ≤ most_bytes) × MakesExpansion text consts m)) → IfOk r (MakesAsked words input)
+expand_made words input consts (Ok m) asks fine h = expand_asked words input consts m asks fine h
+expand_made words input consts (Err e) asks fine h = tt
 
 pub step_made : (words : List (List ℕ)) (input : Option (List ℕ)) (turns : List ℕ) (consts : List (Name × Data)) (r : Result Output Ended) → AsksStep words turns consts
     → IfOk r IsStepStatus → IfOk r (λ m. IfSome input (λ text. (length text ≤ most_bytes) × MakesOf text turns consts m)) → IfOk r (MakesAsked words input)
@@ -98,43 +109,49 @@ is_bad_verdict (Bad n w) m h e = tt
 
 -- a prefix of what was made
 pub into_fault : (words : List (List ℕ)) (input old new : Option (List ℕ)) (m : Output)
-    → MakesAsked words input m → GrowsByPrefix old new (flatten m.lines) → WritesPrefix words input old new
+    → MakesAsked words input m → GrowsByPrefix old new (bytes_of m.written) → WritesPrefix words input old new
 into_fault words None old new m (inl h) g = inl (h.0, tt)
-into_fault words (Some text) old new m (inl h) g = inl (h.0, (number_of m.status, flatten m.lines, h.2, g))
-into_fault words None old new m (inr h) g = inr (h.0, tt)
-into_fault words (Some text) old new m (inr h) g = inr (h.0, (h.2.0, h.2.1, subst (GrowsByPrefix old new) h.2.2.line_is g))
+into_fault words (Some text) old new m (inl h) g = inl (h.0, (number_of m.status, bytes_of m.written, h.2, g))
+into_fault words None old new m (inr (inl h)) g = inr (inl (h.0, tt))
+into_fault words (Some text) old new m (inr (inl h)) g = inr (inl (h.0, (h.2.0, h.2.1, subst (GrowsByPrefix old new) h.2.2.line_is g)))
+into_fault words None old new m (inr (inr h)) g = inr (inr (h.0, tt))
+into_fault words (Some text) old new m (inr (inr h)) g = inr (inr (h.0, (bytes_of m.written, h.2, g)))
 
 ran_with : (words : List (List ℕ)) (input old new : Option (List ℕ)) (m : Output) (s : Status) → m.status ≡ s → AsksSomeStep words
-    → IfSome input (λ text. Asked words text (number_of m.status) (flatten m.lines)) → Grows old new (flatten m.lines) → WritesBundle words input (number_of s) old new
+    → IfSome input (λ text. Asked words text (number_of m.status) (bytes_of m.written)) → Grows old new (bytes_of m.written) → WritesBundle words input (number_of s) old new
 ran_with words None old new m s e asks h g = (asks, tt)
-ran_with words (Some text) old new m s e asks h g = (asks, (flatten m.lines, subst (λ n. Asked words text n (flatten m.lines)) (ap number_of e) h, g))
+ran_with words (Some text) old new m s e asks h g = (asks, (bytes_of m.written, subst (λ n. Asked words text n (bytes_of m.written)) (ap number_of e) h, g))
 
 -- all of what was made, with each status
 pub fine_to : (words : List (List ℕ)) (input old new : Option (List ℕ)) (m : Output) → m.status ≡ status.Fine
-    → MakesAsked words input m → Grows old new (flatten m.lines) → EndsWell words input old new
+    → MakesAsked words input m → Grows old new (bytes_of m.written) → EndsWell words input old new
 fine_to words input old new m e (inl h) g = inl (ran_with words input old new m status.Fine e h.0 h.2 g)
-fine_to words None old new m e (inr h) g = inr (h.0, tt)
-fine_to words (Some text) old new m e (inr h) g =
-    inr (h.0, (h.2.0, is_run_verdict h.2.0 m h.2.2 e, h.2.1, subst (Grows old new) h.2.2.line_is g))
+fine_to words None old new m e (inr (inl h)) g = inr (inl (h.0, tt))
+fine_to words (Some text) old new m e (inr (inl h)) g =
+    inr (inl (h.0, (h.2.0, is_run_verdict h.2.0 m h.2.2 e, h.2.1, subst (Grows old new) h.2.2.line_is g)))
+fine_to words None old new m e (inr (inr h)) g = inr (inr (h.0, tt))
+fine_to words (Some text) old new m e (inr (inr h)) g = inr (inr (h.0, (bytes_of m.written, h.2, g)))
 
 pub spent_to : (words : List (List ℕ)) (input old new : Option (List ℕ)) (m : Output) → m.status ≡ status.Spent
-    → MakesAsked words input m → Grows old new (flatten m.lines) → WritesBundle words input 21 old new
+    → MakesAsked words input m → Grows old new (bytes_of m.written) → WritesBundle words input 21 old new
 spent_to words input old new m e (inl h) g = ran_with words input old new m status.Spent e h.0 h.2 g
-spent_to words input old new m e (inr h) g = absurd (neither h.1)
+spent_to words input old new m e (inr (inr h)) g = absurd (not_fine m e h.1)
+spent_to words input old new m e (inr (inl h)) g = absurd (neither h.1)
   where
     neither : IsVerdictStatus m → ⊥
     neither (inl f) = not_fine m e f
     neither (inr f) = not_no_run m e f
 
 pub not_a_run_to : (words : List (List ℕ)) (input old new : Option (List ℕ)) (m : Output) → m.status ≡ status.NotARun
-    → MakesAsked words input m → Grows old new (flatten m.lines) → WritesVerdict words input IsBadVerdict old new
+    → MakesAsked words input m → Grows old new (bytes_of m.written) → WritesVerdict words input IsBadVerdict old new
 not_a_run_to words input old new m e (inl h) g = absurd (neither h.1)
   where
     neither : IsStepStatus m → ⊥
     neither (inl f) = fine_no_run m f e
     neither (inr f) = not_no_run m f e
-not_a_run_to words None old new m e (inr h) g = (h.0, tt)
-not_a_run_to words (Some text) old new m e (inr h) g =
+not_a_run_to words input old new m e (inr (inr h)) g = absurd (fine_no_run m h.1 e)
+not_a_run_to words None old new m e (inr (inl h)) g = (h.0, tt)
+not_a_run_to words (Some text) old new m e (inr (inl h)) g =
     (h.0, (h.2.0, is_bad_verdict h.2.0 m h.2.2 e, h.2.1, subst (Grows old new) h.2.2.line_is g))
 
 -- a verdict's status is one of two

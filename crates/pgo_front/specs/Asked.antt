@@ -3,7 +3,7 @@ use Rattle.std.specs.Prelude.{◌≡◌, ◌≤◌, ◌+◌, ◌++◌, ℕ, Bool
 use Rattle.pgo_base.specs.Data.{Data}
 use Rattle.pgo_base.specs.Lookup.{Name}
 use Rattle.pgo_front.specs.Constants.{Constants}
-use Rattle.pgo_front.specs.Turns.{Item, TurnList, AsksStep, most_turns}
+use Rattle.pgo_front.specs.Turns.{Item, TurnList, AsksStep, AsksExpand, most_turns}
 
 -- an item's turns stand behind the old ones, where they are few enough; no other turns would do
 abbrev pub AddsItem : List ℕ → List ℕ → Bool → List ℕ → Type 0
@@ -32,6 +32,11 @@ SpellsRest list words (Some p) = Rest list words p.0 p.1 × ((ts : List ℕ) (cs
 abbrev pub AsksOnly : List (List ℕ) → Option (List ℕ × List (Name × Data)) → Type 0
 AsksOnly words None = (ts : List ℕ) (cs : List (Name × Data)) → AsksStep words ts cs → ⊥
 AsksOnly words (Some p) = AsksStep words p.0 p.1 × ((ts : List ℕ) (cs : List (Name × Data)) → AsksStep words ts cs → (ts ≡ p.0) × (cs ≡ p.1))
+
+-- the words ask for an expansion with these constants, and with no others
+abbrev pub ExpandsOnly : List (List ℕ) → Option (List (Name × Data)) → Type 0
+ExpandsOnly words None = (cs : List (Name × Data)) → AsksExpand words cs → ⊥
+ExpandsOnly words (Some cs) = AsksExpand words cs × ((ds : List (Name × Data)) → AsksExpand words ds → ds ≡ cs)
 
 -- what is read so far, and what is left, are the text's turns together
 pub record ReadsOn (bs read rest : List ℕ) : Type 0 where

@@ -8,23 +8,36 @@ use Rattle.pgo_model.specs.ModuleText.{flatten}
 use Rattle.pgo_check.specs.declared.verdict.Verdict.{Verdict}
 use Rattle.pgo_check.specs.declared.verdict.Verdict.TheVariants.{Run, Bad}
 use Rattle.pgo_front.specs.declared.output.Output.{Output}
+use Rattle.pgo_front.specs.declared.output.Written.{Written}
+use Rattle.pgo_front.specs.declared.output.Written.TheVariants as written
 use Rattle.pgo_front.specs.declared.status.Status.{Status}
 use Rattle.pgo_front.specs.declared.status.Status.TheVariants as status
 use Rattle.pgo_front.specs.declared.words.Request.{Request}
-use Rattle.pgo_front.specs.declared.words.Request.TheVariants.{Step, Check}
+use Rattle.pgo_front.specs.declared.words.Request.TheVariants.{Step, Check, Expand}
 use Rattle.pgo_front.specs.Turns.{AsksStep, AsksCheck}
+use Rattle.pgo_front.specs.Asked.{ExpandsOnly}
 use Rattle.pgo_front.specs.Spells.{Spells, most_bytes}
 use Rattle.pgo_front.specs.Statuses.{number_of}
 use Rattle.pgo_front.specs.Headline.{Ran}
 use Rattle.pgo_log_text.specs.ReadBundle.{IsNoBundle}
 use Rattle.pgo_front.specs.Verdicts.{Judged, verdict_line, most_bundle_bytes}
-use Rattle.pgo_front.specs.Answers.{Asked, AsksSomeStep, AsksNothing, IsNotRun, Checked}
+use Rattle.pgo_front.specs.Expansions.{ExpandsTo, Expanded}
+use Rattle.pgo_accept.specs.Answers.{IsExpandable}
+use Rattle.pgo_accept.specs.Refusals.{rejection_line}
+use Rattle.pgo_accept.specs.declared.errors.Rejection.{Rejection}
+use Rattle.pgo_front.specs.Answers.{Asked, AsksSomeStep, AsksSomeExpand, AsksNothing, IsNotRun, Checked}
 
 -- what the words ask for
 abbrev pub AsksFor : List (List ℕ) → Option Request → Type 0
 AsksFor words None = AsksNothing words
 AsksFor words (Some (Step turns consts)) = AsksStep words turns consts
 AsksFor words (Some Check) = AsksCheck words
+AsksFor words (Some (Expand consts)) = ExpandsOnly words (Some consts)
+
+-- the bytes of what is written
+abbrev pub bytes_of : Written → List ℕ
+bytes_of (written.Lines ls) = flatten ls
+bytes_of (written.Text t) = t
 
 -- why the input was not read to its end, or was too long
 abbrev pub StopsReading : (limit : ℕ) → (input : Option (List ℕ)) → (faults_before faults_now : ℕ) → Status → Type 0
@@ -40,17 +53,24 @@ IsStepStatus m = (m.status ≡ status.Fine) ⊎ (m.status ≡ status.Spent)
 
 -- there are no constants, the text spells a specification, and this is what its run under the turns gives
 abbrev pub MakesOf : (text turns : List ℕ) → List (Name × Data) → Output → Type 0
-MakesOf text turns consts m = (consts ≡ []) × (spec : Spec) × Spells text spec × Ran spec turns (number_of m.status) (flatten m.lines)
+MakesOf text turns consts m = (consts ≡ []) × (spec : Spec) × Spells text spec × Ran spec turns (number_of m.status) (bytes_of m.written)
 
--- the text is refused, or there was no memory
+-- a text is refused for this cause, or there was no memory
+abbrev pub StopsFor : Type 0 → Status → Type 0
+StopsFor Cause s = ((s ≡ status.SpecRefused) × Cause) ⊎ (s ≡ status.NoMemory)
+
 abbrev pub StopsAt : (text : List ℕ) → List (Name × Data) → Status → Type 0
-StopsAt text consts s = ((s ≡ status.SpecRefused) × IsNotRun text consts) ⊎ (s ≡ status.NoMemory)
+StopsAt text consts s = StopsFor (IsNotRun text consts) s
+
+-- why a command on a specification stopped at this input, whose text is refused for this cause
+abbrev pub StopsInput : (Cause : List ℕ → Type 0) → (input : Option (List ℕ)) → (faults_before faults_now : ℕ) → Status → Type 0
+StopsInput Cause input before now s =
+    ((s ≡ status.SpecRefused) × IfSome input (λ text. (length text ≤ most_bytes) × Cause text))
+    ⊎ StopsReading most_bytes input before now s
 
 -- why a step of this input stopped
 abbrev pub StopsStep : List (Name × Data) → (input : Option (List ℕ)) → (faults_before faults_now : ℕ) → Status → Type 0
-StopsStep consts input before now s =
-    ((s ≡ status.SpecRefused) × IfSome input (λ text. (length text ≤ most_bytes) × IsNotRun text consts))
-    ⊎ StopsReading most_bytes input before now s
+StopsStep consts input before now s = StopsInput (λ text. IsNotRun text consts) input before now s
 
 -- a line comes with a refused specification alone, and says of its text what R says
 abbrev pub HasLine : (input : Option (List ℕ)) → (R : (text line : List ℕ) → Type 0) → Status → Option (List ℕ) → Type 0
@@ -70,7 +90,7 @@ IsVerdictStatus m = (m.status ≡ status.Fine) ⊎ (m.status ≡ status.NotARun)
 -- the status and the line of this verdict
 pub record MakesVerdict (v : Verdict) (m : Output) : Type 0 where
   pub status_is : m.status ≡ status_of v
-  pub line_is : flatten m.lines ≡ verdict_line v
+  pub line_is : bytes_of m.written ≡ verdict_line v
 
 -- the text is a bundle, and this is the verdict on it
 abbrev pub MakesJudged : (text : List ℕ) → Output → Type 0
@@ -86,16 +106,38 @@ StopsCheck input before now s =
     ((s ≡ status.BadBundle) × IfSome input (λ text. (length text ≤ most_bundle_bytes) × IsNoBundle text))
     ⊎ StopsReading most_bundle_bytes input before now s
 
--- ---- both
+-- ---- the command `expand`
+
+-- this is the text of the expansion of the specification that the text spells
+abbrev pub MakesExpansion : (text : List ℕ) → List (Name × Data) → Output → Type 0
+MakesExpansion text consts m = ExpandsTo text consts (bytes_of m.written)
+
+abbrev pub StopsExpanding : (text : List ℕ) → List (Name × Data) → Status → Type 0
+StopsExpanding text consts s = StopsFor (IsExpandable text consts → ⊥) s
+
+-- why an expansion of this input stopped
+abbrev pub StopsExpand : List (Name × Data) → (input : Option (List ℕ)) → (faults_before faults_now : ℕ) → Status → Type 0
+StopsExpand consts input before now s = StopsInput (λ text. IsExpandable text consts → ⊥) input before now s
+
+-- the command ended with the line of this refusal, or there was no memory
+abbrev pub IsRejected : Rejection → Status → Option (List ℕ) → Type 0
+IsRejected e s None = s ≡ status.NoMemory
+IsRejected e s (Some l) = (s ≡ status.SpecRefused) × (rejection_line e ≡ Some l)
+
+-- ---- all of them
 
 -- what a command made of its words and its input
 abbrev pub MakesOfStep : List (List ℕ) → (input : Option (List ℕ)) → Output → Type 0
 MakesOfStep words input m =
-    AsksSomeStep words × IsStepStatus m × IfSome input (λ text. Asked words text (number_of m.status) (flatten m.lines))
+    AsksSomeStep words × IsStepStatus m × IfSome input (λ text. Asked words text (number_of m.status) (bytes_of m.written))
 
 abbrev pub MakesOfCheck : List (List ℕ) → (input : Option (List ℕ)) → Output → Type 0
 MakesOfCheck words input m =
     AsksCheck words × IsVerdictStatus m × IfSome input (λ text. (v : Verdict) × Checked text v × MakesVerdict v m)
 
+abbrev pub MakesOfExpand : List (List ℕ) → (input : Option (List ℕ)) → Output → Type 0
+MakesOfExpand words input m =
+    AsksSomeExpand words × (m.status ≡ status.Fine) × IfSome input (λ text. Expanded words text (bytes_of m.written))
+
 abbrev pub MakesAsked : List (List ℕ) → (input : Option (List ℕ)) → Output → Type 0
-MakesAsked words input m = MakesOfStep words input m ⊎ MakesOfCheck words input m
+MakesAsked words input m = MakesOfStep words input m ⊎ (MakesOfCheck words input m ⊎ MakesOfExpand words input m)

@@ -1,4 +1,4 @@
--- The words of a command: `step --turns LIST` and constants, or `check`.
+-- The words of a command: `step --turns LIST` and constants, `check`, or `expand` and constants.
 use Rattle.std.specs.Prelude.{◌≡◌, ◌≤◌, ◌<◌, ◌^◌, ℕ, List, [], ◌∷◌, ◌++◌, length, replicate, codes, decimal}
 use Rattle.pgo_base.specs.Data.{Data}
 use Rattle.pgo_base.specs.Lookup.{Name}
@@ -29,3 +29,9 @@ pub record AsksStep (words : List (List ℕ)) (turns : List ℕ) (consts : List 
 -- the words ask for the check of a bundle
 abbrev pub AsksCheck : List (List ℕ) → Type 0
 AsksCheck words = words ≡ codes "check" ∷ []
+
+-- the words ask for the expansion of a specification, with these values of constants
+pub record AsksExpand (words : List (List ℕ)) (consts : List (Name × Data)) : Type 0 where
+  pub rest : List (List ℕ)
+  pub words_are : words ≡ codes "expand" ∷ rest
+  pub constants : Constants rest consts

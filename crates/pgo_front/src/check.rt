@@ -5,7 +5,7 @@ ghost use Rattle.pgo_front.specs.Answers.{IsAtEnd, ReadsAll};
 ghost use Rattle.pgo_front.specs.Makes.{IsVerdictStatus, MakesJudged, MakesVerdict, StopsCheck, StopsJudging};
 
 use crate::input::read_input;
-use crate::output::Output;
+use crate::output::{Output, Written};
 use crate::status::Status;
 use pgo_check::checker::check;
 use pgo_check::verdict::{Verdict, Why};
@@ -70,7 +70,7 @@ fn verdict_made(alloc: Global, verdict: Verdict) -> Result<Output, AllocError>
         Verdict::Run { steps } => {
             lines.push(alloc, &[Bytes(b"run "), Number(steps)])?;
             Ok(Output {
-                lines,
+                written: Written::Lines(lines),
                 status: Status::Fine,
             })
         }
@@ -80,7 +80,7 @@ fn verdict_made(alloc: Global, verdict: Verdict) -> Result<Output, AllocError>
                 &[Bytes(b"bad "), Number(at), Bytes(b" "), Bytes(reason(why))],
             )?;
             Ok(Output {
-                lines,
+                written: Written::Lines(lines),
                 status: Status::NotARun,
             })
         }

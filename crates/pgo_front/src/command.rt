@@ -13,12 +13,14 @@ ghost use Rattle.pgo_log_text.specs.ReadBundle.{IsReadBundle, IsNoBundle};
 ghost use Rattle.pgo_front.specs.Spells.{Spells, most_bytes};
 ghost use Rattle.pgo_front.specs.Statuses.{line_of, IsSilent};
 ghost use Rattle.pgo_front.specs.Verdicts.{most_bundle_bytes, IsBadVerdict};
-ghost use Rattle.pgo_front.specs.Answers.{AsksNothing, IsNotRun, RefusedBy, EndsWell, WritesBundle, WritesVerdict, WritesPrefix, Stops, IsRefusal, ReadsAll, IsAtEnd, OrNoMemory, SaysLine, SaysRefusal, IsToldToStep, IsToldToCheck};
-ghost use Rattle.pgo_front.specs.Makes.{MakesAsked, HasLine};
+ghost use Rattle.pgo_front.specs.Answers.{AsksNothing, IsNotRun, RefusedBy, EndsWell, WritesBundle, WritesVerdict, WritesPrefix, Stops, IsRefusal, ReadsAll, IsAtEnd, OrNoMemory, SaysLine, SaysRefusal, IsToldToStep, IsToldToCheck, IsToldToExpand};
+ghost use Rattle.pgo_front.specs.Makes.{MakesAsked, HasLine, bytes_of};
+ghost use Rattle.pgo_accept.specs.Answers.{IsExpandable};
 
 use crate::check::make_check;
 use crate::ended::Ended;
-use crate::output::Output;
+use crate::expand::make_expand;
+use crate::output::{Output, Written};
 use crate::status::Status;
 use crate::step::make_step;
 use crate::words::{Request, read_words};
@@ -31,11 +33,12 @@ use pgo_module_write::line::Lines;
 use std::alloc::Global;
 
 /// Runs the command that the words ask for: `step --turns LIST` and then constants, `NAME=value` each, with a specification
-/// as its input and the bundle of its run as its output, or `check`, with a bundle as its input and the verdict on its log
-/// as its output, one line, `run steps` or `bad at why`.
+/// as its input and the bundle of its run as its output; or `check`, with a bundle as its input and the verdict on its log
+/// as its output, one line, `run steps` or `bad at why`; or `expand` and then constants, with a specification as its input
+/// and the text of its expansion as its output.
 ///
-/// The words come first, then the input is read to its end, then the text is read, then the run or the check is made,
-/// and only then is the output written, line by line. A refusal puts its one line on `err`, whose faults change no status. The
+/// The words come first, then the input is read to its end, then the text is read, then the run, the check or the expansion
+/// is made, and only then is the output written, an expansion in one piece and the others line by line. A refusal puts its one line on `err`, whose faults change no status. The
 /// statuses are those of `Status`. This project's choice.
 pub fn pgo<S: Source, O: Sink, E: Sink>(
     alloc: Global,
@@ -73,6 +76,15 @@ pub fn pgo<S: Source, O: Sink, E: Sink>(
     ensures is_no_run { (text : List ℕ) (m : Module) (consts : List (Name × Data)) (l : Log) → IsToldToCheck words.now (S.left input.old) text →
         ¬ Rose (S.faults input.old) (S.faults input.new) → ¬ Rose (O.faults out.old) (O.faults out.new) →
         length text ≤ most_bundle_bytes → IsReadBundle text m consts l → ¬ IsRun m consts l.ids l.start l.entries → OrNoMemory result Status.NotARun }
+
+    ensures expands { (text : List ℕ) (consts : List (Name × Data)) → IsToldToExpand words.now (S.left input.old) consts text →
+        ¬ Rose (S.faults input.old) (S.faults input.new) → ¬ Rose (O.faults out.old) (O.faults out.new) →
+        length text ≤ most_bytes → IsExpandable text consts → OrNoMemory result Status.Fine }
+    ensures not_expanded { (text : List ℕ) (consts : List (Name × Data)) → IsToldToExpand words.now (S.left input.old) consts text →
+        ¬ Rose (S.faults input.old) (S.faults input.new) →
+        length text ≤ most_bytes → ¬ IsExpandable text consts → OrNoMemory result Status.SpecRefused }
+    ensures too_long_to_expand { (text : List ℕ) (consts : List (Name × Data)) → IsToldToExpand words.now (S.left input.old) consts text →
+        ¬ Rose (S.faults input.old) (S.faults input.new) → most_bytes < length text → OrNoMemory result Status.TooLong }
 
     // A failure of the input or the output is never passed over.
     ensures read_failed { (result ≡ Status.ReadFault) ⊎ (S.faults input.new ≡ S.faults input.old) }
@@ -127,11 +139,24 @@ fn run<S: Source, O: Sink>(alloc: Global, words: &[Word], input: &mut S, out: &m
     ensures ended { ReadsAll result.status → IsAtEnd (S.left input.old) (S.left input.new) }
 {
     match make(alloc, words, input) {
-        Ok(output) => match write_lines(out, &output.lines) {
+        Ok(output) => match write_made(out, &output.written) {
             Ok(()) => Ended::as_status(output.status),
             Err(_) => Ended::as_status(Status::WriteFault),
         },
         Err(ended) => ended,
+    }
+}
+
+/// Writes lines, one piece a line, or a text, in one piece.
+fn write_made<O: Sink>(out: &mut O, written: &Written) -> Result<(), Failed>
+    ensures all { OnOk result (Grows (O.held out.old) (O.held out.new) (bytes_of written.now)) }
+    ensures prefix { OnErr result (GrowsByPrefix (O.held out.old) (O.held out.new) (bytes_of written.now)) }
+    ensures cause { OnErr result (Rose (O.faults out.old) (O.faults out.new)) }
+    ensures steady { OnOk result (O.faults out.new ≡ O.faults out.old) }
+{
+    match written {
+        Written::Lines(lines) => write_lines(out, lines),
+        Written::Text(text) => write_all(out, text.as_bytes()),
     }
 }
 
@@ -168,6 +193,7 @@ fn make<S: Source>(alloc: Global, words: &[Word], input: &mut S) -> Result<Outpu
             Ok(output) => Ok(output),
             Err(status) => Err(Ended::as_status(status)),
         },
+        Ok(Some(Request::Expand(consts))) => make_expand(alloc, &consts, input),
         Ok(None) => Err(Ended::as_status(Status::Usage)),
         Err(_) => Err(Ended::as_status(Status::NoMemory)),
     }

@@ -6,6 +6,7 @@ mod check;
 mod command;
 mod constants;
 mod ended;
+mod expand;
 mod input;
 mod instance;
 mod output;

@@ -1,10 +1,20 @@
 // What a command writes when it has done its work.
 use crate::status::Status;
+use pgo_base::text::Text;
 use pgo_module_write::line::Lines;
 
-/// The lines of a command's output, and the status that it ends with.
+/// What a command writes.
+#[derive(Drop)]
+pub enum Written {
+    /// Lines, each in one piece.
+    Lines(Lines),
+    /// One text, in one piece.
+    Text(Text),
+}
+
+/// What a command writes, and the status that it ends with.
 #[derive(Drop)]
 pub struct Output {
-    pub lines: Lines,
+    pub written: Written,
     pub status: Status,
 }

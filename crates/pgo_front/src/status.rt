@@ -5,11 +5,11 @@ ghost use Rattle.pgo_front.specs.Statuses.{number_of, line_of};
 /// How a command ended. This project's choice.
 #[derive(Clone, Copy, Debug, PartialEq, Eq)]
 pub enum Status {
-    /// Every instance is at Done, or the bundle's log is a run of its module.
+    /// Every instance is at Done, or the bundle's log is a run of its module, or the specification is expanded.
     Fine,
     /// The words ask for nothing that there is.
     Usage,
-    /// The text spells no specification, or one that is refused or isn't built yet.
+    /// The text spells no specification, or one that is refused, or isn't built yet where it is to be run.
     SpecRefused,
     /// The input failed.
     ReadFault,

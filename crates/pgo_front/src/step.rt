@@ -1,6 +1,5 @@
 // The command `step`: a specification is run under a list of turns.
 ghost use Rattle.std.specs.Prelude.{◌≡◌, ◌≤◌, ◌⊎◌, length, Some, IfOk, IfErr, IfSome, OnOk};
-ghost use Rattle.pgo_model.specs.ModuleText.{flatten};
 ghost use Rattle.pgo_counter.specs.Counters.{spec_of};
 ghost use Rattle.pgo_counter.specs.WellNamed.{IsCounter};
 ghost use Rattle.pgo_front.specs.Spells.{most_bytes};
@@ -8,13 +7,13 @@ ghost use Rattle.pgo_front.specs.Statuses.{number_of};
 ghost use Rattle.pgo_front.specs.Headline.{Ran};
 ghost use Rattle.pgo_front.specs.Answers.{IsAtEnd, ReadsAll};
 ghost use Rattle.pgo_accept.specs.Refusals.{RefusedWith};
-ghost use Rattle.pgo_front.specs.Makes.{IsStepStatus, MakesOf, StopsAt, StopsStep, HasLine};
+ghost use Rattle.pgo_front.specs.Makes.{IsStepStatus, MakesOf, StopsAt, StopsStep, HasLine, bytes_of};
 
 use crate::bundle_writer::{bundle, is_done};
 use crate::ended::Ended;
 use crate::input::read_input;
 use crate::instance::run_turns;
-use crate::output::Output;
+use crate::output::{Output, Written};
 use crate::status::Status;
 use pgo_accept::accept::refusal_line;
 use pgo_base::consts::Consts;
@@ -24,7 +23,7 @@ use pgo_io::source::Source;
 use std::alloc::{AllocError, Global};
 
 /// The most bytes of a specification.
-const MOST_BYTES: u64 = 1_048_576;
+pub const MOST_BYTES: u64 = 1_048_576;
 
 /// Makes the bundle of a run, under these turns and with these constants, of the specification that the input spells.
 pub fn make_step<S: Source>(
@@ -82,7 +81,7 @@ fn refused(alloc: Global, consts: &Consts, text: &[u8]) -> Ended
 /// Makes the bundle of a run of a counter.
 fn make_run(alloc: Global, counter: &Counter, turns: &[u32]) -> Result<Output, AllocError>
     requires { IsCounter counter.now }
-    ensures ran { IfOk result (λ m. Ran (spec_of counter.now) turns.now (number_of m.status) (flatten m.lines)) }
+    ensures ran { IfOk result (λ m. Ran (spec_of counter.now) turns.now (number_of m.status) (bytes_of m.written)) }
     ensures either { IfOk result IsStepStatus }
 {
     let values = run_turns(alloc, counter, turns)?;
@@ -92,5 +91,8 @@ fn make_run(alloc: Global, counter: &Counter, turns: &[u32]) -> Result<Output, A
     } else {
         Status::Spent
     };
-    Ok(Output { lines, status })
+    Ok(Output {
+        written: Written::Lines(lines),
+        status,
+    })
 }

@@ -3,7 +3,7 @@ ghost use Rattle.std.specs.Prelude.{◌≡◌, ◌↔◌, ◌<◌, ◌≤◌, �
 ghost use Rattle.pgo_front.specs.Turns.{Item, TurnList, AsksStep, AsksCheck, most_turns};
 ghost use Rattle.pgo_front.specs.Cuts.{Cuts};
 ghost use Rattle.pgo_front.specs.Items.{ReadsItem, ReadsSingle, ReadsRepeated, turns_of};
-ghost use Rattle.pgo_front.specs.Asked.{SpelledOnly, SpellsRest, AsksOnly, AddsItem};
+ghost use Rattle.pgo_front.specs.Asked.{SpelledOnly, SpellsRest, AsksOnly, AddsItem, ExpandsOnly};
 ghost use Rattle.pgo_front.specs.Makes.{AsksFor};
 
 use crate::constants::read_constants;
@@ -136,6 +136,8 @@ pub enum Request {
     Step(Turns, Consts),
     /// The check of a bundle.
     Check,
+    /// The expansion of a specification, with these values of constants.
+    Expand(Consts),
 }
 
 /// What the words ask for; none where they ask for nothing that there is.
@@ -147,7 +149,25 @@ pub fn read_words(alloc: Global, words: &[Word]) -> Result<Option<Request>, Allo
     }
     match read_step(alloc, words)? {
         Some((turns, consts)) => Ok(Some(Request::Step(turns, consts))),
-        None => Ok(None),
+        None => match read_expand(alloc, words)? {
+            Some(consts) => Ok(Some(Request::Expand(consts))),
+            None => Ok(None),
+        },
+    }
+}
+
+/// The constants that the words `expand` and then `NAME=value` each ask for; none where the words are others.
+fn read_expand(alloc: Global, words: &[Word]) -> Result<Option<Consts>, AllocError>
+    ensures { IfOk result (λ o. ExpandsOnly words.now o) }
+{
+    match words {
+        [command, constants @ ..] => {
+            if command.as_str() != "expand" {
+                return Ok(None);
+            }
+            read_constants(alloc, constants)
+        }
+        _ => Ok(None),
     }
 }
 

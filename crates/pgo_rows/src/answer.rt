@@ -35,7 +35,7 @@ impl Answer {
             good_calls: streams.reads,
             faults: 0,
         };
-        let mut out = sink(alloc, 65_536, streams.writes)?;
+        let mut out = sink(alloc, 1_048_576, streams.writes)?;
         let mut err = sink(alloc, 256, streams.error_writes)?;
         let status = pgo(alloc, words, &mut input, &mut out, &mut err);
         Ok(Answer {

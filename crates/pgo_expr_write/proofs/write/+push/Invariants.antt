@@ -2,13 +2,15 @@
 use Rattle.std.proofs.Common.{◌≡◌, ◌+◌, ◌*◌, ◌++◌, map, drop}
 use Rattle.pgo_base.specs.ExprView.{tree}
 use Rattle.pgo_base.specs.TreeSize.{height}
+use Rattle.pgo_expr_write.specs.ByName.{piece_by_name}
 use Rattle.pgo_expr_write.specs.Parts.{see}
 use Rattle.pgo_expr_write.specs.Pieces.{pieces_text, piece_height, pieces_height}
 use Rattle.pgo_expr_write.proofs.write.+push.Given as goal
 
 abbrev pub invariant-push_parts-loop-part : goal.invariant-push_parts-loop-part
 invariant-push_parts-loop-part l =
-    l.bytes.items ++ pieces_text (map see (drop l.part-index l.parts)) ≡ l.initial.bytes.items ++ pieces_text (map see l.parts)
+    l.bytes.items ++ pieces_text (map (piece_by_name l.own) (map see (drop l.part-index l.parts)))
+    ≡ l.initial.bytes.items ++ pieces_text (map (piece_by_name l.own) (map see l.parts))
 
 abbrev pub decreases-push_body : goal.decreases-push_body
 decreases-push_body l = 4 * height (tree l.e.now)

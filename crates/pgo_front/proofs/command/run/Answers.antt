@@ -4,16 +4,16 @@ use Rattle.pgo_front.proofs.command.run.Goals as goal
 
 pub returns-in-Ok-clause-prefix : goal.returns-in-Ok-clause-prefix
 returns-in-Ok-clause-prefix g c e =
-    into_fault c.args.words.now (g.S.Source.left c.args.input.now) _ _ c.in-Ok.output c.in-Ok.ensures.ok c.in-Err-write_lines.ensures.prefix
+    into_fault c.args.words.now (g.S.Source.left c.args.input.now) _ _ c.in-Ok.output c.in-Ok.ensures.ok c.in-Err-write_made.ensures.prefix
 
-pub returns-in-Ok-write_lines-clause-fine : goal.returns-in-Ok-write_lines-clause-fine
-returns-in-Ok-write_lines-clause-fine g c e =
-    fine_to c.args.words.now (g.S.Source.left c.args.input.now) _ _ c.in-Ok.output (sym c.as_status.ensures.status ∙ e) c.in-Ok.ensures.ok c.in-Ok-write_lines.ensures.all
+pub returns-in-Ok-write_made-clause-fine : goal.returns-in-Ok-write_made-clause-fine
+returns-in-Ok-write_made-clause-fine g c e =
+    fine_to c.args.words.now (g.S.Source.left c.args.input.now) _ _ c.in-Ok.output (sym c.as_status.ensures.status ∙ e) c.in-Ok.ensures.ok c.in-Ok-write_made.ensures.all
 
-pub returns-in-Ok-write_lines-clause-spent : goal.returns-in-Ok-write_lines-clause-spent
-returns-in-Ok-write_lines-clause-spent g c e =
-    spent_to c.args.words.now (g.S.Source.left c.args.input.now) _ _ c.in-Ok.output (sym c.as_status.ensures.status ∙ e) c.in-Ok.ensures.ok c.in-Ok-write_lines.ensures.all
+pub returns-in-Ok-write_made-clause-spent : goal.returns-in-Ok-write_made-clause-spent
+returns-in-Ok-write_made-clause-spent g c e =
+    spent_to c.args.words.now (g.S.Source.left c.args.input.now) _ _ c.in-Ok.output (sym c.as_status.ensures.status ∙ e) c.in-Ok.ensures.ok c.in-Ok-write_made.ensures.all
 
-pub returns-in-Ok-write_lines-clause-not_a_run : goal.returns-in-Ok-write_lines-clause-not_a_run
-returns-in-Ok-write_lines-clause-not_a_run g c e =
-    not_a_run_to c.args.words.now (g.S.Source.left c.args.input.now) _ _ c.in-Ok.output (sym c.as_status.ensures.status ∙ e) c.in-Ok.ensures.ok c.in-Ok-write_lines.ensures.all
+pub returns-in-Ok-write_made-clause-not_a_run : goal.returns-in-Ok-write_made-clause-not_a_run
+returns-in-Ok-write_made-clause-not_a_run g c e =
+    not_a_run_to c.args.words.now (g.S.Source.left c.args.input.now) _ _ c.in-Ok.output (sym c.as_status.ensures.status ∙ e) c.in-Ok.ensures.ok c.in-Ok-write_made.ensures.all

@@ -1,7 +1,9 @@
 use Rattle.std.proofs.Common.{◌≡◌, ◌≤◌, length, sym, subst, IfSome}
 use Rattle.std.proofs.lemmas.Result.{IfOk-weaker, IfErr-weaker}
 use Rattle.pgo_front.specs.Spells.{most_bytes}
-use Rattle.pgo_front.proofs.Making.{makes_step, stops_step}
+use Rattle.pgo_front.specs.Answers.{IsNotRun}
+use Rattle.pgo_front.specs.Makes.{MakesOf}
+use Rattle.pgo_front.proofs.Making.{makes_input, stops_input}
 use Rattle.pgo_front.proofs.step.make_step.Goals as goal
 
 pub returns-in-Ok-clause-ok : goal.returns-in-Ok-clause-ok
@@ -9,11 +11,11 @@ returns-in-Ok-clause-ok g c =
     let left = g.S.Source.left c.args.input.now in
     let told = subst (λ t. IfSome left (λ bs. t ≡ bs)) (sym c.as_slice.ensures.value) c.in-Ok.ensures.all in
     let short = subst (λ t. length t ≤ most_bytes) (sym c.as_slice.ensures.value) c.in-Ok.ensures.within in
-    IfOk-weaker c.make_from.result _ _ (λ m h. makes_step left _ _ _ m told short h) c.make_from.ensures.ok
+    IfOk-weaker c.make_from.result _ _ (λ m h. makes_input (λ t. MakesOf t c.args.turns.now c.args.consts.now m) left _ told short h) c.make_from.ensures.ok
 
 pub returns-in-Ok-clause-err : goal.returns-in-Ok-clause-err
 returns-in-Ok-clause-err g c =
     let left = g.S.Source.left c.args.input.now in
     let told = subst (λ t. IfSome left (λ bs. t ≡ bs)) (sym c.as_slice.ensures.value) c.in-Ok.ensures.all in
     let short = subst (λ t. length t ≤ most_bytes) (sym c.as_slice.ensures.value) c.in-Ok.ensures.within in
-    IfErr-weaker c.make_from.result _ _ (λ e h. stops_step c.args.consts.now left _ _ _ e.status told short h) c.make_from.ensures.err
+    IfErr-weaker c.make_from.result _ _ (λ e h. stops_input (λ t. IsNotRun t c.args.consts.now) left _ _ _ e.status told short h) c.make_from.ensures.err

@@ -1,0 +1,6 @@
+pub mod PartLaws
+pub mod RowTexts
+pub mod Added
+pub mod Depths
+pub mod OwnNames
+pub mod Rows
