@@ -11,3 +11,6 @@ pub mod StatementLaws
 pub mod PlaceLaws
 pub mod LeftLaws
 pub mod ChangedLaws
+pub mod SectionLabels
+pub mod SectionLaws
+pub mod SectionFollows

@@ -8,6 +8,7 @@ mod called;
 mod calls;
 pub mod change;
 mod evaluate;
+mod inner;
 mod lefts;
 mod names;
 pub mod piece;
