@@ -1,12 +1,12 @@
 -- Whether a block is among frames, in whatever order they stand.
-use Rattle.std.proofs.Common.{◌≡◌, ◌∙◌, ℕ, ◌+◌, ◌<◌, Bool, true, false, List, [], ◌∷◌, ◌++◌, Option, Some, None, refl, ap, subst, sym}
+use Rattle.std.proofs.Common.{◌≡◌, ◌∙◌, ℕ, true, false, List, [], ◌∷◌, ◌++◌, Option, Some, None, refl, ap, subst, sym}
 use Rattle.pgo_model.specs.Options.{on}
 use Rattle.std.specs.Prelude.{reverse}
 use Rattle.std.proofs.lemmas.List.{reverse-append}
 use Rattle.pgo_base.specs.Tree.{Tree}
 use Rattle.pgo_base.specs.Lookup.{Name}
 use Rattle.pgo_sections.specs.Expand.{Current, nowhere, settled}
-use Rattle.pgo_sections.specs.Expansion.{Expansion, End}
+use Rattle.pgo_sections.specs.Expansion.{End}
 use Rattle.pgo_walk.specs.declared.frames.Frame.{Frame}
 use Rattle.pgo_walk.specs.FrameView.{frames_view, frame_view}
 use Rattle.pgo_walk.specs.Frames as spec

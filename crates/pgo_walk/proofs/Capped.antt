@@ -1,5 +1,5 @@
 -- Heights that are told apart up to a limit.
-use Rattle.std.proofs.Common.{◌≡◌, ℕ, suc, max, min, List, [], ◌∷◌, Option, Some, None, refl, arith, Bool, true, false, ap, sym, ◌∙◌}
+use Rattle.std.proofs.Common.{◌≡◌, ℕ, suc, max, List, [], ◌∷◌, Option, Some, None, arith, Bool, true, ap, sym, ◌∙◌}
 use Rattle.pgo_base.specs.Lookup.{Name}
 use Rattle.pgo_walk.specs.Heights.{capped, join, all_joined, items_of, change_height}
 use Rattle.pgo_model.specs.Options.{on}

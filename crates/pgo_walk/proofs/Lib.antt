@@ -3,4 +3,6 @@ pub mod Named
 pub mod Runs
 pub mod BlockAmong
 pub mod Turns
+pub mod Around
 pub mod Measures
+pub mod Arms

@@ -1,5 +1,5 @@
 -- What a name stands for now, by two ways of saying it.
-use Rattle.std.proofs.Common.{◌≡◌, Bool, if◌then◌else◌, List, Option, Some, None, refl, ap}
+use Rattle.std.proofs.Common.{◌≡◌, if◌then◌else◌, List, Option, Some, None, refl, ap}
 use Rattle.std.specs.Prelude.{option_map, unwrap_or}
 use Rattle.pgo_base.specs.Lookup.{Name, find}
 use Rattle.pgo_base.specs.Tree.{Tree, name}

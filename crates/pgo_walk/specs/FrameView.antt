@@ -1,9 +1,8 @@
 -- What is still to be done of a section, as it lies in memory.
-use Rattle.std.specs.Prelude.{◌≡◌, List, [], ◌∷◌, map, drop, Option, option_map}
+use Rattle.std.specs.Prelude.{List, map, drop}
 use Rattle.pgo_sections.specs.Code.{Code}
 use Rattle.pgo_effects.specs.Pieces.{code_with, last_code}
 use Rattle.pgo_effects.specs.SettingView.{setting_view}
-use Rattle.pgo_rewrite.specs.Views.{mapped_view}
 use Rattle.pgo_walk.specs.Frames as spec
 use Rattle.pgo_walk.specs.SettingPlaces.{places_in}
 use Rattle.pgo_walk.specs.declared.frames.Run.{Run}

@@ -2,12 +2,12 @@
 --
 -- `expand` hands on what follows the code as three functions. Here that is data: the code that follows is a frame, and so is
 -- what a block's yield ends. Nothing is copied but where the expansion itself has a branch.
-use Rattle.std.specs.Prelude.{ℕ, suc, Bool, true, false, List, [], ◌∷◌, ◌++◌, Option, Some, None}
-use Rattle.pgo_base.specs.Lookup.{Name, find}
+use Rattle.std.specs.Prelude.{ℕ, suc, Bool, true, false, List, [], ◌∷◌, Option, Some, None}
+use Rattle.pgo_base.specs.Lookup.{Name}
 use Rattle.pgo_base.specs.Tree.{Tree, name}
 use Rattle.pgo_sections.specs.Code.{Place, Whole, Code, content_name, val_base, new_base}
 use Rattle.pgo_sections.specs.Context.{is_assigned}
-use Rattle.pgo_sections.specs.Expand.{Renames, Current, OnGo, OnJump, OnYield, no_go, no_jump, no_yield, to_end, expand, current, put_back, left_behind, made_name}
+use Rattle.pgo_sections.specs.Expand.{Renames, Current, OnGo, OnJump, OnYield, no_go, no_jump, no_yield, to_end, expand, current, put_back, left_behind}
 use Rattle.pgo_model.specs.Written.{made}
 use Rattle.pgo_sections.specs.Expansion.{Expansion, With}
 

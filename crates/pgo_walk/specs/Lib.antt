@@ -7,3 +7,5 @@ pub mod Heights
 pub mod Spots
 pub mod Measured
 pub mod Looked
+pub mod Pendings
+pub mod PendingView

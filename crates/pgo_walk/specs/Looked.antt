@@ -5,7 +5,6 @@ use Rattle.pgo_sections.specs.Nodes.{tree_nodes}
 use Rattle.pgo_sizes.specs.Left.{left_after}
 use Rattle.pgo_walk.specs.declared.event.Move.{Move}
 use Rattle.pgo_walk.specs.declared.event.Move.TheVariants as moves
-use Rattle.pgo_walk.specs.declared.spot.Spot.{Spot}
 use Rattle.pgo_walk.specs.declared.tally.Tally.{Tally}
 use Rattle.pgo_walk.specs.Heights.{capped, join}
 use Rattle.pgo_walk.specs.Spots.{shift}

@@ -1,5 +1,5 @@
 -- How many nodes expansions have, and how high they are in the module, up to limits, with parts of them still to be looked at.
-use Rattle.std.specs.Prelude.{ℕ, suc, ◌+◌, max, List, [], ◌∷◌, map, Option, Some, None, option_map}
+use Rattle.std.specs.Prelude.{ℕ, ◌+◌, max, List, [], ◌∷◌, Option, option_map}
 use Rattle.pgo_base.specs.Lookup.{Name}
 use Rattle.pgo_sections.specs.Expansion.{Expansion}
 use Rattle.pgo_sections.specs.Nodes.{nodes}

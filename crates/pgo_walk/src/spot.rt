@@ -13,7 +13,7 @@ pub struct Spot {
 }
 
 /// How many forms more stand around what stands in an item there.
-fn shift_of(before: Option<u64>) -> u64
+pub fn shift_of(before: Option<u64>) -> u64
     ensures { result ≡ shift before }
 {
     match before {

@@ -1,4 +1,4 @@
-use Rattle.std.proofs.Common.{◌≡◌, ◌∙◌, List, sym}
+use Rattle.std.proofs.Common.{◌∙◌, List, sym}
 use Rattle.std.proofs.lemmas.Result.{IfOk-weaker}
 use Rattle.pgo_base.specs.Lookup.{Name}
 use Rattle.pgo_walk.proofs.BlockAmong.{no_yields, found_block_in}

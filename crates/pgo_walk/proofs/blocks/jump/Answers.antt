@@ -1,4 +1,4 @@
-use Rattle.std.proofs.Common.{◌≡◌, ◌∙◌, Bool, true, false, ap, sym}
+use Rattle.std.proofs.Common.{◌≡◌, ◌∙◌, true, false, ap, sym}
 use Rattle.pgo_walk.proofs.BlockAmong.{jump_in_block, jump_ends}
 use Rattle.pgo_walk.specs.FrameView.{frames_view}
 use Rattle.pgo_walk.specs.Frames.{has_block}

@@ -1,11 +1,11 @@
-use Rattle.std.proofs.Common.{◌≡◌, ◌∙◌, ap, sym, map, length, ◌∷◌}
+use Rattle.std.proofs.Common.{◌∙◌, ap, sym, map}
 use Rattle.pgo_effects.specs.SettingView.{setting_view}
 use Rattle.pgo_effects.specs.Todos.{code_of}
 use Rattle.pgo_pluscal.specs.PartView.{expansions}
 use Rattle.pgo_sections.specs.Expansion.{Either}
 use Rattle.pgo_walk.specs.Emitted.{left_in, with_frame}
 use Rattle.pgo_walk.specs.FrameView.{frames_view}
-use Rattle.pgo_walk.specs.Frames.{Run, goes}
+use Rattle.pgo_walk.specs.Frames.{Run}
 use Rattle.pgo_walk.specs.SettingPlaces.{places_in}
 use Rattle.pgo_walk.proofs.Turns.{arms_expanded, one_more_mapped, all_taken}
 use Rattle.pgo_walk.proofs.last.either_turn.Goals as goal

@@ -1,4 +1,4 @@
-use Rattle.std.proofs.Common.{◌≡◌, List, ◌++◌, map, drop, take}
+use Rattle.std.proofs.Common.{◌≡◌, List, map, take}
 use Rattle.pgo_base.specs.Lookup.{Name}
 use Rattle.pgo_effects.specs.SettingView.{setting_view}
 use Rattle.pgo_effects.specs.Todos.{code_of}

@@ -1,4 +1,4 @@
-use Rattle.std.proofs.Common.{◌≡◌, ◌∙◌, ap, sym}
+use Rattle.std.proofs.Common.{◌∙◌, ap, sym}
 use Rattle.pgo_effects.specs.SettingView.{setting_view}
 use Rattle.pgo_effects.specs.Todos.{codes_of}
 use Rattle.pgo_walk.specs.FrameView.{frames_view}
