@@ -1,2 +1,3 @@
 mod Heights
 mod AllNames
+mod Measuring

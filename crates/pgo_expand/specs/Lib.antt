@@ -1,3 +1,4 @@
 pub mod Module
 pub mod Items
 pub mod Limits
+pub mod Measures

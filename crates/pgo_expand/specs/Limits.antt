@@ -26,7 +26,7 @@ nodes_in (t ∷ ts) = nodes t.1 + nodes_in ts
 abbrev pub expand_refusal : Spec → Option ExpandStop
 expand_refusal s =
     if nat_le (nodes_in (trees_of s)) most_nodes then
-      (if nat_le (module_height s) most_height then None else Some (errors.Deep 513))
+    (if nat_le (module_height s) most_height then None else Some (errors.Deep 513))
     else Some (errors.Wide 1048577)
 
 -- an error is the refusal; want of memory says nothing

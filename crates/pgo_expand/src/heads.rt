@@ -1,12 +1,10 @@
 // Heights of what a module has beside its labels and processes, up to the most that is told apart.
 ghost use Rattle.std.specs.Prelude.{◌≡◌, ℕ, ◌++◌, length, map, max, IfOk};
-
 ghost use Rattle.pgo_walk.specs.Heights.{capped};
 ghost use Rattle.pgo_expand.specs.Items.{capped_items};
 ghost use Rattle.pgo_expand.specs.Module as expected;
 
 use pgo_sizes::heights::height_up_to;
-
 use pgo_syntax::binding::Origin;
 use pgo_syntax::declaration::{Declaration, Declarations, Definition, Definitions};
 use pgo_syntax::process::Process;
@@ -175,11 +173,7 @@ fn next_height(alloc: Global, ids: &[u64]) -> Result<u64, AllocError>
 }
 
 /// The same of the definitions of `define`, where it stands there.
-fn with_define(
-    alloc: Global,
-    before: u64,
-    define: &Option<Definitions>,
-) -> Result<u64, AllocError>
+fn with_define(alloc: Global, before: u64, define: &Option<Definitions>) -> Result<u64, AllocError>
     ensures { IfOk result (λ g. g ≡ max before (capped (expected.highest (expected.define_heights define.now)))) }
 {
     match define {
@@ -197,11 +191,7 @@ fn with_all_definitions(alloc: Global, before: u64, spec: &Spec) -> Result<u64, 
 }
 
 /// The greatest height of the module's expressions but those of its labels and processes.
-pub fn heads_height(
-    alloc: Global,
-    spec: &Spec,
-    own: &[Declarations],
-) -> Result<u64, AllocError>
+pub fn heads_height(alloc: Global, spec: &Spec, own: &[Declarations]) -> Result<u64, AllocError>
     requires { own.now ≡ map (expected.own_in spec.now.archetypes) spec.now.processes }
     ensures { IfOk result (λ h. h ≡ capped (expected.heads_height spec.now)) }
 {

@@ -4,5 +4,8 @@
 pub mod errors;
 pub mod expand;
 mod heads;
+mod labels;
+mod measure;
 mod names;
 mod own;
+mod trees;

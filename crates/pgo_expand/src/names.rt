@@ -10,11 +10,7 @@ use pgo_syntax::spec::Spec;
 use std::alloc::{AllocError, Global};
 
 /// Adds the names of declarations.
-fn add_names(
-    alloc: Global,
-    names: &mut Vec<Text>,
-    list: &[Declaration],
-) -> Result<(), AllocError>
+fn add_names(alloc: Global, names: &mut Vec<Text>, list: &[Declaration]) -> Result<(), AllocError>
     ensures { IfOk result (λ _. names.new.items ≡ names.old.items ++ map (λ d. d.name.name) list.now) }
 {
     for d in list {
@@ -34,11 +30,7 @@ pub fn globals(alloc: Global, spec: &Spec) -> Result<Vec<Text>, AllocError>
 
 /// The variables in the order of the written module: globals, `pc`, and then each process's value parameters and locals, which
 /// are `own`.
-pub fn variables(
-    alloc: Global,
-    spec: &Spec,
-    own: &[Declarations],
-) -> Result<Vec<Text>, AllocError>
+pub fn variables(alloc: Global, spec: &Spec, own: &[Declarations]) -> Result<Vec<Text>, AllocError>
     requires { own.now ≡ map (own_in spec.now.archetypes) spec.now.processes }
     ensures { IfOk result (λ v. v.items ≡ variables_of spec.now) }
 {

@@ -109,9 +109,18 @@ fn own_by(
     ensures { IfOk result (λ ds. ds ≡ own_declarations process.now archetype.now) }
 {
     let mut list = Vec::new(alloc);
-    let handed = matched(alloc, archetype.params.as_slice(), process.arguments.as_slice())?;
+    let handed = matched(
+        alloc,
+        archetype.params.as_slice(),
+        process.arguments.as_slice(),
+    )?;
     add_parameters(alloc, &mut list, &process.name.name, handed.as_slice())?;
-    add_locals(alloc, &mut list, &process.name.name, archetype.locals.as_slice())?;
+    add_locals(
+        alloc,
+        &mut list,
+        &process.name.name,
+        archetype.locals.as_slice(),
+    )?;
     Ok(Items::from_vec(list))
 }
 

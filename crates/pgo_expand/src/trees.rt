@@ -1,0 +1,118 @@
+// The trees of a process, and the process whose labels are expanded.
+ghost use Rattle.std.specs.Prelude.{◌≡◌, map, IfOk};
+ghost use Rattle.pgo_bound.specs.State.{variables_of};
+ghost use Rattle.pgo_effects.specs.Sections.{section_view};
+ghost use Rattle.pgo_effects.specs.SettingView.{setting_view};
+ghost use Rattle.pgo_expand.specs.Module.{own_in};
+ghost use Rattle.pgo_meaning.specs.Expansions.{expansions_of, process_bindings, process_expansions};
+ghost use Rattle.pgo_meaning.specs.LabelSections.{AreUnlabelled};
+ghost use Rattle.pgo_pluscal.specs.PlusCalOf.{process_of};
+ghost use Rattle.pgo_sections.specs.Expand.{expansion};
+ghost use Rattle.pgo_walk.specs.SettingPlaces.{places_in};
+
+use crate::labels::bindings;
+use pgo_base::items::Items;
+use pgo_base::text::Text;
+use pgo_effects::sections::{Section, sections};
+use pgo_effects::setting::Setting;
+use pgo_heads::runs::archetype_named;
+use pgo_pluscal::part::Part;
+use pgo_pluscal::pluscal::{ExpandedProcess, Trees, set_of_ids};
+use pgo_syntax::archetype::Archetype;
+use pgo_syntax::declaration::Declarations;
+use pgo_syntax::process::Process;
+use pgo_syntax::spec::Spec;
+use pgo_walk::make::make;
+use pgo_walk::start::start;
+use std::alloc::{AllocError, Global};
+
+/// The most branch points in one another. An expression of the module that is at most 512 high has fewer.
+const MOST_BRANCHES: u64 = 600;
+
+/// The trees of sections by their labels.
+fn trees_of<'a>(
+    alloc: Global,
+    variables: &[Text],
+    setting: Setting<'a>,
+    sections: &[Section<'a>],
+) -> Result<Vec<(Text, Part)>, AllocError>
+    ensures { IfOk result (λ v. v.items ≡ map (λ c. (c.0, expansion variables.now (places_in setting.entry) c.1)) (map (section_view (setting_view setting.entry)) sections.now)) }
+{
+    let mut list = Vec::with_capacity(alloc, sections.len())?;
+    for section in sections {
+        let state = start(alloc, setting, section)?;
+        let part = make(alloc, variables, state, MOST_BRANCHES)?;
+        let label = section.label.copy(alloc)?;
+        list.push((label, part))?;
+    }
+    Ok(list)
+}
+
+/// The trees of a process that runs an archetype.
+fn archetype_trees(
+    alloc: Global,
+    spec: &Spec,
+    variables: &[Text],
+    process: &Process,
+    archetype: &Archetype,
+) -> Result<Trees, AllocError>
+    requires { AreUnlabelled spec.now.macros }
+    ensures { IfOk result (λ ts. ts ≡ expansions_of variables.now spec.now.macros process.now.name.name archetype.now (process_bindings spec.now process.now archetype.now)) }
+{
+    let bindings = bindings(alloc, spec, process, archetype)?;
+    let name = &process.name.name;
+    let setting = Setting::Process {
+        name,
+        archetype,
+        bindings: bindings.as_slice(),
+    };
+    let found = sections(
+        alloc,
+        spec.macros.as_slice(),
+        name,
+        archetype,
+        bindings.as_slice(),
+    )?;
+    Ok(Items::from_vec(trees_of(alloc, variables, setting, found.as_slice())?))
+}
+
+/// The trees of a process; none where it hasn't its archetype.
+fn process_trees(
+    alloc: Global,
+    spec: &Spec,
+    variables: &[Text],
+    process: &Process,
+) -> Result<Trees, AllocError>
+    requires unlabelled { AreUnlabelled spec.now.macros }
+    requires variables { variables.now ≡ variables_of spec.now }
+    ensures { IfOk result (λ ts. ts ≡ process_expansions spec.now process.now) }
+{
+    match archetype_named(&process.archetype.name, spec.archetypes.as_slice()) {
+        None => Ok(Items::new(alloc)),
+        Some(archetype) => archetype_trees(alloc, spec, variables, process, archetype),
+    }
+}
+
+/// A process whose labels are expanded; `own` are its value parameters and its locals.
+pub fn expanded(
+    alloc: Global,
+    spec: &Spec,
+    variables: &[Text],
+    process: &Process,
+    own: Declarations,
+) -> Result<ExpandedProcess, AllocError>
+    requires unlabelled { AreUnlabelled spec.now.macros }
+    requires variables { variables.now ≡ variables_of spec.now }
+    requires own { own ≡ own_in spec.now.archetypes process.now }
+    ensures { IfOk result (λ p. p ≡ process_of spec.now process.now) }
+{
+    let trees = process_trees(alloc, spec, variables, process)?;
+    let ids = set_of_ids(alloc, &process.ids)?;
+    let name = process.name.name.copy(alloc)?;
+    Ok(ExpandedProcess {
+        name,
+        ids,
+        variables: own,
+        trees,
+    })
+}
