@@ -19,16 +19,16 @@ use Rattle.pgo_agrees.specs.Trees.{trees_in}
 -- a tree that is found has no more nodes than all
 one_of : (l : Name) (x : Expansion) (ts : List (Name × Expansion)) → find l ts ≡ Some x → nodes x ≤ nodes_in ts
 one_of l x [] h = absurd (cc)
-one_of l x (t ∷ ts) h = go (same_name l t.0) refl
+one_of l x (t ∷ ts) h = go (λ found. one_of l x ts found) (same_name l t.0) refl
   where
-    go : (b : Bool) → same_name l t.0 ≡ b → nodes x ≤ nodes_in (t ∷ ts)
-    go true e =
+    go : (find l ts ≡ Some x → nodes x ≤ nodes_in ts) → (b : Bool) → same_name l t.0 ≡ b → nodes x ≤ nodes_in (t ∷ ts)
+    go below true e =
         let found : Some t.1 ≡ Some x = sym (ap (λ c. if c then Some t.1 else find l ts) e) ∙ h in
         let is : t.1 ≡ x = cc in
         let same = ap nodes is in
         omega (arith, same)
-    go false e =
-        let rest = one_of l x ts (sym (ap (λ c. if c then Some t.1 else find l ts) e) ∙ h) in
+    go below false e =
+        let rest = below (sym (ap (λ c. if c then Some t.1 else find l ts) e) ∙ h) in
         omega (arith, rest)
 
 within : (s : Spec) → expand_refusal s ≡ None → nodes_in (trees_of s) ≤ most_nodes
