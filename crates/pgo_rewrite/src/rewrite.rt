@@ -31,8 +31,7 @@ pub fn substitute<S: Substitution>(alloc: Global, names: &S, e: &Expr) -> Result
 
 /// An expression with the reads of the mapped parameters hoisted out of it, where `used` places are in use.
 ///
-/// Reads come in the order of the text, each index before its read. Err only where there is no memory, or where more than 2^64 - 1 places
-/// would be in use.
+/// Err only where there is no memory, or where the reads need more than 2^64 places.
 pub fn hoist<'a>(
     alloc: Global,
     bindings: &'a [Binding],
