@@ -36,6 +36,7 @@ within s h = go (nat_le (nodes_in (trees_of s)) most_nodes) refl
   where
     answer : Bool → Option ExpandStop
     answer b = if b then (if nat_le (module_height s) most_height then None else Some (errors.Deep 513)) else Some (errors.Wide 1048577)
+
     go : (b : Bool) → nat_le (nodes_in (trees_of s)) most_nodes ≡ b → nodes_in (trees_of s) ≤ most_nodes
     go true e = leb-true (nodes_in (trees_of s)) most_nodes e
     go false e = absurd (let q : Some (errors.Wide 1048577) ≡ None = sym (ap answer e) ∙ h in cc)

@@ -32,7 +32,6 @@ ghost use Rattle.pgo_labels.specs.Refusal.{label_refusal};
 ghost use Rattle.pgo_heads.specs.Refusals.{bind_refusal};
 ghost use Rattle.pgo_mpcal_read.specs.Texts.{SpellsSpec};
 ghost use Rattle.pgo_agrees.specs.Accepted.{IsOfText, IsAccepted, AreSmall};
-
 ghost use Rattle.pgo_accept.specs.Answers.{NothingRefuses};
 ghost use Rattle.pgo_pluscal.specs.declared.pluscal.PlusCal.{PlusCal};
 ghost use Rattle.pgo_pluscal.specs.PlusCalOf.{pluscal_of};
