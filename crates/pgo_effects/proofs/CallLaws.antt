@@ -16,9 +16,9 @@ module _ (s : Setting) (a : Surroundings) where
   abbrev pub above : List ℕ
   above = written_label s a.label
 
-  pub body_code : (n : ℕ) (es fs : Arguments) (ls : LabeledStatements) (c d : Code) → es ≡ fs → c ≡ Skip → d ≡ in_order s above (puts_among (es ∷ a.layers) ls) → in_turn (c ∷ d ∷ []) ≡ code s above (puts a.layers (walked n (put fs (block 0 ls))))
-  body_code n es fs ls c d ee ec ed =
-      (λ i. in_turn (ec i ∷ (ed ∙ ap (λ f. in_order s above (puts_among (f ∷ a.layers) ls)) ee) i ∷ []))
+  pub body_code : (n : ℕ) (es fs : Arguments) (ls : LabeledStatements) → es ≡ fs → in_turn (Skip ∷ in_order s above (puts_among (es ∷ a.layers) ls) ∷ []) ≡ code s above (puts a.layers (walked n (put fs (block 0 ls))))
+  body_code n es fs ls ee =
+      ap (λ f. in_turn (Skip ∷ in_order s above (puts_among (f ∷ a.layers) ls) ∷ [])) ee
       ∙ ap (λ t. in_turn (Skip ∷ code s above t ∷ [])) (sym (puts_block a.layers 0 (put_among fs ls)))
       ∙ ap (code s above) (sym (puts_walked a.layers n (put fs (block 0 ls))))
 

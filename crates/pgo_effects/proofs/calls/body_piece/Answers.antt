@@ -19,6 +19,4 @@ returns c =
     let a = around_view c.args.around.now in let m = c.args.called.of.now in let ts = map tree c.args.list.now in
     let es = handed (map (λ p. p.name) m.params) ts in
     let ee : c.in_ok-arguments.arguments ≡ es = c.in_ok-arguments.ensures ∙ ap (λ (l : List PlacedName). handed (map (λ p. p.name) l) ts) c.as_slice.ensures in
-    IfOk-weaker c.row_of_two.result (λ p. (s : Setting) → piece_code s p ≡ in_turn (Skip ∷ code_of s c.in_ok-body.body ∷ []))
-    (λ p. (s : Setting) (n : ℕ) → piece_code s p ≡ code s (above s a) (puts a.layers (walked n (put es (called_body c.args.called).statement))))
-    (λ p h. λ s n. h s ∙ body_code s a n c.in_ok-arguments.arguments es (placed_among (bodies c.args.called.before.now) (labeled m.body)) Skip (code_of s c.in_ok-body.body) ee refl (c.in_ok-body.ensures s)) c.row_of_two.ensures
+    λ s n. c.last_alone.ensures s ∙ ap in_turn (c.in_ok-todos.ensures s) ∙ body_code s a n c.in_ok-arguments.arguments es (placed_among (bodies c.args.called.before.now) (labeled m.body)) ee
