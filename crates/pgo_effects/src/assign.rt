@@ -60,9 +60,9 @@ fn bind_place<'a>(
 ) -> Result<u64, AllocError>
     ensures { IfOk result (λ k. (f : ℕ → Code) → code_with effects.new.items (f k) ≡ code_with effects.old.items (evaluated (setting_view setting.entry).mapped (tree e.now) used (λ e' k'. codes_spec.Let base.now (place_name k') e' (f k')))) }
 {
-    let (value, k) = evaluate_put(alloc, setting, e, used, effects)?;
+    let (rest, k) = evaluate_put(alloc, setting, e, used, effects)?;
     let names = both(Text::from_slice(alloc, base), place(alloc, k));
-    let (value, (base, name)) = both(Ok(value), names)?;
+    let (value, (base, name)) = both(Ok(rest), names)?;
     effects.push(Effect::Let { base, name, value })?;
     Ok(k)
 }
