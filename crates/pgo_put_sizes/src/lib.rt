@@ -1,0 +1,4 @@
+// How many nodes expressions have with the arguments of the macros around them in place, counted before any of them is made.
+#![tactic(auto)]
+
+pub mod wide;
