@@ -1,1 +1,3 @@
-pub mod LeastLaws
+pub mod ReplacedOperands
+pub mod UnderLaws
+pub mod Taken

@@ -1,4 +1,6 @@
 // How many nodes expressions have with the arguments of the macros around them in place, counted before any of them is made.
 #![tactic(auto)]
 
+mod layers;
+pub mod nodes;
 pub mod wide;
