@@ -1,3 +1,4 @@
 pub mod ReplacedOperands
 pub mod UnderLaws
 pub mod Taken
+pub mod LeftLaws

@@ -1,3 +1,4 @@
 pub mod Under
 pub mod Levels
+pub mod Lefts
 pub mod Least

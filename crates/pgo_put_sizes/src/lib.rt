@@ -2,5 +2,6 @@
 #![tactic(auto)]
 
 mod layers;
+pub mod lefts;
 pub mod nodes;
 pub mod wide;

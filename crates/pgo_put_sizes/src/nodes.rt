@@ -1,6 +1,7 @@
 // How many nodes an expression has with the arguments of the macros around it in place. No expression is made.
 ghost use Rattle.std.specs.Prelude.{◌≡◌, IfOk};
 ghost use Rattle.pgo_base.specs.ExprView.{tree};
+ghost use Rattle.pgo_effects.specs.Puts.{puts_tree};
 ghost use Rattle.pgo_operands.specs.Operands.{lent_trees};
 ghost use Rattle.pgo_put_sizes.specs.Levels.{operands_under, parts_under};
 ghost use Rattle.pgo_put_sizes.specs.Under.{puts_under};
@@ -19,6 +20,24 @@ use pgo_rewrite::scopes::Scope;
 use pgo_sizes::nodes::take;
 use pgo_sizes::tuples::own_nodes;
 use std::alloc::{AllocError, Global};
+
+/// How many expressions may stand within one another.
+const LEVELS: u64 = 1_024;
+
+/// Takes the nodes of an expression of the text with these arguments in place from what is left of a limit.
+///
+/// None where less is left than they are. Err where there is no memory, or where more than 1,024 expressions stand within one another.
+pub fn take_alone(
+    alloc: Global,
+    layers: &[Arguments],
+    e: &Expr,
+    left: u64,
+) -> Result<Option<u64>, AllocError>
+    ensures { IfOk result (λ o. o ≡ left_after left (tree_nodes (puts_tree layers.now (tree e.now)))) }
+{
+    let scope = Scope::new();
+    take_put_nodes(alloc, layers, &scope, e, left, LEVELS)
+}
 
 /// Takes the nodes of an expression with these arguments in place from what is left of a limit: the innermost macro's are put in first, and
 /// a name that is bound around stays.
