@@ -2,3 +2,6 @@ pub mod ReplacedOperands
 pub mod UnderLaws
 pub mod Taken
 pub mod LeftLaws
+pub mod Replaced
+pub mod LeastLaws
+pub mod EvaluatedLaws
