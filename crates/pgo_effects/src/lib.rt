@@ -10,7 +10,7 @@ pub mod change;
 mod evaluate;
 mod inner;
 mod lefts;
-mod names;
+pub mod names;
 pub mod piece;
 pub mod place;
 pub mod sections;

@@ -55,7 +55,6 @@ none_kept h = record {
   yield = tt;
 }
 
-
 -- forms of one, two and three parts, and lists of them: what follows the last part has no reads
 one_kept : {n r : ℕ} {rs : List MappedRead} → Kept n rs r → Kept (suc n) (rs ++ []) (suc r)
 one_kept {n} {r} {rs} h = record {
@@ -153,15 +152,15 @@ module _ (mapped : MappedNames) where
         → Kept (tree_nodes f + n + d) (rs ++ (ss ++ (on (pure k (index f' us)) o (λ m. read_element m (index_tree us) k)).reads)) (tree_nodes (on (pure k (index f' us)) o (λ m. read_element m (index_tree us) k)).rest)
     index_kept u f f' us n k d rs ss None e h g a b =
         record {
-        count = let c = h.count in let c' = g.count in let r = append_nodes rs (ss ++ []) in let r' = append_nodes ss [] in omega (arith, c, c', r, r', a);
-        yield = append_yield rs (ss ++ []) h.yield (append_yield ss [] g.yield tt);
-      }
+          count = let c = h.count in let c' = g.count in let r = append_nodes rs (ss ++ []) in let r' = append_nodes ss [] in omega (arith, c, c', r, r', a);
+          yield = append_yield rs (ss ++ []) h.yield (append_yield ss [] g.yield tt);
+        }
     index_kept u f f' us n k d rs ss (Some m) e h g a b =
         let q : MappedRead = record { mapped = m; index = Some (place k, index_tree us); value = place (suc k) } in
         record {
-        count = let c = g.count in let r = append_nodes rs (ss ++ q ∷ []) in let r' = append_nodes ss (q ∷ []) in let s = element_name u f m e in omega (arith, c, r, r', b, s);
-        yield = append_yield rs (ss ++ q ∷ []) h.yield (append_yield ss (q ∷ []) g.yield (element_ok u f m e, tt));
-      }
+          count = let c = g.count in let r = append_nodes rs (ss ++ q ∷ []) in let r' = append_nodes ss (q ∷ []) in let s = element_name u f m e in omega (arith, c, r, r', b, s);
+          yield = append_yield rs (ss ++ q ∷ []) h.yield (append_yield ss (q ∷ []) g.yield (element_ok u f m e, tt));
+        }
 
     index_law : (u : List Name) (f : Tree) (ts : Trees) (k d : ℕ) → Kept (tree_nodes f) (hoisted mapped u f k).reads (tree_nodes (hoisted mapped u f k).rest)
         → Kept (trees_nodes ts) (hoisted_all mapped u ts (hoisted mapped u f k).used).reads (trees_nodes (hoisted_all mapped u ts (hoisted mapped u f k).used).rest)

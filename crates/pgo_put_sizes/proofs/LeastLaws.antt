@@ -57,10 +57,11 @@ after_read ps w g i c ren cur k j y e' mem n' =
 after_read_law : (m : ℕ) (ps : List (Name × Place)) (w g : Name) (i : Option Name) (c : Code) (ren : Renames) (cur : Current) (k : OnGo) (j : OnJump) (y : OnYield)
     → ((ren' : Renames) (cur' : Current) (n' : ℕ) → m ≤ nodes (expand ps c ren' cur' n' k j y)) → AtLeastYielded m (after_read ps w g i c ren cur k j y)
 after_read_law m ps w g i c ren cur k j y h e mem n' =
-    omega
-    (arith,
-    left_behind_law (is_assigned mem) m ren cur g i (current mem (Whole content_name)) (suc n') (λ cur' n''. expand ps c ((w, made val_base (suc n')) ∷ ren) cur' n'' k j y)
-    (λ cur' n''. h ((w, made val_base (suc n')) ∷ ren) cur' n''))
+    omega (
+      arith,
+      left_behind_law (is_assigned mem) m ren cur g i (current mem (Whole content_name)) (suc n') (λ cur' n''. expand ps c ((w, made val_base (suc n')) ∷ ren) cur' n'' k j y)
+          (λ cur' n''. h ((w, made val_base (suc n')) ∷ ren) cur' n''),
+    )
 
 -- what a write's yield leads to
 abbrev after_write : (g : Name) (i : Option Name) (ren : Renames) (cur : Current) (k : OnGo) → OnYield
@@ -92,10 +93,11 @@ mutual
   passes_law (Yield e) m ps ren cur n k j y p h = never p
   passes_law (Read w g i block c) m ps ren cur n k j y p h =
       let q = both_are (yields block) (passes c) p in
-      omega
-      (arith,
-      yields_law block m content_places [] (content_now (made old_base (suc n))) (suc n) no_go no_jump (after_read ps w g i c ren cur k j y) q.0
-      (λ e mem n'. after_read_law m ps w g i c ren cur k j y (λ ren' cur' n''. passes_law c m ps ren' cur' n'' k j y q.1 h) e mem n'))
+      omega (
+        arith,
+        yields_law block m content_places [] (content_now (made old_base (suc n))) (suc n) no_go no_jump (after_read ps w g i c ren cur k j y) q.0
+            (λ e mem n'. after_read_law m ps w g i c ren cur k j y (λ ren' cur' n''. passes_law c m ps ren' cur' n'' k j y q.1 h) e mem n'),
+      )
   passes_law (Write g i w block) m ps ren cur n k j y p h =
       omega (arith, yields_law block m content_places (value_handed (find w ren)) (content_now (made old_base (suc n))) (suc n) no_go no_jump (after_write g i ren cur k) p (λ e mem n'. after_write_law m g i ren cur k h e mem n'))
 
@@ -129,10 +131,11 @@ mutual
   yields_law (Yield e) m ps ren cur n k j y p h = h (current_tree ps ren cur e) cur n
   yields_law (Read w g i block c) m ps ren cur n k j y p h =
       let q = both_are (yields block) (yields c) p in
-      omega
-      (arith,
-      yields_law block m content_places [] (content_now (made old_base (suc n))) (suc n) no_go no_jump (after_read ps w g i c ren cur k j y) q.0
-      (λ e mem n'. after_read_law m ps w g i c ren cur k j y (λ ren' cur' n''. yields_law c m ps ren' cur' n'' k j y q.1 h) e mem n'))
+      omega (
+        arith,
+        yields_law block m content_places [] (content_now (made old_base (suc n))) (suc n) no_go no_jump (after_read ps w g i c ren cur k j y) q.0
+            (λ e mem n'. after_read_law m ps w g i c ren cur k j y (λ ren' cur' n''. yields_law c m ps ren' cur' n'' k j y q.1 h) e mem n'),
+      )
   yields_law (Write g i w block) m ps ren cur n k j y p h = never p
 
   pub one_yields_law : (cs : Codes) (m : ℕ) (ps : List (Name × Place)) (ren : Renames) (cur : Current) (n : ℕ) (k : OnGo) (j : OnJump) (y : OnYield)

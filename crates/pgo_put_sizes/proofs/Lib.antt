@@ -5,3 +5,6 @@ pub mod LeftLaws
 pub mod Replaced
 pub mod LeastLaws
 pub mod EvaluatedLaws
+pub mod LeadLaws
+pub mod Nesting
+pub mod CountedLaws
