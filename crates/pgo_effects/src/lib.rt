@@ -9,7 +9,7 @@ mod calls;
 pub mod change;
 mod evaluate;
 mod lefts;
-mod names;
+pub mod names;
 pub mod piece;
 pub mod place;
 pub mod setting;

@@ -30,7 +30,9 @@ use std::alloc::{AllocError, Global};
 use std::rc::Rc;
 
 /// The name with one mark more.
-fn marked(alloc: Global, x: &Text) -> Result<Text, AllocError>
+///
+/// Err only where there is no memory.
+pub fn marked(alloc: Global, x: &Text) -> Result<Text, AllocError>
     ensures { IfOk result (λ t. t ≡ spec.marked x.now) }
 {
     let mut t = x.copy(alloc)?;
@@ -54,7 +56,7 @@ fn unmarked(alloc: Global, x: &Text) -> Result<Text, AllocError>
 }
 
 /// The expression from which a name has its value.
-fn origin_of(origin: &Origin) -> &Expr
+pub fn origin_of(origin: &Origin) -> &Expr
     ensures { tree result.now ≡ of_origin origin.now }
 {
     match origin {
@@ -72,8 +74,10 @@ struct OneName {
     value: Sub,
 }
 
-/// The arguments with a name more, which another one stands for.
-fn add_marked(
+/// The arguments with a name more, before the others, which another one stands for.
+///
+/// Err only where there is no memory.
+pub fn add_marked(
     alloc: Global,
     arguments: Arguments,
     name: Text,
@@ -209,7 +213,9 @@ fn add_names<'a>(
 }
 
 /// The arguments once more.
-fn copy_layers(alloc: Global, layers: &[Arguments]) -> Result<Vec<Arguments>, AllocError>
+///
+/// Err only where there is no memory.
+pub fn copy_layers(alloc: Global, layers: &[Arguments]) -> Result<Vec<Arguments>, AllocError>
     ensures { IfOk result (λ v. v.items ≡ layers.now) }
 {
     let mut all = Vec::new(alloc);

@@ -50,8 +50,10 @@ fn one_name(alloc: Global, name: &Text) -> Result<Names, AllocError>
     Ok(all)
 }
 
-/// The names that an expression binds, in the order of the text.
-pub(crate) fn names_by(alloc: Global, e: &Expr) -> Result<Names, AllocError>
+/// The names that an expression binds for its operands, in the order of the text.
+///
+/// A form that binds none gives none. Err only where there is no memory.
+pub fn names_by(alloc: Global, e: &Expr) -> Result<Names, AllocError>
     ensures { IfOk result (λ v. v ≡ spec.names_by (tree e.now)) }
 {
     match e {
@@ -80,7 +82,7 @@ fn at_first(n: usize, i: usize) -> usize
 }
 
 /// How many of the n names of an expression are bound around its operand i, from 0. They are the first of its names.
-pub(crate) fn count_at(e: &Expr, n: usize, i: usize) -> usize
+pub fn count_at(e: &Expr, n: usize, i: usize) -> usize
     ensures { result ≡ spec.count_at (tree e.now) n i }
 {
     match e {

@@ -10,12 +10,12 @@
 #![tactic(auto)]
 
 pub mod arguments;
-mod bound_names;
+pub mod bound_names;
 pub mod mapped;
 mod parts;
 pub mod reads;
 mod rebuild;
 pub mod rewrite;
-mod scopes;
+pub mod scopes;
 pub mod substitution;
 mod walk;

@@ -7,10 +7,10 @@ use pgo_base::expr::Names;
 use pgo_base::text::Text;
 use std::marker::Model;
 
-/// Names that are bound around an expression.
+/// Names that are bound around an expression, as groups of names, the innermost group first.
 #[cycle(scopes)]
 #[derive(Drop)]
-pub(crate) struct Scope<'a> {
+pub struct Scope<'a> {
     link: Link<'a>,
 }
 
@@ -43,14 +43,14 @@ impl<'a> Model for Scope<'a> {
 
 impl<'a> Scope<'a> {
     /// No name.
-    pub(crate) fn new() -> Scope<'a>
+    pub fn new() -> Scope<'a>
         ensures { result ≡ [] }
     {
         Scope { link: Link::Empty }
     }
 
-    /// The names of `outer`, and within them the first so many of these.
-    pub(crate) fn within(outer: &'a Scope<'a>, names: &'a Names, count: usize) -> Scope<'a>
+    /// The names of `outer`, and within them the first `count` of these, or all where there are fewer.
+    pub fn within(outer: &'a Scope<'a>, names: &'a Names, count: usize) -> Scope<'a>
         ensures { result ≡ take count names.entry.now ∷ outer.entry.now }
     {
         Scope {
@@ -83,8 +83,8 @@ fn is_one(names: &[Text], name: &Text) -> bool
 }
 
 impl<'a> Scope<'a> {
-    /// Whether this is one of the names.
-    pub(crate) fn has(&self, name: &Text) -> bool
+    /// Whether this is one of the names. It recurses once for each group.
+    pub fn has(&self, name: &Text) -> bool
         ensures { result ≡ is_among name.now (in_scope self.now) }
     {
         match &self.link {

@@ -6,4 +6,4 @@
 
 pub mod heights;
 pub mod nodes;
-mod tuples;
+pub mod tuples;

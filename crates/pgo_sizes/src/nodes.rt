@@ -11,8 +11,8 @@ use pgo_base::expr::Expr;
 use pgo_operands::operands::operands;
 use std::alloc::{AllocError, Global};
 
-/// Takes so many from what is left.
-fn take(left: u64, count: u64) -> Option<u64>
+/// Takes so many from what is left. None where less is left.
+pub fn take(left: u64, count: u64) -> Option<u64>
     ensures { result ≡ left_after left count }
 {
     left.checked_sub(count)

@@ -23,8 +23,8 @@ pub(crate) fn has_tuple(e: &Expr) -> bool
     }
 }
 
-/// How many nodes an expression has besides those of its operands.
-pub(crate) fn own_nodes(e: &Expr) -> u64
+/// How many nodes an expression has besides those of its operands: two where its index is a tuple, and else one.
+pub fn own_nodes(e: &Expr) -> u64
     ensures { result ≡ spec.own_nodes (tree e.now) }
 {
     if has_tuple(e) { 2 } else { 1 }

@@ -1,0 +1,10 @@
+pub mod ReplacedOperands
+pub mod UnderLaws
+pub mod Taken
+pub mod LeftLaws
+pub mod Replaced
+pub mod LeastLaws
+pub mod EvaluatedLaws
+pub mod LeadLaws
+pub mod Nesting
+pub mod CountedLaws

@@ -1,0 +1,34 @@
+// Whether a level of code has more nodes than are left, with the arguments of macros in place.
+ghost use Rattle.std.specs.Prelude.{◌≡◌, ◌<◌, true, IfOk};
+ghost use Rattle.pgo_effects.specs.SettingView.{setting_view};
+ghost use Rattle.pgo_effects.specs.Todos.{code_of};
+ghost use Rattle.pgo_put_sizes.specs.Least.{least};
+
+use crate::blocks::all_yield;
+use crate::counted::take_todo;
+use pgo_effects::setting::Setting;
+use pgo_effects::todo::Todo;
+use std::alloc::{AllocError, Global};
+
+/// Whether the expressions of one level of the code have more nodes than are left, with the arguments of the macros around them in
+/// place. None of them is made.
+///
+/// False where they have not, and of code that evaluates no expression. Err where there is no memory, where more than 1,024 expressions
+/// stand within one another, or where they have more nodes than are left and a mapping macro's read has no path to a `yield`.
+pub fn is_wide<'a>(
+    alloc: Global,
+    setting: Setting<'a>,
+    todo: &Todo<'a>,
+    left: u64,
+) -> Result<bool, AllocError>
+    ensures { IfOk result (λ b. b ≡ true → left < least (code_of (setting_view setting.entry) todo.now)) }
+{
+    if take_todo(alloc, todo, left)?.is_some() {
+        return Ok(false);
+    }
+    if all_yield(setting.bindings()) {
+        Ok(true)
+    } else {
+        Err(AllocError)
+    }
+}
