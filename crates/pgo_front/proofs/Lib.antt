@@ -34,3 +34,4 @@ pub mod Caused
 pub mod CausedExpand
 pub mod Expanding
 pub mod LinesWritten
+pub mod PiecesWritten

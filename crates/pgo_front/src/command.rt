@@ -1,5 +1,5 @@
 // The top call: words and bytes in, bytes and a status out.
-ghost use Rattle.std.specs.Prelude.{◌≡◌, ◌≤◌, ◌<◌, ◌⊎◌, ℕ, List, [], length, None, IfSome, IfOk, IfErr, OnOk, OnErr};
+ghost use Rattle.std.specs.Prelude.{◌≡◌, ◌≤◌, ◌<◌, ◌⊎◌, ℕ, List, [], length, take, None, IfSome, IfOk, IfErr, OnOk, OnErr};
 ghost use Rattle.pgo_io.specs.Faults.{Rose};
 ghost use Rattle.pgo_io.specs.Sink.{Grows, GrowsByPrefix};
 ghost use Rattle.pgo_base.specs.Data.{Data};
@@ -38,7 +38,7 @@ use std::alloc::Global;
 /// and the text of its expansion as its output.
 ///
 /// The words come first, then the input is read to its end, then the text is read, then the run, the check or the expansion
-/// is made, and only then is the output written, an expansion in one piece and the others line by line. A refusal puts its one line on `err`, whose faults change no status. The
+/// is made, and only then is the output written, line by line. A refusal puts its one line on `err`, whose faults change no status. The
 /// statuses are those of `Status`. This project's choice.
 pub fn pgo<S: Source, O: Sink, E: Sink>(
     alloc: Global,
@@ -147,7 +147,7 @@ fn run<S: Source, O: Sink>(alloc: Global, words: &[Word], input: &mut S, out: &m
     }
 }
 
-/// Writes lines, one piece a line, or a text, in one piece.
+/// Writes lines or a text, one piece a line.
 fn write_made<O: Sink>(out: &mut O, written: &Written) -> Result<(), Failed>
     ensures all { OnOk result (Grows (O.held out.old) (O.held out.new) (bytes_of written.now)) }
     ensures prefix { OnErr result (GrowsByPrefix (O.held out.old) (O.held out.new) (bytes_of written.now)) }
@@ -156,7 +156,7 @@ fn write_made<O: Sink>(out: &mut O, written: &Written) -> Result<(), Failed>
 {
     match written {
         Written::Lines(lines) => write_lines(out, lines),
-        Written::Text(text) => write_all(out, text.as_bytes()),
+        Written::Text(text) => write_text(out, text.as_bytes()),
     }
 }
 
@@ -169,6 +169,35 @@ fn write_lines<O: Sink>(out: &mut O, lines: &Lines) -> Result<(), Failed>
 {
     for line in lines.as_slice() {
         write_all(out, line.as_bytes())?;
+    }
+    Ok(())
+}
+
+/// The bytes of a text up to its first newline, with it; all where there is none.
+fn first_line(text: &[u8]) -> &[u8]
+    requires { 0 < length text.now }
+    ensures some { 0 < length result.now }
+    ensures within { length result.now ≤ length text.now }
+    ensures front { result.now ≡ take (length result.now) text.now }
+{
+    match text.iter().position(|b| *b == b'\n') {
+        Some(i) => &text[..=i],
+        None => text,
+    }
+}
+
+/// Writes a text, one piece a line.
+fn write_text<O: Sink>(out: &mut O, text: &[u8]) -> Result<(), Failed>
+    ensures all { OnOk result (Grows (O.held out.old) (O.held out.new) text.now) }
+    ensures prefix { OnErr result (GrowsByPrefix (O.held out.old) (O.held out.new) text.now) }
+    ensures cause { OnErr result (Rose (O.faults out.old) (O.faults out.new)) }
+    ensures steady { OnOk result (O.faults out.new ≡ O.faults out.old) }
+{
+    let mut done = 0;
+    while done < text.len() {
+        let line = first_line(&text[done..]);
+        write_all(out, line)?;
+        done += line.len();
     }
     Ok(())
 }

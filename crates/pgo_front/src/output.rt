@@ -3,12 +3,12 @@ use crate::status::Status;
 use pgo_base::text::Text;
 use pgo_module_write::line::Lines;
 
-/// What a command writes.
+/// What a command writes, each line in one piece.
 #[derive(Drop)]
 pub enum Written {
-    /// Lines, each in one piece.
+    /// lines
     Lines(Lines),
-    /// One text, in one piece.
+    /// one text
     Text(Text),
 }
 
