@@ -1,15 +1,15 @@
 -- What a macro's call does: its body in the place of the call.
-use Rattle.std.proofs.Common.{◌≡◌, ℕ, List, [], ◌∷◌, map, Option, Some, None, option_map, refl, ap, sym, ◌∙◌}
+use Rattle.std.proofs.Common.{◌≡◌, ℕ, List, [], ◌∷◌, Option, Some, None, ap, sym, ◌∙◌}
 use Rattle.pgo_base.specs.Lookup.{find}
 use Rattle.pgo_base.specs.Tree.{Tree}
 use Rattle.pgo_model.specs.Options.{on}
 use Rattle.pgo_syntax.specs.Statement.{Statement, LabeledStatements, block, call_macro}
 use Rattle.pgo_syntax.specs.declared.name.PlacedName.{PlacedName}
-use Rattle.pgo_sections.specs.Code.{Code, Empty, Skip, in_turn}
-use Rattle.pgo_meaning.specs.MacrosPlaced.{Arguments, Body, Bodies, handed, walked, put, put_among, placed, placed_among}
+use Rattle.pgo_sections.specs.Code.{Empty, Skip, in_turn}
+use Rattle.pgo_meaning.specs.MacrosPlaced.{Arguments, Body, handed, walked, put, put_among}
 use Rattle.pgo_meaning.specs.Statements.{Setting, code, in_order}
 use Rattle.pgo_effects.specs.Around.{Surroundings, stands, written_label}
-use Rattle.pgo_effects.specs.Puts.{Layers, puts, puts_among}
+use Rattle.pgo_effects.specs.Puts.{puts, puts_among}
 use Rattle.pgo_effects.proofs.PutLaws.{puts_call, puts_walked, puts_block}
 
 module _ (s : Setting) (a : Surroundings) where

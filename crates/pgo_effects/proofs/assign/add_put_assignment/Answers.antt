@@ -1,5 +1,5 @@
 use Rattle.std.proofs.lemmas.Result.{IfOk-at_ok}
-use Rattle.std.proofs.Common.{◌≡◌, ap, ◌∙◌, map, refl}
+use Rattle.std.proofs.Common.{ap, ◌∙◌, map, refl}
 use Rattle.pgo_base.specs.ExprView.{tree}
 use Rattle.pgo_meaning.specs.Statements.{assigned}
 use Rattle.pgo_effects.specs.Assigned.{part_view}

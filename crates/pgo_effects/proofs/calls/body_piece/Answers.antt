@@ -1,17 +1,11 @@
-use Rattle.std.proofs.Common.{◌≡◌, ℕ, ap, ◌∙◌, [], ◌∷◌, refl, map, List}
-use Rattle.std.proofs.lemmas.Result.{IfOk-weaker}
+use Rattle.std.proofs.Common.{◌≡◌, ap, ◌∙◌, map, List}
 use Rattle.pgo_base.specs.ExprView.{tree}
 use Rattle.pgo_syntax.specs.Statement.{labeled}
 use Rattle.pgo_syntax.specs.declared.name.PlacedName.{PlacedName}
-use Rattle.pgo_sections.specs.Code.{Skip, in_turn}
-use Rattle.pgo_meaning.specs.MacrosPlaced.{handed, walked, put, placed_among, bodies}
-use Rattle.pgo_meaning.specs.Statements.{Setting, code}
+use Rattle.pgo_sections.specs.Code.{in_turn}
+use Rattle.pgo_meaning.specs.MacrosPlaced.{handed, placed_among, bodies}
 use Rattle.pgo_effects.specs.Around.{around_view}
-use Rattle.pgo_effects.specs.Called.{called_body}
-use Rattle.pgo_effects.specs.Pieces.{piece_code}
-use Rattle.pgo_effects.specs.Puts.{puts}
-use Rattle.pgo_effects.specs.Todos.{code_of}
-use Rattle.pgo_effects.proofs.CallLaws.{above, body_code}
+use Rattle.pgo_effects.proofs.CallLaws.{body_code}
 use Rattle.pgo_effects.proofs.calls.body_piece.Goals as goal
 
 pub returns : goal.returns

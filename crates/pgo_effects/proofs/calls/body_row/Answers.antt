@@ -1,4 +1,4 @@
-use Rattle.std.proofs.Common.{◌≡◌, ap, ◌∙◌, [], ◌∷◌, ◌++◌, List}
+use Rattle.std.proofs.Common.{ap, ◌∙◌, [], ◌∷◌, ◌++◌, List}
 use Rattle.pgo_sections.specs.Code.{Skip as SkipCode}
 use Rattle.pgo_effects.specs.declared.todo.Todo.{Todo}
 use Rattle.pgo_effects.specs.declared.todo.Todo.TheVariants.{Skip}
