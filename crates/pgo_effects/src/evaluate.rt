@@ -1,5 +1,5 @@
 // Expressions of the text, evaluated: the arguments of macros in place, mapped reads before.
-ghost use Rattle.std.specs.Prelude.{◌≡◌, ℕ, List, Option, [], ◌∷◌, option_map, IfOk};
+ghost use Rattle.std.specs.Prelude.{◌≡◌, ℕ, Option, [], ◌∷◌, option_map, IfOk};
 ghost use Rattle.pgo_base.specs.ExprView.{tree, named_tree};
 ghost use Rattle.pgo_base.specs.Lookup.{Name};
 ghost use Rattle.pgo_base.specs.Tree.{Tree};
