@@ -11,6 +11,3 @@ pub mod StatementLaws
 pub mod PlaceLaws
 pub mod LeftLaws
 pub mod ChangedLaws
-pub mod SectionLabels
-pub mod SectionLaws
-pub mod SectionFollows

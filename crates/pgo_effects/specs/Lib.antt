@@ -4,7 +4,6 @@ pub mod Puts
 pub mod Around
 pub mod Todos
 pub mod Pieces
-pub mod Sections
 pub mod Called
 pub mod Origins
 pub mod Assigned

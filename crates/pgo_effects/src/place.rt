@@ -7,7 +7,7 @@ ghost use Rattle.pgo_meaning.specs.Parameters.{local_places, parameter_places, p
 ghost use Rattle.pgo_sections.specs.Code.{content_places};
 
 use crate::setting::Setting;
-use crate::simple::written_name;
+use crate::written::written_name;
 use pgo_base::text::Text;
 use pgo_syntax::archetype::Archetype;
 use pgo_syntax::bound::{Binding, Target};

@@ -7,7 +7,6 @@ ghost use Rattle.pgo_effects.specs.Puts.{puts_tree};
 ghost use Rattle.pgo_effects.specs.SettingView.{setting_view};
 ghost use Rattle.pgo_meaning.specs.Statements.{label_of};
 ghost use Rattle.pgo_meaning.specs.Statements.{Setting as Meant};
-ghost use Rattle.pgo_model.specs.Written.{written};
 ghost use Rattle.pgo_sections.specs.Access.{evaluated};
 ghost use Rattle.pgo_sections.specs.Code as codes;
 
@@ -15,6 +14,7 @@ use crate::around::Around;
 use crate::evaluate::{evaluate_alone, put_around};
 use crate::piece::{Last, Piece};
 use crate::setting::Setting;
+use crate::written::written_label;
 use pgo_base::expr::Expr;
 use pgo_base::text::Text;
 use std::alloc::{AllocError, Global};
@@ -87,33 +87,6 @@ pub(crate) fn yield_piece<'a>(
 {
     let done = put_around(alloc, around, e)?;
     Ok(last_alone(alloc, Last::Yield(done)))
-}
-
-/// The written name of a label or a local x of the process p.
-pub(crate) fn written_name(alloc: Global, p: &[u8], x: &Text) -> Result<Text, AllocError>
-    ensures { IfOk result (λ t. t ≡ written p.now x.now) }
-{
-    let mut bytes = Vec::new(alloc);
-    bytes.extend_from_slice(p)?;
-    bytes.extend_from_slice(b"_")?;
-    bytes.extend_from_slice(x.as_bytes())?;
-    Ok(Text::from_bytes(bytes))
-}
-
-/// Where a label is, as it is written: `Done` is not one.
-pub(crate) fn written_label(
-    alloc: Global,
-    setting: Setting<'_>,
-    x: &Text,
-) -> Result<Text, AllocError>
-    ensures { IfOk result (λ t. t ≡ label_of (setting_view setting.entry).process x.now) }
-{
-    let done = Text::from_slice(alloc, b"Done")?;
-    if x.is(&done) {
-        Ok(done)
-    } else {
-        written_name(alloc, setting.process(), x)
-    }
 }
 
 /// `goto x`

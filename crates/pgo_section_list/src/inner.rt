@@ -1,7 +1,7 @@
 // The statements that stand directly in a statement, as a list of what is lent.
 ghost use Rattle.std.specs.Prelude.{◌≡◌, [], ◌∷◌, None, map, IfOk, option_map};
-ghost use Rattle.pgo_effects.specs.Sections as spec;
-ghost use Rattle.pgo_effects.specs.Sections.{see, label_above};
+ghost use Rattle.pgo_section_list.specs.Sections as spec;
+ghost use Rattle.pgo_section_list.specs.Sections.{see, label_above};
 ghost use Rattle.pgo_meaning.specs.Labels.{labelled};
 ghost use Rattle.pgo_meaning.specs.Statements.{Setting as Meant};
 ghost use Rattle.pgo_syntax.specs.Statement.{labeled, statements, guarded};

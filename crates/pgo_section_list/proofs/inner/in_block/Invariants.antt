@@ -2,8 +2,8 @@
 use Rattle.std.proofs.Common.{◌≡◌, ◌++◌, map, length}
 use Rattle.pgo_syntax.specs.Statement.{labeled}
 use Rattle.pgo_syntax.specs.StatementView.{labeled_pair}
-use Rattle.pgo_effects.specs.Sections.{see, block_items}
-use Rattle.pgo_effects.proofs.inner.in_block.Given as goal
+use Rattle.pgo_section_list.specs.Sections.{see, block_items}
+use Rattle.pgo_section_list.proofs.inner.in_block.Given as goal
 
 abbrev pub invariant-loop-one : goal.invariant-loop-one
 invariant-loop-one l = map see l.items.items ++ block_items (labeled (map labeled_pair l.left)) ≡ block_items (labeled (map labeled_pair l.list))

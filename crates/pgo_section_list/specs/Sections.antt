@@ -14,13 +14,13 @@ use Rattle.pgo_meaning.specs.Statements.{Setting, in_order}
 use Rattle.pgo_effects.specs.Around.{Surroundings, written_label}
 use Rattle.pgo_effects.specs.SettingView.{setting_view}
 use Rattle.pgo_effects.specs.Todos.{code_of, codes_of}
-use Rattle.pgo_effects.specs.declared.inner.Inner.{Inner}
-use Rattle.pgo_effects.specs.declared.inner.Inner.TheVariants as inners
-use Rattle.pgo_effects.specs.declared.sections.End.{End}
-use Rattle.pgo_effects.specs.declared.sections.End.TheVariants as ends
-use Rattle.pgo_effects.specs.declared.sections.Follow.{Follow}
-use Rattle.pgo_effects.specs.declared.sections.Section.{Section}
-use Rattle.pgo_effects.specs.declared.sections.Source.{Source}
+use Rattle.pgo_section_list.specs.declared.inner.Inner.{Inner}
+use Rattle.pgo_section_list.specs.declared.inner.Inner.TheVariants as inners
+use Rattle.pgo_section_list.specs.declared.sections.End.{End}
+use Rattle.pgo_section_list.specs.declared.sections.End.TheVariants as ends
+use Rattle.pgo_section_list.specs.declared.sections.Follow.{Follow}
+use Rattle.pgo_section_list.specs.declared.sections.Section.{Section}
+use Rattle.pgo_section_list.specs.declared.sections.Source.{Source}
 
 -- one after the other, and then c
 abbrev pub in_sequence : List Code → Code → Code

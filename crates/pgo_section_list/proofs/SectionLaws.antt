@@ -12,9 +12,9 @@ use Rattle.pgo_meaning.specs.LabelSections.{AreUnlabelled}
 use Rattle.pgo_meaning.specs.Labels.{own, labelled, within, within_branches, within_arms, within_order}
 use Rattle.pgo_meaning.specs.MacrosPlaced.{bodies, placed, placed_each, placed_among, placed_guarded}
 use Rattle.pgo_meaning.specs.Statements.{Setting, in_order}
-use Rattle.pgo_effects.specs.declared.inner.Inner.{Inner}
-use Rattle.pgo_effects.specs.Sections.{Item, outer, rest, again, see, block_items, alternative_items, branch_items, items, next_code, item_sections, all_sections}
-use Rattle.pgo_effects.proofs.SectionLabels.{call_sections}
+use Rattle.pgo_section_list.specs.declared.inner.Inner.{Inner}
+use Rattle.pgo_section_list.specs.Sections.{Item, outer, rest, again, see, block_items, alternative_items, branch_items, items, next_code, item_sections, all_sections}
+use Rattle.pgo_section_list.proofs.SectionLabels.{call_sections}
 
 -- ---- heights
 abbrev pub heights : List Item → ℕ

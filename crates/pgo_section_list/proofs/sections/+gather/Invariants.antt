@@ -1,9 +1,9 @@
 -- What is gathered and what is left are the whole; a statement nests less deep than that in which it stands.
 use Rattle.std.proofs.Common.{◌≡◌, ◌++◌, map, drop}
-use Rattle.pgo_effects.specs.Sections.{follow_code, label_above, section_view, see, source_sections}
+use Rattle.pgo_section_list.specs.Sections.{follow_code, label_above, section_view, see, source_sections}
 use Rattle.pgo_effects.specs.SettingView.{setting_view}
-use Rattle.pgo_effects.proofs.SectionLaws.{heights}
-use Rattle.pgo_effects.proofs.sections.+gather.Given as goal
+use Rattle.pgo_section_list.proofs.SectionLaws.{heights}
+use Rattle.pgo_section_list.proofs.sections.+gather.Given as goal
 
 abbrev pub decreases-gather : goal.decreases-gather
 decreases-gather l = heights (map see l.list.now)

@@ -1,11 +1,11 @@
 use Rattle.std.proofs.Common.{◌≡◌, ◌<◌, ◌≤◌, ◌+◌, ◌++◌, ◌∷◌, map, drop, refl, ap, sym, ◌∙◌, arith}
 use Rattle.pgo_syntax.specs.StatementSize.{height}
 use Rattle.pgo_syntax.specs.StatementView.{statement}
-use Rattle.pgo_effects.specs.Sections.{follow_code, label_above, section_view, see, source_sections}
+use Rattle.pgo_section_list.specs.Sections.{follow_code, label_above, section_view, see, source_sections}
 use Rattle.pgo_effects.specs.SettingView.{setting_view}
 use Rattle.pgo_effects.proofs.Rests.{first_of_rest}
-use Rattle.pgo_effects.proofs.SectionLaws.{heights, at_height, list_low, gathered}
-use Rattle.pgo_effects.proofs.sections.+gather.Goals as goal
+use Rattle.pgo_section_list.proofs.SectionLaws.{heights, at_height, list_low, gathered}
+use Rattle.pgo_section_list.proofs.sections.+gather.Goals as goal
 
 pub gather-requires : goal.gather-requires
 gather-requires t c =

@@ -1,7 +1,7 @@
 -- What follows a statement, from what stands before it.
 use Rattle.std.proofs.Common.{◌≡◌, List, [], ◌∷◌, ◌++◌, refl, ap, ◌∙◌, append_assoc}
 use Rattle.pgo_sections.specs.Code.{Code, Seq}
-use Rattle.pgo_effects.specs.Sections.{in_sequence}
+use Rattle.pgo_section_list.specs.Sections.{in_sequence}
 
 pub sequence-append : (cs ds : List Code) (c : Code) → in_sequence (cs ++ ds) c ≡ in_sequence cs (in_sequence ds c)
 sequence-append [] ds c = refl

@@ -1,10 +1,10 @@
 use Rattle.std.proofs.Common.{◌≡◌, ◌+◌, ◌++◌, ap, sym, subst, ◌∙◌, drop, [], ◌∷◌, refl, arith}
 use Rattle.std.proofs.lemmas.List.{drop_all, append-nil}
-use Rattle.pgo_effects.specs.Sections.{in_sequence, end_code}
+use Rattle.pgo_section_list.specs.Sections.{in_sequence, end_code}
 use Rattle.pgo_effects.specs.Todos.{code_of, codes_of}
 use Rattle.pgo_effects.proofs.Rests.{first_of_rest, codes_more}
-use Rattle.pgo_effects.proofs.SectionFollows.{sequence-append, copied}
-use Rattle.pgo_effects.proofs.sections.before.Goals as goal
+use Rattle.pgo_section_list.proofs.SectionFollows.{sequence-append, copied}
+use Rattle.pgo_section_list.proofs.sections.before.Goals as goal
 
 pub loop-todo-preserved : goal.loop-todo-preserved
 loop-todo-preserved c =

@@ -1,6 +1,6 @@
 // The section of each label of a process, as code that has not been looked at.
 ghost use Rattle.std.specs.Prelude.{◌≡◌, ◌++◌, map, IfOk};
-ghost use Rattle.pgo_effects.specs.Sections.{end_code, follow_code, in_sequence, label_above, next_code, section_view, see, source_sections, surroundings};
+ghost use Rattle.pgo_section_list.specs.Sections.{end_code, follow_code, in_sequence, label_above, next_code, section_view, see, source_sections, surroundings};
 ghost use Rattle.pgo_effects.specs.SettingView.{setting_view};
 ghost use Rattle.pgo_effects.specs.Todos.{code_of, codes_of, part_code};
 ghost use Rattle.pgo_meaning.specs.LabelSections.{AreUnlabelled};
@@ -12,12 +12,12 @@ ghost use Rattle.pgo_meaning.specs.Statements.{Setting as Meant, code, label_of}
 ghost use Rattle.pgo_sections.specs.Code.{Seq};
 ghost use Rattle.pgo_syntax.specs.StatementView.{statement};
 
-use crate::around::Around;
 use crate::inner::{Inner, in_block, inners_of};
-use crate::setting::Setting;
-use crate::simple::written_label;
-use crate::todo::{Part, Todo};
 use pgo_base::text::Text;
+use pgo_effects::around::Around;
+use pgo_effects::setting::Setting;
+use pgo_effects::todo::{Part, Todo};
+use pgo_effects::written::written_label;
 use pgo_syntax::archetype::Archetype;
 use pgo_syntax::bound::Binding;
 use pgo_syntax::macros::Macro;

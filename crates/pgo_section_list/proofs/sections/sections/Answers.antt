@@ -4,10 +4,10 @@ use Rattle.pgo_syntax.specs.Statement.{labeled}
 use Rattle.pgo_sections.specs.Code.{Goto}
 use Rattle.pgo_meaning.specs.MacrosPlaced.{bodies}
 use Rattle.pgo_meaning.specs.Parameters.{setting_of}
-use Rattle.pgo_effects.specs.Sections.{all_sections, block_items, in_sequence, section_view, see}
+use Rattle.pgo_section_list.specs.Sections.{all_sections, block_items, in_sequence, section_view, see}
 use Rattle.pgo_effects.specs.Todos.{codes_of}
-use Rattle.pgo_effects.proofs.SectionLaws.{block_sections}
-use Rattle.pgo_effects.proofs.sections.sections.Goals as goal
+use Rattle.pgo_section_list.proofs.SectionLaws.{block_sections}
+use Rattle.pgo_section_list.proofs.sections.sections.Goals as goal
 
 pub returns : goal.returns
 returns c =

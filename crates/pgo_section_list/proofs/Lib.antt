@@ -1,0 +1,3 @@
+pub mod SectionLabels
+pub mod SectionLaws
+pub mod SectionFollows
