@@ -1,0 +1,3 @@
+pub mod Capped
+pub mod Measures
+pub mod Arms
