@@ -6,3 +6,4 @@ pub mod looked;
 pub mod measure;
 pub mod spot;
 pub mod tally;
+pub mod wide;

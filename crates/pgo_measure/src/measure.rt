@@ -16,6 +16,7 @@ use crate::heights::{height_of_end, joined};
 use crate::looked::{behind_move, beside};
 use crate::spot::{Spot, height_with, shift_of};
 use crate::tally::{Tally, spend};
+use crate::wide::is_too_wide;
 use pgo_base::expr::Sub;
 use pgo_base::text::Text;
 use pgo_walk::event::{Event, Move};
@@ -213,7 +214,7 @@ fn test_on<'a>(
 }
 
 /// Behind a turn.
-fn advance<'a>(
+fn turn_on<'a>(
     alloc: Global,
     variables: &[Text],
     globals: &[Text],
@@ -238,10 +239,28 @@ fn advance<'a>(
     }
 }
 
+/// Behind a turn; nothing where the code that comes first has more nodes than are left, of which no expression is made then.
+fn advance<'a>(
+    alloc: Global,
+    variables: &[Text],
+    globals: &[Text],
+    pending: &mut Stack<Pending<'a>>,
+    size: Size,
+    at: Pending<'a>,
+) -> Result<Option<Size>, AllocError>
+    ensures { IfOk result (λ o. measured variables.now globals.now size.left size.height (pending_part variables.now at.entry ∷ parts variables.now pending.old) ≡ behind_size variables.now globals.now o (parts variables.now pending.new)) }
+{
+    if is_too_wide(alloc, &at.state, size.left)? {
+        return Ok(None);
+    }
+    turn_on(alloc, variables, globals, pending, size, at)
+}
+
 /// What is left of the limit behind the nodes of a section's expansion, and the height of its action, up to the most that is told
 /// apart; nothing where the nodes pass the limit.
 ///
-/// Err where there is no memory, or more than 2^64 - 1 names are bound.
+/// Err where there is no memory, where more than 2^64 - 1 names are bound, where an expression with the arguments of macros in place is
+/// higher than 1,024, or where one has more nodes than are left and a mapping macro's block has no path to a `yield`.
 pub fn measure(
     alloc: Global,
     variables: &[Text],
