@@ -1,5 +1,5 @@
 -- The code of statements that branch, from that of their parts.
-use Rattle.std.proofs.Common.{◌≡◌, ℕ, List, [], ◌∷◌, ◌++◌, map, Option, None, Some, refl, ap, sym, ◌∙◌}
+use Rattle.std.proofs.Common.{◌≡◌, ℕ, List, [], ◌∷◌, ◌++◌, map, Option, None, Some, ap, sym, ◌∙◌}
 use Rattle.pgo_base.specs.Tree.{Tree}
 use Rattle.pgo_syntax.specs.Statement.{Statement, while_do, Statements, more_statements, no_statements, LabeledStatements, more_labeled, no_labeled, GuardedStatements, more_guarded, no_guarded, labeled}
 use Rattle.pgo_syntax.specs.StatementView.{statement, labeled_pair}
@@ -11,8 +11,8 @@ use Rattle.pgo_meaning.specs.MacrosPlaced.{placed, placed_each, placed_among, pl
 use Rattle.pgo_meaning.specs.Statements.{Setting, label_of, code, branches, arms, in_order}
 use Rattle.pgo_effects.specs.declared.piece.Effect.{Effect}
 use Rattle.pgo_effects.specs.Around.{Surroundings, stands, stands_each, stands_among, stands_guarded, written_label}
-use Rattle.pgo_effects.specs.Pieces.{code_with, arms_then, all_arms}
-use Rattle.pgo_effects.specs.Puts.{Layers, puts_tree, puts}
+use Rattle.pgo_effects.specs.Pieces.{code_with, arms_then}
+use Rattle.pgo_effects.specs.Puts.{Layers, puts_tree}
 use Rattle.pgo_effects.proofs.PieceLaws.{arms_then-append}
 use Rattle.pgo_effects.proofs.PutLaws.{guarded_none, guarded_more, each_none, each_more, among_none, among_more, puts_while}
 

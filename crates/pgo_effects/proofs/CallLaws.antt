@@ -1,24 +1,24 @@
 -- What a macro's call does: its body in the place of the call.
-use Rattle.std.proofs.Common.{◌≡◌, ℕ, List, [], ◌∷◌, map, Option, Some, None, option_map, refl, ap, sym, ◌∙◌}
+use Rattle.std.proofs.Common.{◌≡◌, ℕ, List, [], ◌∷◌, Option, Some, None, ap, sym, ◌∙◌}
 use Rattle.pgo_base.specs.Lookup.{find}
 use Rattle.pgo_base.specs.Tree.{Tree}
 use Rattle.pgo_model.specs.Options.{on}
 use Rattle.pgo_syntax.specs.Statement.{Statement, LabeledStatements, block, call_macro}
 use Rattle.pgo_syntax.specs.declared.name.PlacedName.{PlacedName}
-use Rattle.pgo_sections.specs.Code.{Code, Empty, Skip, in_turn}
-use Rattle.pgo_meaning.specs.MacrosPlaced.{Arguments, Body, Bodies, handed, walked, put, put_among, placed, placed_among}
+use Rattle.pgo_sections.specs.Code.{Empty, Skip, in_turn}
+use Rattle.pgo_meaning.specs.MacrosPlaced.{Arguments, Body, handed, walked, put, put_among}
 use Rattle.pgo_meaning.specs.Statements.{Setting, code, in_order}
 use Rattle.pgo_effects.specs.Around.{Surroundings, stands, written_label}
-use Rattle.pgo_effects.specs.Puts.{Layers, puts, puts_among}
+use Rattle.pgo_effects.specs.Puts.{puts, puts_among}
 use Rattle.pgo_effects.proofs.PutLaws.{puts_call, puts_walked, puts_block}
 
 module _ (s : Setting) (a : Surroundings) where
   abbrev pub above : List ℕ
   above = written_label s a.label
 
-  pub body_code : (n : ℕ) (es fs : Arguments) (ls : LabeledStatements) (c d : Code) → es ≡ fs → c ≡ Skip → d ≡ in_order s above (puts_among (es ∷ a.layers) ls) → in_turn (c ∷ d ∷ []) ≡ code s above (puts a.layers (walked n (put fs (block 0 ls))))
-  body_code n es fs ls c d ee ec ed =
-      (λ i. in_turn (ec i ∷ (ed ∙ ap (λ f. in_order s above (puts_among (f ∷ a.layers) ls)) ee) i ∷ []))
+  pub body_code : (n : ℕ) (es fs : Arguments) (ls : LabeledStatements) → es ≡ fs → in_turn (Skip ∷ in_order s above (puts_among (es ∷ a.layers) ls) ∷ []) ≡ code s above (puts a.layers (walked n (put fs (block 0 ls))))
+  body_code n es fs ls ee =
+      ap (λ f. in_turn (Skip ∷ in_order s above (puts_among (f ∷ a.layers) ls) ∷ [])) ee
       ∙ ap (λ t. in_turn (Skip ∷ code s above t ∷ [])) (sym (puts_block a.layers 0 (put_among fs ls)))
       ∙ ap (code s above) (sym (puts_walked a.layers n (put fs (block 0 ls))))
 

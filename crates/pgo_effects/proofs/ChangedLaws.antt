@@ -1,5 +1,5 @@
 -- A function that is changed at the end of a path, as it is made.
-use Rattle.std.proofs.Common.{◌≡◌, List, [], ◌∷◌, map, refl, ap, sym, ◌∙◌}
+use Rattle.std.proofs.Common.{◌≡◌, List, [], ◌∷◌, map, refl, ap, ◌∙◌}
 use Rattle.pgo_base.specs.Lookup.{Name}
 use Rattle.pgo_base.specs.Tree.{Tree, name, except, paths, trees, more_paths, no_paths}
 use Rattle.pgo_meaning.specs.Statements.{part_tree, changed}

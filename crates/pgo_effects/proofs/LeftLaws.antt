@@ -1,5 +1,5 @@
 -- The one expression of a list.
-use Rattle.std.proofs.Common.{◌≡◌, ℕ, List, [], ◌∷◌, map, length, Option, Some, None, refl, ap, sym, ◌∙◌, arith}
+use Rattle.std.proofs.Common.{◌≡◌, List, [], ◌∷◌, map, length, Option, Some, None, refl, ap, sym, ◌∙◌, arith}
 use Rattle.pgo_base.specs.ExprView.{tree}
 use Rattle.pgo_base.specs.Tree.{Tree, trees}
 use Rattle.pgo_base.specs.declared.expr.Expr.{Expr}

@@ -1,6 +1,5 @@
 -- What binds the names of a `with` under the arguments of macros.
 use Rattle.std.proofs.Common.{◌≡◌, ℕ, List, [], ◌∷◌, ◌++◌, refl, ap, sym, ◌∙◌}
-use Rattle.pgo_base.specs.ExprView.{tree}
 use Rattle.pgo_base.specs.Lookup.{Name}
 use Rattle.pgo_base.specs.Tree.{Tree}
 use Rattle.pgo_syntax.specs.Statement.{Statement, with_in}

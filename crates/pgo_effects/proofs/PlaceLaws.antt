@@ -1,5 +1,5 @@
 -- A name that is looked up in one list and then in another.
-use Rattle.std.proofs.Common.{◌≡◌, Bool, true, false, if◌then◌else◌, List, [], ◌∷◌, ◌++◌, Option, Some, None, option_map, refl, ap, sym, ◌∙◌}
+use Rattle.std.proofs.Common.{◌≡◌, Bool, true, false, if◌then◌else◌, List, [], ◌∷◌, ◌++◌, Option, Some, None, option_map, refl, sym}
 use Rattle.std.specs.Prelude.{is_some}
 use Rattle.pgo_base.specs.Lookup.{Name, same_name, find}
 

@@ -1,5 +1,5 @@
 -- Arguments put in place go through each form of a statement.
-use Rattle.std.proofs.Common.{◌≡◌, ℕ, List, [], ◌∷◌, map, Option, None, refl, ap, sym, ◌∙◌}
+use Rattle.std.proofs.Common.{◌≡◌, ℕ, List, [], ◌∷◌, map, Option, refl, ap, sym, ◌∙◌}
 use Rattle.pgo_base.specs.Tree.{Tree}
 use Rattle.pgo_syntax.specs.Statement.{Statement, skip, assign, if_then, if_else, while_do, either_of, await_that, with_in, print_out, assert_that, go_to, call_macro, yield_as, block, Statements, no_statements, more_statements, LabeledStatements, no_labeled, more_labeled, GuardedStatements, no_guarded, more_guarded}
 use Rattle.pgo_syntax.specs.declared.assignment.Assignment.{Assignment}
@@ -7,7 +7,7 @@ use Rattle.pgo_syntax.specs.declared.binding.Origin.TheVariants.{Equals, In}
 use Rattle.pgo_syntax.specs.declared.binding.WithName.{WithName}
 use Rattle.pgo_syntax.specs.declared.name.PlacedName.{PlacedName}
 use Rattle.pgo_meaning.specs.MacrosPlaced.{Arguments, put_assignment, put_names, under_names, with_marked, walked, put}
-use Rattle.pgo_effects.specs.Puts.{Layers, puts, puts_each, puts_among, puts_guarded, puts_tree, puts_assignment, puts_origin, puts_name, puts_names, behind_name, behind_names}
+use Rattle.pgo_effects.specs.Puts.{Layers, puts, puts_each, puts_among, puts_guarded, puts_tree, puts_assignment, puts_origin, puts_name, puts_names, behind_names}
 
 pub each_none : (ls : Layers) → puts_each ls no_statements ≡ no_statements
 each_none [] = refl

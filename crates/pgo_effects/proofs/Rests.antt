@@ -1,5 +1,5 @@
 -- What is left of a list, and codes of todos.
-use Rattle.std.proofs.Common.{◌≡◌, ℕ, ◌+◌, ◌<◌, List, [], ◌∷◌, ◌++◌, map, drop, length, get_or, refl, ap, sym, ◌∙◌, add-one, drop-cons}
+use Rattle.std.proofs.Common.{◌≡◌, ℕ, ◌+◌, ◌<◌, List, [], ◌∷◌, ◌++◌, drop, length, get_or, refl, ap, sym, ◌∙◌, add-one, drop-cons}
 use Rattle.pgo_meaning.specs.Statements.{Setting}
 use Rattle.pgo_bound.specs.StartNames.{map-append}
 use Rattle.pgo_effects.specs.declared.todo.Todo.{Todo}

@@ -1,7 +1,7 @@
 -- The code of each form of a statement, with macros in the place of their calls.
-use Rattle.std.proofs.Common.{◌≡◌, ℕ, List, [], map, refl, ap, sym, ◌∙◌}
+use Rattle.std.proofs.Common.{◌≡◌, ℕ, List, map, ap, sym, ◌∙◌}
 use Rattle.pgo_base.specs.Tree.{Tree}
-use Rattle.pgo_syntax.specs.Statement.{Statement, skip, assign, if_then, if_else, while_do, either_of, await_that, with_in, print_out, assert_that, go_to, call_macro, yield_as, block, Statements, LabeledStatements, GuardedStatements}
+use Rattle.pgo_syntax.specs.Statement.{Statement, skip, assign, if_then, if_else, while_do, either_of, await_that, print_out, assert_that, go_to, yield_as, block, Statements, LabeledStatements, GuardedStatements}
 use Rattle.pgo_syntax.specs.declared.assignment.Assignment.{Assignment}
 use Rattle.pgo_syntax.specs.declared.name.PlacedName.{PlacedName}
 use Rattle.pgo_sections.specs.Access.{evaluated}

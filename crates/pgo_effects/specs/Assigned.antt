@@ -1,5 +1,5 @@
 -- What comes before an assignment, and what it does then.
-use Rattle.std.specs.Prelude.{ℕ, suc, List}
+use Rattle.std.specs.Prelude.{ℕ, suc}
 use Rattle.pgo_base.specs.Tree.{Tree}
 use Rattle.pgo_syntax.specs.declared.assignment.Left.{Left}
 use Rattle.pgo_syntax.specs.declared.assignment.Step.{Step}

@@ -1,5 +1,5 @@
 -- The macro of a name.
-use Rattle.std.specs.Prelude.{List, [], map}
+use Rattle.std.specs.Prelude.{map}
 use Rattle.pgo_syntax.specs.Statement.{block, labeled}
 use Rattle.pgo_syntax.specs.declared.macros.Macro.{Macro}
 use Rattle.pgo_meaning.specs.MacrosPlaced.{Body, Bodies, placed, bodies}

@@ -7,7 +7,7 @@ use Rattle.pgo_syntax.specs.declared.assignment.Assignment.{Assignment}
 use Rattle.pgo_syntax.specs.declared.assignment.Left.{Left}
 use Rattle.pgo_syntax.specs.declared.binding.Origin.{Origin}
 use Rattle.pgo_syntax.specs.declared.binding.WithName.{WithName}
-use Rattle.pgo_meaning.specs.MacrosPlaced.{Arguments, put_tree, put_left, put_assignment, put_origin, marked, put, put_each, put_among, put_guarded}
+use Rattle.pgo_meaning.specs.MacrosPlaced.{Arguments, put_tree, put_left, put_origin, marked, put, put_each, put_among, put_guarded}
 
 abbrev pub Layers : Type 0
 Layers = List Arguments

@@ -1,9 +1,8 @@
 -- The code that has not been looked at.
-use Rattle.std.specs.Prelude.{List, [], ◌∷◌, map, Option, Some, None, option_map}
+use Rattle.std.specs.Prelude.{List, map, Option, Some, None, option_map}
 use denote.Ref.{Bor}
 use Rattle.pgo_base.specs.Tree.{name}
 use Rattle.pgo_base.specs.ExprView.{tree}
-use Rattle.pgo_model.specs.Options.{on}
 use Rattle.pgo_model.specs.Written.{done}
 use Rattle.pgo_syntax.specs.Statement.{labeled, guarded}
 use Rattle.pgo_syntax.specs.StatementView.{statement, labeled_pair, branch_parts}

@@ -25,6 +25,7 @@ use crate::setting::Setting;
 use crate::simple::last_alone;
 use crate::todo::Todo;
 use pgo_base::expr::{Expr, Exprs, Sub, Update, Updates};
+use pgo_base::results::both;
 use pgo_base::text::Text;
 use pgo_rewrite::mapped::mapped_named;
 use pgo_rewrite::reads::place;
@@ -59,9 +60,9 @@ fn bind_place<'a>(
 ) -> Result<u64, AllocError>
     ensures { IfOk result (λ k. (f : ℕ → Code) → code_with effects.new.items (f k) ≡ code_with effects.old.items (evaluated (setting_view setting.entry).mapped (tree e.now) used (λ e' k'. codes_spec.Let base.now (place_name k') e' (f k')))) }
 {
-    let (value, k) = evaluate_put(alloc, setting, e, used, effects)?;
-    let base = Text::from_slice(alloc, base)?;
-    let name = place(alloc, k)?;
+    let (rest, k) = evaluate_put(alloc, setting, e, used, effects)?;
+    let names = both(Text::from_slice(alloc, base), place(alloc, k));
+    let (value, (base, name)) = both(Ok(rest), names)?;
     effects.push(Effect::Let { base, name, value })?;
     Ok(k)
 }
@@ -80,8 +81,8 @@ fn add_step<'a>(
         Step::Field(x) => Ok((PathPart::Field(x.copy(alloc)?), used)),
         Step::Index(e) => {
             let k = bind_place(alloc, setting, b"at", e.get(), used, effects)?;
-            let name = place(alloc, k)?;
-            Ok((PathPart::Index(name), after(k)?))
+            let (name, next) = both(place(alloc, k), after(k))?;
+            Ok((PathPart::Index(name), next))
         }
     }
 }
@@ -195,8 +196,8 @@ fn to_variable<'a>(
     match path {
         [] => to_whole(alloc, setting, w, p),
         _ => {
-            let base = base_of(alloc, setting, &p)?;
-            let e = changed(alloc, x, path, w)?;
+            let parts = both(base_of(alloc, setting, &p), changed(alloc, x, path, w));
+            let (p, (base, e)) = both(Ok(p), parts)?;
             Ok(Change::Set(base, p, e))
         }
     }
@@ -249,9 +250,9 @@ fn add_put_assignment<'a>(
 {
     let (path, k) = add_steps(alloc, setting, left.path.as_slice(), used, effects)?;
     let k = bind_place(alloc, setting, b"val", right, k, effects)?;
-    let name = place(alloc, k)?;
+    let (name, next) = both(place(alloc, k), after(k))?;
     let change = assigned(alloc, setting, &left.name.name, path.as_slice(), name)?;
-    Ok((change, after(k)?))
+    Ok((change, next))
 }
 
 /// The same of an assignment of the text.
@@ -267,7 +268,7 @@ fn add_assignment<'a>(
 {
     let left = left_under(alloc, around, &a.left)?;
     let right = put_around(alloc, around, a.right.get())?;
-    add_put_assignment(alloc, setting, &left, &right, used, effects)
+    add_put_assignment(alloc, setting, &left, right.get(), used, effects)
 }
 
 /// Adds what comes before assignments, and gives what they do then.
@@ -317,7 +318,7 @@ fn whole_right(
 {
     let left = left_under(alloc, around, &a.left)?;
     match left.path.as_slice() {
-        [] => Ok(Some(put_around(alloc, around, a.right.get())?)),
+        [] => Ok(Some(put_around(alloc, around, a.right.get())?.into_expr())),
         _ => Ok(None),
     }
 }
@@ -356,8 +357,11 @@ fn alone_in_block(
 fn set_content<'a>(alloc: Global, e: Expr) -> Result<Piece<'a>, AllocError>
     ensures { IfOk result (λ p. (s : spec.Setting) → piece_code s p ≡ codes_spec.Set codes_spec.old_base (codes_spec.Whole codes_spec.content_name) (tree e)) }
 {
-    let base = Text::from_slice(alloc, b"old")?;
-    let content = Text::from_slice(alloc, b"$variable")?;
+    let names = both(
+        Text::from_slice(alloc, b"old"),
+        Text::from_slice(alloc, b"$variable"),
+    );
+    let (e, (base, content)) = both(Ok(e), names)?;
     let change = Change::Set(base, Place::Whole(content), e);
     Ok(last_alone(alloc, Last::Change(change)))
 }

@@ -19,6 +19,7 @@ use crate::setting::Setting;
 use crate::simple::{goto_piece, last_alone};
 use crate::todo::{Part, Todo, part_todo};
 use pgo_base::expr::Expr;
+use pgo_base::results::both;
 use pgo_syntax::statement::{Branch, Labeled, Stmt};
 use std::alloc::{AllocError, Global};
 
@@ -47,9 +48,12 @@ fn branch_piece<'a>(
     ensures { IfOk result (λ p. piece_code (setting_view setting.entry) p ≡ branches (setting_view setting.entry) (label_at (setting_view setting.entry) (around_view around.now).label) (stands_guarded (around_view around.now) (guarded (branch_parts branch.entry.now ∷ map branch_parts rest.entry.now))) (spec.otherwise (setting_view setting.entry) (around_view around.now) otherwise.entry)) }
 {
     let condition = branch.condition.get();
-    let (effects, condition) = evaluate_alone(alloc, setting, around, condition)?;
-    let first = part_todo(Part::Statement(&branch.statement), around)?;
-    let second = part_todo(Part::Branches(rest, otherwise), around)?;
+    let todos = both(
+        part_todo(Part::Statement(&branch.statement), around),
+        part_todo(Part::Branches(rest, otherwise), around),
+    );
+    let evaluated = evaluate_alone(alloc, setting, around, condition);
+    let ((effects, condition), (first, second)) = both(evaluated, todos)?;
     Ok(Piece {
         effects,
         last: Last::If(condition, first, second),
@@ -85,8 +89,8 @@ pub(crate) fn while_piece<'a>(
 ) -> Result<Piece<'a>, AllocError>
     ensures { IfOk result (λ p. (n : ℕ) → piece_code (setting_view setting.entry) p ≡ code (setting_view setting.entry) (label_at (setting_view setting.entry) (around_view around.now).label) (stands (around_view around.now) (while_do n (tree condition.now) (statement body.entry.now)))) }
 {
-    let (effects, condition) = evaluate_alone(alloc, setting, around, condition)?;
-    let first = part_todo(Part::Loop(body), around)?;
+    let evaluated = evaluate_alone(alloc, setting, around, condition);
+    let ((effects, condition), first) = both(evaluated, part_todo(Part::Loop(body), around))?;
     Ok(Piece {
         effects,
         last: Last::If(condition, first, Todo::Empty),
@@ -142,8 +146,10 @@ fn then_piece<'a>(
 ) -> Result<Piece<'a>, AllocError>
     ensures { IfOk result (λ p. (s : Meant) → piece_code s p ≡ Seq (part_code s (around_view around.now) (parts.Statement first.entry)) (part_code s (around_view around.now) (parts.Order rest.entry))) }
 {
-    let first = part_todo(Part::Statement(first), around)?;
-    let second = part_todo(Part::Order(rest), around)?;
+    let (first, second) = both(
+        part_todo(Part::Statement(first), around),
+        part_todo(Part::Order(rest), around),
+    )?;
     Ok(last_alone(alloc, Last::Then(first, second)))
 }
 

@@ -5,10 +5,10 @@ ghost use Rattle.pgo_effects.specs.Around.{around_view, stands, written_label as
 ghost use Rattle.pgo_effects.specs.Called.{called_body};
 ghost use Rattle.pgo_effects.specs.Pieces.{piece_code};
 ghost use Rattle.pgo_effects.specs.Puts.{puts, puts_among};
-ghost use Rattle.pgo_effects.specs.Todos.{code_of};
+ghost use Rattle.pgo_effects.specs.Todos.{code_of, codes_of};
 ghost use Rattle.pgo_meaning.specs.MacrosPlaced as spec;
 ghost use Rattle.pgo_meaning.specs.Statements.{Setting as Meant, code, in_order};
-ghost use Rattle.pgo_sections.specs.Code.{in_turn};
+ghost use Rattle.pgo_sections.specs.Code.{Skip};
 ghost use Rattle.pgo_syntax.specs.Statement.{call_macro, labeled};
 
 use crate::around::Around;
@@ -56,14 +56,19 @@ fn body_todo<'a>(
     Ok(Todo::Text(Part::Order(called.of.body.as_slice()), inner))
 }
 
-/// One behind the other.
-fn row_of_two<'a>(alloc: Global, first: Todo<'a>, second: Todo<'a>) -> Result<Piece<'a>, AllocError>
-    ensures { IfOk result (λ p. (s : Meant) → piece_code s p ≡ in_turn (code_of s first.entry ∷ code_of s second.entry ∷ [])) }
+/// `skip`, and then the body of a macro with these arguments.
+fn body_row<'a>(
+    alloc: Global,
+    around: &Around<'a>,
+    called: Called<'a>,
+    arguments: Arguments,
+) -> Result<Vec<Todo<'a>>, AllocError>
+    ensures { IfOk result (λ v. (s : Meant) → codes_of s v.items ≡ Skip ∷ in_order s (label_at s (around_view around.now).label) (puts_among (arguments ∷ (around_view around.now).layers) (spec.placed_among (spec.bodies called.entry.before.now) (labeled called.entry.of.now.body))) ∷ []) }
 {
     let mut todos = Vec::new(alloc);
-    todos.push(first)?;
-    todos.push(second)?;
-    Ok(last_alone(alloc, Last::Row(todos)))
+    todos.push(Todo::Skip)?;
+    todos.push(body_todo(alloc, around, called, arguments)?)?;
+    Ok(todos)
 }
 
 /// What a call does of a macro that is there.
@@ -76,8 +81,8 @@ fn body_piece<'a>(
     ensures { IfOk result (λ p. (s : Meant) (n : ℕ) → piece_code s p ≡ code s (label_at s (around_view around.now).label) (puts (around_view around.now).layers (spec.walked n (spec.put (spec.handed (called_body called.entry).parameters (map tree list.now)) (called_body called.entry).statement)))) }
 {
     let arguments = handed(alloc, called.of.params.as_slice(), list)?;
-    let body = body_todo(alloc, around, called, arguments)?;
-    row_of_two(alloc, Todo::Skip, body)
+    let todos = body_row(alloc, around, called, arguments)?;
+    Ok(last_alone(alloc, Last::Row(todos)))
 }
 
 /// `m(e, f)`

@@ -7,6 +7,7 @@ ghost use Rattle.pgo_sections.specs.Code.{Set};
 
 use crate::place::Place;
 use pgo_base::expr::Expr;
+use pgo_base::results::both;
 use pgo_base::text::Text;
 use pgo_rewrite::mapped::Mapped;
 use std::alloc::{AllocError, Global};
@@ -38,9 +39,8 @@ fn copy_name(alloc: Global, x: &Option<Text>) -> Result<Option<Text>, AllocError
 fn copy_set<'a>(alloc: Global, base: &Text, p: &Place, e: &Expr) -> Result<Change<'a>, AllocError>
     ensures { IfOk result (λ c. change_code c ≡ Set base.now (place_view p.now) (tree e.now)) }
 {
-    let base = base.copy(alloc)?;
-    let p = p.copy(alloc)?;
-    let e = e.copy(alloc)?;
+    let names = both(base.copy(alloc), p.copy(alloc));
+    let ((base, p), e) = both(names, e.copy(alloc))?;
     Ok(Change::Set(base, p, e))
 }
 
@@ -51,10 +51,14 @@ impl<'a> Change<'a> {
     {
         match self {
             Change::Nothing => Ok(Change::Nothing),
-            Change::Become(p, w) => Ok(Change::Become(p.copy(alloc)?, w.copy(alloc)?)),
+            Change::Become(p, w) => {
+                let (p, w) = both(p.copy(alloc), w.copy(alloc))?;
+                Ok(Change::Become(p, w))
+            }
             Change::Set(base, p, e) => copy_set(alloc, base, p, e),
             Change::Write(m, i, w) => {
-                Ok(Change::Write(*m, copy_name(alloc, i)?, w.copy(alloc)?))
+                let (i, w) = both(copy_name(alloc, i), w.copy(alloc))?;
+                Ok(Change::Write(*m, i, w))
             }
         }
     }

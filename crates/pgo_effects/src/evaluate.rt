@@ -1,5 +1,5 @@
 // Expressions of the text, evaluated: the arguments of macros in place, mapped reads before.
-ghost use Rattle.std.specs.Prelude.{◌≡◌, ℕ, List, Option, [], ◌∷◌, option_map, IfOk};
+ghost use Rattle.std.specs.Prelude.{◌≡◌, ℕ, Option, [], ◌∷◌, option_map, IfOk};
 ghost use Rattle.pgo_base.specs.ExprView.{tree, named_tree};
 ghost use Rattle.pgo_base.specs.Lookup.{Name};
 ghost use Rattle.pgo_base.specs.Tree.{Tree};
@@ -14,7 +14,8 @@ ghost use Rattle.pgo_sections.specs.Code.{Code};
 use crate::around::Around;
 use crate::piece::Effect;
 use crate::setting::Setting;
-use pgo_base::expr::Expr;
+use pgo_base::expr::{Expr, Sub};
+use pgo_base::results::both;
 use pgo_base::text::Text;
 use pgo_rewrite::arguments::{Arguments, put};
 use pgo_rewrite::reads::Read;
@@ -22,19 +23,19 @@ use pgo_rewrite::rewrite::hoist;
 use std::alloc::{AllocError, Global};
 
 /// An expression with the arguments of the macros around it in place.
-pub(crate) fn put_all(alloc: Global, layers: &[Arguments], e: &Expr) -> Result<Expr, AllocError>
-    ensures { IfOk result (λ r. tree r ≡ puts_tree layers.now (tree e.now)) }
+fn put_all(alloc: Global, layers: &[Arguments], e: &Expr) -> Result<Sub, AllocError>
+    ensures { IfOk result (λ r. r ≡ puts_tree layers.now (tree e.now)) }
 {
-    let mut done = e.copy(alloc)?;
+    let mut done = Sub::new(alloc, e.copy(alloc)?)?;
     for es in layers {
-        done = put(alloc, es, &done)?;
+        done = Sub::new(alloc, put(alloc, es, done.get())?)?;
     }
     Ok(done)
 }
 
 /// The same with the arguments that stand around.
-pub(crate) fn put_around(alloc: Global, around: &Around<'_>, e: &Expr) -> Result<Expr, AllocError>
-    ensures { IfOk result (λ r. tree r ≡ puts_tree (around_view around.now).layers (tree e.now)) }
+pub(crate) fn put_around(alloc: Global, around: &Around<'_>, e: &Expr) -> Result<Sub, AllocError>
+    ensures { IfOk result (λ r. r ≡ puts_tree (around_view around.now).layers (tree e.now)) }
 {
     put_all(alloc, &around.layers, e)
 }
@@ -50,8 +51,8 @@ fn add_index<'a>(
     match index {
         None => Ok(None),
         Some((name, value)) => {
-            let index = name.copy(alloc)?;
-            let base = Text::from_slice(alloc, b"at")?;
+            let names = both(name.copy(alloc), Text::from_slice(alloc, b"at"));
+            let (value, (index, base)) = both(Ok(value), names)?;
             effects.push(Effect::Let { base, name, value })?;
             Ok(Some(index))
         }
@@ -106,8 +107,9 @@ pub(crate) fn evaluate_put<'a>(
     ensures { IfOk result (λ r. (f : Tree → ℕ → Code) → code_with effects.new.items (f (tree r.0) r.1) ≡ code_with effects.old.items (evaluated (setting_view setting.entry).mapped (tree e.now) used f)) }
 {
     let hoisted = hoist(alloc, setting.bindings(), e, used)?;
-    add_reads(alloc, effects, hoisted.reads)?;
-    Ok((hoisted.rest, hoisted.used))
+    let added = add_reads(alloc, effects, hoisted.reads);
+    let (rest, _added) = both(Ok(hoisted.rest), added)?;
+    Ok((rest, hoisted.used))
 }
 
 /// Adds the reads that come before an expression of the text, and gives what is left of it and how many places are in use.
@@ -122,7 +124,7 @@ pub(crate) fn evaluate<'a>(
     ensures { IfOk result (λ r. (f : Tree → ℕ → Code) → code_with effects.new.items (f (tree r.0) r.1) ≡ code_with effects.old.items (evaluated (setting_view setting.entry).mapped (puts_tree (around_view around.now).layers (tree e.now)) used f)) }
 {
     let done = put_around(alloc, around, e)?;
-    evaluate_put(alloc, setting, &done, used, effects)
+    evaluate_put(alloc, setting, done.get(), used, effects)
 }
 
 /// The reads that come before an expression of the text, where no place is in use, and what is left of it.

@@ -102,13 +102,13 @@ fn left_of(alloc: Global, e: &Expr) -> Result<Option<Left>, AllocError>
         Expr::Index(f, list) => match only(list) {
             None => Ok(None),
             Some(i) => {
-                let step = Step::Index(Sub::new(alloc, i.copy(alloc)?)?);
-                extended(left_of(alloc, f.get())?, step)
+                let index = Sub::new(alloc, i.copy(alloc)?)?;
+                extended(left_of(alloc, f.get())?, Step::Index(index))
             }
         },
         Expr::Field(r, x) => {
-            let step = Step::Field(x.copy(alloc)?);
-            extended(left_of(alloc, r.get())?, step)
+            let field = x.copy(alloc)?;
+            extended(left_of(alloc, r.get())?, Step::Field(field))
         }
         _ => Ok(None),
     }
@@ -121,7 +121,10 @@ fn left_for(alloc: Global, es: &Arguments, x: &Text) -> Result<Option<Left>, All
     let found = es.tree_for(alloc, x)?;
     match found {
         None => Ok(None),
-        Some(e) => left_of(alloc, &e),
+        Some(e) => {
+            let e = Sub::new(alloc, e)?;
+            left_of(alloc, e.get())
+        }
     }
 }
 

@@ -21,7 +21,7 @@ use crate::evaluate::evaluate_put;
 use crate::piece::{Effect, Last, Piece};
 use crate::setting::Setting;
 use crate::todo::{Part, Todo};
-use pgo_base::expr::Expr;
+use pgo_base::expr::{Expr, Sub};
 use pgo_base::text::Text;
 use pgo_rewrite::arguments::{Arguments, put};
 use pgo_syntax::binding::{Origin, WithName};
@@ -69,7 +69,7 @@ fn origin_of(origin: &Origin) -> &Expr
 struct OneName {
     arguments: Arguments,
     name: Text,
-    value: Expr,
+    value: Sub,
 }
 
 /// The arguments with a name more, which another one stands for.
@@ -96,9 +96,9 @@ fn put_name(
 ) -> Result<OneName, AllocError>
     ensures arguments { IfOk result (λ m. m.arguments ≡ (name, name_tree (spec.marked name)) ∷ arguments) }
     ensures name { IfOk result (λ m. m.name ≡ spec.marked name) }
-    ensures value { IfOk result (λ m. tree m.value ≡ spec.put_tree arguments (tree value.now)) }
+    ensures value { IfOk result (λ m. m.value ≡ spec.put_tree arguments (tree value.now)) }
 {
-    let value = put(alloc, &arguments, value)?;
+    let value = Sub::new(alloc, put(alloc, &arguments, value)?)?;
     let new = marked(alloc, &name)?;
     let more = add_marked(alloc, arguments, name, &new)?;
     Ok(OneName {
@@ -113,7 +113,7 @@ fn put_name(
 struct Named {
     layers: Vec<Arguments>,
     name: Text,
-    value: Expr,
+    value: Sub,
 }
 
 /// A name of a `with` where these arguments stand around.
@@ -125,13 +125,13 @@ fn name_under(
 ) -> Result<Named, AllocError>
     ensures layers { IfOk result (λ n. n.layers.items ≡ behind_name layers.items x.now) }
     ensures name { IfOk result (λ n. n.name ≡ marked_by layers.items x.now) }
-    ensures value { IfOk result (λ n. tree n.value ≡ puts_tree layers.items (tree e.now)) }
+    ensures value { IfOk result (λ n. n.value ≡ puts_tree layers.items (tree e.now)) }
 {
     let mut name = x.copy(alloc)?;
-    let mut value = e.copy(alloc)?;
+    let mut value = Sub::new(alloc, e.copy(alloc)?)?;
     let mut behind = Vec::new(alloc);
     for arguments in layers {
-        let m = put_name(alloc, arguments, name, &value)?;
+        let m = put_name(alloc, arguments, name, value.get())?;
         name = m.name;
         value = m.value;
         behind.push(m.arguments)?;
@@ -186,7 +186,7 @@ fn add_name<'a>(
     ensures effects { IfOk result (λ v. (c : Code) → code_with effects.new.items c ≡ code_with effects.old.items (bind_name (setting_view setting.entry) (puts_name layers.items w.now).name.name (puts_name layers.items w.now).origin c)) }
 {
     let n = name_under(alloc, layers, &w.name.name, origin_of(&w.origin))?;
-    add_binding(alloc, setting, &w.origin, n.name, &n.value, effects)?;
+    add_binding(alloc, setting, &w.origin, n.name, n.value.get(), effects)?;
     Ok(n.layers)
 }
 

@@ -86,7 +86,7 @@ pub(crate) fn yield_piece<'a>(
     ensures { IfOk result (λ p. (s : Meant) → piece_code s p ≡ codes.Yield (puts_tree (around_view around.now).layers (tree e.now))) }
 {
     let done = put_around(alloc, around, e)?;
-    Ok(last_alone(alloc, Last::Yield(done)))
+    Ok(last_alone(alloc, Last::Yield(done.into_expr())))
 }
 
 /// `goto x`

@@ -11,7 +11,7 @@ use Rattle.pgo_syntax.specs.declared.macros.Macro.{Macro}
 use Rattle.pgo_syntax.specs.declared.name.PlacedName.{PlacedName}
 use Rattle.pgo_bound.specs.Sound.{labels_in, labels_each, labels_among, labels_guarded}
 use Rattle.pgo_bound.specs.StartNames.{map-append}
-use Rattle.pgo_sections.specs.Code.{Code, Seq, Goto, Empty}
+use Rattle.pgo_sections.specs.Code.{Code, Seq, Goto}
 use Rattle.pgo_meaning.specs.LabelSections.{AreUnlabelled}
 use Rattle.pgo_meaning.specs.Labels.{own, labelled, within, within_branches, within_arms, within_order}
 use Rattle.pgo_meaning.specs.MacrosPlaced.{placed, placed_among, bodies}

@@ -1,19 +1,17 @@
 -- The sections in a statement are those of the statements that stand directly in it, and these nest less deep.
-use Rattle.std.proofs.Common.{◌≡◌, ◌<◌, ◌≤◌, ℕ, zero, suc, max, List, [], ◌∷◌, ◌++◌, map, length, get_or, Option, Some, None, refl, ap, sym, ◌∙◌, append_assoc, arith}
+use Rattle.std.proofs.Common.{◌≡◌, ◌<◌, ◌≤◌, ℕ, zero, suc, max, List, [], ◌∷◌, ◌++◌, map, length, get_or, None, refl, ap, sym, ◌∙◌, append_assoc, arith}
 use Rattle.std.proofs.lemmas.List.{append-nil}
 use Rattle.pgo_base.specs.Lookup.{Name}
-use Rattle.pgo_base.specs.Tree.{Tree}
-use Rattle.pgo_syntax.specs.Statement.{Statement, skip, assign, if_then, if_else, while_do, either_of, await_that, with_in, print_out, assert_that, go_to, call_macro, yield_as, block, Statements, no_statements, more_statements, LabeledStatements, no_labeled, more_labeled, GuardedStatements, no_guarded, more_guarded, labeled}
+use Rattle.pgo_syntax.specs.Statement.{Statement, skip, assign, if_then, if_else, while_do, either_of, await_that, with_in, print_out, assert_that, go_to, call_macro, yield_as, block, Statements, no_statements, more_statements, LabeledStatements, no_labeled, more_labeled, GuardedStatements, no_guarded, more_guarded}
 use Rattle.pgo_syntax.specs.StatementSize.{height, statements_height, labeled_height, guarded_height}
 use Rattle.pgo_syntax.specs.declared.macros.Macro.{Macro}
-use Rattle.pgo_syntax.specs.declared.name.PlacedName.{PlacedName}
-use Rattle.pgo_sections.specs.Code.{Code, Seq, Goto}
+use Rattle.pgo_sections.specs.Code.{Code, Goto}
 use Rattle.pgo_meaning.specs.LabelSections.{AreUnlabelled}
 use Rattle.pgo_meaning.specs.Labels.{own, labelled, within, within_branches, within_arms, within_order}
 use Rattle.pgo_meaning.specs.MacrosPlaced.{bodies, placed, placed_each, placed_among, placed_guarded}
-use Rattle.pgo_meaning.specs.Statements.{Setting, in_order}
+use Rattle.pgo_meaning.specs.Statements.{Setting}
 use Rattle.pgo_section_list.specs.declared.inner.Inner.{Inner}
-use Rattle.pgo_section_list.specs.Sections.{Item, outer, rest, again, see, block_items, alternative_items, branch_items, items, next_code, item_sections, all_sections}
+use Rattle.pgo_section_list.specs.Sections.{Item, outer, rest, see, block_items, alternative_items, branch_items, items, next_code, item_sections, all_sections}
 use Rattle.pgo_section_list.proofs.SectionLabels.{call_sections}
 
 -- ---- heights

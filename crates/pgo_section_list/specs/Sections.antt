@@ -1,5 +1,5 @@
 -- The section of a label, as code that has not been looked at.
-use Rattle.std.specs.Prelude.{List, [], ◌∷◌, ◌++◌, map, Option, Some, None, option_map}
+use Rattle.std.specs.Prelude.{List, [], ◌∷◌, ◌++◌, map, Option, None, option_map}
 use denote.Ref.{Bor}
 use Rattle.pgo_base.specs.Lookup.{Name}
 use Rattle.pgo_base.specs.declared.text.Text.{Text}

@@ -1,4 +1,4 @@
-use Rattle.std.proofs.Common.{◌≡◌, List, [], map, drop}
+use Rattle.std.proofs.Common.{◌≡◌, [], map, drop}
 use Rattle.pgo_meaning.specs.Statements.{assign_all}
 use Rattle.pgo_effects.specs.Around.{around_view}
 use Rattle.pgo_effects.specs.Pieces.{code_with}

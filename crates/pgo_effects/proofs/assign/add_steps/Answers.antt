@@ -1,4 +1,4 @@
-use Rattle.std.proofs.Common.{◌≡◌, ◌+◌, ap, sym, ◌∙◌, refl, drop, map, [], ◌∷◌, ◌++◌, List, arith}
+use Rattle.std.proofs.Common.{◌≡◌, ◌+◌, ap, sym, ◌∙◌, refl, drop, map, ◌∷◌, ◌++◌, List, arith}
 use Rattle.std.proofs.lemmas.List.{drop_all}
 use Rattle.pgo_syntax.specs.declared.assignment.Step.{Step}
 use Rattle.pgo_meaning.specs.Statements.{steps}

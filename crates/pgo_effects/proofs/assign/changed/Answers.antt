@@ -1,4 +1,4 @@
-use Rattle.std.proofs.Common.{◌≡◌, ap, ◌∙◌, map, ◌++◌, ◌∷◌, [], List}
+use Rattle.std.proofs.Common.{ap, ◌∙◌, map, ◌++◌, ◌∷◌, [], List}
 use Rattle.pgo_base.specs.declared.expr.Expr.TheVariants.{Name}
 use Rattle.pgo_base.specs.ExprView.{path_tree}
 use Rattle.pgo_base.specs.declared.expr.Update.{Update}

@@ -1,4 +1,4 @@
-use Rattle.std.proofs.Common.{◌≡◌, ℕ, ap, sym, ◌∙◌, map, [], List, length, arith}
+use Rattle.std.proofs.Common.{◌≡◌, ℕ, ap, sym, ◌∙◌, map, [], List, arith}
 use Rattle.std.proofs.lemmas.List.{nil_from_length}
 use Rattle.std.proofs.lemmas.Result.{IfOk-weaker}
 use Rattle.pgo_meaning.specs.Statements.{to_variable}

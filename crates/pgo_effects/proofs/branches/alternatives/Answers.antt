@@ -1,4 +1,4 @@
-use Rattle.std.proofs.Common.{◌≡◌, ◌+◌, ◌<◌, ap, sym, ◌∙◌, map, drop, List, [], ◌∷◌, length, get_or, add-one, drop-cons, refl, arith, rules}
+use Rattle.std.proofs.Common.{◌≡◌, ◌+◌, ap, sym, ◌∙◌, map, drop, List, [], ◌∷◌, refl, arith}
 use Rattle.std.proofs.lemmas.List.{drop_all}
 use Rattle.pgo_syntax.specs.Statement.{statements}
 use Rattle.pgo_syntax.specs.StatementView.{statement}
@@ -6,7 +6,6 @@ use Rattle.pgo_syntax.specs.declared.statement.Stmt.{Stmt}
 use Rattle.pgo_effects.specs.Around.{around_view}
 use Rattle.pgo_effects.specs.Pieces.{arms_then}
 use Rattle.pgo_effects.specs.Todos.{code_of, codes_of}
-use Rattle.pgo_meaning.specs.Statements.{arms}
 use Rattle.pgo_effects.proofs.BranchLaws.{arms_at, arm_made, no_arm}
 use Rattle.pgo_effects.proofs.Rests.{first_of_rest, codes_more}
 use Rattle.pgo_effects.proofs.branches.alternatives.Goals as goal

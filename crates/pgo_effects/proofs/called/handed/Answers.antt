@@ -1,4 +1,4 @@
-use Rattle.std.proofs.Common.{◌≡◌, ◌+◌, ◌-◌, ◌<◌, length, arith, sym, ap, drop, ◌∙◌}
+use Rattle.std.proofs.Common.{◌≡◌, ◌-◌, arith, sym, ap, drop, ◌∙◌}
 use Rattle.pgo_effects.proofs.Handed.{given, handed_end, handed_more}
 use Rattle.pgo_effects.proofs.called.handed.Goals as goal
 

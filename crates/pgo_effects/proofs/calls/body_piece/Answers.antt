@@ -1,17 +1,11 @@
-use Rattle.std.proofs.Common.{◌≡◌, ℕ, ap, ◌∙◌, [], ◌∷◌, refl, map, List}
-use Rattle.std.proofs.lemmas.Result.{IfOk-weaker}
+use Rattle.std.proofs.Common.{◌≡◌, ap, ◌∙◌, map, List}
 use Rattle.pgo_base.specs.ExprView.{tree}
 use Rattle.pgo_syntax.specs.Statement.{labeled}
 use Rattle.pgo_syntax.specs.declared.name.PlacedName.{PlacedName}
-use Rattle.pgo_sections.specs.Code.{Skip, in_turn}
-use Rattle.pgo_meaning.specs.MacrosPlaced.{handed, walked, put, placed_among, bodies}
-use Rattle.pgo_meaning.specs.Statements.{Setting, code}
+use Rattle.pgo_sections.specs.Code.{in_turn}
+use Rattle.pgo_meaning.specs.MacrosPlaced.{handed, placed_among, bodies}
 use Rattle.pgo_effects.specs.Around.{around_view}
-use Rattle.pgo_effects.specs.Called.{called_body}
-use Rattle.pgo_effects.specs.Pieces.{piece_code}
-use Rattle.pgo_effects.specs.Puts.{puts}
-use Rattle.pgo_effects.specs.Todos.{code_of}
-use Rattle.pgo_effects.proofs.CallLaws.{above, body_code}
+use Rattle.pgo_effects.proofs.CallLaws.{body_code}
 use Rattle.pgo_effects.proofs.calls.body_piece.Goals as goal
 
 pub returns : goal.returns
@@ -19,6 +13,4 @@ returns c =
     let a = around_view c.args.around.now in let m = c.args.called.of.now in let ts = map tree c.args.list.now in
     let es = handed (map (λ p. p.name) m.params) ts in
     let ee : c.in_ok-arguments.arguments ≡ es = c.in_ok-arguments.ensures ∙ ap (λ (l : List PlacedName). handed (map (λ p. p.name) l) ts) c.as_slice.ensures in
-    IfOk-weaker c.row_of_two.result (λ p. (s : Setting) → piece_code s p ≡ in_turn (Skip ∷ code_of s c.in_ok-body.body ∷ []))
-    (λ p. (s : Setting) (n : ℕ) → piece_code s p ≡ code s (above s a) (puts a.layers (walked n (put es (called_body c.args.called).statement))))
-    (λ p h. λ s n. h s ∙ body_code s a n c.in_ok-arguments.arguments es (placed_among (bodies c.args.called.before.now) (labeled m.body)) Skip (code_of s c.in_ok-body.body) ee refl (c.in_ok-body.ensures s)) c.row_of_two.ensures
+    λ s n. c.last_alone.ensures s ∙ ap in_turn (c.in_ok-todos.ensures s) ∙ body_code s a n c.in_ok-arguments.arguments es (placed_among (bodies c.args.called.before.now) (labeled m.body)) ee

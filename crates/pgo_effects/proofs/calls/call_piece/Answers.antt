@@ -1,4 +1,4 @@
-use Rattle.std.proofs.Common.{◌≡◌, ℕ, ap, ◌∙◌, map, Some, None}
+use Rattle.std.proofs.Common.{◌≡◌, ℕ, ◌∙◌, map, Some, None}
 use Rattle.std.proofs.lemmas.Result.{IfOk-weaker}
 use Rattle.pgo_base.specs.ExprView.{tree}
 use Rattle.pgo_meaning.specs.MacrosPlaced.{handed, walked, put}

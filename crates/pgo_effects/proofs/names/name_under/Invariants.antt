@@ -7,4 +7,4 @@ abbrev pub invariant-loop-arguments : goal.invariant-loop-arguments
 invariant-loop-arguments l =
     (l.behind.items ++ behind_name l.arguments-iterator.rest.items l.name ≡ behind_name l.fn.layers.items l.x)
     × (marked_by l.arguments-iterator.rest.items l.name ≡ marked_by l.fn.layers.items l.x)
-    × (puts_tree l.arguments-iterator.rest.items (tree l.value) ≡ puts_tree l.fn.layers.items (tree l.e))
+    × (puts_tree l.arguments-iterator.rest.items l.value ≡ puts_tree l.fn.layers.items (tree l.e))

@@ -1,4 +1,4 @@
-use Rattle.std.proofs.Common.{◌≡◌, ap, ◌∙◌, [], map}
+use Rattle.std.proofs.Common.{ap, ◌∙◌, [], map}
 use Rattle.pgo_syntax.specs.Statement.{labeled}
 use Rattle.pgo_syntax.specs.StatementView.{labeled_pair}
 use Rattle.pgo_meaning.specs.Parameters.{block_setting}
