@@ -1,3 +1,4 @@
 mod Heights
 mod AllNames
 mod Measuring
+mod Sequence

@@ -11,8 +11,8 @@ use Rattle.pgo_sections.specs.Expansion.{Expansion}
 use Rattle.pgo_sections.specs.Nodes.{nodes}
 use Rattle.pgo_meaning.specs.Expansions.{process_expansions}
 use Rattle.pgo_sizes.specs.Left.{left_after}
-use Rattle.pgo_walk.proofs.Measures.{left_after_sum}
-use Rattle.pgo_walk.specs.Heights.{capped, label_height}
+use Rattle.pgo_measure.proofs.Measures.{left_after_sum}
+use Rattle.pgo_measure.specs.Heights.{capped, label_height}
 use Rattle.pgo_expand.specs.Module.{call_height, highest, joined, labels_height}
 use Rattle.pgo_expand.specs.Limits.{nodes_in}
 use Rattle.pgo_expand.specs.Measures.{measured_trees, measured_labels, measured_processes}

@@ -1,7 +1,7 @@
 -- The items of Init of value parameters and locals, up to the height that is told apart.
 use Rattle.std.specs.Prelude.{ℕ, List, [], ◌∷◌, ◌++◌, map}
 use Rattle.pgo_syntax.specs.declared.declaration.Declaration.{Declaration}
-use Rattle.pgo_walk.specs.Heights.{capped}
+use Rattle.pgo_measure.specs.Heights.{capped}
 use Rattle.pgo_expand.specs.Module.{own_item, start_height}
 
 -- of processes with identifiers of these heights

@@ -19,7 +19,7 @@ use Rattle.pgo_expr_read.specs.Heights.{height}
 use Rattle.pgo_sections.specs.Expansion.{Expansion}
 use Rattle.pgo_meaning.specs.Expansions.{process_expansions}
 use Rattle.pgo_pluscal.specs.PlusCalOf.{own_declarations}
-use Rattle.pgo_walk.specs.Heights.{join, label_height}
+use Rattle.pgo_measure.specs.Heights.{join, label_height}
 
 abbrev pub highest : List ℕ → ℕ
 highest [] = 0

@@ -7,7 +7,7 @@ ghost use Rattle.pgo_meaning.specs.Expansions.{trees_of};
 ghost use Rattle.pgo_meaning.specs.LabelSections.{AreUnlabelled};
 ghost use Rattle.pgo_pluscal.specs.PlusCalOf.{pluscal_of, process_of};
 ghost use Rattle.pgo_sizes.specs.Left.{left_after};
-ghost use Rattle.pgo_walk.specs.Heights.{capped};
+ghost use Rattle.pgo_measure.specs.Heights.{capped};
 
 use crate::errors::ExpandStop;
 use crate::heads::heads_height;

@@ -1,15 +1,15 @@
 // Heights of what a module has beside its labels and processes, up to the most that is told apart.
 ghost use Rattle.std.specs.Prelude.{◌≡◌, ℕ, ◌++◌, length, map, max, IfOk};
-ghost use Rattle.pgo_walk.specs.Heights.{capped};
+ghost use Rattle.pgo_measure.specs.Heights.{capped};
 ghost use Rattle.pgo_expand.specs.Items.{capped_items};
 ghost use Rattle.pgo_expand.specs.Module as expected;
 
+use pgo_measure::heights::{joined, one_higher};
 use pgo_sizes::heights::height_up_to;
 use pgo_syntax::binding::Origin;
 use pgo_syntax::declaration::{Declaration, Declarations, Definition, Definitions};
 use pgo_syntax::process::Process;
 use pgo_syntax::spec::Spec;
-use pgo_walk::heights::{joined, one_higher};
 use std::alloc::{AllocError, Global};
 
 /// The greatest of these heights; 0 where there is none.

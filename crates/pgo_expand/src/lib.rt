@@ -8,4 +8,5 @@ mod labels;
 mod measure;
 mod names;
 mod own;
+mod start;
 mod trees;

@@ -1,28 +1,28 @@
 // How many nodes the trees of a specification have, and how high its module is, without making them.
 ghost use Rattle.std.specs.Prelude.{◌≡◌, map, max, option_map, replicate, IfOk};
 ghost use Rattle.pgo_bound.specs.State.{variables_of};
-ghost use Rattle.pgo_effects.specs.Sections.{section_view};
+ghost use Rattle.pgo_section_list.specs.Sections.{section_view};
 ghost use Rattle.pgo_effects.specs.SettingView.{setting_view};
 ghost use Rattle.pgo_expand.specs.Measures.{left_view, measured_labels, measured_processes, measured_trees};
 ghost use Rattle.pgo_expand.specs.Module.{call_height, globals_of, joined as all_joined};
 ghost use Rattle.pgo_meaning.specs.Expansions.{expansions_of, process_bindings, process_expansions};
 ghost use Rattle.pgo_meaning.specs.LabelSections.{AreUnlabelled};
 ghost use Rattle.pgo_sections.specs.Expand.{expansion};
-ghost use Rattle.pgo_walk.specs.Heights.{capped};
+ghost use Rattle.pgo_measure.specs.Heights.{capped};
 ghost use Rattle.pgo_walk.specs.SettingPlaces.{places_in};
 
 use crate::heads::joined_all;
 use crate::labels::bindings;
+use crate::start::start;
 use pgo_base::text::Text;
-use pgo_effects::sections::{Section, sections};
 use pgo_effects::setting::Setting;
 use pgo_heads::runs::archetype_named;
+use pgo_measure::heights::joined;
+use pgo_measure::measure::{Size, measure};
+use pgo_section_list::sections::{Section, sections};
 use pgo_syntax::archetype::Archetype;
 use pgo_syntax::process::Process;
 use pgo_syntax::spec::Spec;
-use pgo_walk::heights::joined;
-use pgo_walk::measure::{Size, measure};
-use pgo_walk::start::start;
 use std::alloc::{AllocError, Global};
 
 /// The variables and the globals among them, by their written names and in their order.

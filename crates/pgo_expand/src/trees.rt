@@ -1,7 +1,7 @@
 // The trees of a process, and the process whose labels are expanded.
 ghost use Rattle.std.specs.Prelude.{◌≡◌, map, IfOk};
 ghost use Rattle.pgo_bound.specs.State.{variables_of};
-ghost use Rattle.pgo_effects.specs.Sections.{section_view};
+ghost use Rattle.pgo_section_list.specs.Sections.{section_view};
 ghost use Rattle.pgo_effects.specs.SettingView.{setting_view};
 ghost use Rattle.pgo_expand.specs.Module.{own_in};
 ghost use Rattle.pgo_meaning.specs.Expansions.{expansions_of, process_bindings, process_expansions};
@@ -11,19 +11,19 @@ ghost use Rattle.pgo_sections.specs.Expand.{expansion};
 ghost use Rattle.pgo_walk.specs.SettingPlaces.{places_in};
 
 use crate::labels::bindings;
+use crate::start::start;
 use pgo_base::items::Items;
 use pgo_base::text::Text;
-use pgo_effects::sections::{Section, sections};
 use pgo_effects::setting::Setting;
 use pgo_heads::runs::archetype_named;
 use pgo_pluscal::part::Part;
 use pgo_pluscal::pluscal::{ExpandedProcess, Trees, set_of_ids};
+use pgo_section_list::sections::{Section, sections};
 use pgo_syntax::archetype::Archetype;
 use pgo_syntax::declaration::Declarations;
 use pgo_syntax::process::Process;
 use pgo_syntax::spec::Spec;
 use pgo_walk::make::make;
-use pgo_walk::start::start;
 use std::alloc::{AllocError, Global};
 
 /// The most branch points in one another. An expression of the module that is at most 512 high has fewer.

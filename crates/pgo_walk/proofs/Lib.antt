@@ -1,8 +1,5 @@
-pub mod Capped
 pub mod Named
 pub mod Runs
 pub mod BlockAmong
 pub mod Turns
 pub mod Around
-pub mod Measures
-pub mod Arms

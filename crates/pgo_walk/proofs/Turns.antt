@@ -5,7 +5,6 @@ use Rattle.std.proofs.lemmas.List.{take_more, map-append, drop_more}
 use Rattle.pgo_base.specs.Lookup.{Name}
 use Rattle.pgo_effects.specs.Pieces.{all_arms, code_with, effect_code}
 use Rattle.pgo_effects.specs.declared.piece.Effect.{Effect}
-use Rattle.pgo_effects.specs.Sections.{in_sequence}
 use Rattle.pgo_pluscal.specs.PartView.{expansions}
 use Rattle.pgo_sections.specs.Code.{Place, Code, in_turn}
 use Rattle.pgo_sections.specs.Expand.{Renames, Current, expand, expand_arms}
@@ -13,11 +12,11 @@ use Rattle.pgo_sections.specs.Expansion.{more_expansions}
 use Rattle.pgo_walk.specs.Frames.{Frame, Run, runs, goes, jumps, yields}
 
 module _ (vs : List Name) (ps : List (Name × Place)) (ren : Renames) (fs : List Frame) where
-  jumps_runs : (cs : List Code) → jumps vs (runs ps ren cs fs) ≡ jumps vs fs
+  pub jumps_runs : (cs : List Code) → jumps vs (runs ps ren cs fs) ≡ jumps vs fs
   jumps_runs [] = refl
   jumps_runs (c ∷ cs) = jumps_runs cs
 
-  yields_runs : (cs : List Code) → yields vs (runs ps ren cs fs) ≡ yields vs fs
+  pub yields_runs : (cs : List Code) → yields vs (runs ps ren cs fs) ≡ yields vs fs
   yields_runs [] = refl
   yields_runs (c ∷ cs) = yields_runs cs
 
@@ -51,10 +50,3 @@ pub effect_first : (es : List Effect) (i : ℕ) (e : Effect) (c : Code) → i < 
     → code_with (drop i es) c ≡ effect_code e (code_with (drop (i + 1) es) c)
 effect_first es i e c lt is =
     ap (λ xs. code_with xs c) (drop_more es i e lt) ∙ ap (λ x. effect_code x (code_with (drop (i + 1) es) c)) (sym is)
-
-module _ (vs : List Name) (ps : List (Name × Place)) (ren : Renames) (c : Code) (fs : List Frame) where
-  -- pieces of code, one after the other and then c, are frames
-  pub goes_in_sequence : (cs : List Code) (cur : Current) (n : ℕ)
-      → goes vs (runs ps ren cs (Run ps c ren ∷ fs)) cur n ≡ goes vs (Run ps (in_sequence cs c) ren ∷ fs) cur n
-  goes_in_sequence [] cur n = refl
-  goes_in_sequence (d ∷ ds) cur n = λ i. expand ps d ren cur n (λ cur' n'. goes_in_sequence ds cur' n' i) (jumps_runs vs ps ren (Run ps c ren ∷ fs) ds i) (yields_runs vs ps ren (Run ps c ren ∷ fs) ds i)

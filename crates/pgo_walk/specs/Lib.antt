@@ -3,9 +3,3 @@ pub mod SettingPlaces
 pub mod FrameView
 pub mod Emitted
 pub mod Behind
-pub mod Heights
-pub mod Spots
-pub mod Measured
-pub mod Looked
-pub mod Pendings
-pub mod PendingView

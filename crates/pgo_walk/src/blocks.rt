@@ -6,6 +6,7 @@ ghost use Rattle.pgo_sections.specs.Context.{is_assigned};
 ghost use Rattle.pgo_sections.specs.Expand.{current as spec_current, nowhere as spec_nowhere};
 ghost use Rattle.pgo_sections.specs.Expansion.{Expansion};
 ghost use Rattle.pgo_model.specs.Options.{on};
+ghost use Rattle.pgo_model.specs.Written.{made};
 ghost use Rattle.pgo_walk.specs.Behind.{behind_read};
 ghost use Rattle.pgo_walk.specs.Emitted.{emitted, left_in, with_frame};
 ghost use Rattle.pgo_walk.specs.FrameView.{code_left, frame_view, frames_view, run_view, state_view};
@@ -19,6 +20,7 @@ use crate::frames::{Frame, Run, State};
 use crate::made::Made;
 use crate::stack::Stack;
 use pgo_base::expr::Sub;
+use pgo_base::results::both;
 use pgo_base::text::Text;
 use pgo_rewrite::mapped::Mapped;
 use std::alloc::{AllocError, Global};
@@ -243,6 +245,21 @@ pub fn end_with<'a>(alloc: Global, state: &mut State<'a>, e: Sub) -> Result<Even
     }
 }
 
+/// The made name of this base for the new value of x, which is then current.
+pub fn bind_current<'a>(
+    alloc: Global,
+    state: &mut State<'a>,
+    base: &[u8],
+    x: &Text,
+) -> Result<Text, AllocError>
+    ensures name { IfOk result (λ y. y ≡ made base.now (suc state.old.bound)) }
+    ensures state { IfOk result (λ y. state_view state.new ≡ record { frames = frames_view state.old.frames; current = (x.now, y) ∷ state.old.current; bound = suc state.old.bound }) }
+{
+    let made = bind(alloc, &mut state.bound, base)?;
+    rename(alloc, &mut state.current, x, &made)?;
+    Ok(made)
+}
+
 /// A turn at a new content of a mapped parameter.
 pub fn put_turn<'a>(
     alloc: Global,
@@ -261,8 +278,8 @@ pub fn put_turn<'a>(
         mapped.global,
         index.as_ref(),
         value,
-    )?;
-    let made = bind(alloc, &mut state.bound, mapped.global.as_bytes())?;
-    rename(alloc, &mut state.current, mapped.global, &made)?;
+    );
+    let made = bind_current(alloc, state, mapped.global.as_bytes(), mapped.global);
+    let (made, e) = both(made, e)?;
     Ok(Event::Step(Move::With(made, e)))
 }

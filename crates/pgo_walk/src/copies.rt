@@ -8,6 +8,7 @@ use crate::frames::{Frame, Run, State, copy_name};
 use crate::made::Made;
 use crate::stack::Stack;
 use pgo_base::expr::Sub;
+use pgo_base::results::both;
 use pgo_base::text::Text;
 use pgo_rewrite::mapped::Mapped;
 use std::alloc::{AllocError, Global};
@@ -133,8 +134,8 @@ impl<'a> State<'a> {
     pub fn copy(&self, alloc: Global) -> Result<State<'a>, AllocError>
         ensures { IfOk result (λ s. state_view s ≡ state_view self.now) }
     {
-        let frames = copy_frames(alloc, self.frames.as_slice())?;
-        let current = self.current.copy(alloc)?;
+        let copies = copy_frames(alloc, self.frames.as_slice());
+        let (frames, current) = both(copies, self.current.copy(alloc))?;
         Ok(State {
             frames,
             current,

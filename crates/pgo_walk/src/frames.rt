@@ -11,6 +11,7 @@ ghost use Rattle.pgo_walk.specs.SettingPlaces.{places_in};
 use crate::made::Made;
 use crate::stack::Stack;
 use pgo_base::expr::Sub;
+use pgo_base::results::both;
 use pgo_base::text::Text;
 use pgo_effects::piece::{Last, Piece};
 use pgo_effects::setting::Setting;
@@ -86,17 +87,24 @@ pub fn whole_piece<'a>(alloc: Global, todo: Todo<'a>) -> Piece<'a>
     }
 }
 
+/// One level of code in a place of its own, which several runs may hold.
+fn shared<'a>(alloc: Global, piece: Piece<'a>) -> Result<Rc<Piece<'a>>, AllocError>
+    ensures { IfOk result (λ r. r.value ≡ piece.entry) }
+{
+    Ok(Rc::new(alloc, piece)?)
+}
+
 impl<'a> Run<'a> {
     /// This code, of which nothing is done.
     pub fn new(
         alloc: Global,
         setting: Setting<'a>,
         piece: Piece<'a>,
-        renames: Made,
+        renames: &Made,
     ) -> Result<Run<'a>, AllocError>
-        ensures { IfOk result (λ r. run_view r ≡ spec.Run (places_in setting.entry) (piece_code (setting_view setting.entry) piece.entry) renames) }
+        ensures { IfOk result (λ r. run_view r ≡ spec.Run (places_in setting.entry) (piece_code (setting_view setting.entry) piece.entry) renames.now) }
     {
-        let piece = Rc::new(alloc, piece)?;
+        let (piece, renames) = both(shared(alloc, piece), renames.copy(alloc))?;
         Ok(Run {
             setting,
             piece,
@@ -111,8 +119,7 @@ impl<'a> Run<'a> {
         ensures code { IfOk result (λ r. code_left r ≡ code_left self.now) }
         ensures renames { IfOk result (λ r. r.renames ≡ self.now.renames) }
     {
-        let piece = self.piece.clone()?;
-        let renames = self.renames.copy(alloc)?;
+        let (piece, renames) = both(self.piece.clone(), self.renames.copy(alloc))?;
         Ok(Run {
             setting: self.setting,
             piece,

@@ -15,16 +15,17 @@ ghost use Rattle.pgo_walk.specs.FrameView.{frames_view, state_view};
 ghost use Rattle.pgo_walk.specs.Frames as spec;
 ghost use Rattle.pgo_walk.specs.SettingPlaces.{places_in};
 
-use crate::binds::{bind, enter, handed, rename};
-use crate::blocks::{end_with, jump};
-use crate::contents::content;
+use crate::binds::{enter, handed, rename};
+use crate::blocks::{bind_current, end_with, jump};
+use crate::effects::content_before;
 use crate::event::{Event, Move};
-use crate::frames::{Frame, Run, State, copy_name};
+use crate::frames::{Frame, State, copy_name};
 use crate::made::{Made, made_for};
 use crate::naming::expr_now;
-use crate::pushes::{push_code, push_codes, push_run, push_todo};
+use crate::pushes::{push_code, push_codes, push_piece, push_todo};
 use crate::stack::Stack;
 use pgo_base::expr::Expr;
+use pgo_base::results::both;
 use pgo_base::text::Text;
 use pgo_effects::change::Change;
 use pgo_effects::piece::Last;
@@ -89,9 +90,9 @@ fn set_turn<'a>(
 ) -> Result<Event<'a>, AllocError>
     ensures { IfOk result (λ t. (vs : List Name) → with_frame vs state.old (spec.Run (places_in setting.entry) (Set base.now (place_view p.now) (tree e.now)) renames.now) ≡ emitted vs t (left_in vs state.new)) }
 {
-    let value = expr_now(alloc, setting, renames, &state.current, e)?;
-    let made = bind(alloc, &mut state.bound, base.as_bytes())?;
-    rename(alloc, &mut state.current, variable(p), &made)?;
+    let value = expr_now(alloc, setting, renames, &state.current, e);
+    let made = bind_current(alloc, state, base.as_bytes(), variable(p));
+    let (made, value) = both(made, value)?;
     Ok(Event::Step(Move::With(made, value)))
 }
 
@@ -106,13 +107,8 @@ fn push_write<'a>(
     ensures { IfOk result (λ _. frames_view frames.new ≡ spec.Run content_places (mapped_view mapped.entry).writes (value_handed (find w.now renames.now)) ∷ frames_view frames.old) }
 {
     let names = handed(alloc, made_for(w, renames))?;
-    push_todo(
-        alloc,
-        frames,
-        Setting::Block,
-        names,
-        write_block(alloc, mapped)?,
-    )
+    let block = write_block(alloc, mapped)?;
+    push_todo(alloc, frames, Setting::Block, &names, block)
 }
 
 /// What is left waits for what is written.
@@ -126,15 +122,30 @@ fn wait_for_write<'a>(
 ) -> Result<(), AllocError>
     ensures { IfOk result (λ _. state_view state.new ≡ record { frames = spec.Writing mapped.entry.global.now (option_map (λ i. i.now) index.entry) renames.now state.old.current ∷ frames_view state.old.frames; current = content_now old.now; bound = state.old.bound }) }
 {
-    let renames = renames.copy(alloc)?;
-    let index = copy_name(alloc, index)?;
-    let current = enter(alloc, &mut state.current, old)?;
+    let names = both(renames.copy(alloc), copy_name(alloc, index));
+    let ((renames, index), current) = both(names, enter(alloc, &mut state.current, old))?;
     state.frames.push(Frame::Writing {
         mapped,
         index,
         renames,
         current,
     })
+}
+
+/// What is left waits for what is written, behind the block that writes.
+fn begin_write<'a>(
+    alloc: Global,
+    state: &mut State<'a>,
+    renames: &Made,
+    mapped: Mapped<'a>,
+    index: Option<&Text>,
+    w: &Text,
+    old: &Text,
+) -> Result<(), AllocError>
+    ensures { IfOk result (λ _. state_view state.new ≡ record { frames = spec.Run content_places (mapped_view mapped.entry).writes (value_handed (find w.now renames.now)) ∷ spec.Writing mapped.entry.global.now (option_map (λ i. i.now) index.entry) renames.now state.old.current ∷ frames_view state.old.frames; current = content_now old.now; bound = state.old.bound }) }
+{
+    wait_for_write(alloc, state, renames, mapped, index, old)?;
+    push_write(alloc, &mut state.frames, renames, mapped, w)
 }
 
 /// A turn at a write of a mapped parameter.
@@ -150,10 +161,15 @@ fn write_turn<'a>(
     ensures { IfOk result (λ t. (vs : List Name) → with_frame vs state.old (spec.Run (places_in setting.entry) (Write mapped.entry.global.now (option_map (λ i. i.now) index.entry) w.now (mapped_view mapped.entry).writes) renames.now) ≡ emitted vs t (left_in vs state.new)) }
 {
     let _ = setting;
-    let before = content(alloc, renames, &state.current, mapped.global, index)?;
-    let old = bind(alloc, &mut state.bound, b"old")?;
-    wait_for_write(alloc, state, renames, mapped, index, &old)?;
-    push_write(alloc, &mut state.frames, renames, mapped, w)?;
+    let (old, before) = content_before(
+        alloc,
+        &mut state.bound,
+        renames,
+        &state.current,
+        mapped.global,
+        index,
+    )?;
+    begin_write(alloc, state, renames, mapped, index, w, &old)?;
     Ok(Event::Step(Move::With(old, before)))
 }
 
@@ -210,9 +226,10 @@ fn if_turn<'a>(
 ) -> Result<Event<'a>, AllocError>
     ensures { IfOk result (λ t. (vs : List Name) → with_frame vs state.old (spec.Run (places_in setting.entry) (If (tree e.now) (code_of (setting_view setting.entry) a.now) (code_of (setting_view setting.entry) b.now)) renames.now) ≡ emitted vs t (left_in vs state.new)) }
 {
-    let test = expr_now(alloc, setting, renames, &state.current, e)?;
-    let other = branch(alloc, state, setting, renames, b)?;
-    push_code(alloc, &mut state.frames, setting, renames, a)?;
+    let test = expr_now(alloc, setting, renames, &state.current, e);
+    let other = branch(alloc, state, setting, renames, b);
+    let pushed = push_code(alloc, &mut state.frames, setting, renames, a);
+    let ((test, other), _) = both(both(test, other), pushed)?;
     Ok(Event::If(test, other))
 }
 
@@ -243,9 +260,8 @@ fn unfold_turn<'a>(
 ) -> Result<Event<'a>, AllocError>
     ensures { IfOk result (λ t. (vs : List Name) → with_frame vs state.old (spec.Run (places_in setting.entry) (code_of (setting_view setting.entry) todo.now) renames.now) ≡ emitted vs t (left_in vs state.new)) }
 {
-    let renames = renames.copy(alloc)?;
-    let run = Run::new(alloc, setting, unfold(alloc, setting, todo)?, renames)?;
-    push_run(&mut state.frames, run)?;
+    let piece = unfold(alloc, setting, todo)?;
+    push_piece(alloc, &mut state.frames, setting, renames, piece)?;
     Ok(Event::Quiet)
 }
 
@@ -335,6 +351,28 @@ fn row_turn<'a>(
     Ok(Event::Quiet)
 }
 
+/// A turn at what comes last where that is further code.
+///
+/// Err also where it is not.
+fn code_turn<'a>(
+    alloc: Global,
+    state: &mut State<'a>,
+    setting: Setting<'a>,
+    renames: &Made,
+    last: &Last<'a>,
+) -> Result<Event<'a>, AllocError>
+    ensures { IfOk result (λ t. (vs : List Name) → with_frame vs state.old (spec.Run (places_in setting.entry) (last_code (setting_view setting.entry) last.now) renames.now) ≡ emitted vs t (left_in vs state.new)) }
+{
+    match last {
+        Last::If(e, a, b) => if_turn(alloc, state, setting, renames, e, a, b),
+        Last::Either(todos) => either_turn(alloc, state, setting, renames, todos.as_slice()),
+        Last::Then(a, b) => then_turn(alloc, state, setting, renames, a, b),
+        Last::Row(todos) => row_turn(alloc, state, setting, renames, todos.as_slice()),
+        Last::Code(todo) => unfold_turn(alloc, state, setting, renames, todo),
+        _ => Err(AllocError),
+    }
+}
+
 /// A turn at what comes last: code, and the variables in their order.
 pub fn last_turn<'a>(
     alloc: Global,
@@ -355,10 +393,6 @@ pub fn last_turn<'a>(
         Last::Print(e) => print_turn(alloc, state, setting, renames, e),
         Last::Yield(e) => yield_turn(alloc, state, setting, renames, e),
         Last::Goto(label) => jump(alloc, variables, state, label),
-        Last::If(e, a, b) => if_turn(alloc, state, setting, renames, e, a, b),
-        Last::Either(todos) => either_turn(alloc, state, setting, renames, todos.as_slice()),
-        Last::Then(a, b) => then_turn(alloc, state, setting, renames, a, b),
-        Last::Row(todos) => row_turn(alloc, state, setting, renames, todos.as_slice()),
-        Last::Code(todo) => unfold_turn(alloc, state, setting, renames, todo),
+        _ => code_turn(alloc, state, setting, renames, last),
     }
 }

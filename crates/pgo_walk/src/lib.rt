@@ -1,4 +1,4 @@
-// The expansion of a section's code, one effect at a time: how many nodes and how high it is, and the tree itself.
+// The expansion of a section's code, one effect at a time, and over that the tree itself.
 #![tactic(auto)]
 
 pub mod binds;
@@ -8,16 +8,10 @@ pub mod copies;
 pub mod effects;
 pub mod event;
 pub mod frames;
-pub mod heights;
 pub mod last;
-pub mod looked;
 pub mod made;
 pub mod make;
-pub mod measure;
 pub mod naming;
 pub mod pushes;
-pub mod spot;
 pub mod stack;
-pub mod start;
-pub mod tally;
 pub mod turn;

@@ -47,28 +47,29 @@ fn row<'a>(
 }
 
 /// A part in a place of its own.
-fn boxed(alloc: Global, part: Part) -> Result<Box<Part>, AllocError>
-    ensures { IfOk result (λ b. b.value ≡ part) }
+fn boxed(alloc: Global, part: Result<Part, AllocError>) -> Result<Box<Part>, AllocError>
+    ensures { (x : Expansion) → IfOk part (λ p. p ≡ x) → IfOk result (λ b. b.value ≡ x) }
 {
-    Ok(Box::new(alloc, part)?)
+    Ok(Box::new(alloc, part?)?)
 }
 
-/// The ending at a test.
-#[cycle(make)]
-fn make_if(
-    alloc: Global,
-    variables: &[Text],
+/// The ending at a test, with the parts of its branches.
+fn if_ending(
     test: Sub,
-    a: State<'_>,
-    b: State<'_>,
-    fuel: u64,
+    a: Result<Box<Part>, AllocError>,
+    b: Result<Box<Part>, AllocError>,
 ) -> Result<Ending, AllocError>
-    ensures { IfOk result (λ e. ending_of e ≡ If test (left_in variables.now a.entry) (left_in variables.now b.entry)) }
+    ensures { (x y : Expansion) → IfOk a (λ p. p.value ≡ x) → IfOk b (λ p. p.value ≡ y) → IfOk result (λ e. ending_of e ≡ If test x y) }
 {
-    let a = make(alloc, variables, a, fuel)?;
-    let b = make(alloc, variables, b, fuel)?;
-    let (a, b) = both(boxed(alloc, a), boxed(alloc, b))?;
+    let (a, b) = both(a, b)?;
     Ok(Ending::If(test.into_expr(), a, b))
+}
+
+/// Statements in a row, and the ending behind them.
+fn whole(steps: Vec<Step>, ending: Result<Ending, AllocError>) -> Result<Part, AllocError>
+    ensures { (x : Expansion) → IfOk ending (λ e. ending_of e ≡ x) → IfOk result (λ p. p ≡ around steps.items x) }
+{
+    Ok(Part::new(steps, ending?))
 }
 
 /// The ending at a choice.
@@ -86,6 +87,31 @@ fn make_either(
         parts.push(make(alloc, variables, arm, fuel)?)?;
     }
     Ok(Ending::Either(parts))
+}
+
+/// The ending at a branch point or an end; the state is what is left behind it.
+///
+/// Err also where it is another event.
+#[cycle(make)]
+fn make_ending<'a>(
+    alloc: Global,
+    variables: &[Text],
+    event: Event<'a>,
+    state: State<'a>,
+    fuel: u64,
+) -> Result<Ending, AllocError>
+    ensures { IfOk result (λ e. ending_of e ≡ emitted variables.now event.entry (left_in variables.now state.entry)) }
+{
+    match event {
+        Event::If(test, other) => {
+            let a = boxed(alloc, make(alloc, variables, state, fuel));
+            let b = boxed(alloc, make(alloc, variables, other, fuel));
+            if_ending(test, a, b)
+        }
+        Event::Either(arms) => make_either(alloc, variables, arms, fuel),
+        Event::End(changes, label) => Ok(Ending::End(changes, label)),
+        _ => Err(AllocError),
+    }
 }
 
 /// The tree of what is still to be done, in which at most so many branch points stand in one another.
@@ -106,11 +132,8 @@ pub fn make(
     let mut state = state;
     let mut steps = Vec::new(alloc);
     let event = row(alloc, variables, &mut state, &mut steps)?;
-    let ending = match event {
-        Event::If(test, other) => make_if(alloc, variables, test, state, other, fuel - 1)?,
-        Event::Either(arms) => make_either(alloc, variables, arms, fuel - 1)?,
-        Event::End(changes, label) => Ending::End(changes, label),
-        _ => return Err(AllocError),
-    };
-    Ok(Part::new(steps, ending))
+    whole(
+        steps,
+        make_ending(alloc, variables, event, state, fuel - 1),
+    )
 }

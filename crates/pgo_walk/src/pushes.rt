@@ -1,5 +1,6 @@
 // Code that is put before what is still to be done.
 ghost use Rattle.std.specs.Prelude.{◌≡◌, ◌∷◌, map, reverse, IfOk};
+ghost use Rattle.pgo_effects.specs.Pieces.{piece_code};
 ghost use Rattle.pgo_effects.specs.SettingView.{setting_view};
 ghost use Rattle.pgo_effects.specs.Todos.{code_of, codes_of};
 ghost use Rattle.pgo_sections.specs.Code.{Seq};
@@ -10,14 +11,22 @@ ghost use Rattle.pgo_walk.specs.SettingPlaces.{places_in};
 use crate::frames::{Frame, Run, whole_piece};
 use crate::made::Made;
 use crate::stack::Stack;
+use pgo_effects::piece::Piece;
 use pgo_effects::setting::Setting;
 use pgo_effects::todo::Todo;
 use std::alloc::{AllocError, Global};
 
-/// Puts a run before what is there.
-pub fn push_run<'a>(frames: &mut Stack<Frame<'a>>, run: Run<'a>) -> Result<(), AllocError>
-    ensures { IfOk result (λ _. frames_view frames.new ≡ run_view run.entry ∷ frames_view frames.old) }
+/// Puts one level of code before what is there.
+pub fn push_piece<'a>(
+    alloc: Global,
+    frames: &mut Stack<Frame<'a>>,
+    setting: Setting<'a>,
+    renames: &Made,
+    piece: Piece<'a>,
+) -> Result<(), AllocError>
+    ensures { IfOk result (λ _. frames_view frames.new ≡ spec.Run (places_in setting.entry) (piece_code (setting_view setting.entry) piece.entry) renames.now ∷ frames_view frames.old) }
 {
+    let run = Run::new(alloc, setting, piece, renames)?;
     frames.push(Frame::Run(run))
 }
 
@@ -26,13 +35,12 @@ pub fn push_todo<'a>(
     alloc: Global,
     frames: &mut Stack<Frame<'a>>,
     setting: Setting<'a>,
-    renames: Made,
+    renames: &Made,
     todo: Todo<'a>,
 ) -> Result<(), AllocError>
-    ensures { IfOk result (λ _. frames_view frames.new ≡ spec.Run (places_in setting.entry) (code_of (setting_view setting.entry) todo.entry) renames ∷ frames_view frames.old) }
+    ensures { IfOk result (λ _. frames_view frames.new ≡ spec.Run (places_in setting.entry) (code_of (setting_view setting.entry) todo.entry) renames.now ∷ frames_view frames.old) }
 {
-    let run = Run::new(alloc, setting, whole_piece(alloc, todo), renames)?;
-    push_run(frames, run)
+    push_piece(alloc, frames, setting, renames, whole_piece(alloc, todo))
 }
 
 /// Puts lent code before what is there.
@@ -45,8 +53,8 @@ pub fn push_code<'a>(
 ) -> Result<(), AllocError>
     ensures { IfOk result (λ _. frames_view frames.new ≡ spec.Run (places_in setting.entry) (code_of (setting_view setting.entry) todo.now) renames.now ∷ frames_view frames.old) }
 {
-    let renames = renames.copy(alloc)?;
-    push_todo(alloc, frames, setting, renames, todo.copy(alloc)?)
+    let todo = todo.copy(alloc)?;
+    push_todo(alloc, frames, setting, renames, todo)
 }
 
 /// Puts pieces of code, one after the other, before what is there.

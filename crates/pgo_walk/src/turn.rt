@@ -9,21 +9,23 @@ use crate::event::Event;
 use crate::frames::{Frame, Run, State};
 use crate::last::last_turn;
 use pgo_base::text::Text;
+use pgo_effects::piece::Piece;
 use std::alloc::{AllocError, Global};
 
-/// A turn at a run.
-fn run_turn<'a>(
+/// A turn at a run of this code.
+fn piece_turn<'a>(
     alloc: Global,
     variables: &[Text],
     state: &mut State<'a>,
     run: Run<'a>,
+    piece: &Piece<'a>,
 ) -> Result<Event<'a>, AllocError>
+    requires { piece.now ≡ run.piece.value }
     ensures { IfOk result (λ t. with_frame variables.now state.old (run_view run.entry) ≡ emitted variables.now t (left_in variables.now state.new)) }
 {
-    let piece = run.piece.clone()?;
+    let mut run = run;
     let done = run.done;
     if done < piece.effects.len() {
-        let mut run = run;
         run.done = done + 1;
         return effect_turn(alloc, state, run, &piece.effects[done]);
     }
@@ -35,6 +37,19 @@ fn run_turn<'a>(
         &run.renames,
         &piece.last,
     )
+}
+
+/// A turn at a run.
+fn run_turn<'a>(
+    alloc: Global,
+    variables: &[Text],
+    state: &mut State<'a>,
+    run: Run<'a>,
+) -> Result<Event<'a>, AllocError>
+    ensures { IfOk result (λ t. with_frame variables.now state.old (run_view run.entry) ≡ emitted variables.now t (left_in variables.now state.new)) }
+{
+    let piece = run.piece.clone()?;
+    piece_turn(alloc, variables, state, run, &piece)
 }
 
 /// A turn at a frame.

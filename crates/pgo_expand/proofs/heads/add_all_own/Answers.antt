@@ -1,5 +1,5 @@
 use Rattle.std.proofs.Common.{◌≡◌, ◌∙◌, ◌+◌, ◌++◌, map, drop, ap, sym, get_or, append_assoc}
-use Rattle.pgo_walk.specs.Heights.{capped}
+use Rattle.pgo_measure.specs.Heights.{capped}
 use Rattle.pgo_expand.specs.Items.{capped_items}
 use Rattle.pgo_expand.specs.Module as expected
 use Rattle.pgo_expand.proofs.Heights.{items_at}

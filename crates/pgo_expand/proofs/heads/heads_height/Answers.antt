@@ -1,6 +1,6 @@
 use Rattle.std.proofs.Common.{◌≡◌, ◌∙◌, max, map, subst, ap, sym}
 use Rattle.std.specs.Prelude.{IfOk}
-use Rattle.pgo_walk.specs.Heights.{capped}
+use Rattle.pgo_measure.specs.Heights.{capped}
 use Rattle.pgo_expand.specs.Module as expected
 use Rattle.pgo_expand.proofs.Heights.{ids_capped, joined_same, joined_capped, steps_capped, all_heads}
 use Rattle.pgo_expand.proofs.heads.heads_height.Goals as goal

@@ -1,5 +1,5 @@
 use Rattle.std.proofs.Common.{◌≡◌, ◌∙◌, ◌+◌, drop, ◌∷◌, Some, ap, sym, get_or}
-use Rattle.pgo_walk.specs.Heights.{capped}
+use Rattle.pgo_measure.specs.Heights.{capped}
 use Rattle.pgo_expand.specs.Module.{joined_behind}
 use Rattle.pgo_expand.proofs.Heights.{joined_next, drop_at}
 use Rattle.pgo_expand.proofs.heads.joined_all.Goals as goal

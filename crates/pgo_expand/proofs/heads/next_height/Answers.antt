@@ -1,6 +1,6 @@
 use Rattle.std.proofs.Common.{◌≡◌, ◌∙◌, ◌++◌, ◌∷◌, [], map, ap, sym}
 use Rattle.std.proofs.lemmas.List.{append-nil}
-use Rattle.pgo_walk.specs.Heights.{capped}
+use Rattle.pgo_measure.specs.Heights.{capped}
 use Rattle.pgo_expand.specs.Module as expected
 use Rattle.pgo_expand.proofs.Heights.{joined_same, steps_twice, drop_end}
 use Rattle.pgo_expand.proofs.heads.next_height.Goals as goal

@@ -1,6 +1,6 @@
 use Rattle.std.proofs.Common.{◌≡◌, ◌∙◌, max, subst, ap}
 use Rattle.std.specs.Prelude.{IfOk}
-use Rattle.pgo_walk.specs.Heights.{capped}
+use Rattle.pgo_measure.specs.Heights.{capped}
 use Rattle.pgo_expand.specs.Module as expected
 use Rattle.pgo_expand.proofs.Heights.{more_definitions}
 use Rattle.pgo_expand.proofs.heads.with_all_definitions.Goals as goal

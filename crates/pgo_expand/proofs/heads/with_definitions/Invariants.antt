@@ -1,5 +1,5 @@
 use Rattle.std.proofs.Common.{◌≡◌, max, drop}
-use Rattle.pgo_walk.specs.Heights.{capped}
+use Rattle.pgo_measure.specs.Heights.{capped}
 use Rattle.pgo_expand.specs.Module as expected
 use Rattle.pgo_expand.proofs.heads.with_definitions.Given as goal
 

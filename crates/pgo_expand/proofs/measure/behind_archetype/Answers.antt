@@ -1,6 +1,6 @@
 use Rattle.std.proofs.Common.{◌≡◌, ◌∙◌, map, subst, ap, sym}
 use Rattle.std.specs.Prelude.{IfOk, option_map}
-use Rattle.pgo_effects.specs.Sections.{section_view}
+use Rattle.pgo_section_list.specs.Sections.{section_view}
 use Rattle.pgo_meaning.specs.Expansions.{process_bindings}
 use Rattle.pgo_meaning.specs.Parameters.{places_of, setting_of}
 use Rattle.pgo_meaning.specs.Sections.{sections_of}

@@ -1,10 +1,10 @@
 use Rattle.std.proofs.Common.{◌≡◌, ◌∙◌, map, replicate, length, max, subst, ap, sym}
 use Rattle.std.specs.Prelude.{IfOk, option_map}
 use Rattle.std.proofs.lemmas.List.{length-map}
-use Rattle.pgo_effects.specs.Sections.{section_view}
+use Rattle.pgo_section_list.specs.Sections.{section_view}
 use Rattle.pgo_effects.specs.SettingView.{setting_view}
 use Rattle.pgo_sections.specs.Expand.{expansion}
-use Rattle.pgo_walk.specs.Heights.{capped}
+use Rattle.pgo_measure.specs.Heights.{capped}
 use Rattle.pgo_walk.specs.SettingPlaces.{places_in}
 use Rattle.pgo_expand.specs.Module.{call_height, joined}
 use Rattle.pgo_expand.specs.Measures.{left_view, measured_trees}

@@ -1,5 +1,5 @@
 use Rattle.std.proofs.Common.{◌≡◌, ◌++◌, map, drop}
-use Rattle.pgo_effects.specs.Sections.{section_view}
+use Rattle.pgo_section_list.specs.Sections.{section_view}
 use Rattle.pgo_effects.specs.SettingView.{setting_view}
 use Rattle.pgo_sections.specs.Expand.{expansion}
 use Rattle.pgo_walk.specs.SettingPlaces.{places_in}

@@ -3,13 +3,13 @@ use Rattle.pgo_walk.specs.Emitted.{left_in}
 use Rattle.pgo_walk.proofs.make.+make.Given as goal
 
 abbrev pub decreases-make : goal.decreases-make
-decreases-make l = 2 * l.fuel
+decreases-make l = 3 * l.fuel
 
 abbrev pub decreases-make_either : goal.decreases-make_either
-decreases-make_either l = 2 * l.fuel + 1
+decreases-make_either l = 3 * l.fuel + 1
 
-abbrev pub decreases-make_if : goal.decreases-make_if
-decreases-make_if l = 2 * l.fuel + 1
+abbrev pub decreases-make_ending : goal.decreases-make_ending
+decreases-make_ending l = 3 * l.fuel + 2
 
 abbrev pub invariant-make_either-loop-arm : goal.invariant-make_either-loop-arm
 invariant-make_either-loop-arm l =

@@ -1,0 +1,4 @@
+pub mod Capped
+pub mod Measures
+pub mod Arms
+pub mod WideLaws
