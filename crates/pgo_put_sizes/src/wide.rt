@@ -23,12 +23,10 @@ pub fn is_wide<'a>(
 ) -> Result<bool, AllocError>
     ensures { IfOk result (λ b. b ≡ true → left < least (code_of (setting_view setting.entry) todo.now)) }
 {
-    if take_todo(alloc, todo, left)?.is_some() {
-        return Ok(false);
-    }
-    if all_yield(setting.bindings()) {
-        Ok(true)
-    } else {
-        Err(AllocError)
+    let rest = take_todo(alloc, todo, left)?;
+    match rest {
+        Some(_) => Ok(false),
+        None if all_yield(setting.bindings()) => Ok(true),
+        None => Err(AllocError),
     }
 }
