@@ -1,11 +1,11 @@
 -- What is counted of a level of code is no more than the least nodes of its expansions.
-use Rattle.std.proofs.Common.{◌≡◌, ◌≤◌, ℕ, suc, ◌+◌, Bool, true, false, List, [], ◌∷◌, ◌++◌, map, Option, Some, None, refl, ap, sym, ◌∙◌, arith}
+use Rattle.std.proofs.Common.{◌≡◌, ◌≤◌, ℕ, suc, ◌+◌, Bool, true, false, List, [], ◌∷◌, ◌++◌, map, Option, Some, None, refl, ap, arith}
 use Rattle.std.specs.Prelude.{if◌then◌else◌}
 use Rattle.pgo_base.specs.Lookup.{Name, find}
 use Rattle.pgo_base.specs.Tree.{Tree}
-use Rattle.pgo_effects.specs.Around.{Surroundings, around_view, stands, stands_guarded, written_label}
+use Rattle.pgo_effects.specs.Around.{Surroundings, around_view, written_label}
 use Rattle.pgo_effects.specs.Origins.{of_origin}
-use Rattle.pgo_effects.specs.Puts.{Layers, puts, puts_tree, puts_left, puts_assignment, puts_origin, puts_name, puts_names, puts_guarded, behind_name, behind_names}
+use Rattle.pgo_effects.specs.Puts.{Layers, puts, puts_tree, puts_assignment, puts_origin, puts_name, puts_names, puts_guarded, behind_name, behind_names}
 use Rattle.pgo_effects.specs.Todos.{otherwise, part_code, code_of}
 use Rattle.pgo_effects.specs.declared.todo.Part.{Part as Text_part}
 use Rattle.pgo_effects.specs.declared.todo.Part.TheVariants as parts
@@ -20,7 +20,7 @@ use Rattle.pgo_put_sizes.specs.Lefts.{steps_nodes}
 use Rattle.pgo_put_sizes.specs.Least.{yields, least}
 use Rattle.pgo_put_sizes.proofs.EvaluatedLaws.{evaluated_law}
 use Rattle.pgo_sections.specs.Access.{Mapped, place, evaluated}
-use Rattle.pgo_sections.specs.Code.{Code, Whole, Empty, Let, Pick, Set, Await, Assert, Print, If, Seq, Goto, in_turn, at_base, val_base, old_base, content_name}
+use Rattle.pgo_sections.specs.Code.{Code, Whole, Empty, Let, Pick, Set, Await, Assert, Print, If, Seq, Goto, at_base, val_base, old_base, content_name}
 use Rattle.pgo_sections.specs.Nodes.{tree_nodes}
 use Rattle.pgo_syntax.specs.Statement.{Statement, assign, if_then, if_else, while_do, await_that, with_in, print_out, assert_that, GuardedStatements, no_guarded, more_guarded, guarded}
 use Rattle.pgo_syntax.specs.StatementView.{statement, branch_parts}

@@ -2,10 +2,10 @@
 use Rattle.std.proofs.Common.{◌≡◌, ℕ, suc, Bool, true, false, ◌||◌, ◌&&◌, List, [], ◌∷◌, ◌++◌, Option, Some, None, refl, ap, sym, ◌∙◌}
 use Rattle.std.specs.Prelude.{if◌then◌else◌}
 use Rattle.pgo_base.specs.Lookup.{Name, same_name, find}
-use Rattle.pgo_base.specs.Tree.{Tree, name}
+use Rattle.pgo_base.specs.Tree.{Tree}
 use Rattle.pgo_meaning.specs.MacrosPlaced.{unmarked}
 use Rattle.pgo_meaning.specs.Parameters.{block_setting, block_code}
-use Rattle.pgo_meaning.specs.Statements.{Part, Index, Field, to_variable, assigned, alone, steps, assign_all, assignment_code, bind_name, bind_names, code, branches, arms, in_order, label_of}
+use Rattle.pgo_meaning.specs.Statements.{Part, Index, Field, to_variable, assigned, alone, steps, assign_all, assignment_code, bind_name, bind_names, code, branches, arms, in_order}
 use Rattle.pgo_model.specs.Options.{on}
 use Rattle.pgo_put_sizes.specs.Leads as spec
 use Rattle.pgo_put_sizes.specs.Leads.{goes_on, nowhere, either_way, then_way, leads, any_lead, branches_lead, row_leads}
@@ -14,7 +14,7 @@ use Rattle.pgo_put_sizes.specs.declared.blocks.Leads.{Leads}
 use Rattle.pgo_rewrite.specs.Rewritten.{standing}
 use Rattle.pgo_rewrite.proofs.RewrittenLaws.{plain, same}
 use Rattle.pgo_sections.specs.Access.{MappedNames, Mapped, place, after, evaluated}
-use Rattle.pgo_sections.specs.Code.{Code, Place, Whole, Empty, Let, Pick, Set, Await, Assert, Print, If, Either, Seq, Goto, Codes, no_codes, more_codes, in_turn, at_base, val_base, old_base, content_name}
+use Rattle.pgo_sections.specs.Code.{Code, Place, Whole, Empty, Let, Pick, Set, Await, Assert, Print, If, Seq, Goto, Codes, in_turn, at_base, val_base, old_base, content_name}
 use Rattle.pgo_sections.specs.Replaced.{replaced}
 use Rattle.pgo_syntax.specs.Statement.{Statement, skip, assign, if_then, if_else, while_do, either_of, await_that, with_in, print_out, assert_that, go_to, call_macro, yield_as, block, Statements, no_statements, more_statements, LabeledStatements, no_labeled, more_labeled, GuardedStatements, no_guarded, more_guarded, labeled}
 use Rattle.pgo_syntax.specs.declared.assignment.Assignment.{Assignment}

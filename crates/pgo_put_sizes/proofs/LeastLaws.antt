@@ -1,15 +1,14 @@
 -- An expansion has at least the nodes that `least` counts.
-use Rattle.std.proofs.Common.{◌≡◌, ◌<◌, ◌≤◌, ℕ, zero, suc, ◌+◌, Bool, true, false, ◌||◌, ◌&&◌, if◌then◌else◌, List, [], ◌∷◌, ◌++◌, Option, Some, None, refl, ap, sym, ◌∙◌, subst, inl, inr, arith}
+use Rattle.std.proofs.Common.{◌≡◌, ◌≤◌, ℕ, suc, ◌+◌, Bool, true, false, ◌||◌, ◌&&◌, if◌then◌else◌, List, [], ◌∷◌, Option, refl, inl, inr, arith}
 use Rattle.std.specs.Prelude.{◌⊎◌}
 use Rattle.pgo_base.specs.Lookup.{Name, find}
-use Rattle.pgo_base.specs.Tree.{Tree, name, trees}
-use Rattle.pgo_model.specs.Options.{on}
+use Rattle.pgo_base.specs.Tree.{Tree, name}
 use Rattle.pgo_model.specs.Written.{made}
 use Rattle.pgo_sections.specs.Code.{Place, Whole, variable_of, Code, Empty, Skip, Let, Pick, Become, Set, Await, Assert, Print, If, Either, Seq, Goto, Yield, Read, Write, Codes, no_codes, more_codes, content_name, content_places, old_base, val_base, new_base}
 use Rattle.pgo_sections.specs.Context.{is_assigned}
 use Rattle.pgo_sections.specs.Expand.{Renames, Current, OnGo, OnJump, OnYield, no_go, no_jump, expand, expand_arms, current, current_tree, becoming, put_back, left_behind, content_now, value_handed}
 use Rattle.pgo_sections.specs.Expansion.{With}
-use Rattle.pgo_sections.specs.Nodes.{tree_nodes, nodes, arms_total}
+use Rattle.pgo_sections.specs.Nodes.{nodes, arms_total}
 use Rattle.pgo_put_sizes.specs.Least.{passes, one_passes, yields, one_yields, least}
 use Rattle.pgo_put_sizes.proofs.Replaced.{current_nodes}
 

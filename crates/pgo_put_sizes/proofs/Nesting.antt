@@ -1,5 +1,5 @@
 -- A statement of a list nests no deeper than the list.
-use Rattle.std.proofs.Common.{◌≡◌, ◌<◌, ◌≤◌, ℕ, zero, suc, max, List, [], ◌∷◌, map, length, get_or, arith}
+use Rattle.std.proofs.Common.{◌≡◌, ◌<◌, ◌≤◌, ℕ, zero, suc, List, [], ◌∷◌, map, length, get_or, arith}
 use Rattle.pgo_syntax.specs.Statement.{guarded, labeled, statements}
 use Rattle.pgo_syntax.specs.StatementSize.{height, statements_height, labeled_height, guarded_height}
 use Rattle.pgo_syntax.specs.StatementView.{branch_parts, labeled_pair, statement}

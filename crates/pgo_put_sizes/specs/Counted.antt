@@ -1,6 +1,5 @@
 -- The nodes of the expressions of one level of code, counted before it is looked at.
 use Rattle.std.specs.Prelude.{ℕ, ◌+◌, List, [], ◌∷◌, map}
-use Rattle.pgo_base.specs.Tree.{Tree}
 use Rattle.pgo_effects.specs.Around.{around_view}
 use Rattle.pgo_effects.specs.Origins.{of_origin}
 use Rattle.pgo_effects.specs.Puts.{Layers, puts_tree, puts_left, behind_name}

@@ -1,5 +1,5 @@
 -- Where the paths through a statement of a mapping macro lead.
-use Rattle.std.specs.Prelude.{Bool, true, false, ◌||◌, ◌&&◌, List, [], ◌∷◌, Option, Some, None}
+use Rattle.std.specs.Prelude.{Bool, true, false, ◌||◌, ◌&&◌, [], ◌∷◌, Some, None}
 use Rattle.pgo_put_sizes.specs.Least.{yields}
 use Rattle.pgo_put_sizes.specs.declared.blocks.Leads.{Leads}
 use Rattle.pgo_sections.specs.Access.{MappedNames}

@@ -1,5 +1,5 @@
 use Rattle.pgo_base.specs.ExprView.{tree}
-use Rattle.pgo_put_sizes.proofs.LeftLaws.{none_for, none_spelled, one_spelled}
+use Rattle.pgo_put_sizes.proofs.LeftLaws.{one_spelled}
 use Rattle.pgo_put_sizes.proofs.lefts.left_for.Goals as goal
 
 pub returns-in-Some-head_of : goal.returns-in-Some-head_of
