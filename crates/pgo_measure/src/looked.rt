@@ -3,7 +3,7 @@ ghost use Rattle.std.specs.Prelude.{◌≡◌, ℕ, suc, max, Option, Some, None
 ghost use Rattle.pgo_expr_read.specs.Heights.{height};
 ghost use Rattle.pgo_sections.specs.Nodes.{tree_nodes};
 ghost use Rattle.pgo_sizes.specs.Left.{left_after};
-ghost use Rattle.pgo_measure.specs.Heights.{capped, join};
+ghost use Rattle.pgo_measure.specs.Heights.{capped};
 ghost use Rattle.pgo_measure.specs.Looked as spec;
 
 use crate::heights::{joined, one_higher};

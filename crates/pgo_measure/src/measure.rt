@@ -5,7 +5,7 @@ ghost use Rattle.pgo_pluscal.specs.PartView.{expansions};
 ghost use Rattle.pgo_sections.specs.Expansion.{Either, End, If};
 ghost use Rattle.pgo_sections.specs.Nodes.{changes_nodes, nodes};
 ghost use Rattle.pgo_sizes.specs.Left.{left_after};
-ghost use Rattle.pgo_walk.specs.Emitted.{left_in, moved};
+ghost use Rattle.pgo_walk.specs.Emitted.{emitted, left_in, moved};
 ghost use Rattle.pgo_measure.specs.Heights.{capped, end_height, label_height};
 ghost use Rattle.pgo_measure.specs.Measured.{Part, measured};
 ghost use Rattle.pgo_measure.specs.Spots.{shift};
@@ -213,6 +213,27 @@ fn test_on<'a>(
     branch_on(pending, a, b, next)
 }
 
+/// Behind what a turn gives; the state is what is left behind that.
+fn event_on<'a>(
+    alloc: Global,
+    variables: &[Text],
+    globals: &[Text],
+    pending: &mut Stack<Pending<'a>>,
+    tally: Tally,
+    event: Event<'a>,
+    state: State<'a>,
+) -> Result<Option<Size>, AllocError>
+    ensures { IfOk result (λ o. measured variables.now globals.now tally.left tally.height (part tally.spot (emitted variables.now event.entry (left_in variables.now state.entry)) ∷ parts variables.now pending.old) ≡ behind_size variables.now globals.now o (parts variables.now pending.new)) }
+{
+    match event {
+        Event::Quiet => go_on(pending, state, Some(tally)),
+        Event::Step(m) => step_on(alloc, pending, state, tally, &m),
+        Event::If(e, other) => test_on(alloc, pending, state, other, tally, &e),
+        Event::Either(arms) => arms_on(pending, arms, tally),
+        Event::End(changes, _) => Ok(end_on(variables, globals, tally, changes.as_slice())),
+    }
+}
+
 /// Behind a turn.
 fn turn_on<'a>(
     alloc: Global,
@@ -230,13 +251,8 @@ fn turn_on<'a>(
         spot: at.spot,
     };
     let mut state = at.state;
-    match turn(alloc, variables, &mut state)? {
-        Event::Quiet => go_on(pending, state, Some(tally)),
-        Event::Step(m) => step_on(alloc, pending, state, tally, &m),
-        Event::If(e, other) => test_on(alloc, pending, state, other, tally, &e),
-        Event::Either(arms) => arms_on(pending, arms, tally),
-        Event::End(changes, _) => Ok(end_on(variables, globals, tally, changes.as_slice())),
-    }
+    let event = turn(alloc, variables, &mut state)?;
+    event_on(alloc, variables, globals, pending, tally, event, state)
 }
 
 /// Behind a turn; nothing where the code that comes first has more nodes than are left, of which no expression is made then.
@@ -259,8 +275,9 @@ fn advance<'a>(
 /// What is left of the limit behind the nodes of a section's expansion, and the height of its action, up to the most that is told
 /// apart; nothing where the nodes pass the limit.
 ///
-/// Err where there is no memory, where more than 2^64 - 1 names are bound, where an expression with the arguments of macros in place is
-/// higher than 1,024, or where one has more nodes than are left and a mapping macro's block has no path to a `yield`.
+/// Err where there is no memory, where more than 2^64 - 1 names are bound, and as `is_wide` of `pgo_put_sizes`: where more than 1,024
+/// expressions stand within one another, or where those of a level have more nodes than are left and a mapping macro's read has no path
+/// to a `yield`.
 pub fn measure(
     alloc: Global,
     variables: &[Text],

@@ -1,6 +1,5 @@
 // How many nodes are left, and how high all is, behind a statement.
-ghost use Rattle.std.specs.Prelude.{◌≡◌, suc, max, Option, Some, None, option_map, IfOk};
-ghost use Rattle.pgo_base.specs.ExprView.{tree};
+ghost use Rattle.std.specs.Prelude.{◌≡◌, suc, Option, Some, None, IfOk};
 ghost use Rattle.pgo_expr_read.specs.Heights.{height};
 ghost use Rattle.pgo_sections.specs.Nodes.{tree_nodes};
 ghost use Rattle.pgo_sizes.specs.Left.{left_after};

@@ -1,7 +1,7 @@
 // Turns at the ends of blocks and sections.
-ghost use Rattle.std.specs.Prelude.{◌≡◌, ◌∷◌, [], suc, reverse, Bool, true, false, if◌then◌else◌, List, ℕ, Option, Some, None, option_map, IfOk, MatchOption};
+ghost use Rattle.std.specs.Prelude.{◌≡◌, ◌∷◌, [], suc, reverse, true, false, if◌then◌else◌, List, Option, Some, None, option_map, IfOk};
 ghost use Rattle.pgo_base.specs.Lookup.{Name};
-ghost use Rattle.pgo_sections.specs.Code.{Goto, Yield, Whole, content_name};
+ghost use Rattle.pgo_sections.specs.Code.{Whole, content_name};
 ghost use Rattle.pgo_sections.specs.Context.{is_assigned};
 ghost use Rattle.pgo_sections.specs.Expand.{current as spec_current, nowhere as spec_nowhere};
 ghost use Rattle.pgo_sections.specs.Expansion.{Expansion};
@@ -9,7 +9,7 @@ ghost use Rattle.pgo_model.specs.Options.{on};
 ghost use Rattle.pgo_model.specs.Written.{made};
 ghost use Rattle.pgo_walk.specs.Behind.{behind_read};
 ghost use Rattle.pgo_walk.specs.Emitted.{emitted, left_in, with_frame};
-ghost use Rattle.pgo_walk.specs.FrameView.{code_left, frame_view, frames_view, run_view, state_view};
+ghost use Rattle.pgo_walk.specs.FrameView.{code_left, frame_view, frames_view, state_view};
 ghost use Rattle.pgo_walk.specs.Frames as spec;
 ghost use Rattle.pgo_walk.specs.SettingPlaces.{places_in};
 

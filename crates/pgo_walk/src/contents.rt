@@ -1,7 +1,6 @@
 // The expressions that have the current values of places, and of what blocks read and write.
 ghost use Rattle.std.specs.Prelude.{◌≡◌, ◌∷◌, [], Some, option_map, IfOk};
 ghost use Rattle.pgo_base.specs.Tree.{name, index, except, no_trees, more_trees, no_paths, more_paths};
-ghost use Rattle.pgo_model.specs.Written.{self_name};
 ghost use Rattle.pgo_sections.specs.Code.{Whole, Own};
 ghost use Rattle.pgo_sections.specs.Expand as spec;
 

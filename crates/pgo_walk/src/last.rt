@@ -1,5 +1,5 @@
 // Turns at what comes last.
-ghost use Rattle.std.specs.Prelude.{◌≡◌, ◌∷◌, [], suc, List, ℕ, map, option_map, IfOk};
+ghost use Rattle.std.specs.Prelude.{◌≡◌, ◌∷◌, List, option_map, IfOk};
 ghost use Rattle.pgo_base.specs.ExprView.{tree};
 ghost use Rattle.pgo_base.specs.Lookup.{Name, find};
 ghost use Rattle.pgo_effects.specs.Pieces.{all_arms, last_code};

@@ -1,5 +1,5 @@
 // Names with the made names that stand for them.
-ghost use Rattle.std.specs.Prelude.{◌≡◌, ◌++◌, codes, decimal, reverse, option_map, IfOk};
+ghost use Rattle.std.specs.Prelude.{◌≡◌, reverse, option_map, IfOk};
 ghost use Rattle.pgo_base.specs.Lookup.{find};
 ghost use Rattle.pgo_model.specs.Written.{made};
 

@@ -132,8 +132,5 @@ pub fn make(
     let mut state = state;
     let mut steps = Vec::new(alloc);
     let event = row(alloc, variables, &mut state, &mut steps)?;
-    whole(
-        steps,
-        make_ending(alloc, variables, event, state, fuel - 1),
-    )
+    whole(steps, make_ending(alloc, variables, event, state, fuel - 1))
 }

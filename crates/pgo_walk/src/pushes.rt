@@ -1,10 +1,9 @@
 // Code that is put before what is still to be done.
-ghost use Rattle.std.specs.Prelude.{◌≡◌, ◌∷◌, map, reverse, IfOk};
+ghost use Rattle.std.specs.Prelude.{◌≡◌, ◌∷◌, IfOk};
 ghost use Rattle.pgo_effects.specs.Pieces.{piece_code};
 ghost use Rattle.pgo_effects.specs.SettingView.{setting_view};
 ghost use Rattle.pgo_effects.specs.Todos.{code_of, codes_of};
-ghost use Rattle.pgo_sections.specs.Code.{Seq};
-ghost use Rattle.pgo_walk.specs.FrameView.{code_left, frame_view, frames_view, run_view, state_view};
+ghost use Rattle.pgo_walk.specs.FrameView.{frames_view};
 ghost use Rattle.pgo_walk.specs.Frames as spec;
 ghost use Rattle.pgo_walk.specs.SettingPlaces.{places_in};
 

@@ -1,5 +1,5 @@
 // Lists that contracts see with the newest item first.
-ghost use Rattle.std.specs.Prelude.{◌≡◌, [], ◌∷◌, reverse, Option, Some, None, IfOk, MatchOption};
+ghost use Rattle.std.specs.Prelude.{◌≡◌, [], ◌∷◌, reverse, Option, IfOk, MatchOption};
 
 use pgo_base::items::Copied;
 use std::alloc::{AllocError, Global};
