@@ -1,7 +1,6 @@
 -- The variables of a specification are the names of its globals, `pc`, and the names that its processes' own variables have.
-use Rattle.std.proofs.Common.{◌≡◌, List, [], ◌∷◌, ◌++◌, map, refl, ap, ◌∙◌}
+use Rattle.std.proofs.Common.{◌≡◌, List, [], ◌∷◌, ◌++◌, map, refl, ap}
 use Rattle.std.specs.List.{flat_map}
-use Rattle.pgo_base.specs.Lookup.{Name}
 use Rattle.pgo_model.specs.Written.{written, pc}
 use Rattle.pgo_syntax.specs.declared.declaration.Declaration.{Declaration}
 use Rattle.pgo_syntax.specs.declared.process.Process.{Process}

@@ -1,5 +1,5 @@
 -- Heights that are told apart up to a limit, in lists.
-use Rattle.std.proofs.Common.{◌≡◌, ◌<◌, ◌≤◌, ℕ, zero, suc, ◌+◌, max, min, length, drop, get_or, List, [], ◌∷◌, ◌++◌, map, Option, Some, None, refl, arith, ap, sym, ◌∙◌}
+use Rattle.std.proofs.Common.{◌≡◌, ◌<◌, ◌≤◌, ℕ, zero, suc, ◌+◌, max, length, drop, get_or, List, [], ◌∷◌, ◌++◌, map, Option, Some, None, refl, arith, ap, sym, ◌∙◌}
 use Rattle.pgo_syntax.specs.declared.declaration.Declaration.{Declaration}
 use Rattle.pgo_measure.specs.Heights.{capped, join}
 use Rattle.pgo_syntax.specs.declared.archetype.Archetype.{Archetype}

@@ -1,5 +1,5 @@
 -- What is left behind trees, one after the other.
-use Rattle.std.proofs.Common.{◌≡◌, ◌∙◌, ℕ, suc, ◌+◌, ◌-◌, ◌≤◌, max, min, List, [], ◌∷◌, ◌++◌, map, replicate, length, Option, Some, None, refl, ap, sym, arith}
+use Rattle.std.proofs.Common.{◌≡◌, ◌∙◌, ℕ, ◌+◌, ◌-◌, max, List, [], ◌∷◌, ◌++◌, map, replicate, length, Option, Some, None, refl, ap, sym, arith}
 use Rattle.std.specs.Prelude.{option_map, if◌then◌else◌}
 use Rattle.std.proofs.lemmas.Bool.{le-leb}
 use Rattle.std.specs.List.{flat_map}

@@ -1,5 +1,5 @@
 -- What is left of a limit on nodes, and how high all is so far, behind trees.
-use Rattle.std.specs.Prelude.{ℕ, max, List, [], ◌∷◌, map, Option, option_map}
+use Rattle.std.specs.Prelude.{ℕ, max, List, map, Option, option_map}
 use Rattle.std.specs.List.{flat_map}
 use Rattle.pgo_base.specs.Lookup.{Name}
 use Rattle.pgo_syntax.specs.declared.process.Process.{Process}

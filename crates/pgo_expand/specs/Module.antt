@@ -3,7 +3,7 @@
 --
 -- Source: this project's choice; the parts of the module are those of PlusCal's translation.
 use Rattle.std.specs.Prelude.{ℕ, suc, max, List, [], ◌∷◌, ◌++◌, map, Option, Some, None}
-use Rattle.std.specs.List.{filter_map, flat_map}
+use Rattle.std.specs.List.{flat_map}
 use Rattle.pgo_base.specs.Lookup.{Name}
 use Rattle.pgo_model.specs.Options.{on}
 use Rattle.pgo_syntax.specs.declared.archetype.Archetype.{Archetype}
@@ -16,7 +16,6 @@ use Rattle.pgo_syntax.specs.declared.spec.Spec.{Spec}
 use Rattle.pgo_bound.specs.Runs.{archetype_named}
 use Rattle.pgo_bound.specs.State.{variables_of}
 use Rattle.pgo_expr_read.specs.Heights.{height}
-use Rattle.pgo_sections.specs.Expansion.{Expansion}
 use Rattle.pgo_meaning.specs.Expansions.{process_expansions}
 use Rattle.pgo_pluscal.specs.PlusCalOf.{own_declarations}
 use Rattle.pgo_measure.specs.Heights.{join, label_height}

@@ -13,6 +13,7 @@ ghost use Rattle.pgo_walk.specs.SettingPlaces.{places_in};
 use crate::labels::bindings;
 use crate::start::start;
 use pgo_base::items::Items;
+use pgo_base::results::both;
 use pgo_base::text::Text;
 use pgo_effects::setting::Setting;
 use pgo_heads::runs::archetype_named;
@@ -29,6 +30,21 @@ use std::alloc::{AllocError, Global};
 /// The most branch points in one another. An expression of the module that is at most 512 high has fewer.
 const MOST_BRANCHES: u64 = 600;
 
+/// The tree of a section, by its label.
+fn section_tree<'a>(
+    alloc: Global,
+    variables: &[Text],
+    setting: Setting<'a>,
+    section: &Section<'a>,
+) -> Result<(Text, Part), AllocError>
+    ensures label { IfOk result (λ p. p.0 ≡ (section_view (setting_view setting.entry) section.now).0) }
+    ensures tree { IfOk result (λ p. p.1 ≡ expansion variables.now (places_in setting.entry) (section_view (setting_view setting.entry) section.now).1) }
+{
+    let state = start(alloc, setting, section)?;
+    let part = make(alloc, variables, state, MOST_BRANCHES);
+    both(section.label.copy(alloc), part)
+}
+
 /// The trees of sections by their labels.
 fn trees_of<'a>(
     alloc: Global,
@@ -40,10 +56,7 @@ fn trees_of<'a>(
 {
     let mut list = Vec::with_capacity(alloc, sections.len())?;
     for section in sections {
-        let state = start(alloc, setting, section)?;
-        let part = make(alloc, variables, state, MOST_BRANCHES)?;
-        let label = section.label.copy(alloc)?;
-        list.push((label, part))?;
+        list.push(section_tree(alloc, variables, setting, section)?)?;
     }
     Ok(list)
 }

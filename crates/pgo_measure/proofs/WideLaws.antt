@@ -1,5 +1,5 @@
 -- Expansions that have more nodes than are left.
-use Rattle.std.proofs.Common.{◌≡◌, ◌<◌, ◌≤◌, ℕ, ◌+◌, max, List, [], ◌∷◌, ◌++◌, None, drop, length, true, false, ltb, ap, sym, ◌∙◌, refl, arith, subst}
+use Rattle.std.proofs.Common.{◌≡◌, ◌<◌, ◌≤◌, ℕ, ◌+◌, max, List, [], ◌∷◌, ◌++◌, None, drop, length, ap, sym, ◌∙◌, arith}
 use Rattle.std.specs.Prelude.{option_map, reverse}
 use Rattle.std.proofs.lemmas.List.{drop_all, reverse-append}
 use Rattle.pgo_base.specs.Lookup.{Name}

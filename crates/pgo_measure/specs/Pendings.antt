@@ -1,5 +1,5 @@
 -- The measure, with states that are still to be looked at.
-use Rattle.std.specs.Prelude.{ℕ, List, [], ◌∷◌, map, Option, None}
+use Rattle.std.specs.Prelude.{ℕ, List, Option, None}
 use Rattle.pgo_base.specs.Lookup.{Name}
 use Rattle.pgo_model.specs.Options.{on}
 use Rattle.pgo_sections.specs.Expansion.{Expansion}

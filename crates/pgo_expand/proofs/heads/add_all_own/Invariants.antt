@@ -1,4 +1,4 @@
-use Rattle.std.proofs.Common.{◌≡◌, ◌++◌, length, drop}
+use Rattle.std.proofs.Common.{◌≡◌, ◌++◌, drop}
 use Rattle.pgo_expand.specs.Items as expected
 use Rattle.pgo_expand.proofs.heads.add_all_own.Given as goal
 

@@ -1,4 +1,4 @@
-use Rattle.std.proofs.Common.{◌≡◌, ◌∙◌, max, map, subst, ap, sym}
+use Rattle.std.proofs.Common.{◌≡◌, ◌∙◌, max, map, subst, ap}
 use Rattle.std.specs.Prelude.{IfOk}
 use Rattle.pgo_measure.specs.Heights.{capped}
 use Rattle.pgo_expand.specs.Module as expected

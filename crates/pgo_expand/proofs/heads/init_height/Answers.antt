@@ -1,4 +1,4 @@
-use Rattle.std.proofs.Common.{◌≡◌, ◌∙◌, ◌++◌, ◌∷◌, [], map, ap, sym}
+use Rattle.std.proofs.Common.{◌≡◌, ◌∙◌, ◌++◌, ◌∷◌, [], map, ap}
 use Rattle.pgo_measure.specs.Heights.{capped}
 use Rattle.pgo_expand.specs.Items.{capped_items}
 use Rattle.pgo_expand.specs.Module as expected

@@ -1,4 +1,4 @@
-use Rattle.std.proofs.Common.{◌≡◌, ◌∙◌, ◌+◌, drop, ◌∷◌, Some, ap, sym, get_or}
+use Rattle.std.proofs.Common.{◌∙◌, ◌+◌, drop, Some, ap, sym, get_or}
 use Rattle.pgo_measure.specs.Heights.{capped}
 use Rattle.pgo_expand.specs.Module.{joined_behind}
 use Rattle.pgo_expand.proofs.Heights.{joined_next, drop_at}

@@ -1,4 +1,4 @@
-use Rattle.std.proofs.Common.{◌≡◌, ◌∙◌, ◌+◌, ◌∷◌, drop, ap, sym, Some, None}
+use Rattle.std.proofs.Common.{◌∙◌, ◌+◌, ◌∷◌, drop, ap, sym, None}
 use Rattle.std.specs.Prelude.{option_map}
 use Rattle.pgo_model.specs.Options.{on}
 use Rattle.pgo_expand.specs.Measures.{left_view, measured_processes}

@@ -1,4 +1,4 @@
-use Rattle.std.proofs.Common.{◌≡◌, ◌∙◌, map, replicate, length, max, subst, ap, sym}
+use Rattle.std.proofs.Common.{◌≡◌, ◌∙◌, map, replicate, length, subst, ap, sym}
 use Rattle.std.specs.Prelude.{IfOk, option_map}
 use Rattle.std.proofs.lemmas.List.{length-map}
 use Rattle.pgo_section_list.specs.Sections.{section_view}

@@ -1,4 +1,4 @@
-use Rattle.std.proofs.Common.{◌≡◌, ◌∙◌, map, drop, ap, sym, Some}
+use Rattle.std.proofs.Common.{◌∙◌, map, ap, sym}
 use Rattle.pgo_section_list.specs.Sections.{section_view}
 use Rattle.pgo_effects.specs.SettingView.{setting_view}
 use Rattle.pgo_sections.specs.Expand.{expansion}

@@ -1,8 +1,8 @@
-use Rattle.std.proofs.Common.{◌≡◌, ◌∙◌, ◌++◌, ◌∷◌, [], map, drop, ap, sym}
+use Rattle.std.proofs.Common.{◌∙◌, ◌++◌, ◌∷◌, [], map, ap, sym}
 use Rattle.std.specs.List.{flat_map}
 use Rattle.std.proofs.lemmas.List.{append-nil}
 use Rattle.pgo_model.specs.Written.{pc}
-use Rattle.pgo_expand.specs.Module.{globals_of, own_in}
+use Rattle.pgo_expand.specs.Module.{globals_of}
 use Rattle.pgo_expand.proofs.Heights.{drop_end}
 use Rattle.pgo_expand.proofs.AllNames.{all_names}
 use Rattle.pgo_expand.proofs.names.variables.Goals as goal

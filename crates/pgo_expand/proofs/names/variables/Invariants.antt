@@ -1,6 +1,5 @@
 use Rattle.std.proofs.Common.{◌≡◌, ◌++◌, map, drop}
 use Rattle.std.specs.List.{flat_map}
-use Rattle.pgo_bound.specs.State.{variables_of}
 use Rattle.pgo_expand.proofs.names.variables.Given as goal
 
 abbrev pub invariant-loop-list : goal.invariant-loop-list

@@ -1,4 +1,4 @@
-use Rattle.std.proofs.Common.{◌≡◌, ◌∙◌, ◌∷◌, ap, sym}
+use Rattle.std.proofs.Common.{◌∙◌, ◌∷◌, ap, sym}
 use Rattle.std.proofs.lemmas.Result.{IfOk-weaker}
 use Rattle.pgo_walk.specs.Emitted.{left_in}
 use Rattle.pgo_measure.specs.Pendings.{behind_tally, part}

@@ -1,8 +1,5 @@
-use Rattle.std.proofs.Common.{◌≡◌, ◌<◌, ◌∷◌, ap, sym, subst}
 use Rattle.std.proofs.lemmas.Result.{IfOk-weaker}
-use Rattle.pgo_sections.specs.Nodes.{nodes}
-use Rattle.pgo_walk.specs.FrameView.{code_left, frame_view}
-use Rattle.pgo_walk.specs.Frames as spec
+use Rattle.pgo_walk.specs.FrameView.{code_left}
 use Rattle.pgo_walk.specs.SettingPlaces.{places_in}
 use Rattle.pgo_measure.proofs.WideLaws.{run_law}
 use Rattle.pgo_measure.proofs.wide.is_frame_wide.Goals as goal
