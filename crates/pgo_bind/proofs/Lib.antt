@@ -9,3 +9,4 @@ pub mod ElementStarts
 pub mod SoundStart
 pub mod SoundResources
 pub mod SoundBound
+pub mod ByValue

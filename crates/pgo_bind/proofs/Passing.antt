@@ -1,5 +1,5 @@
 -- Rules that are checked one after another.
-use Rattle.std.proofs.Common.{◌≡◌, Option, Some, None, Result, Ok, Err, refl, ap, ◌∙◌, subst, sym}
+use Rattle.std.proofs.Common.{◌≡◌, Option, Some, None, Result, refl, ap, subst, sym}
 use Rattle.pgo_heads.specs.declared.errors.BindError.{BindError}
 use Rattle.pgo_heads.specs.declared.errors.BindError.TheVariants as errors
 use Rattle.pgo_heads.specs.Refusals.{or_next}

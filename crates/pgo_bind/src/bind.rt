@@ -10,12 +10,13 @@ ghost use Rattle.pgo_heads.specs.Answers.{Answers, Passes};
 ghost use Rattle.pgo_heads.specs.Refusals.{bind_refusal, constants_refused, ids_refused, starts_refused, heads_refused};
 ghost use Rattle.pgo_heads.specs.Views.{run_view, global_view};
 
+use crate::evaluated::EvaluatedDefinitions;
 use crate::globals::globals_of;
 use crate::initial::{sets_filled, values_set};
 use crate::runs::runs_of;
 use crate::start::start_of;
+use crate::used::used_definitions;
 use pgo_base::consts::Consts;
-use pgo_base::module::Defs;
 use pgo_heads::constants::{constants_declared, constants_given};
 use pgo_heads::definitions::definitions;
 use pgo_heads::errors::BindError;
@@ -54,7 +55,7 @@ fn identifiers_fit(alloc: Global, runs: &[Run<'_>]) -> Result<(), BindError>
 fn starts_fit<'a>(
     alloc: Global,
     archetypes: &'a [Archetype],
-    defs: &Defs,
+    defs: &EvaluatedDefinitions,
     runs: &[Run<'a>],
     globals: &'a [GlobalStart<'a>],
 ) -> Result<(), BindError>
@@ -70,7 +71,7 @@ fn starts_fit<'a>(
 fn heads_fit<'a>(
     alloc: Global,
     archetypes: &'a [Archetype],
-    defs: &Defs,
+    defs: &EvaluatedDefinitions,
     runs: &[Run<'a>],
     globals: &'a [GlobalStart<'a>],
 ) -> Result<(), BindError>
@@ -85,7 +86,7 @@ fn heads_fit<'a>(
 fn made(
     alloc: Global,
     spec: &Spec,
-    defs: Defs,
+    defs: EvaluatedDefinitions,
     runs: &[Run<'_>],
     globals: &[GlobalStart<'_>],
 ) -> Result<Bound, AllocError>
@@ -101,7 +102,7 @@ fn made(
     known_state(&start);
     Ok(Bound {
         spec: spec.copy(alloc)?,
-        defs,
+        defs: defs.into_defs(),
         instances: Instances::from_vec(instances),
         resources: Resources::from_vec(resources),
         start,
@@ -112,7 +113,7 @@ fn made(
 fn bound(
     alloc: Global,
     spec: &Spec,
-    defs: Defs,
+    defs: EvaluatedDefinitions,
     runs: &[Run<'_>],
     globals: &[GlobalStart<'_>],
 ) -> Result<Bound, BindError>
@@ -131,6 +132,8 @@ fn answered(alloc: Global, spec: &Spec, consts: &Consts) -> Result<Bound, BindEr
 {
     constants_fit(alloc, spec, consts)?;
     let defs = definitions(alloc, spec, consts)?;
+    let used = used_definitions(alloc, spec, defs.as_slice())?;
+    let defs = EvaluatedDefinitions::new(alloc, defs, used.as_slice())?;
     let runs = runs_of(alloc, spec, &defs)?;
     let globals = globals_of(alloc, spec, &defs, runs.as_slice())?;
     bound(alloc, spec, defs, runs.as_slice(), globals.as_slice())

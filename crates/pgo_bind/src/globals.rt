@@ -3,8 +3,8 @@ ghost use Rattle.std.specs.Prelude.{◌≡◌, map, IfOk};
 ghost use Rattle.pgo_bound.specs.BoundOf as specs;
 ghost use Rattle.pgo_heads.specs.Views.{run_view, global_view};
 
+use crate::evaluated::EvaluatedDefinitions;
 use crate::values::global_start;
-use pgo_base::module::Defs;
 use pgo_heads::globals::GlobalStart;
 use pgo_heads::kinds::kind_of;
 use pgo_heads::runs::Run;
@@ -15,7 +15,7 @@ use std::alloc::{AllocError, Global};
 pub fn globals_of<'a>(
     alloc: Global,
     spec: &'a Spec,
-    defs: &Defs,
+    defs: &EvaluatedDefinitions,
     runs: &[Run<'_>],
 ) -> Result<Vec<GlobalStart<'a>>, AllocError>
     ensures { IfOk result (λ v. map global_view v.items ≡ specs.globals_of spec.now defs.now (map run_view runs.now)) }

@@ -10,9 +10,9 @@ ghost use Rattle.pgo_heads.specs.Refusals as specs;
 ghost use Rattle.pgo_heads.specs.Views.{start_view, handed_view, run_view, global_view, finding_view};
 ghost use Rattle.pgo_heads.specs.declared.errors.BindError.TheVariants as errors;
 
+use crate::evaluated::EvaluatedDefinitions;
 use crate::values::{argument_start, closed_value, start_in};
 use pgo_base::expr::Expr;
-use pgo_base::module::Defs;
 use pgo_base::text::Text;
 use pgo_base::value::Value;
 use pgo_heads::errors::BindError;
@@ -106,7 +106,7 @@ fn lacks(lack: Lack, start: &Start) -> bool
 /// Whether the set behind a local's `\in` has this lack.
 fn lacks_in(
     alloc: Global,
-    defs: &Defs,
+    defs: &EvaluatedDefinitions,
     lack: Lack,
     initial: &Option<Origin>,
 ) -> Result<bool, AllocError>
@@ -123,7 +123,7 @@ fn lacks_in(
 #[tactic(auto, using(crate::proofs::Placed::placed_step, crate::proofs::Placed::earlier_none))]
 fn lacking_in<'a>(
     alloc: Global,
-    defs: &Defs,
+    defs: &EvaluatedDefinitions,
     lack: Lack,
     locals: &'a [Declaration],
 ) -> Result<Option<Finding<'a>>, AllocError>
@@ -153,7 +153,7 @@ fn is_run(archetype: &Archetype, runs: &[Run<'_>]) -> bool
 #[tactic(auto, using(crate::proofs::Placed::placed_more, crate::proofs::Placed::earlier_none))]
 fn lacking<'a>(
     alloc: Global,
-    defs: &Defs,
+    defs: &EvaluatedDefinitions,
     runs: &[Run<'_>],
     lack: Lack,
     archetypes: &'a [Archetype],
@@ -172,7 +172,12 @@ fn lacking<'a>(
 }
 
 /// Whether the value of an expression is missing or too deep at some of these identifiers.
-fn is_some_unset(alloc: Global, defs: &Defs, e: &Expr, ids: &[Value]) -> Result<bool, AllocError>
+fn is_some_unset(
+    alloc: Global,
+    defs: &EvaluatedDefinitions,
+    e: &Expr,
+    ids: &[Value],
+) -> Result<bool, AllocError>
     ensures { IfOk result (λ b. b ≡ specs.is_some_unset defs.now (tree e.now) (map data_of ids.now)) }
 {
     for id in ids {
@@ -184,7 +189,7 @@ fn is_some_unset(alloc: Global, defs: &Defs, e: &Expr, ids: &[Value]) -> Result<
 }
 
 /// Whether the value of an expression in which `self` doesn't stand is missing or too deep.
-fn is_closed_unset(alloc: Global, defs: &Defs, e: &Expr) -> Result<bool, AllocError>
+fn is_closed_unset(alloc: Global, defs: &EvaluatedDefinitions, e: &Expr) -> Result<bool, AllocError>
     ensures { IfOk result (λ b. b ≡ specs.is_closed_unset defs.now (tree e.now)) }
 {
     if mentions(alloc, b"self", e)? {
@@ -202,7 +207,12 @@ fn is_some_item(ids: &[Value]) -> bool
 }
 
 /// Whether the value of an expression is missing or too deep, at some of these identifiers or by itself.
-fn is_value_unset(alloc: Global, defs: &Defs, e: &Expr, ids: &[Value]) -> Result<bool, AllocError>
+fn is_value_unset(
+    alloc: Global,
+    defs: &EvaluatedDefinitions,
+    e: &Expr,
+    ids: &[Value],
+) -> Result<bool, AllocError>
     ensures { IfOk result (λ b. b ≡ specs.is_value_unset defs.now (tree e.now) (map data_of ids.now)) }
 {
     if is_some_item(ids) {
@@ -225,7 +235,7 @@ fn is_unset_somewhere(start: &Start, ids: &[Value]) -> bool
 /// Whether what a local starts with is missing or too deep at some of these identifiers.
 fn is_unset_at(
     alloc: Global,
-    defs: &Defs,
+    defs: &EvaluatedDefinitions,
     initial: &Option<Origin>,
     ids: &[Value],
 ) -> Result<bool, AllocError>
@@ -248,7 +258,7 @@ fn is_unset_at(
 #[tactic(auto, using(crate::proofs::Placed::placed_step, crate::proofs::Placed::earlier_none))]
 fn unset_locals<'a>(
     alloc: Global,
-    defs: &Defs,
+    defs: &EvaluatedDefinitions,
     run: &Run<'a>,
     locals: &'a [Declaration],
 ) -> Result<Option<Finding<'a>>, AllocError>
@@ -265,7 +275,7 @@ fn unset_locals<'a>(
 /// A value parameter that is missing or too deep at some identifier.
 fn unset_handed<'a>(
     alloc: Global,
-    defs: &Defs,
+    defs: &EvaluatedDefinitions,
     run: &Run<'_>,
     h: &Handed<'a>,
 ) -> Result<Option<Finding<'a>>, AllocError>
@@ -290,7 +300,7 @@ fn unset_handed<'a>(
 #[tactic(auto, using(crate::proofs::Placed::placed_step, crate::proofs::Placed::earlier_none))]
 fn unset_arguments<'a>(
     alloc: Global,
-    defs: &Defs,
+    defs: &EvaluatedDefinitions,
     run: &Run<'_>,
     handed: &[Handed<'a>],
 ) -> Result<Option<Finding<'a>>, AllocError>
@@ -308,7 +318,7 @@ fn unset_arguments<'a>(
 #[tactic(auto, using(crate::proofs::Placed::placed_append))]
 fn unset_in_run<'a>(
     alloc: Global,
-    defs: &Defs,
+    defs: &EvaluatedDefinitions,
     run: &Run<'a>,
 ) -> Result<Option<Finding<'a>>, AllocError>
     ensures { IfOk result (λ o. option_map finding_view o ≡ specs.first_placed (specs.unset_in_run defs.now (run_view run.now))) }
@@ -322,7 +332,7 @@ fn unset_in_run<'a>(
 #[tactic(auto, using(crate::proofs::Placed::placed_more, crate::proofs::Placed::earlier_none))]
 fn unset_in_runs<'a>(
     alloc: Global,
-    defs: &Defs,
+    defs: &EvaluatedDefinitions,
     runs: &[Run<'a>],
 ) -> Result<Option<Finding<'a>>, AllocError>
     ensures { IfOk result (λ o. option_map finding_view o ≡ specs.first_placed (flat_map (specs.unset_in_run defs.now) (map run_view runs.now))) }
@@ -340,7 +350,7 @@ fn unset_in_runs<'a>(
 pub fn values_set<'a>(
     alloc: Global,
     archetypes: &'a [Archetype],
-    defs: &Defs,
+    defs: &EvaluatedDefinitions,
     runs: &[Run<'a>],
     globals: &'a [GlobalStart<'a>],
 ) -> Result<(), BindError>
@@ -362,7 +372,7 @@ pub fn values_set<'a>(
 pub fn sets_filled<'a>(
     alloc: Global,
     archetypes: &'a [Archetype],
-    defs: &Defs,
+    defs: &EvaluatedDefinitions,
     runs: &[Run<'a>],
     globals: &'a [GlobalStart<'a>],
 ) -> Result<(), BindError>

@@ -6,8 +6,10 @@
 
 pub mod bind;
 pub mod errors;
+mod evaluated;
 mod globals;
 mod initial;
 mod runs;
 mod start;
+mod used;
 mod values;

@@ -6,8 +6,8 @@ ghost use Rattle.pgo_model.specs.Operators.{members_of};
 ghost use Rattle.pgo_bound.specs.Runs as specs;
 ghost use Rattle.pgo_heads.specs.Views.{run_view};
 
+use crate::evaluated::EvaluatedDefinitions;
 use crate::values::closed_value;
-use pgo_base::module::Defs;
 use pgo_base::value::Value;
 use pgo_heads::runs::{Run, archetype_named, matched};
 use pgo_syntax::archetype::Archetype;
@@ -58,7 +58,11 @@ fn alone(alloc: Global, value: Option<Value>) -> Result<Option<Vec<Value>>, Allo
 }
 
 /// The identifiers of a process, in value order.
-fn ids_of(alloc: Global, defs: &Defs, origin: &Origin) -> Result<Option<Vec<Value>>, AllocError>
+fn ids_of(
+    alloc: Global,
+    defs: &EvaluatedDefinitions,
+    origin: &Origin,
+) -> Result<Option<Vec<Value>>, AllocError>
     ensures { IfOk result (λ o. option_map (λ v. map data_of v.items) o ≡ specs.ids_of defs.now origin.now) }
 {
     match origin {
@@ -70,7 +74,7 @@ fn ids_of(alloc: Global, defs: &Defs, origin: &Origin) -> Result<Option<Vec<Valu
 /// A process with this archetype.
 fn run_with<'a>(
     alloc: Global,
-    defs: &Defs,
+    defs: &EvaluatedDefinitions,
     process: &'a Process,
     archetype: &'a Archetype,
 ) -> Result<Run<'a>, AllocError>
@@ -86,7 +90,11 @@ fn run_with<'a>(
 }
 
 /// The processes whose archetype is there, in the order of the text.
-pub fn runs_of<'a>(alloc: Global, spec: &'a Spec, defs: &Defs) -> Result<Vec<Run<'a>>, AllocError>
+pub fn runs_of<'a>(
+    alloc: Global,
+    spec: &'a Spec,
+    defs: &EvaluatedDefinitions,
+) -> Result<Vec<Run<'a>>, AllocError>
     ensures { IfOk result (λ v. map run_view v.items ≡ specs.runs_of spec.now defs.now) }
 {
     let archetypes = spec.archetypes.as_slice();

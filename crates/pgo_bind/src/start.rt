@@ -8,9 +8,9 @@ ghost use Rattle.pgo_bound.specs.BoundOf as specs;
 ghost use Rattle.pgo_bound.specs.Values as values;
 ghost use Rattle.pgo_heads.specs.Views.{start_view, handed_view, run_view, global_view};
 
+use crate::evaluated::EvaluatedDefinitions;
 use crate::values::{argument_start, start_in};
 use pgo_base::expr::Expr;
-use pgo_base::module::Defs;
 use pgo_base::scope::State;
 use pgo_base::text::Text;
 use pgo_base::value::{Fun, Value};
@@ -92,7 +92,12 @@ fn constant_at(alloc: Global, start: &Start, ids: &[Value]) -> Result<Value, All
 }
 
 /// The function with the value of an expression at each of these identifiers, which the expression sees as `self`.
-fn values_at(alloc: Global, defs: &Defs, e: &Expr, ids: &[Value]) -> Result<Value, AllocError>
+fn values_at(
+    alloc: Global,
+    defs: &EvaluatedDefinitions,
+    e: &Expr,
+    ids: &[Value],
+) -> Result<Value, AllocError>
     ensures { IfOk result (λ v. data_of v ≡ specs.function_at (λ id. values.beginning (values.argument_start defs.now (tree e.now) id)) (map data_of ids.now)) }
 {
     let mut pairs = Vec::with_capacity(alloc, ids.len())?;
@@ -107,7 +112,7 @@ fn values_at(alloc: Global, defs: &Defs, e: &Expr, ids: &[Value]) -> Result<Valu
 /// What a local begins with at each of these identifiers.
 fn local_at(
     alloc: Global,
-    defs: &Defs,
+    defs: &EvaluatedDefinitions,
     initial: &Option<Origin>,
     ids: &[Value],
 ) -> Result<Value, AllocError>
@@ -123,7 +128,7 @@ fn local_at(
 /// A value parameter of a process, at the end.
 fn add_argument(
     alloc: Global,
-    defs: &Defs,
+    defs: &EvaluatedDefinitions,
     run: &Run<'_>,
     h: &Handed<'_>,
     list: &mut Vec<(Text, Value)>,
@@ -144,7 +149,7 @@ fn add_argument(
 /// The value parameters of a process, at the end.
 fn add_arguments(
     alloc: Global,
-    defs: &Defs,
+    defs: &EvaluatedDefinitions,
     run: &Run<'_>,
     list: &mut Vec<(Text, Value)>,
 ) -> Result<(), AllocError>
@@ -159,7 +164,7 @@ fn add_arguments(
 /// A local of a process.
 fn own_start(
     alloc: Global,
-    defs: &Defs,
+    defs: &EvaluatedDefinitions,
     run: &Run<'_>,
     d: &Declaration,
 ) -> Result<(Text, Value), AllocError>
@@ -173,7 +178,7 @@ fn own_start(
 /// The value parameters and the locals of a process, at the end.
 fn add_locals(
     alloc: Global,
-    defs: &Defs,
+    defs: &EvaluatedDefinitions,
     run: &Run<'_>,
     list: &mut Vec<(Text, Value)>,
 ) -> Result<(), AllocError>
@@ -189,7 +194,7 @@ fn add_locals(
 /// The locals of all processes, at the end.
 fn add_all_locals(
     alloc: Global,
-    defs: &Defs,
+    defs: &EvaluatedDefinitions,
     runs: &[Run<'_>],
     list: &mut Vec<(Text, Value)>,
 ) -> Result<(), AllocError>
@@ -204,7 +209,7 @@ fn add_all_locals(
 /// The value of each variable, in the order of the written module.
 pub fn start_of(
     alloc: Global,
-    defs: &Defs,
+    defs: &EvaluatedDefinitions,
     runs: &[Run<'_>],
     globals: &[GlobalStart<'_>],
 ) -> Result<State, AllocError>

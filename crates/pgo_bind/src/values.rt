@@ -1,53 +1,34 @@
 // The values of expressions, and what a variable starts with by them.
-ghost use Rattle.std.specs.Prelude.{◌≡◌, None, option_map, Option, IfOk};
-ghost use Rattle.pgo_base.specs.Data.{Data};
+ghost use Rattle.std.specs.Prelude.{◌≡◌, option_map, IfOk};
 ghost use Rattle.pgo_base.specs.View.{data_of};
 ghost use Rattle.pgo_base.specs.ExprView.{tree};
-ghost use Rattle.pgo_sets.specs.Answers.{Answers};
 ghost use Rattle.pgo_bound.specs.Values as values;
 ghost use Rattle.pgo_heads.specs.Views.{start_view};
 
+use crate::evaluated::EvaluatedDefinitions;
 use pgo_base::bindings::Bindings;
 use pgo_base::expr::Expr;
-use pgo_base::module::Defs;
-use pgo_base::scope::{Env, State};
 use pgo_base::text::Text;
 use pgo_base::value::Value;
-use pgo_eval::eval::eval;
 use pgo_heads::start_values::{Start, default_value, start_of_value};
-use pgo_sets::errors::EvalStop;
 use pgo_syntax::binding::Origin;
 use std::alloc::{AllocError, Global};
 
-/// The value, or none.
-fn optional(answer: Result<Value, EvalStop>) -> Result<Option<Value>, AllocError>
-    ensures { (o : Option Data) → Answers answer o → IfOk result (λ v. option_map data_of v ≡ o) }
-{
-    match answer {
-        Ok(v) => Ok(Some(v)),
-        Err(EvalStop::NoValue) => Ok(None),
-        Err(EvalStop::NoMemory) => Err(AllocError),
-    }
-}
-
 /// The value of an expression that sees the definitions alone.
-pub fn closed_value(alloc: Global, defs: &Defs, e: &Expr) -> Result<Option<Value>, AllocError>
+pub fn closed_value(
+    alloc: Global,
+    defs: &EvaluatedDefinitions,
+    e: &Expr,
+) -> Result<Option<Value>, AllocError>
     ensures { IfOk result (λ v. option_map data_of v ≡ values.closed_value defs.now (tree e.now)) }
 {
-    let names = Bindings::new();
-    let state = State::from_vec(Vec::new(alloc));
-    let env = Env {
-        names: &names,
-        state: &state,
-        next: None,
-    };
-    optional(eval(alloc, defs, e, &env))
+    defs.value(alloc, &Bindings::new(), e)
 }
 
 /// The value of an expression that sees `self` as this identifier besides.
 pub fn value_at(
     alloc: Global,
-    defs: &Defs,
+    defs: &EvaluatedDefinitions,
     id: &Value,
     e: &Expr,
 ) -> Result<Option<Value>, AllocError>
@@ -55,18 +36,11 @@ pub fn value_at(
 {
     let self_name = Text::from_slice(alloc, b"self")?;
     let outer = Bindings::new();
-    let names = Bindings::with(&self_name, Some(id), &outer);
-    let state = State::from_vec(Vec::new(alloc));
-    let env = Env {
-        names: &names,
-        state: &state,
-        next: None,
-    };
-    optional(eval(alloc, defs, e, &env))
+    defs.value(alloc, &Bindings::with(&self_name, Some(id), &outer), e)
 }
 
 /// The start of a variable with `\in e`: the least member.
-pub fn start_in(alloc: Global, defs: &Defs, e: &Expr) -> Result<Start, AllocError>
+pub fn start_in(alloc: Global, defs: &EvaluatedDefinitions, e: &Expr) -> Result<Start, AllocError>
     ensures { IfOk result (λ s. start_view s ≡ values.start_in defs.now (tree e.now)) }
 {
     let Some(Value::Set(set)) = closed_value(alloc, defs, e)? else {
@@ -81,7 +55,7 @@ pub fn start_in(alloc: Global, defs: &Defs, e: &Expr) -> Result<Start, AllocErro
 /// A global's start.
 pub fn global_start(
     alloc: Global,
-    defs: &Defs,
+    defs: &EvaluatedDefinitions,
     initial: &Option<Origin>,
 ) -> Result<Start, AllocError>
     ensures { IfOk result (λ s. start_view s ≡ values.global_start defs.now initial.now) }
@@ -94,7 +68,12 @@ pub fn global_start(
 }
 
 /// What a value parameter starts with at an identifier.
-pub fn argument_start(alloc: Global, defs: &Defs, e: &Expr, id: &Value) -> Result<Start, AllocError>
+pub fn argument_start(
+    alloc: Global,
+    defs: &EvaluatedDefinitions,
+    e: &Expr,
+    id: &Value,
+) -> Result<Start, AllocError>
     ensures { IfOk result (λ s. start_view s ≡ values.argument_start defs.now (tree e.now) (data_of id.now)) }
 {
     Ok(start_of_value(value_at(alloc, defs, id, e)?))

@@ -1,6 +1,6 @@
-use Rattle.std.proofs.Common.{◌≡◌, ℕ, suc, ◌+◌, ◌≤◌, List, ◌++◌, length, map, drop, None, option_map}
+use Rattle.std.proofs.Common.{◌≡◌, ◌++◌, map, drop}
 use Rattle.pgo_bound.specs.BoundOf as bound
-use Rattle.pgo_heads.specs.Views.{start_view, handed_view, run_view, global_view, part_view}
+use Rattle.pgo_heads.specs.Views.{run_view, global_view}
 use Rattle.pgo_bind.proofs.globals.globals_of.Given as goal
 
 abbrev pub invariant-loop-declaration : goal.invariant-loop-declaration

@@ -1,5 +1,4 @@
-use Rattle.std.proofs.Common.{◌≡◌, map, ap, sym, ◌∙◌}
-use Rattle.pgo_base.specs.Data.{Data}
+use Rattle.std.proofs.Common.{map, ap, sym, ◌∙◌}
 use Rattle.pgo_base.specs.View.{data_of}
 use Rattle.pgo_bound.specs.Values.{is_unset}
 use Rattle.pgo_heads.specs.Refusals.{is_unset_somewhere}

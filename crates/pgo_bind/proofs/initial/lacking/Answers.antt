@@ -1,4 +1,4 @@
-use Rattle.std.proofs.Common.{◌≡◌, ◌∷◌, ◌+◌, map, drop, cond, option_map, ap, sym, ◌∙◌}
+use Rattle.std.proofs.Common.{◌∷◌, ◌+◌, map, drop, cond, option_map, ap, sym, ◌∙◌}
 use Rattle.std.specs.Prelude.{filter}
 use Rattle.std.specs.List.{filter_map, flat_map}
 use Rattle.pgo_heads.specs.Refusals.{earlier, first_placed, lacking, lacking_in, lacking_local, is_run}

@@ -1,7 +1,7 @@
-use Rattle.std.proofs.Common.{◌≡◌, ℕ, suc, ◌+◌, ◌≤◌, List, ◌++◌, length, map, drop, None, option_map}
-use Rattle.pgo_heads.specs.Views.{start_view, handed_view, run_view, global_view, part_view, finding_view}
+use Rattle.std.proofs.Common.{◌≡◌, drop, option_map}
+use Rattle.pgo_heads.specs.Views.{finding_view}
 use Rattle.pgo_heads.specs.Refusals as specs
-use Rattle.std.specs.List.{filter_map, flat_map}
+use Rattle.std.specs.List.{filter_map}
 use Rattle.pgo_bind.proofs.initial.lacking_in.Given as goal
 
 abbrev pub invariant-loop-d : goal.invariant-loop-d

@@ -1,4 +1,4 @@
-use Rattle.std.proofs.Common.{◌≡◌, ◌+◌, map, drop, option_map, ap, sym, ◌∙◌}
+use Rattle.std.proofs.Common.{◌+◌, map, drop, option_map, ap, sym, ◌∙◌}
 use Rattle.std.specs.List.{flat_map}
 use Rattle.pgo_heads.specs.Refusals.{earlier, first_placed, unset_in_run}
 use Rattle.pgo_heads.specs.Views.{run_view, finding_view}

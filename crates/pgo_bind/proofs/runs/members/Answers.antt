@@ -1,4 +1,4 @@
-use Rattle.std.proofs.Common.{◌≡◌, Some, ap, sym, ◌∙◌}
+use Rattle.std.proofs.Common.{Some, ap, sym, ◌∙◌}
 use Rattle.pgo_base.specs.Data.{members-items}
 use Rattle.pgo_base.specs.View.{data_of}
 use Rattle.pgo_model.specs.Operators.{members_of}

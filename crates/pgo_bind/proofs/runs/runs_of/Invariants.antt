@@ -1,7 +1,7 @@
-use Rattle.std.proofs.Common.{◌≡◌, ℕ, suc, ◌+◌, ◌≤◌, List, ◌++◌, length, map, drop, None, option_map}
+use Rattle.std.proofs.Common.{◌≡◌, ◌++◌, map, drop}
 use Rattle.pgo_bound.specs.Runs as runs
-use Rattle.std.specs.List.{filter_map, flat_map}
-use Rattle.pgo_heads.specs.Views.{start_view, handed_view, run_view, global_view, part_view}
+use Rattle.std.specs.List.{filter_map}
+use Rattle.pgo_heads.specs.Views.{run_view}
 use Rattle.pgo_bind.proofs.runs.runs_of.Given as goal
 
 abbrev pub invariant-loop-p : goal.invariant-loop-p

@@ -1,7 +1,7 @@
-use Rattle.std.proofs.Common.{◌≡◌, ℕ, suc, ◌+◌, ◌≤◌, List, ◌++◌, length, map, drop, None, option_map}
-use Rattle.pgo_base.specs.View.{data_of, named_data, pair_of}
+use Rattle.std.proofs.Common.{◌≡◌, ◌++◌, map, drop}
+use Rattle.pgo_base.specs.View.{data_of, pair_of}
 use Rattle.pgo_bound.specs.Values as values
-use Rattle.pgo_heads.specs.Views.{start_view, handed_view, run_view, global_view, part_view}
+use Rattle.pgo_heads.specs.Views.{start_view}
 use Rattle.pgo_base.specs.Data.{Data}
 use Rattle.pgo_bind.proofs.start.constant_at.Given as goal
 
