@@ -1,0 +1,6 @@
+-- The law at the product's types.
+use Rattle.pgo_translate.proofs.Actions.{acts-agree}
+use Rattle.pgo_translate.proofs.actions_agree.Goals as goal
+
+pub returns : goal.returns
+returns c s consts names = acts-agree s consts names

@@ -1,0 +1,28 @@
+// The module that a specification means, and that it says of steps and of starts what the specification says.
+#![tactic(auto)]
+
+ghost use Rattle.std.specs.Prelude.{◌≡◌, List, None};
+ghost use Rattle.pgo_base.specs.Data.{Data};
+ghost use Rattle.pgo_base.specs.Lookup.{Name};
+ghost use Rattle.pgo_syntax.specs.declared.spec.Spec.{Spec};
+ghost use Rattle.pgo_bound.specs.BoundOf.{bound_of};
+ghost use Rattle.pgo_bound.specs.Sound.{WellNamed};
+ghost use Rattle.pgo_heads.specs.Refusals.{bind_refusal};
+ghost use Rattle.pgo_meaning.specs.Expansions.{trees_of};
+ghost use Rattle.pgo_translate.specs.ModuleOf.{module_of, constants_with};
+ghost use Rattle.pgo_translate.specs.Premises.{ActionNames, StartNames, ConstantsAreValues};
+ghost use Rattle.pgo_translate.specs.Agrees.{ActsAgree, BeginsAgree};
+
+/// The actions of a specification's module say what the trees of its labels allow.
+///
+/// Source: the translation of A PlusCal User's Manual.
+pub fn actions_agree()
+    ensures { (s : Spec) (consts : List (Name × Data)) → ActionNames s → ActsAgree (module_of s) (constants_with s consts) (bound_of s consts) (trees_of s) }
+{}
+
+/// Init of a specification's module is TRUE of exactly the declared starts.
+///
+/// Source: the translation of A PlusCal User's Manual.
+pub fn starts_agree()
+    ensures { (s : Spec) (consts : List (Name × Data)) → StartNames s consts → ConstantsAreValues s consts → WellNamed s → bind_refusal s consts ≡ None → BeginsAgree (module_of s) (constants_with s consts) (bound_of s consts) }
+{}
