@@ -18,3 +18,5 @@ mod Holding
 mod Ordered
 mod OrderedValues
 mod Sets
+mod CompileRows
+mod TwoProcesses

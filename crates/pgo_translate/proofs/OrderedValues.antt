@@ -159,12 +159,22 @@ operators_okay : (x : Name) (f : List Data → Option Data) → find x operators
 operators_okay x f e =
     rows_okay x f operators (
       on_one_okay len (λ a o. len_okay a),
-      (on_one_okay head head_okay,
-      (on_one_okay tail tail_okay,
-      (on_two_okay append append_okay,
-      (on_three_okay sub_seq (λ a m n o. sub_seq_okay a m n o),
-      (on_one_okay cardinality (λ a o. cardinality_okay a),
-      (on_one_okay print (λ a o. some_okay (boolean true) tt), tt))))))
+      (
+        on_one_okay head head_okay,
+        (
+          on_one_okay tail tail_okay,
+          (
+            on_two_okay append append_okay,
+            (
+              on_three_okay sub_seq (λ a m n o. sub_seq_okay a m n o),
+              (
+                on_one_okay cardinality (λ a o. cardinality_okay a),
+                (on_one_okay print (λ a o. some_okay (boolean true) tt), tt),
+              ),
+            ),
+          ),
+        ),
+      ),
     ) e
 
 -- ---- sets of functions
@@ -431,7 +441,6 @@ record_ok (Some ps) h cs e = choices_of_ok (pairs_in_order ps) cs (pairs_in_orde
 
 fun_set_ok : (a b : Option Data) → Okay a → Okay b → (cs : Choices) → both function_choices a b ≡ Some cs → ChoicesOk cs
 fun_set_ok a b h g cs e = let p = both_parts function_choices a b cs e in function_choices_ok p.0 p.1.0 cs (h p.0 p.1.1) (g p.1.0 p.1.2) p.1.3
-
 
 mutual
   pub ordered_value : (e : Tree) (s : Scope) → ScopeOrdered s → Okay (sem e s).value
