@@ -32,7 +32,7 @@ use Rattle.pgo_translate.proofs.ByProcess.{module_is, global_names, own_module, 
 use Rattle.pgo_meaning.specs.Expansions.{process_expansions, trees_of}
 use Rattle.pgo_translate.specs.Avoids.{Avoids}
 use Rattle.pgo_meaning.specs.TreeAllows.{TreeAllows, path_context}
-use Rattle.pgo_translate.specs.Premises.{IsNamed, ArmsNamed, IsFree, ActionNames, further_names, process_names, is_further}
+use Rattle.pgo_translate.specs.Premises.{IsNamed, ArmsNamed, IsFree, TreeNamed, ActionNames, further_names, process_names, is_further}
 use Rattle.pgo_translate.specs.Agrees.{ActsAgree}
 use Rattle.pgo_translate.proofs.FoundBack.{found_back}
 use Rattle.pgo_translate.proofs.Alike.{Alike, sem_alike}
@@ -201,14 +201,6 @@ action_names : (s : Spec) (ls : List (Name × Expansion)) → map (λ l. l.0) (l
 action_names s [] = refl
 action_names s (l ∷ ls) = ap (λ xs. l.0 ∷ xs) (action_names s ls)
 
-find_all : (P : Expansion → Type 0) (a : Name) (ls : List (Name × Expansion)) (x : Expansion) → AllByRecursion (λ l. P l.1) ls → find a ls ≡ Some x → P x
-find_all P a [] x h e = absurd (cc)
-find_all P a (l ∷ ls) x h e = go (same_name a l.0) e (find_all P a ls x h.1)
-  where
-    go : (b : Bool) → (if b then Some l.1 else find a ls) ≡ Some x → (find a ls ≡ Some x → P x) → P x
-    go true k r = subst P (some_is l.1 x k) h.0
-    go false k r = r k
-
 named_in : (x : Name) (s : Vars) → is_among x (map (λ p. p.0) s) ≡ true → (v : Data) × (find x s ≡ Some v)
 named_in x [] k = absurd (cc)
 named_in x (p ∷ ps) k = go (same_name x p.0) k (named_in x ps)
@@ -278,10 +270,10 @@ module _ (s : Spec) (consts : List (Name × Data)) (names : ActionNames s) where
   abbrev only_self : Data → Names
   only_self id = (self_name, Some id) ∷ []
 
-  acts-tree : (a : Name) (id : Data) (u t : Vars) → IsState (bound_of s consts) u → IsState (bound_of s consts) t → (x : Expansion) → find a (trees_of s) ≡ Some x
+  acts-tree : (a : Name) (id : Data) (u t : Vars) → IsState (bound_of s consts) u → IsState (bound_of s consts) t → (x : Expansion) → TreeNamed s x
       → is_true (Val module_definitions (action_body (variables_of s) (global_names s) a x) (only_self id) u (Some t))
       ↔ ((option_and_then (λ f. apply f id) (find pc u) ≡ Some (string a)) × Path (path_context (bound_of s consts) id) x (only_self id) u t)
-  acts-tree a id u t hu ht x e =
+  acts-tree a id u t hu ht x named =
       iff_then (body-yes (in_module id) u t known (pc_there s) next_known a x [] (only_self id) holds (binds_of (is_further s) s [] x named))
       (pair_iff (λ h. h, λ h. h) (path_over (is_further s) (IsFree s) module_definitions specification_definitions (variables_of s) (global_names s) id u t (λ f ns g. value_same s consts u t f ns g) x [] (only_self id) named, path_over (is_further s) (IsFree s) specification_definitions module_definitions (variables_of s) (global_names s) id u t (λ f ns g. sym (value_same s consts u t f ns g)) x [] (only_self id) named))
     where
@@ -290,9 +282,6 @@ module _ (s : Spec) (consts : List (Name × Data)) (names : ActionNames s) where
 
       next_known : (x : Name) → is_among x (variables_of s) ≡ true → (v : Data) × (find x t ≡ Some v)
       next_known = named_known t (variables_of s) ht.variables
-
-      named : IsNamed (is_further s) (IsFree s) [] x
-      named = find_all (IsNamed (is_further s) (IsFree s) []) a (trees_of s) x names.trees_named e
 
       holds : Holds (in_module id) u t known (pc_there s) next_known [] (only_self id)
       holds = record {
@@ -308,22 +297,22 @@ module _ (s : Spec) (consts : List (Name × Data)) (names : ActionNames s) where
       ∙ find_action s a (trees_of s)
 
   -- of the module with whatever Init
-  acts-own : ActsAgree (own_module s) (constants_with s consts) (bound_of s consts) (trees_of s)
-  acts-own a id u t hu ht = (λ h. to (find a (trees_of s)) refl h, from)
+  acts-own : (a : Name) → ((x : Expansion) → find a (trees_of s) ≡ Some x → TreeNamed s x) → ActsAgree (own_module s) (constants_with s consts) (bound_of s consts) (trees_of s) a
+  acts-own a tree_named id u t hu ht = (λ h. to (find a (trees_of s)) refl h, from)
     where
       from : (option_and_then (λ f. apply f id) (find pc u) ≡ Some (string a)) × TreeAllows (trees_of s) (bound_of s consts) a id u t → Acts (own_module s) (constants_with s consts) a id u t
       from h =
           let x = h.1.0 in
-          (action_body (variables_of s) (global_names s) a x, found_action a ∙ ap (option_map (action_body (variables_of s) (global_names s) a)) h.1.1, (acts-tree a id u t hu ht x h.1.1).1 (h.0, h.1.2.1))
+          (action_body (variables_of s) (global_names s) a x, found_action a ∙ ap (option_map (action_body (variables_of s) (global_names s) a)) h.1.1, (acts-tree a id u t hu ht x (tree_named x h.1.1)).1 (h.0, h.1.2.1))
 
       to : (o : Option Expansion) → find a (trees_of s) ≡ o → Acts (own_module s) (constants_with s consts) a id u t → (option_and_then (λ f. apply f id) (find pc u) ≡ Some (string a)) × TreeAllows (trees_of s) (bound_of s consts) a id u t
       to None e h = let k : None ≡ Some h.0 = sym (found_action a ∙ ap (option_map (action_body (variables_of s) (global_names s) a)) e) ∙ h.1 in absurd (cc)
       to (Some x) e h =
           let k : Some (action_body (variables_of s) (global_names s) a x) ≡ Some h.0 = sym (found_action a ∙ ap (option_map (action_body (variables_of s) (global_names s) a)) e) ∙ h.1 in
           let q = some_is (action_body (variables_of s) (global_names s) a x) h.0 k in
-          let r = (acts-tree a id u t hu ht x e).0 (subst (λ b. is_true (Val module_definitions b (only_self id) u (Some t))) (sym q) h.2) in
+          let r = (acts-tree a id u t hu ht x (tree_named x e)).0 (subst (λ b. is_true (Val module_definitions b (only_self id) u (Some t))) (sym q) h.2) in
           (r.0, (x, e, (ht, r.1)))
 
-pub acts-agree : (s : Spec) (consts : List (Name × Data)) → ActionNames s → ActsAgree (module_of s) (constants_with s consts) (bound_of s consts) (trees_of s)
-acts-agree s consts names =
-    subst (λ m. ActsAgree m (constants_with s consts) (bound_of s consts) (trees_of s)) (module_is s) (acts-own s consts names)
+pub acts-agree : (s : Spec) (consts : List (Name × Data)) → ActionNames s → (a : Name) → ((x : Expansion) → find a (trees_of s) ≡ Some x → TreeNamed s x) → ActsAgree (module_of s) (constants_with s consts) (bound_of s consts) (trees_of s) a
+acts-agree s consts names a tree_named =
+    subst (λ m. ActsAgree m (constants_with s consts) (bound_of s consts) (trees_of s) a) (module_is s) (acts-own s consts names a tree_named)

@@ -27,7 +27,7 @@ use Rattle.pgo_pluscal.specs.declared.pluscal.PlusCal.{PlusCal}
 use Rattle.pgo_pluscal.specs.PlusCalOf.{process_of as expanded_process}
 use Rattle.pgo_meaning.specs.Expansions.{trees_of}
 use Rattle.pgo_translate.specs.ModuleOf.{module_with}
-use Rattle.pgo_translate.specs.Premises.{IsFree, ActionNames, StartNames}
+use Rattle.pgo_translate.specs.Premises.{IsFree, TreeNamed, ActionNames, StartNames, is_further}
 
 abbrev at_0 : Name → PlacedName
 at_0 x = record { name = x; place = 0 }
@@ -163,10 +163,17 @@ own_trees = refl
 
 -- what the laws ask of names holds of it
 pub two_named : ActionNames two
-two_named =
-    let free : IsFree two (made (codes "val") 1) = record { self = refl; variable = refl } in
-    let here = ap (λ b. b || false) (same_name-self (made (codes "val") 1)) in
-    record { self = refl; labels = ((refl, tt), (tt, tt)); trees_named = ((free, (refl, (refl, (refl, tt))), (here, tt)), ((free, (refl, (refl, (refl, tt))), (here, tt)), tt)) }
+two_named = record { self = refl; labels = ((refl, tt), (tt, tt)) }
+
+-- each of its trees is named as they ask
+tree_named : (p g : Name) → IsFree two (made (codes "val") 1) → (is_further two g ≡ false) × (is_further two (written p (codes "k")) ≡ false) → TreeNamed two (own_tree p g).1
+tree_named p g free h = (free, (h.0, (h.1, (refl, tt))), (ap (λ b. b || false) (same_name-self (made (codes "val") 1)), tt))
+
+first_named : TreeNamed two (own_tree (codes "P") (codes "x")).1
+first_named = tree_named (codes "P") (codes "x") (record { self = refl; variable = refl }) (refl, refl)
+
+second_named : TreeNamed two (own_tree (codes "Q") (codes "y")).1
+second_named = tree_named (codes "Q") (codes "y") (record { self = refl; variable = refl }) (refl, refl)
 
 pub two_starts : StartNames two []
 two_starts = record {

@@ -72,12 +72,14 @@ pub record IsFree (s : Spec) (x : Name) : Type 0 where
   pub self : same_name self_name x ≡ false
   pub variable : is_among x (variables_of s) ≡ false
 
--- what the actions ask: no variable is `self`; no two labels have one written name; trees bind no variable, and name no further
--- definition
+-- the tree binds no variable and not `self`, names no further definition, and assigns what is bound above
+abbrev pub TreeNamed : Spec → Expansion → Type 0
+TreeNamed s x = IsNamed (is_further s) (IsFree s) [] x
+
+-- what the actions ask: no variable is `self`, and no two labels have one written name
 pub record ActionNames (s : Spec) : Type 0 where
   pub self : is_among self_name (variables_of s) ≡ false
   pub labels : AreDifferent (map (λ l. l.0) (trees_of s))
-  pub trees_named : AllByRecursion (λ l. IsNamed (is_further s) (IsFree s) [] l.1) (trees_of s)
 
 -- ---- Init
 

@@ -1,23 +1,24 @@
 // The module that a specification means, and that it says of steps and of starts what the specification says.
 #![tactic(auto)]
 
-ghost use Rattle.std.specs.Prelude.{◌≡◌, List, None};
+ghost use Rattle.std.specs.Prelude.{◌≡◌, List, Some, None};
 ghost use Rattle.pgo_base.specs.Data.{Data};
-ghost use Rattle.pgo_base.specs.Lookup.{Name};
+ghost use Rattle.pgo_base.specs.Lookup.{Name, find};
 ghost use Rattle.pgo_syntax.specs.declared.spec.Spec.{Spec};
 ghost use Rattle.pgo_bound.specs.BoundOf.{bound_of};
 ghost use Rattle.pgo_bound.specs.Sound.{WellNamed};
 ghost use Rattle.pgo_heads.specs.Refusals.{bind_refusal};
+ghost use Rattle.pgo_sections.specs.Expansion.{Expansion};
 ghost use Rattle.pgo_meaning.specs.Expansions.{trees_of};
 ghost use Rattle.pgo_translate.specs.ModuleOf.{module_of, constants_with};
-ghost use Rattle.pgo_translate.specs.Premises.{ActionNames, StartNames, ConstantsAreValues};
+ghost use Rattle.pgo_translate.specs.Premises.{ActionNames, TreeNamed, StartNames, ConstantsAreValues};
 ghost use Rattle.pgo_translate.specs.Agrees.{ActsAgree, BeginsAgree};
 
 /// The actions of a specification's module say what the trees of its labels allow.
 ///
 /// Source: the translation of A PlusCal User's Manual.
 pub fn actions_agree()
-    ensures { (s : Spec) (consts : List (Name × Data)) → ActionNames s → ActsAgree (module_of s) (constants_with s consts) (bound_of s consts) (trees_of s) }
+    ensures { (s : Spec) (consts : List (Name × Data)) (a : Name) → ActionNames s → ((x : Expansion) → find a (trees_of s) ≡ Some x → TreeNamed s x) → ActsAgree (module_of s) (constants_with s consts) (bound_of s consts) (trees_of s) a }
 {}
 
 /// Init of a specification's module is TRUE of exactly the declared starts.
