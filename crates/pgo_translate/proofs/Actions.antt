@@ -1,7 +1,7 @@
 -- The actions of a specification's module say what the trees of its labels allow.
 use Rattle.std.proofs.Common.{◌≡◌, Bool, true, false, List, [], ◌∷◌, ◌++◌, map, Option, Some, None, ◌↔◌, refl, sym, ap, ◌∙◌, subst, option_and_then, option_map, inl, inr, fold, length, append_assoc}
 use Rattle.std.specs.Prelude.{reverse, if◌then◌else◌, ◌||◌, ◌==◌}
-use Rattle.std.specs.List.{AllByRecursion, filter_map, flat_map, cons_option}
+use Rattle.std.specs.List.{filter_map, flat_map, cons_option}
 use Rattle.pgo_base.specs.Data.{Data, string, model}
 use Rattle.pgo_base.specs.Lookup.{Name, Names, Vars, same_name, find}
 use Rattle.pgo_base.specs.Tree.{Tree}

@@ -18,5 +18,8 @@ mod Holding
 mod Ordered
 mod OrderedValues
 mod Sets
+mod Avoiding
+mod Naming
+mod Whole
 mod CompileRows
 mod TwoProcesses

@@ -1,14 +1,18 @@
 -- What the module of a specification says of steps and of starts.
-use Rattle.std.specs.Prelude.{◌≡◌, ◌↔◌, List, Some}
+use Rattle.std.specs.Prelude.{◌≡◌, ◌↔◌, ℕ, List, Some}
 use Rattle.pgo_base.specs.Data.{Data, string}
 use Rattle.pgo_base.specs.Lookup.{Name, Vars}
 use Rattle.pgo_model.specs.Acts.{Acts, Begins}
+use Rattle.pgo_model.specs.Machine.{nth}
 use Rattle.pgo_model.specs.Module.{Module}
 use Rattle.pgo_model.specs.Written.{pc}
 use Rattle.pgo_syntax.specs.declared.bound.Bound.{Bound}
+use Rattle.pgo_syntax.specs.declared.bound.Instance.{Instance}
 use Rattle.pgo_bound.specs.Declares.{Declares, value_in}
-use Rattle.pgo_bound.specs.State.{IsState}
+use Rattle.pgo_bound.specs.Sound.{IsLabel}
+use Rattle.pgo_bound.specs.State.{IsState, id_of}
 use Rattle.pgo_sections.specs.Expansion.{Expansion}
+use Rattle.pgo_meaning.specs.Sect.{Allows}
 use Rattle.pgo_meaning.specs.TreeAllows.{TreeAllows}
 
 -- of a label: whatever the identifier, its action is TRUE of exactly the pairs of states where `pc` has the label at the identifier
@@ -20,3 +24,14 @@ ActsAgree m consts b trees a =
 -- Init is TRUE of exactly the declared starts
 abbrev pub BeginsAgree : Module → List (Name × Data) → Bound → Type 0
 BeginsAgree m consts b = (s : Vars) → IsState b s → Begins m consts s ↔ Declares b s
+
+-- for each instance, each label of its process and all states: the label's action is TRUE exactly where the instance stands at the
+-- label and its section allows the step
+abbrev pub StepsAgree : Module → List (Name × Data) → Bound → Type 0
+StepsAgree m consts b =
+    (k : ℕ) (i : Instance) (l : Name) (s t : Vars) → nth b.instances k ≡ Some i → IsLabel i l → IsState b s → IsState b t
+    → Acts m consts l (id_of i) s t ↔ ((value_in s pc (id_of i) ≡ Some (string l)) × Allows b k s t)
+
+pub record Agrees (m : Module) (consts : List (Name × Data)) (b : Bound) : Type 0 where
+  pub steps : StepsAgree m consts b
+  pub starts : BeginsAgree m consts b

@@ -12,7 +12,11 @@ ghost use Rattle.pgo_sections.specs.Expansion.{Expansion};
 ghost use Rattle.pgo_meaning.specs.Expansions.{trees_of};
 ghost use Rattle.pgo_translate.specs.ModuleOf.{module_of, constants_with};
 ghost use Rattle.pgo_translate.specs.Premises.{ActionNames, TreeNamed, StartNames, ConstantsAreValues};
-ghost use Rattle.pgo_translate.specs.Agrees.{ActsAgree, BeginsAgree};
+ghost use Rattle.pgo_translate.specs.Named.{TreesAreNamed};
+ghost use Rattle.pgo_translate.specs.Accepted.{Accepted};
+ghost use Rattle.pgo_translate.specs.Agrees.{ActsAgree, BeginsAgree, Agrees};
+
+use pgo_meaning::{sections_of_labels, trees_agree};
 
 /// The actions of a specification's module say what the trees of its labels allow.
 ///
@@ -27,3 +31,25 @@ pub fn actions_agree()
 pub fn starts_agree()
     ensures { (s : Spec) (consts : List (Name × Data)) → StartNames s consts → ConstantsAreValues s consts → WellNamed s → bind_refusal s consts ≡ None → BeginsAgree (module_of s) (constants_with s consts) (bound_of s consts) }
 {}
+
+/// The expansion of a section whose names are well formed is named as its label's action asks.
+///
+/// Source: this project's choice.
+pub fn trees_are_named()
+    ensures { TreesAreNamed }
+{}
+
+/// The module of a specification agrees with what the specification is bound to, where what is asked of it holds: at each label of
+/// an instance's process, the label's action is TRUE of exactly the steps that its section allows; and Init is TRUE of exactly the
+/// declared starts.
+///
+/// Source: the translation of A PlusCal User's Manual.
+pub fn module_agrees()
+    ensures { (s : Spec) (consts : List (Name × Data)) → Accepted s consts → Agrees (module_of s) (constants_with s consts) (bound_of s consts) }
+{
+    actions_agree();
+    starts_agree();
+    trees_are_named();
+    sections_of_labels();
+    trees_agree();
+}
