@@ -90,7 +90,7 @@ among_right x (y ∷ xs) ys h = go (same_name x y) h (among_right x xs ys)
     go true k r = absurd (cc)
     go false k r = r k
 
-first_apart : (x y : Name) (ys : List Name) → is_among x (y ∷ ys) ≡ false → (same_name x y ≡ false) × (is_among x ys ≡ false)
+pub first_apart : (x y : Name) (ys : List Name) → is_among x (y ∷ ys) ≡ false → (same_name x y ≡ false) × (is_among x ys ≡ false)
 first_apart x y ys h = go (same_name x y) h
   where
     go : (b : Bool) → (b || is_among x ys) ≡ false → (b ≡ false) × (is_among x ys ≡ false)
@@ -166,19 +166,18 @@ module_defs s consts =
     nested (map (λ c. Given c.0 c.1) (constants_with s consts)) (Given default_init_value (model default_init_value) ∷ []) (map (λ d. defined_view (meant d)) s.definitions) (map (λ d. defined_view (meant d)) (define_of s.define)) (process_definitions (map (written_process s) s.processes)) (Means terminating [] (terminating_body (own_module s)) ∷ []) (Means proc_set [] (proc_set_of (own_module s)))
     ∙ ap (λ ds. ds ++ further s) (sym (specification_defs s consts))
 
--- the value of an expression that avoids the further definitions is the same without them
-value_same : (s : Spec) (consts : List (Name × Data)) (u t : Vars) (e : Tree) (ns : Names) → Avoids (is_further s) e
-    → Val (defs_of (own_module s) (constants_with s consts)) e ns u (Some t) ≡ Val (map defined_view (values.defs_of s consts)) e ns u (Some t)
-value_same s consts u t e ns h =
-    ap (λ m. m.value) (sem_alike (is_further s) e (seen (defs_of (own_module s) (constants_with s consts)) ns u (Some t)) (seen (map defined_view (values.defs_of s consts)) ns u (Some t)) alike h)
+-- the value of an expression that avoids the further definitions is the same with some of them
+value_same : (s : Spec) (consts : List (Name × Data)) (more : List Defined) (u t : Vars) (e : Tree) (ns : Names) → ((x : Name) → is_further s x ≡ false → is_among x (map defined_name more) ≡ false) → Avoids (is_further s) e
+    → Val (map defined_view (values.defs_of s consts) ++ more) e ns u (Some t) ≡ Val (map defined_view (values.defs_of s consts)) e ns u (Some t)
+value_same s consts more u t e ns few h =
+    ap (λ m. m.value) (sem_alike (is_further s) e (seen (map defined_view (values.defs_of s consts) ++ more) ns u (Some t)) (seen (map defined_view (values.defs_of s consts)) ns u (Some t)) alike h)
   where
-    calls_same : (x : Name) (args : List Data) → is_further s x ≡ false → call_def x args (meanings (defs_of (own_module s) (constants_with s consts)) u (Some t)) ≡ call_def x args (meanings (map defined_view (values.defs_of s consts)) u (Some t))
+    calls_same : (x : Name) (args : List Data) → is_further s x ≡ false → call_def x args (meanings (map defined_view (values.defs_of s consts) ++ more) u (Some t)) ≡ call_def x args (meanings (map defined_view (values.defs_of s consts)) u (Some t))
     calls_same x args g =
-        ap (λ ds. call_def x args (meanings ds u (Some t))) (module_defs s consts)
-        ∙ ap (call_def x args) (fold_append (meaning_of u (Some t)) (default_meaning ∷ []) (map defined_view (values.defs_of s consts)) (further s))
-        ∙ call_further u (Some t) x args (further s) (meanings (map defined_view (values.defs_of s consts)) u (Some t)) (ap (is_among x) (further_defined s) ∙ g)
+        ap (call_def x args) (fold_append (meaning_of u (Some t)) (default_meaning ∷ []) (map defined_view (values.defs_of s consts)) more)
+        ∙ call_further u (Some t) x args more (meanings (map defined_view (values.defs_of s consts)) u (Some t)) (few x g)
 
-    alike : Alike (is_further s) (seen (defs_of (own_module s) (constants_with s consts)) ns u (Some t)) (seen (map defined_view (values.defs_of s consts)) ns u (Some t))
+    alike : Alike (is_further s) (seen (map defined_view (values.defs_of s consts) ++ more) ns u (Some t)) (seen (map defined_view (values.defs_of s consts)) ns u (Some t))
     alike = record { names = λ y k. refl; part = refl; now = λ x g. refl; calls = calls_same }
 
 -- a label's action is there exactly where its tree is
@@ -264,18 +263,23 @@ module _ (s : Spec) (consts : List (Name × Data)) (names : ActionNames s) where
   abbrev specification_definitions : List Defined
   specification_definitions = map defined_view (values.defs_of s consts)
 
-  abbrev in_module : Data → PathContext
-  in_module id = record { defs = module_definitions; variables = variables_of s; globals = global_names s; id = id }
+  abbrev with_more : List Defined → Data → PathContext
+  with_more more id = record { defs = specification_definitions ++ more; variables = variables_of s; globals = global_names s; id = id }
 
   abbrev only_self : Data → Names
   only_self id = (self_name, Some id) ∷ []
 
-  acts-tree : (a : Name) (id : Data) (u t : Vars) → IsState (bound_of s consts) u → IsState (bound_of s consts) t → (x : Expansion) → TreeNamed s x
-      → is_true (Val module_definitions (action_body (variables_of s) (global_names s) a x) (only_self id) u (Some t))
+  -- with some of the further definitions, an action's body is TRUE exactly where the instance stands at the label and a path of the
+  -- tree leads on
+  pub acts-over : (more : List Defined) → ((x : Name) → is_further s x ≡ false → is_among x (map defined_name more) ≡ false) → (a : Name) (id : Data) (u t : Vars) → IsState (bound_of s consts) u → IsState (bound_of s consts) t → (x : Expansion) → TreeNamed s x
+      → is_true (Val (specification_definitions ++ more) (action_body (variables_of s) (global_names s) a x) (only_self id) u (Some t))
       ↔ ((option_and_then (λ f. apply f id) (find pc u) ≡ Some (string a)) × Path (path_context (bound_of s consts) id) x (only_self id) u t)
-  acts-tree a id u t hu ht x named =
-      iff_then (body-yes (in_module id) u t known (pc_there s) next_known a x [] (only_self id) holds (binds_of (is_further s) s [] x named))
-      (pair_iff (λ h. h, λ h. h) (path_over (is_further s) (IsFree s) module_definitions specification_definitions (variables_of s) (global_names s) id u t (λ f ns g. value_same s consts u t f ns g) x [] (only_self id) named, path_over (is_further s) (IsFree s) specification_definitions module_definitions (variables_of s) (global_names s) id u t (λ f ns g. sym (value_same s consts u t f ns g)) x [] (only_self id) named))
+  acts-over more few a id u t hu ht x named =
+      iff_then (body-yes (with_more more id) u t known (pc_there s) next_known a x [] (only_self id) holds (binds_of (is_further s) s [] x named))
+      (pair_iff (λ h. h, λ h. h) (
+        path_over (is_further s) (IsFree s) (specification_definitions ++ more) specification_definitions (variables_of s) (global_names s) id u t (λ f ns g. value_same s consts more u t f ns few g) x [] (only_self id) named,
+        path_over (is_further s) (IsFree s) specification_definitions (specification_definitions ++ more) (variables_of s) (global_names s) id u t (λ f ns g. sym (value_same s consts more u t f ns few g)) x [] (only_self id) named,
+      ))
     where
       known : (x : Name) → is_among x (variables_of s) ≡ true → (v : Data) × (find x u ≡ Some v)
       known = named_known u (variables_of s) hu.variables
@@ -283,12 +287,19 @@ module _ (s : Spec) (consts : List (Name × Data)) (names : ActionNames s) where
       next_known : (x : Name) → is_among x (variables_of s) ≡ true → (v : Data) × (find x t ≡ Some v)
       next_known = named_known t (variables_of s) ht.variables
 
-      holds : Holds (in_module id) u t known (pc_there s) next_known [] (only_self id)
+      holds : Holds (with_more more id) u t known (pc_there s) next_known [] (only_self id)
       holds = record {
         self = ap (λ b. if b then Some (Some id) else None) (same_name-self self_name);
         plain = λ y m. ap (λ b. if b then Some (Some id) else None) (self_apart y (variables_of s) m names.self);
         bound_above = λ y m. absurd (cc);
       }
+
+  acts-tree : (a : Name) (id : Data) (u t : Vars) → IsState (bound_of s consts) u → IsState (bound_of s consts) t → (x : Expansion) → TreeNamed s x
+      → is_true (Val module_definitions (action_body (variables_of s) (global_names s) a x) (only_self id) u (Some t))
+      ↔ ((option_and_then (λ f. apply f id) (find pc u) ≡ Some (string a)) × Path (path_context (bound_of s consts) id) x (only_self id) u t)
+  acts-tree a id u t hu ht x named =
+      subst (λ ds. is_true (Val ds (action_body (variables_of s) (global_names s) a x) (only_self id) u (Some t)) ↔ ((option_and_then (λ f. apply f id) (find pc u) ≡ Some (string a)) × Path (path_context (bound_of s consts) id) x (only_self id) u t)) (sym (module_defs s consts))
+      (acts-over (further s) (λ x g. ap (is_among x) (further_defined s) ∙ g) a id u t hu ht x named)
 
   found_action : (a : Name) → find a (reverse (actions_of (own_module s))) ≡ option_map (action_body (variables_of s) (global_names s) a) (find a (trees_of s))
   found_action a =

@@ -20,6 +20,7 @@ mod OrderedValues
 mod Sets
 mod Avoiding
 mod Naming
+mod Calls
 mod Whole
 mod CompileRows
 mod TwoProcesses

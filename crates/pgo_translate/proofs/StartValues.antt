@@ -1,6 +1,6 @@
 -- The value of an expression that names no variable is the same over the module and a state as over the specification's
 -- definitions alone.
-use Rattle.std.proofs.Common.{◌≡◌, Bool, true, false, List, [], ◌∷◌, ◌++◌, length, map, Some, None, refl, ap, ◌∙◌, fold}
+use Rattle.std.proofs.Common.{◌≡◌, Bool, true, false, List, [], ◌∷◌, ◌++◌, length, map, Option, Some, None, refl, ap, ◌∙◌, fold}
 use Rattle.std.specs.Prelude.{if◌then◌else◌, ◌||◌, ◌==◌}
 use Rattle.std.specs.List.{AllByRecursion}
 use Rattle.pgo_base.specs.Data.{Data, model}
@@ -41,25 +41,26 @@ not_found x (p ∷ ps) h = go (same_name x p.0) h (not_found x ps)
     go true k r = absurd (cc)
     go false k r = r k
 
-module _ (bad : Name → Bool) (u : Vars) (unseen : (x : Name) → bad x ≡ false → find x u ≡ None) where
+-- whatever the next state is, since no such expression asks for it
+module _ (bad : Name → Bool) (u : Vars) (after : Option Vars) (unseen : (x : Name) → bad x ≡ false → find x u ≡ None) where
   -- two lists of meanings that give good names the same
   abbrev pub Related : List Meaning → List Meaning → Type 0
   Related ms ns = (x : Name) (args : List Data) → bad x ≡ false → call_def x args ms ≡ call_def x args ns
 
-  body_same : (ms ns : List Meaning) → Related ms ns → (e : Tree) → Avoids bad e → (names : Names) → val e (record { names = names; part = None; now = u; next = None; defs = ms }) ≡ val e (record { names = names; part = None; now = []; next = None; defs = ns })
+  body_same : (ms ns : List Meaning) → Related ms ns → (e : Tree) → Avoids bad e → (names : Names) → val e (record { names = names; part = None; now = u; next = after; defs = ms }) ≡ val e (record { names = names; part = None; now = []; next = None; defs = ns })
   body_same ms ns r e h names =
-      ap (λ m. m.value) (sem_alike bad e (record { names = names; part = None; now = u; next = None; defs = ms }) (record { names = names; part = None; now = []; next = None; defs = ns }) (record { names = λ y k. refl; part = refl; now = unseen; calls = r }) h)
+      ap (λ m. m.value) (sem_alike bad e (record { names = names; part = None; now = u; next = after; defs = ms }) (record { names = names; part = None; now = []; next = None; defs = ns }) (record { names = λ y k. refl; part = refl; now = unseen; calls = r }) h)
 
-  one_more : (d : Defined) → BodyAvoids bad d → (ms ns : List Meaning) → Related ms ns → Related (meaning_of u None ms d) (meaning_of [] None ns d)
+  one_more : (d : Defined) → BodyAvoids bad d → (ms ns : List Meaning) → Related ms ns → Related (meaning_of u after ms d) (meaning_of [] None ns d)
   one_more (Given y v) h ms ns r x args g = ap (λ o. if same_name x y then (if length args == 0 then Some v else None) else o) (r x args g)
   one_more (Means y ps e) h ms ns r x args g =
       λ i. if same_name x y then (if length args == length ps then body_same ms ns r e h (name_values ps args []) i else None) else r x args g i
 
-  pub meanings_related : (ds : List Defined) → AllByRecursion (BodyAvoids bad) ds → (ms ns : List Meaning) → Related ms ns → Related (fold (meaning_of u None) ms ds) (fold (meaning_of [] None) ns ds)
+  pub meanings_related : (ds : List Defined) → AllByRecursion (BodyAvoids bad) ds → (ms ns : List Meaning) → Related ms ns → Related (fold (meaning_of u after) ms ds) (fold (meaning_of [] None) ns ds)
   meanings_related [] a ms ns r = r
-  meanings_related (d ∷ ds) a ms ns r = meanings_related ds a.1 (meaning_of u None ms d) (meaning_of [] None ns d) (one_more d a.0 ms ns r)
+  meanings_related (d ∷ ds) a ms ns r = meanings_related ds a.1 (meaning_of u after ms d) (meaning_of [] None ns d) (one_more d a.0 ms ns r)
 
-module _ (s : Spec) (consts : List (Name × Data)) (names : StartNames s consts) (u : Vars) (known : map (λ p. p.0) u ≡ variables_of s) where
+module _ (s : Spec) (consts : List (Name × Data)) (names : StartNames s consts) (u : Vars) (known : map (λ p. p.0) u ≡ variables_of s) (after : Option Vars) where
   abbrev pub specification : List Defined
   specification = map defined_view (values.defs_of s consts)
 
@@ -72,26 +73,26 @@ module _ (s : Spec) (consts : List (Name × Data)) (names : StartNames s consts)
   pub unseen : (x : Name) → taken x ≡ false → find x u ≡ None
   unseen x h = not_found x u (ap (is_among x) known ∙ or_left (is_among x (variables_of s)) (is_further s x) h)
 
-  pub own_related : Related taken u unseen (meanings specification u None) (meanings specification [] None)
-  own_related = meanings_related taken u unseen specification names.bodies (default_meaning ∷ []) (default_meaning ∷ []) (λ x args h. refl)
+  pub own_related : Related taken u after unseen (meanings specification u after) (meanings specification [] None)
+  own_related = meanings_related taken u after unseen specification names.bodies (default_meaning ∷ []) (default_meaning ∷ []) (λ x args h. refl)
 
-  pub module_related : Related taken u unseen (meanings written_module u None) (meanings specification [] None)
+  pub module_related : Related taken u after unseen (meanings written_module u after) (meanings specification [] None)
   module_related x args h =
-      ap (λ ds. call_def x args (meanings ds u None)) (module_defs s consts)
-      ∙ ap (call_def x args) (fold_append (meaning_of u None) (default_meaning ∷ []) specification (further s))
-      ∙ call_further u None x args (further s) (meanings specification u None) (ap (is_among x) (further_defined s) ∙ or_right (is_among x (variables_of s)) (is_further s x) h)
+      ap (λ ds. call_def x args (meanings ds u after)) (module_defs s consts)
+      ∙ ap (call_def x args) (fold_append (meaning_of u after) (default_meaning ∷ []) specification (further s))
+      ∙ call_further u after x args (further s) (meanings specification u after) (ap (is_among x) (further_defined s) ∙ or_right (is_among x (variables_of s)) (is_further s x) h)
       ∙ own_related x args h
 
   -- over the state and some meanings, an expression is what it is over the specification's definitions alone
-  pub sem_start : (ms : List Meaning) → Related taken u unseen ms (meanings specification [] None) → (e : Tree) → Avoids taken e → (ns : Names) → sem e (record { names = ns; part = None; now = u; next = None; defs = ms }) ≡ sem e (seen specification ns [] None)
-  sem_start ms r e h ns = sem_alike taken e (record { names = ns; part = None; now = u; next = None; defs = ms }) (seen specification ns [] None) (record { names = λ y k. refl; part = refl; now = unseen; calls = r }) h
+  pub sem_start : (ms : List Meaning) → Related taken u after unseen ms (meanings specification [] None) → (e : Tree) → Avoids taken e → (ns : Names) → sem e (record { names = ns; part = None; now = u; next = after; defs = ms }) ≡ sem e (seen specification ns [] None)
+  sem_start ms r e h ns = sem_alike taken e (record { names = ns; part = None; now = u; next = after; defs = ms }) (seen specification ns [] None) (record { names = λ y k. refl; part = refl; now = unseen; calls = r }) h
 
-  -- what Init sees under names
+  -- what Init and Next see under names
   abbrev pub at_start : Names → Scope
-  at_start ns = seen written_module ns u None
+  at_start ns = seen written_module ns u after
 
   pub start_sem : (e : Tree) → Avoids taken e → (ns : Names) → sem e (at_start ns) ≡ sem e (seen specification ns [] None)
-  start_sem e h ns = sem_start (meanings written_module u None) module_related e h ns
+  start_sem e h ns = sem_start (meanings written_module u after) module_related e h ns
 
   abbrev set_body : Tree
   set_body = proc_set_of (own_module s)
@@ -100,13 +101,13 @@ module _ (s : Spec) (consts : List (Name × Data)) (names : StartNames s consts)
   behind_set = process_definitions (map (written_process s) s.processes) ++ (Means terminating [] (terminating_body (own_module s)) ∷ [])
 
   -- ProcSet is the union of the processes' sets, over the specification's definitions
-  pub proc_set_value : val (name proc_set) (at_start []) ≡ val set_body (record { names = []; part = None; now = u; next = None; defs = meanings specification u None })
+  pub proc_set_value : val (name proc_set) (at_start []) ≡ val set_body (record { names = []; part = None; now = u; next = after; defs = meanings specification u after })
   proc_set_value =
-      ap (λ o. or_else o (λ v. Some v) (call_def proc_set [] (meanings written_module u None))) (not_found proc_set u (ap (is_among proc_set) known ∙ names.proc_set_free))
-      ∙ ap (λ ds. call_def proc_set [] (meanings ds u None)) (module_defs s consts)
-      ∙ ap (call_def proc_set []) (fold_append (meaning_of u None) (default_meaning ∷ []) specification (further s))
-      ∙ call_further u None proc_set [] behind_set (meaning_of u None (meanings specification u None) (Means proc_set [] set_body)) (ap (is_among proc_set) (later_defined s) ∙ names.proc_set_once)
-      ∙ ap (λ b. if b then val set_body (record { names = []; part = None; now = u; next = None; defs = meanings specification u None }) else call_def proc_set [] (meanings specification u None)) (same_name-self proc_set)
+      ap (λ o. or_else o (λ v. Some v) (call_def proc_set [] (meanings written_module u after))) (not_found proc_set u (ap (is_among proc_set) known ∙ names.proc_set_free))
+      ∙ ap (λ ds. call_def proc_set [] (meanings ds u after)) (module_defs s consts)
+      ∙ ap (call_def proc_set []) (fold_append (meaning_of u after) (default_meaning ∷ []) specification (further s))
+      ∙ call_further u after proc_set [] behind_set (meaning_of u after (meanings specification u after) (Means proc_set [] set_body)) (ap (is_among proc_set) (later_defined s) ∙ names.proc_set_once)
+      ∙ ap (λ b. if b then val set_body (record { names = []; part = None; now = u; next = after; defs = meanings specification u after }) else call_def proc_set [] (meanings specification u after)) (same_name-self proc_set)
 
   definition_name : (ds : List Definition) → map defined_name (map (λ d. defined_view (meant d)) ds) ≡ map (λ d. d.name.name) ds
   definition_name [] = refl
@@ -132,6 +133,6 @@ module _ (s : Spec) (consts : List (Name × Data)) (names : StartNames s consts)
   -- `defaultInitValue` is the model value of that name
   pub default_value : (ns : Names) → find default_init_value ns ≡ None → val (name default_init_value) (at_start ns) ≡ Some (model default_init_value)
   default_value ns h =
-      ap (λ o. or_else o (λ p. p) (or_else (find default_init_value u) (λ v. Some v) (call_def default_init_value [] (meanings written_module u None)))) h
-      ∙ ap (λ o. or_else o (λ v. Some v) (call_def default_init_value [] (meanings written_module u None))) (unseen default_init_value names.default)
+      ap (λ o. or_else o (λ p. p) (or_else (find default_init_value u) (λ v. Some v) (call_def default_init_value [] (meanings written_module u after)))) h
+      ∙ ap (λ o. or_else o (λ v. Some v) (call_def default_init_value [] (meanings written_module u after))) (unseen default_init_value names.default)
       ∙ module_related default_init_value [] names.default ∙ default_call

@@ -175,7 +175,7 @@ part_length f x [] h = absurd h
 part_length f x (y ∷ ys) (inl e) = let q : length (f x) ≡ length (f y) = ap (λ z. length (f z)) e in omega (arith, q, length_append (f y) (flat_map f ys))
 part_length f x (y ∷ ys) (inr h) = omega (arith, part_length f x ys h, length_append (f y) (flat_map f ys))
 
-module _ (s : Spec) (consts : List (Name × Data)) (names : StartNames s consts) (w : WellNamed s) (h : heads_refused s.archetypes (values.defs_of s consts) (runs_of s (values.defs_of s consts)) (globals_of s (values.defs_of s consts) (runs_of s (values.defs_of s consts))) ≡ None) (sets : SetsOrdered s consts) (u : Vars) (hu : IsState (bound_of s consts) u) where
+module _ (s : Spec) (consts : List (Name × Data)) (names : StartNames s consts) (w : WellNamed s) (h : heads_refused s.archetypes (values.defs_of s consts) (runs_of s (values.defs_of s consts)) (globals_of s (values.defs_of s consts) (runs_of s (values.defs_of s consts))) ≡ None) (sets : SetsOrdered s consts) (u : Vars) (hu : IsState (bound_of s consts) u) (after : Option Vars) where
   abbrev ds : List memory.Defined
   ds = values.defs_of s consts
 
@@ -186,10 +186,10 @@ module _ (s : Spec) (consts : List (Name × Data)) (names : StartNames s consts)
   gs = globals_of s ds rs
 
   abbrev here : Names → Scope
-  here ns = at_start s consts names u hu.variables ns
+  here ns = at_start s consts names u hu.variables after ns
 
   abbrev spec_defs : List Defined
-  spec_defs = specification s consts names u hu.variables
+  spec_defs = specification s consts names u hu.variables after
 
   none : Unrefused s.archetypes ds rs gs
   none = unrefused s.archetypes ds rs gs h
@@ -255,13 +255,13 @@ module _ (s : Spec) (consts : List (Name × Data)) (names : StartNames s consts)
   id_bound p m v i = can_be_bound v (id_low v (process_ids p v m i))
 
   abbrev own : Scope
-  own = record { names = []; part = None; now = u; next = None; defs = meanings spec_defs u None }
+  own = record { names = []; part = None; now = u; next = after; defs = meanings spec_defs u after }
 
   own_value : (e : Tree) → Avoids (is_taken s) e → val e own ≡ closed_value ds e
-  own_value e a = ap (λ m. m.value) (sem_start s consts names u hu.variables (meanings spec_defs u None) (own_related s consts names u hu.variables) e a [])
+  own_value e a = ap (λ m. m.value) (sem_start s consts names u hu.variables after (meanings spec_defs u after) (own_related s consts names u hu.variables after) e a [])
 
   here_value : (e : Tree) → Avoids (is_taken s) e → val e (here []) ≡ closed_value ds e
-  here_value e a = ap (λ m. m.value) (start_sem s consts names u hu.variables e a [])
+  here_value e a = ap (λ m. m.value) (start_sem s consts names u hu.variables after e a [])
 
   own_has : (p : Process) → IsAmong p s.processes → Has own (ids_tree p.ids) (ids_in p)
   own_has p m = ids_has own (is_taken s) own_value (ids_of ds p.ids) p.ids (ids_named p m) refl (ids_in p) (ids_known p m) (id_bound p m)
@@ -299,7 +299,7 @@ module _ (s : Spec) (consts : List (Name × Data)) (names : StartNames s consts)
   -- ProcSet is the set of all identifiers
   set_there : option_and_then members_of (val (name proc_set) (here [])) ≡ Some gathered.members
   set_there =
-      ap (option_and_then members_of) (proc_set_value s consts names u hu.variables)
+      ap (option_and_then members_of) (proc_set_value s consts names u hu.variables after)
       ∙ ap (λ ts. option_and_then members_of (val (union_of ts) own)) (map_map (written_process s) (λ p. p.ids) s.processes)
       ∙ gathered.has
 
@@ -319,10 +319,10 @@ module _ (s : Spec) (consts : List (Name × Data)) (names : StartNames s consts)
 
   -- an expression that doesn't name `self` is the same under it
   sem_self : (e : Tree) (id : Data) → Avoids (is_taken_or_self s) e → sem e (here (at_self id)) ≡ sem e (seen spec_defs [] [] None)
-  sem_self e id a = sem_alike (is_taken_or_self s) e (here (at_self id)) (seen spec_defs [] [] None) (record { names = unnamed; part = refl; now = λ x g. unknown x (or_left (is_taken s x) (same_name x self_name) g); calls = λ x args g. module_related s consts names u hu.variables x args (or_left (is_taken s x) (same_name x self_name) g) }) a
+  sem_self e id a = sem_alike (is_taken_or_self s) e (here (at_self id)) (seen spec_defs [] [] None) (record { names = unnamed; part = refl; now = λ x g. unknown x (or_left (is_taken s x) (same_name x self_name) g); calls = λ x args g. module_related s consts names u hu.variables after x args (or_left (is_taken s x) (same_name x self_name) g) }) a
     where
       unknown : (x : Name) → is_taken s x ≡ false → find x u ≡ None
-      unknown x g = unseen s consts names u hu.variables x g
+      unknown x g = unseen s consts names u hu.variables after x g
 
       unnamed : (x : Name) → is_taken_or_self s x ≡ false → find x (at_self id) ≡ None
       unnamed x g = ap (λ b. if b then Some (Some id) else None) (or_right (is_taken s x) (same_name x self_name) g)
@@ -351,7 +351,7 @@ module _ (s : Spec) (consts : List (Name × Data)) (names : StartNames s consts)
 
   pub places-yes : is_true (val (places_start s) (here [])) ↔ PlacesAll
   places-yes =
-      iff_then (equal-each s consts names u hu.variables (name proc_set) gathered.members set_there set_few gathered.sorted pc (pc_there s) places_keys.0 places_keys.1 set_keyed hu.shallow
+      iff_then (equal-each s consts names u hu.variables after (name proc_set) gathered.members set_there set_few gathered.sorted pc (pc_there s) places_keys.0 places_keys.1 set_keyed hu.shallow
       (case_of (arms (map (first_arm s) s.processes))) (λ id v. val (case_of (arms (map (first_arm s) s.processes))) (here (at_self id)) ≡ Some v) (λ id v. (λ k. k, λ k. k)))
       (to, from)
     where
@@ -375,7 +375,7 @@ module _ (s : Spec) (consts : List (Name × Data)) (names : StartNames s consts)
       let own_vars = flat_map (λ p. map (written p.name.name) (own_names s p)) s.processes in
       among_is d.name.name (variables_of s) (among_left d.name.name (ns ++ (pc ∷ [])) own_vars (among_left d.name.name ns (pc ∷ []) (among_map (λ d. d.name.name) d s.globals m)))
 
-  global_held : (d : Declaration) → IsAmong d s.globals → (o : Option Origin) → d.initial ≡ o → OriginHeld s consts names u hu.variables o
+  global_held : (d : Declaration) → IsAmong d s.globals → (o : Option Origin) → d.initial ≡ o → OriginHeld s consts names u hu.variables after o
   global_held d m None q = tt
   global_held d m (Some (Equals e)) q = tt
   global_held d m (Some (In e)) q = λ v x f.
@@ -394,7 +394,7 @@ module _ (s : Spec) (consts : List (Name × Data)) (names : StartNames s consts)
       (λ k d m. (one d m).0 (k d m), λ k d m. (one d m).1 (k d m))
     where
       one : (d : Declaration) → IsAmong d s.globals → is_true (val (global_starts d.name.name d.initial) (here [])) ↔ ((v : Data) × (find d.name.name u ≡ Some v) × StartsAs ds d.initial v)
-      one d m = global-yes s consts names u hu.variables d.name.name d.initial (global_there d m) (all_at (λ d. OriginAvoids (is_taken s) d.initial) d s.globals names.globals m) (global_held d m d.initial refl)
+      one d m = global-yes s consts names u hu.variables after d.name.name d.initial (global_there d m) (all_at (λ d. OriginAvoids (is_taken s) d.initial) d s.globals names.globals m) (global_held d m d.initial refl)
 
   -- items of a process
   module _ (p : Process) (m : IsAmong p s.processes) (a : Archetype) (e : archetype_named p.archetype.name s.archetypes ≡ Some a) where
@@ -421,16 +421,16 @@ module _ (s : Spec) (consts : List (Name × Data)) (names : StartNames s consts)
     few_here : length (ids_in p) ≤ 64
     few_here = omega (arith, part_length ids_in p s.processes m, ap length ids_all, none.few_ids)
 
-    own_item : (x : Name) → IsAmong x (names_with p a) → (o : Option Origin) → OriginAvoids (is_taken s) o → OriginSet s consts names u hu.variables o
+    own_item : (x : Name) → IsAmong x (names_with p a) → (o : Option Origin) → OriginAvoids (is_taken s) o → OriginSet s consts names u hu.variables after o
         → is_true (val (own_starts (ids_tree p.ids) (written p.name.name x) o) (here [])) ↔ ((id : Data) → IsAmong id (ids_in p) → (v : Data) × (value_in u (written p.name.name x) id ≡ Some v) × StartsAt ds o id v)
     own_item x i o n k =
         let f = own_function x i in
-        own-yes s consts names u hu.variables (ids_tree p.ids) (ids_in p) (here_has p m) few_here (ids_sorted p m) (written p.name.name x) (own_there x i) f.0 f.1 f.2 hu.shallow o n k
+        own-yes s consts names u hu.variables after (ids_tree p.ids) (ids_in p) (here_has p m) few_here (ids_sorted p m) (written p.name.name x) (own_there x i) f.0 f.1 f.2 hu.shallow o n k
 
     local_named : (d : Declaration) → IsAmong d a.locals → OriginAvoids (is_taken s) d.initial
     local_named d i = all_at (λ d. OriginAvoids (is_taken s) d.initial) d a.locals (all_at (λ a. AllByRecursion (λ d. OriginAvoids (is_taken s) d.initial) a.locals) a s.archetypes names.archetypes (archetype_among p.archetype.name s.archetypes a e)) i
 
-    local_set_there : (d : Declaration) → IsAmong d a.locals → (o : Option Origin) → d.initial ≡ o → OriginSet s consts names u hu.variables o
+    local_set_there : (d : Declaration) → IsAmong d a.locals → (o : Option Origin) → d.initial ≡ o → OriginSet s consts names u hu.variables after o
     local_set_there d i None q = tt
     local_set_there d i (Some (Equals f)) q = tt
     local_set_there d i (Some (In f)) q =
@@ -533,7 +533,7 @@ module _ (s : Spec) (consts : List (Name × Data)) (names : StartNames s consts)
       (iff_then (pair_iff (all_append (here []) gs (places_start s ∷ [])) (all_flat (here []) (process_starts s) s.processes))
       (λ k. (globals-yes.0 k.0.0, places-yes.0 k.0.1.0, k.1), λ k. ((globals-yes.1 k.0, (places-yes.1 k.1, tt)), k.2)))
 
-  pub begins-declares : Begins (own_module s) (constants_with s consts) u ↔ Declares (bound_of s consts) u
+  begins-declares : is_true (val (all_of (start_items s)) (here [])) ↔ Declares (bound_of s consts) u
   begins-declares =
       iff_then (all-yes (here []) (start_items s))
       (iff_then items-yes (iff_then runs-yes (iff_back (declares-runs s consts w h u))))
@@ -542,7 +542,7 @@ module _ (s : Spec) (consts : List (Name × Data)) (names : StartNames s consts)
 begins-own : (s : Spec) (consts : List (Name × Data)) → StartNames s consts → SetsOrdered s consts → WellNamed s → bind_refusal s consts ≡ None → BeginsAgree (own_module s) (constants_with s consts) (bound_of s consts)
 begins-own s consts names sets w r u hu =
     let ds = values.defs_of s consts in
-    begins-declares s consts names w (none_next (constants_refused s consts) (heads_refused s.archetypes ds (runs_of s ds) (globals_of s ds (runs_of s ds))) r) sets u hu
+    begins-declares s consts names w (none_next (constants_refused s consts) (heads_refused s.archetypes ds (runs_of s ds) (globals_of s ds (runs_of s ds))) r) sets u hu None
 
 pub begins-agree : (s : Spec) (consts : List (Name × Data)) → StartNames s consts → SetsOrdered s consts → WellNamed s → bind_refusal s consts ≡ None → BeginsAgree (module_of s) (constants_with s consts) (bound_of s consts)
 begins-agree s consts names sets w r =
