@@ -1,7 +1,7 @@
 -- What a call with `self` is worth over a module's definitions: the body of the newest definition of the name, over those before
 -- it.
-use Rattle.std.proofs.Common.{◌≡◌, Bool, true, false, List, [], ◌∷◌, ◌++◌, map, Option, Some, None, refl, sym, ap, ◌∙◌, subst, inl, inr, fold, length, append_assoc}
-use Rattle.std.specs.Prelude.{if◌then◌else◌, ◌||◌, ◌==◌, option_and_then}
+use Rattle.std.proofs.Common.{◌≡◌, false, List, [], ◌∷◌, ◌++◌, map, Option, Some, None, refl, sym, ap, ◌∙◌, subst, inl, inr, fold, append_assoc}
+use Rattle.std.specs.Prelude.{if◌then◌else◌, ◌||◌, option_and_then}
 use Rattle.std.specs.List.{AllByRecursion}
 use Rattle.pgo_base.specs.Data.{Data}
 use Rattle.pgo_base.specs.Lookup.{Name, Vars, same_name, find}
@@ -10,7 +10,7 @@ use Rattle.pgo_model.specs.Module.{action_definition, process_body, process_defi
 use Rattle.pgo_model.specs.Names.{same_name-self}
 use Rattle.pgo_model.specs.Operators.{both}
 use Rattle.pgo_model.specs.Sequences.{operators, assert_name}
-use Rattle.pgo_model.specs.Val.{Scope, Meaning, Defined, Means, meaning_of, call_def, val, or_else, asserted, values_of}
+use Rattle.pgo_model.specs.Val.{Scope, Meaning, Defined, Means, meaning_of, call_def, val, or_else, asserted}
 use Rattle.pgo_model.specs.Written.{self_name}
 use Rattle.pgo_syntax.specs.declared.process.Process.{Process}
 use Rattle.pgo_syntax.specs.declared.spec.Spec.{Spec}

@@ -21,6 +21,9 @@ mod Sets
 mod Avoiding
 mod Naming
 mod Calls
+mod Next
+mod LabelTrees
+mod NextSteps
 mod Whole
 mod CompileRows
 mod TwoProcesses

@@ -55,7 +55,7 @@ module _ (s : Spec) (consts : List (Name × Data)) (w : WellNamed s) (h : heads_
   rs = runs_of s ds
 
   -- a process at an identifier is an instance
-  instance_there : (r : Run) (id : Data) → IsAmong r rs → IsAmong id (run_ids r) → (n m : ℕ) × (nth (instances_of s rs) n ≡ Some (instance_at s m (r, id)))
+  pub instance_there : (r : Run) (id : Data) → IsAmong r rs → IsAmong id (run_ids r) → (n m : ℕ) × (nth (instances_of s rs) n ≡ Some (instance_at s m (r, id)))
   instance_there r id a i =
       let z : IsAmong (r, id) (places_of rs) = among_flat_map places_of_run r (r, id) rs a (among_map (λ k. (r, k)) id (run_ids r) i) in
       let n = nth_among (r, id) (places_of rs) z in

@@ -9,7 +9,6 @@ use Rattle.pgo_base.specs.Lookup.{Name, Names, Vars, same_name, find}
 use Rattle.pgo_base.specs.Sets.{in_order, IsSorted, same_sorted, sorted-in_order, in-in_order, in_order-in}
 use Rattle.pgo_base.specs.Size.{depth}
 use Rattle.pgo_base.specs.Tree.{Tree, name, binary, case_of, arms}
-use Rattle.pgo_model.specs.Acts.{Begins}
 use Rattle.pgo_model.specs.Module.{all_of, union_of}
 use Rattle.pgo_model.specs.Names.{same_name-self}
 use Rattle.pgo_model.specs.Operators.{both, contains, members_of, is_member, set_from, joined, from_truth}
@@ -99,7 +98,7 @@ all_filtered {A = A} sc f (y ∷ ys) = go (f y) refl (all_filtered sc f ys)
       λ h. (h y z (inl refl) e, r.1 (λ x t k q. h x t (inr k) q)),
     )
 
-among_is : (x : Name) (xs : List Name) → IsAmong x xs → is_among x xs ≡ true
+pub among_is : (x : Name) (xs : List Name) → IsAmong x xs → is_among x xs ≡ true
 among_is x [] h = absurd h
 among_is x (y ∷ ys) (inl e) = ap (λ b. b || is_among x ys) (ap (same_name x) (sym e) ∙ same_name-self x)
 among_is x (y ∷ ys) (inr h) = go (same_name x y) (among_is x ys h)
@@ -194,14 +193,14 @@ module _ (s : Spec) (consts : List (Name × Data)) (names : StartNames s consts)
   none : Unrefused s.archetypes ds rs gs
   none = unrefused s.archetypes ds rs gs h
 
-  abbrev ids_in : Process → List Data
+  abbrev pub ids_in : Process → List Data
   ids_in p = unwrap_or (ids_of ds p.ids) []
 
   -- each process runs its archetype
-  arche : (p : Process) → IsAmong p s.processes → (a : Archetype) × (archetype_named p.archetype.name s.archetypes ≡ Some a)
+  pub arche : (p : Process) → IsAmong p s.processes → (a : Archetype) × (archetype_named p.archetype.name s.archetypes ≡ Some a)
   arche p m = let n = nth_among p s.processes m in let a = w.archetypes n.0 p n.1 in (a.0, a.1)
 
-  run_there : (p : Process) (a : Archetype) → IsAmong p s.processes → archetype_named p.archetype.name s.archetypes ≡ Some a → IsAmong (run_with ds p a) rs
+  pub run_there : (p : Process) (a : Archetype) → IsAmong p s.processes → archetype_named p.archetype.name s.archetypes ≡ Some a → IsAmong (run_with ds p a) rs
   run_there p a m e = among_filter_map (run_of s ds) p (run_with ds p a) s.processes m (ap (option_map (run_with ds p)) e)
 
   ids_known : (p : Process) → IsAmong p s.processes → ids_of ds p.ids ≡ Some (ids_in p)
@@ -266,7 +265,7 @@ module _ (s : Spec) (consts : List (Name × Data)) (names : StartNames s consts)
   own_has : (p : Process) → IsAmong p s.processes → Has own (ids_tree p.ids) (ids_in p)
   own_has p m = ids_has own (is_taken s) own_value (ids_of ds p.ids) p.ids (ids_named p m) refl (ids_in p) (ids_known p m) (id_bound p m)
 
-  here_has : (p : Process) → IsAmong p s.processes → Has (here []) (ids_tree p.ids) (ids_in p)
+  pub here_has : (p : Process) → IsAmong p s.processes → Has (here []) (ids_tree p.ids) (ids_in p)
   here_has p m = ids_has (here []) (is_taken s) here_value (ids_of ds p.ids) p.ids (ids_named p m) refl (ids_in p) (ids_known p m) (id_bound p m)
 
   held : (e : Tree) (xs : Items) (v : Data) → closed_value ds e ≡ Some (set xs) → IsValue v → (sem e (seen spec_defs [] [] None)).holds v ≡ Some (contains v (members xs))

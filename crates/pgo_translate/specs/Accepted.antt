@@ -17,7 +17,7 @@ use Rattle.pgo_meaning.specs.Parameters.{places_of}
 use Rattle.pgo_meaning.specs.TreesAgree.{Named, OwnLabels, sections_at}
 use Rattle.pgo_translate.specs.ModuleOf.{declared}
 use Rattle.pgo_translate.specs.Named.{FurtherNames, taken_names}
-use Rattle.pgo_translate.specs.Premises.{ActionNames, StartNames, ConstantsAreValues}
+use Rattle.pgo_translate.specs.Premises.{ActionNames, CallNames, StartNames, ConstantsAreValues}
 
 -- of an instance: what the law of trees asks; and its sections name no further definition
 pub record InstanceAccepted (s : Spec) (b : Bound) (i : Instance) : Type 0 where
@@ -30,6 +30,7 @@ pub record InstanceAccepted (s : Spec) (b : Bound) (i : Instance) : Type 0 where
 pub record Accepted (s : Spec) (consts : List (Name × Data)) : Type 0 where
   pub actions : ActionNames s
   pub further : FurtherNames s
+  pub calls : CallNames s
   pub starts : StartNames s consts
   pub constants : ConstantsAreValues s consts
   pub well : WellNamed s

@@ -1,11 +1,12 @@
 -- What the module of a specification says of steps and of starts.
-use Rattle.std.specs.Prelude.{◌≡◌, ◌↔◌, ℕ, List, Some}
+use Rattle.std.specs.Prelude.{◌≡◌, ◌↔◌, ◌⊎◌, ℕ, List, [], Some}
 use Rattle.pgo_base.specs.Data.{Data, string}
 use Rattle.pgo_base.specs.Lookup.{Name, Vars}
-use Rattle.pgo_model.specs.Acts.{Acts, Begins}
+use Rattle.pgo_base.specs.Tree.{name}
+use Rattle.pgo_model.specs.Acts.{Acts, Begins, IsTrueOn}
 use Rattle.pgo_model.specs.Machine.{nth}
-use Rattle.pgo_model.specs.Module.{Module}
-use Rattle.pgo_model.specs.Written.{pc}
+use Rattle.pgo_model.specs.Module.{Module, next_body}
+use Rattle.pgo_model.specs.Written.{pc, terminating}
 use Rattle.pgo_syntax.specs.declared.bound.Bound.{Bound}
 use Rattle.pgo_syntax.specs.declared.bound.Instance.{Instance}
 use Rattle.pgo_bound.specs.Declares.{Declares, value_in}
@@ -32,6 +33,27 @@ StepsAgree m consts b =
     (k : ℕ) (i : Instance) (l : Name) (s t : Vars) → nth b.instances k ≡ Some i → IsLabel i l → IsState b s → IsState b t
     → Acts m consts l (id_of i) s t ↔ ((value_in s pc (id_of i) ≡ Some (string l)) × Allows b k s t)
 
+-- a step of Next; and of Terminating, where nothing changes
+abbrev pub IsNext : Module → List (Name × Data) → Vars → Vars → Type 0
+IsNext m consts s t = IsTrueOn m consts [] s (Some t) (next_body m)
+
+abbrev pub HasEnded : Module → List (Name × Data) → Vars → Vars → Type 0
+HasEnded m consts s t = IsTrueOn m consts [] s (Some t) (name terminating)
+
+-- some instance's action, at some label, is TRUE
+pub record SomeActs (m : Module) (consts : List (Name × Data)) (b : Bound) (s t : Vars) : Type 0 where
+  pub number : ℕ
+  pub instance : Instance
+  pub label : Name
+  pub there : nth b.instances number ≡ Some instance
+  pub is_label : IsLabel instance label
+  pub acts : Acts m consts label (id_of instance) s t
+
+-- Next is TRUE of exactly the steps of instances, and where all have ended
+abbrev pub NextAgrees : Module → List (Name × Data) → Bound → Type 0
+NextAgrees m consts b = (s t : Vars) → IsState b s → IsState b t → IsNext m consts s t ↔ (SomeActs m consts b s t ⊎ HasEnded m consts s t)
+
 pub record Agrees (m : Module) (consts : List (Name × Data)) (b : Bound) : Type 0 where
   pub steps : StepsAgree m consts b
   pub starts : BeginsAgree m consts b
+  pub next : NextAgrees m consts b

@@ -2,8 +2,9 @@
 use Rattle.std.specs.Prelude.{◌≡◌, Bool, true, false, ◌||◌, List, [], ◌∷◌, ◌++◌, map, Option, Some, None}
 use Rattle.std.specs.List.{AllByRecursion}
 use Rattle.pgo_base.specs.Data.{Data}
-use Rattle.pgo_base.specs.Lookup.{Name, same_name}
+use Rattle.pgo_base.specs.Lookup.{Name, same_name, find}
 use Rattle.pgo_model.specs.ModuleView.{defined_view}
+use Rattle.pgo_model.specs.Sequences.{operators, assert_name}
 use Rattle.pgo_model.specs.Val.{Defined, Given, Means}
 use Rattle.pgo_model.specs.Value.{IsValue}
 use Rattle.pgo_model.specs.Written.{self_name, done, proc_set, terminating, default_init_value}
@@ -80,6 +81,14 @@ TreeNamed s x = IsNamed (is_further s) (IsFree s) [] x
 pub record ActionNames (s : Spec) : Type 0 where
   pub self : is_among self_name (variables_of s) ≡ false
   pub labels : AreDifferent (map (λ l. l.0) (trees_of s))
+
+-- ---- Next
+
+-- what Next asks besides: the definitions that it calls differ, and none has the name of an operator of the modules
+pub record CallNames (s : Spec) : Type 0 where
+  pub differ : AreDifferent (further_names s)
+  pub operators : (x : Name) → is_further s x ≡ true → find x operators ≡ None
+  pub assert : is_further s assert_name ≡ false
 
 -- ---- Init
 
