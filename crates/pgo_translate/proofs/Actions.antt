@@ -1,7 +1,7 @@
 -- The actions of a specification's module say what the trees of its labels allow.
-use Rattle.std.proofs.Common.{◌≡◌, Bool, true, false, List, [], ◌∷◌, ◌++◌, map, Option, Some, None, ◌↔◌, refl, sym, ap, ◌∙◌, subst, option_and_then, option_map, inl, inr, fold, length, append_assoc}
+use Rattle.std.proofs.Common.{◌≡◌, Bool, true, false, List, [], ◌∷◌, ◌++◌, map, Option, Some, None, ◌↔◌, refl, sym, ap, ◌∙◌, subst, option_and_then, option_map, inl, inr, ⊎_elim, fold, length, append_assoc}
 use Rattle.std.specs.Prelude.{reverse, if◌then◌else◌, ◌||◌, ◌==◌}
-use Rattle.std.specs.List.{filter_map, flat_map, cons_option}
+use Rattle.std.specs.List.{AllByRecursion, filter_map, flat_map, cons_option}
 use Rattle.pgo_base.specs.Data.{Data, string, model}
 use Rattle.pgo_base.specs.Lookup.{Name, Names, Vars, same_name, find}
 use Rattle.pgo_base.specs.Tree.{Tree}
@@ -10,7 +10,7 @@ use Rattle.pgo_model.specs.Acts.{Acts}
 use Rattle.pgo_model.specs.Module.{actions_in, actions_of, defs_of, process_definitions, action_definition, process_body, proc_set_of, terminating_body}
 use Rattle.pgo_model.specs.ModuleView.{defined_view}
 use Rattle.pgo_base.specs.declared.module.Defined.TheVariants as base_variants
-use Rattle.pgo_model.specs.Names.{same_name-is, same_name-self}
+use Rattle.pgo_model.specs.Names.{same_name-is, same_name-not, same_name-self}
 use Rattle.pgo_model.specs.Operators.{apply, members_of}
 use Rattle.pgo_model.specs.Val.{Meaning, Defined, Given, Means, Val, seen, meanings, meaning_of, call_def, default_meaning, body_meaning}
 use Rattle.pgo_model.specs.Written.{written, pc, self_name, proc_set, terminating, default_init_value}
@@ -22,6 +22,8 @@ use Rattle.pgo_bound.specs.Values.{meant, define_of, given_value, given_constant
 use Rattle.pgo_bound.specs.BoundOf.{bound_of}
 use Rattle.pgo_bound.specs.State.{AreDifferent, IsState, variables_of, own_names}
 use Rattle.pgo_bound.specs.Lookups.{data_from}
+use Rattle.pgo_bound.specs.Among.{IsAmong, all_at, among_append, among_left as front, among_right as behind}
+use Rattle.pgo_bound.specs.Different.{all_from, different_apart, different_left}
 use Rattle.pgo_bound.specs.StartNames.{map-append}
 use Rattle.pgo_sections.specs.Expansion.{Expansion, With, In, Skip, Await, Assert, Print, If, Either, End, Expansions, no_expansions, more_expansions, PathContext, Path, SomePath}
 use Rattle.pgo_sections.specs.BoundValues.{bindable}
@@ -32,7 +34,7 @@ use Rattle.pgo_translate.proofs.ByProcess.{module_is, global_names, own_module, 
 use Rattle.pgo_meaning.specs.Expansions.{process_expansions, trees_of}
 use Rattle.pgo_translate.specs.Avoids.{Avoids}
 use Rattle.pgo_meaning.specs.TreeAllows.{TreeAllows, path_context}
-use Rattle.pgo_translate.specs.Premises.{IsNamed, ArmsNamed, IsFree, TreeNamed, ActionNames, further_names, process_names, is_further}
+use Rattle.pgo_translate.specs.Premises.{IsNamed, ArmsNamed, IsFree, TreeNamed, ModuleNames, further_names, process_names, is_further}
 use Rattle.pgo_translate.specs.Agrees.{ActsAgree}
 use Rattle.pgo_translate.proofs.FoundBack.{found_back}
 use Rattle.pgo_translate.proofs.Alike.{Alike, sem_alike}
@@ -256,7 +258,43 @@ self_apart x vars h g = go (same_name x self_name) refl
     go true e = let k : is_among self_name vars ≡ true = ap (λ z. is_among z vars) (sym (same_name-is x self_name e)) ∙ h in absurd (cc)
     go false e = refl
 
-module _ (s : Spec) (consts : List (Name × Data)) (names : ActionNames s) where
+pub apart_from_all : (x : Name) (xs : List Name) → AllByRecursion (λ y. same_name x y ≡ false) xs → is_among x xs ≡ false
+apart_from_all x [] h = refl
+apart_from_all x (y ∷ ys) h = ap (λ b. b || is_among x ys) h.0 ∙ apart_from_all x ys h.1
+
+pub different_behind : (xs ys : List Name) → AreDifferent (xs ++ ys) → AreDifferent ys
+different_behind [] ys h = h
+different_behind (x ∷ xs) ys h = different_behind xs ys h.1
+
+-- names that differ from those behind
+different_joined : (xs ys : List Name) → AreDifferent xs → AreDifferent ys → ((x y : Name) → IsAmong x xs → IsAmong y ys → x ≡ y → ⊥) → AreDifferent (xs ++ ys)
+different_joined [] ys h g f = g
+different_joined (x ∷ xs) ys h g f = (all_from (λ y. same_name x y ≡ false) (xs ++ ys) apart, different_joined xs ys h.1 g (λ z y m n. f z y (inr m) n))
+  where
+    apart : (y : Name) → IsAmong y (xs ++ ys) → same_name x y ≡ false
+    apart y m = ⊎_elim (λ k. all_at (λ z. same_name x z ≡ false) y xs h.0 k) (λ k. same_name-not x y (f x y (inl refl) k)) (among_append y xs ys m)
+
+-- a label is one of the names that processes write
+label_written : (s : Spec) (ps : List Process) (x : Name) → IsAmong x (map (λ l. l.0) (flat_map (process_expansions s) ps)) → IsAmong x (process_names s ps)
+label_written s [] x h = absurd h
+label_written s (p ∷ ps) x h =
+    let here = map (λ l. l.0) (process_expansions s p) in
+    ⊎_elim (λ k. front x here (p.name.name ∷ process_names s ps) k) (λ k. behind x here (p.name.name ∷ process_names s ps) (inr (label_written s ps x k)))
+    (among_append x here (map (λ l. l.0) (flat_map (process_expansions s) ps)) (subst (λ (xs : List Name). IsAmong x xs) (map-append (λ l. l.0) (process_expansions s p) (flat_map (process_expansions s) ps)) h))
+
+written_labels_differ : (s : Spec) (ps : List Process) → AreDifferent (process_names s ps) → AreDifferent (map (λ l. l.0) (flat_map (process_expansions s) ps))
+written_labels_differ s [] h = tt
+written_labels_differ s (p ∷ ps) h =
+    let here = map (λ l. l.0) (process_expansions s p) in
+    subst AreDifferent (sym (map-append (λ l. l.0) (process_expansions s p) (flat_map (process_expansions s) ps)))
+    (different_joined here (map (λ l. l.0) (flat_map (process_expansions s) ps)) (different_left here (p.name.name ∷ process_names s ps) h) (written_labels_differ s ps (different_behind here (p.name.name ∷ process_names s ps) h).1)
+    (λ x y m n e. different_apart here (p.name.name ∷ process_names s ps) x y h m (inr (label_written s ps y n)) e))
+
+-- so no two labels have one written name
+pub labels_differ : (s : Spec) → ModuleNames s → AreDifferent (map (λ l. l.0) (trees_of s))
+labels_differ s names = written_labels_differ s s.processes (different_left (process_names s s.processes) (terminating ∷ []) names.differ.1)
+
+module _ (s : Spec) (consts : List (Name × Data)) (names : ModuleNames s) where
   abbrev module_definitions : List Defined
   module_definitions = defs_of (own_module s) (constants_with s consts)
 
@@ -290,7 +328,7 @@ module _ (s : Spec) (consts : List (Name × Data)) (names : ActionNames s) where
       holds : Holds (with_more more id) u t known (pc_there s) next_known [] (only_self id)
       holds = record {
         self = ap (λ b. if b then Some (Some id) else None) (same_name-self self_name);
-        plain = λ y m. ap (λ b. if b then Some (Some id) else None) (self_apart y (variables_of s) m names.self);
+        plain = λ y m. ap (λ b. if b then Some (Some id) else None) (self_apart y (variables_of s) m names.self_variable);
         bound_above = λ y m. absurd (cc);
       }
 
@@ -304,7 +342,7 @@ module _ (s : Spec) (consts : List (Name × Data)) (names : ActionNames s) where
   found_action : (a : Name) → find a (reverse (actions_of (own_module s))) ≡ option_map (action_body (variables_of s) (global_names s) a) (find a (trees_of s))
   found_action a =
       ap (λ l. find a (reverse l)) (actions_are s s.processes)
-      ∙ found_back a (label_actions s (trees_of s)) (subst AreDifferent (sym (action_names s (trees_of s))) names.labels)
+      ∙ found_back a (label_actions s (trees_of s)) (subst AreDifferent (sym (action_names s (trees_of s))) (labels_differ s names))
       ∙ find_action s a (trees_of s)
 
   -- of the module with whatever Init
@@ -324,6 +362,6 @@ module _ (s : Spec) (consts : List (Name × Data)) (names : ActionNames s) where
           let r = (acts-tree a id u t hu ht x (tree_named x e)).0 (subst (λ b. is_true (Val module_definitions b (only_self id) u (Some t))) (sym q) h.2) in
           (r.0, (x, e, (ht, r.1)))
 
-pub acts-agree : (s : Spec) (consts : List (Name × Data)) → ActionNames s → (a : Name) → ((x : Expansion) → find a (trees_of s) ≡ Some x → TreeNamed s x) → ActsAgree (module_of s) (constants_with s consts) (bound_of s consts) (trees_of s) a
+pub acts-agree : (s : Spec) (consts : List (Name × Data)) → ModuleNames s → (a : Name) → ((x : Expansion) → find a (trees_of s) ≡ Some x → TreeNamed s x) → ActsAgree (module_of s) (constants_with s consts) (bound_of s consts) (trees_of s) a
 acts-agree s consts names a tree_named =
     subst (λ m. ActsAgree m (constants_with s consts) (bound_of s consts) (trees_of s) a) (module_is s) (acts-own s consts names a tree_named)

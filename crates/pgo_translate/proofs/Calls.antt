@@ -18,16 +18,8 @@ use Rattle.pgo_bound.specs.Among.{IsAmong}
 use Rattle.pgo_bound.specs.State.{AreDifferent}
 use Rattle.pgo_meaning.specs.Expansions.{process_expansions}
 use Rattle.pgo_sections.specs.Among.{is_among}
-use Rattle.pgo_translate.proofs.Actions.{call_further, defined_name, first_apart}
+use Rattle.pgo_translate.proofs.Actions.{apart_from_all, call_further, defined_name, first_apart}
 use Rattle.pgo_translate.proofs.ByProcess.{label_actions, written_process}
-
-pub apart_from_all : (x : Name) (xs : List Name) → AllByRecursion (λ y. same_name x y ≡ false) xs → is_among x xs ≡ false
-apart_from_all x [] h = refl
-apart_from_all x (y ∷ ys) h = ap (λ b. b || is_among x ys) h.0 ∙ apart_from_all x ys h.1
-
-pub different_right : (xs ys : List Name) → AreDifferent (xs ++ ys) → AreDifferent ys
-different_right [] ys h = h
-different_right (x ∷ xs) ys h = different_right xs ys h.1
 
 module _ (u : Vars) (after : Option Vars) where
   -- `self` is the identifier

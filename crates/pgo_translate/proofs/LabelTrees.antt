@@ -30,7 +30,7 @@ use Rattle.pgo_translate.specs.Accepted.{Accepted, InstanceAccepted}
 use Rattle.pgo_translate.specs.Agrees.{ActsAgree}
 use Rattle.pgo_translate.specs.ModuleOf.{module_of, constants_with, declared}
 use Rattle.pgo_translate.specs.Named.{TreesAreNamed, PlacesAmong}
-use Rattle.pgo_translate.specs.Premises.{ActionNames, TreeNamed}
+use Rattle.pgo_translate.specs.Premises.{ModuleNames, TreeNamed}
 use Rattle.pgo_translate.proofs.Actions.{among_front}
 use Rattle.pgo_translate.proofs.Kleene.{some_is}
 
@@ -52,7 +52,7 @@ LabelsLaw =
 -- the law of actions, at a label
 abbrev pub ActionsLaw : Type 0
 ActionsLaw =
-    (s : Spec) (consts : List (Name × Data)) (a : Name) → ActionNames s → ((x : Expansion) → find a (trees_of s) ≡ Some x → TreeNamed s x)
+    (s : Spec) (consts : List (Name × Data)) (a : Name) → ModuleNames s → ((x : Expansion) → find a (trees_of s) ≡ Some x → TreeNamed s x)
     → ActsAgree (module_of s) (constants_with s consts) (bound_of s consts) (trees_of s) a
 
 find_mapped : (f : Code → Expansion) (l : Name) (cs : List (Name × Code)) → find l (map (λ c. (c.0, f c.1)) cs) ≡ option_map f (find l cs)
@@ -85,4 +85,4 @@ module _ (sections : SectionsLaw) (naming : TreesAreNamed) (s : Spec) (consts : 
         let c = sections b i l h.unlabelled n.done is_label in
         let there : find l (trees_of s) ≡ Some (expansion (variables_of s) places c.0) =
         n.labels l c.0 c.1 ∙ find_mapped (expansion (variables_of s) places) l (sections_at b i) ∙ ap (option_map (expansion (variables_of s) places)) c.1 in
-        subst (TreeNamed s) (some_is (expansion (variables_of s) places c.0) x (sym there ∙ e)) (naming s places c.0 h.further placed (n.sections l c.0 c.1))
+        subst (TreeNamed s) (some_is (expansion (variables_of s) places c.0) x (sym there ∙ e)) (naming s places c.0 h.names placed (n.sections l c.0 c.1))

@@ -307,7 +307,7 @@ trees_are_named s ps c n places a =
       made_free = λ b m. record { self = self_not_made b m; variable = not_made (λ x. is_among x (variables_of s)) b m n.written };
       made_good = λ b m. not_made (is_further s) b m n.further;
       self_good = n.self_further;
-      content_good = n.content_further;
+      content_good = n.content;
     }
 
     globals : GlobalsAvoid (is_further s) (declared s.globals)

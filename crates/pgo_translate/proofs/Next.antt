@@ -24,11 +24,10 @@ use Rattle.pgo_sections.specs.Expansion.{Expansion, Path}
 use Rattle.pgo_meaning.specs.Expansions.{process_expansions}
 use Rattle.pgo_meaning.specs.TreeAllows.{path_context}
 use Rattle.pgo_translate.specs.Items.{action_body}
-use Rattle.pgo_translate.specs.Named.{FurtherNames}
-use Rattle.pgo_translate.specs.Premises.{ActionNames, CallNames, TreeNamed, further_names, is_further}
-use Rattle.pgo_translate.proofs.Actions.{acts-over, first_apart, among_left, among_right, defined_name, fold_append, further, further_defined}
+use Rattle.pgo_translate.specs.Premises.{ModuleNames, TreeNamed, further_names, is_further}
+use Rattle.pgo_translate.proofs.Actions.{acts-over, apart_from_all, different_behind, first_apart, among_left, among_right, defined_name, fold_append, further, further_defined}
 use Rattle.pgo_translate.proofs.ByProcess.{map_map, global_names, label_actions, own_module, written_process}
-use Rattle.pgo_translate.proofs.Calls.{Callable, under, call_value, call_last, call_among, apart_from_all, different_right, split_at}
+use Rattle.pgo_translate.proofs.Calls.{Callable, under, call_value, call_last, call_among, split_at}
 use Rattle.pgo_translate.proofs.Kleene.{is_true, iff_then, SomeYes, any-yes}
 use Rattle.pgo_translate.proofs.Starts.{among_is}
 use Rattle.pgo_translate.proofs.StartValues.{not_found}
@@ -66,7 +65,7 @@ abbrev pub Stands : Spec → List (Name × Data) → Vars → Vars → Data → 
 Stands s consts u t id l =
     (option_and_then (λ f. apply f id) (find pc u) ≡ Some (string l.0)) × Path (path_context (bound_of s consts) id) l.1 ((self_name, Some id) ∷ []) u t
 
-module _ (s : Spec) (consts : List (Name × Data)) (names : ActionNames s) (more : FurtherNames s) (calls : CallNames s) (u t : Vars) (hu : IsState (bound_of s consts) u) (ht : IsState (bound_of s consts) t) where
+module _ (s : Spec) (consts : List (Name × Data)) (names : ModuleNames s) (u t : Vars) (hu : IsState (bound_of s consts) u) (ht : IsState (bound_of s consts) t) where
   abbrev known : List Defined
   known = map defined_view (values.defs_of s consts)
 
@@ -81,9 +80,9 @@ module _ (s : Spec) (consts : List (Name × Data)) (names : ActionNames s) (more
 
   callable : (x : Name) → is_further s x ≡ true → Callable u (Some t) x
   callable x h = record {
-    operator = calls.operators x h;
-    assert = apart assert_name calls.assert;
-    self = apart self_name more.self_further;
+    operator = names.operators x h;
+    assert = apart assert_name names.assert;
+    self = apart self_name names.self_further;
     variable = not_found x u (ap (is_among x) hu.variables ∙ no_variable (is_among x (variables_of s)) refl);
   }
     where
@@ -95,7 +94,7 @@ module _ (s : Spec) (consts : List (Name × Data)) (names : ActionNames s) (more
           go false e = refl
 
       no_variable : (b : Bool) → is_among x (variables_of s) ≡ b → b ≡ false
-      no_variable true e = absurd (let k = more.apart x e in cc)
+      no_variable true e = absurd (let k = names.apart x e in cc)
       no_variable false e = refl
 
   module _ (p : Process) (among : IsAmong p s.processes) (trees : (l : Name × Expansion) → IsAmong l (process_expansions s p) → TreeNamed s l.1) where
@@ -125,7 +124,7 @@ module _ (s : Spec) (consts : List (Name × Data)) (names : ActionNames s) (more
         ∙ ap (λ xs. map defined_name front ++ xs) (map-append defined_name own (itself ∷ back))
 
     differ : AreDifferent (map defined_name own ++ (p.name.name ∷ map defined_name back))
-    differ = different_right (map defined_name front) (map defined_name own ++ (p.name.name ∷ map defined_name back)) (subst AreDifferent names_split calls.differ)
+    differ = different_behind (map defined_name front) (map defined_name own ++ (p.name.name ∷ map defined_name back)) (subst AreDifferent names_split names.differ)
 
     process_further : is_further s p.name.name ≡ true
     process_further =
@@ -163,7 +162,7 @@ module _ (s : Spec) (consts : List (Name × Data)) (names : ActionNames s) (more
         call_value u (Some t) p.name.name id all (callable p.name.name process_further)
         ∙ ap (call_def p.name.name (id ∷ [])) all_is
         ∙ call_last u (Some t) p.name.name (process_body (written_process s p)) id seen_by_process back
-        (apart_from_all p.name.name (map defined_name back) (different_right (map defined_name own) (p.name.name ∷ map defined_name back) differ).0)
+        (apart_from_all p.name.name (map defined_name back) (different_behind (map defined_name own) (p.name.name ∷ map defined_name back) differ).0)
 
     few : (front' : List Defined) → ((y : Name) → is_among y (map defined_name own) ≡ false → is_among y (map defined_name front') ≡ false) → (x : Name) → is_further s x ≡ false → is_among x (map defined_name (front ++ front')) ≡ false
     few front' f x h =

@@ -41,7 +41,7 @@ use Rattle.pgo_translate.specs.Agrees.{HasEnded, IsNext, NextAgrees, SomeActs}
 use Rattle.pgo_translate.specs.ModuleOf.{constants_with, module_of}
 use Rattle.pgo_translate.specs.Named.{TreesAreNamed}
 use Rattle.pgo_translate.specs.Premises.{TreeNamed}
-use Rattle.pgo_translate.proofs.Actions.{further, module_defs}
+use Rattle.pgo_translate.proofs.Actions.{further, labels_differ, module_defs}
 use Rattle.pgo_translate.proofs.ByProcess.{map_map, module_is, own_module, written_process}
 use Rattle.pgo_translate.proofs.Calls.{under}
 use Rattle.pgo_translate.proofs.Kleene.{is_true, iff_then, sum_iff, some_in-yes, any-yes, SomeYes, some_is}
@@ -84,7 +84,7 @@ module _ (sections : SectionsLaw) (labels : LabelsLaw) (actions : ActionsLaw) (n
   sets = sets_ordered s consts h.constants
 
   abbrev ids : Process → List Data
-  ids p = ids_in s consts h.starts h.well none sets u hu (Some t) p
+  ids p = ids_in s consts h.names h.starts h.well none sets u hu (Some t) p
 
   abbrev here : Scope
   here = seen (defs_of m (constants_with s consts)) [] u (Some t)
@@ -101,8 +101,8 @@ module _ (sections : SectionsLaw) (labels : LabelsLaw) (actions : ActionsLaw) (n
   -- at each identifier of a process there is one
   runs_at : (p : Process) (v : Data) → IsAmong p s.processes → IsAmong v (ids p) → (k : ℕ) × (i : Instance) × Runs p v k i
   runs_at p v among at_v =
-      let a = arche s consts h.starts h.well none sets u hu (Some t) p among in
-      let r = run_there s consts h.starts h.well none sets u hu (Some t) p a.0 among a.1 in
+      let a = arche s consts h.names h.starts h.well none sets u hu (Some t) p among in
+      let r = run_there s consts h.names h.starts h.well none sets u hu (Some t) p a.0 among a.1 in
       let i = instance_there s consts h.well none u (run_with ds p a.0) v r at_v in
       (i.0, instance_at s i.1 (run_with ds p a.0, v), record { among = among; there = i.2; archetype = a.0; has = a.1; at = i.1; is = refl })
 
@@ -152,7 +152,7 @@ module _ (sections : SectionsLaw) (labels : LabelsLaw) (actions : ActionsLaw) (n
         (n.0, x.0, n.1, x.2 ∙ ap (λ c. if c then done else written i.process x.0) (accepted.done n.0 x.0 n.1))
 
     found : (l : Name × Expansion) → IsAmong l (process_expansions s p) → find l.0 (trees_of s) ≡ Some l.1
-    found l among = found_among l.0 l.1 (trees_of s) h.actions.labels (among_flat_map (process_expansions s) p l s.processes r.among among)
+    found l among = found_among l.0 l.1 (trees_of s) (labels_differ s h.names) (among_flat_map (process_expansions s) p l s.processes r.among among)
 
     named : (l : Name × Expansion) → IsAmong l (process_expansions s p) → TreeNamed s l.1
     named l among = tree_named sections naming s consts h i accepted l.0 (is_label l among) l.1 (found l among)
@@ -160,11 +160,11 @@ module _ (sections : SectionsLaw) (labels : LabelsLaw) (actions : ActionsLaw) (n
     acts_at : (l : Name × Expansion) → IsAmong l (process_expansions s p) → Stands s consts u t v l → Acts (module_of s) (constants_with s consts) l.0 (id_of i) u t
     acts_at l among st =
         let st' = subst (λ (d : Data). Stands s consts u t d l) (sym id_is) st in
-        (actions s consts l.0 h.actions (λ x e. tree_named sections naming s consts h i accepted l.0 (is_label l among) x e) (id_of i) u t hu ht).1 (st'.0, (l.1, found l among, (ht, st'.1)))
+        (actions s consts l.0 h.names (λ x e. tree_named sections naming s consts h i accepted l.0 (is_label l among) x e) (id_of i) u t hu ht).1 (st'.0, (l.1, found l among, (ht, st'.1)))
 
     stands_at : (l : Name) → IsLabel i l → Acts (module_of s) (constants_with s consts) l (id_of i) u t → (z : Name × Expansion) × IsAmong z (process_expansions s p) × Stands s consts u t v z
     stands_at l is_l a =
-        let st = (actions s consts l h.actions (λ x e. tree_named sections naming s consts h i accepted l is_l x e) (id_of i) u t hu ht).0 a in
+        let st = (actions s consts l h.names (λ x e. tree_named sections naming s consts h i accepted l is_l x e) (id_of i) u t hu ht).0 a in
         let c = sections b i l h.unlabelled accepted.done is_l in
         let there = found_in l (expansions_at b i) st.1.0 (sym (accepted.labels l c.0 c.1) ∙ st.1.1) in
         ((l, st.1.0), subst (λ (xs : List (Name × Expansion)). IsAmong (l, st.1.0) xs) trees_are there, subst (λ (d : Data). Stands s consts u t d (l, st.1.0)) id_is (st.0, st.1.2.1))
@@ -180,12 +180,12 @@ module _ (sections : SectionsLaw) (labels : LabelsLaw) (actions : ActionsLaw) (n
   step-yes p among = iff_then (some_in-yes self_name (self_call p.name.name) here (ids_tree p.ids)) (to, from)
     where
       at_id : (v : Data) → (is_member v (val (ids_tree p.ids) here) ≡ Some true) ↔ IsAmong v (ids p)
-      at_id v = members_yes v (val (ids_tree p.ids) here) (ids p) (here_has s consts h.starts h.well none sets u hu (Some t) p among)
+      at_id v = members_yes v (val (ids_tree p.ids) here) (ids p) (here_has s consts h.names h.starts h.well none sets u hu (Some t) p among)
 
       allows : (v : Data) → IsAmong v (ids p) → is_true (val (self_call p.name.name) (under u (Some t) (meanings (map defined_view ds ++ further s) u (Some t)) v)) ↔ ((l : Name × Expansion) × IsAmong l (process_expansions s p) × Stands s consts u t v l)
       allows v at_v =
           let r = runs_at p v among at_v in
-          process-yes s consts h.actions h.further h.calls u t hu ht p among (named p v r.0 r.1 r.2) v
+          process-yes s consts h.names u t hu ht p among (named p v r.0 r.1 r.2) v
 
       to : ((v : Data) × (is_member v (val (ids_tree p.ids) here) ≡ Some true) × is_true (val (self_call p.name.name) (with_name self_name (Some v) here))) → Steps p
       to k = let at_v = (at_id k.0).0 k.1 in (k.0, at_v, (allows k.0 at_v).0 (sym (called p k.0) ∙ k.2))

@@ -25,7 +25,7 @@ use Rattle.pgo_translate.specs.Avoids.{Avoids}
 use Rattle.pgo_sections.specs.Among.{is_among}
 use Rattle.pgo_translate.specs.Items.{equals}
 use Rattle.pgo_translate.specs.ModuleOf.{global_starts, own_starts, for_each_id, member}
-use Rattle.pgo_translate.specs.Premises.{StartNames, OriginAvoids, is_taken}
+use Rattle.pgo_translate.specs.Premises.{ModuleNames, StartNames, OriginAvoids, is_taken}
 use Rattle.pgo_translate.proofs.Actions.{named_known}
 use Rattle.pgo_translate.proofs.Graphs.{pairs_of, function-yes, fits-yes, few_made, each_choice, sorted_once}
 use Rattle.pgo_translate.proofs.Kleene.{is_true, iff_then, some_is}
@@ -94,18 +94,18 @@ each_iff ids at to P Q e f = (
 function_there : (o p : Option Data) (v : Data) → o ≡ Some v → ((w : Data) × (o ≡ Some w) × (p ≡ Some w)) ↔ (p ≡ Some v)
 function_there o p v e = (λ h. h.2 ∙ ap Some (sym (some_is v h.0 (sym e ∙ h.1))), λ h. (v, e, h))
 
-module _ (s : Spec) (consts : List (Name × Data)) (names : StartNames s consts) (u : Vars) (known : map (λ p. p.0) u ≡ variables_of s) (after : Option Vars) where
+module _ (s : Spec) (consts : List (Name × Data)) (free : ModuleNames s) (names : StartNames s consts) (u : Vars) (known : map (λ p. p.0) u ≡ variables_of s) (after : Option Vars) where
   abbrev pub ds : List memory.Defined
   ds = values.defs_of s consts
 
   abbrev pub here : Names → Scope
-  here ns = at_start s consts names u known after ns
+  here ns = at_start s consts free names u known after ns
 
   abbrev pub avoided : Name → Bool
   avoided = is_taken s
 
   start_value : (e : Tree) → Avoids avoided e → (ns : Names) → val e (here ns) ≡ value_with ds ns e
-  start_value e h ns = ap (λ m. m.value) (start_sem s consts names u known after e h ns)
+  start_value e h ns = ap (λ m. m.value) (start_sem s consts free names u known after e h ns)
 
   variable_value : (x : Name) → is_among x (variables_of s) ≡ true → val (name x) (here []) ≡ find x u
   variable_value x m =
@@ -113,7 +113,7 @@ module _ (s : Spec) (consts : List (Name × Data)) (names : StartNames s consts)
       ap (λ o. or_else o (λ v. Some v) (call_def x [] (here []).defs)) k.1 ∙ sym k.1
 
   default_here : (ns : Names) → find default_init_value ns ≡ None → val (name default_init_value) (here ns) ≡ Some (model default_init_value)
-  default_here ns h = default_value s consts names u known after ns h
+  default_here ns h = default_value s consts free names u known after ns h
 
   same_model : (v : Data) → (Some (model default_init_value) ≡ Some v) ↔ (v ≡ model default_init_value)
   same_model v = (λ h. sym (some_is (model default_init_value) v h), λ h. ap Some (sym h))
@@ -123,7 +123,7 @@ module _ (s : Spec) (consts : List (Name × Data)) (names : StartNames s consts)
 
   -- what `\in` asks is what the set has
   abbrev pub Held : Tree → Type 0
-  Held e = (v : Data) (x : Name) → find x u ≡ Some v → (sem e (seen (specification s consts names u known after) [] [] None)).holds v ≡ is_member v (closed_value ds e)
+  Held e = (v : Data) (x : Name) → find x u ≡ Some v → (sem e (seen (specification s consts free names u known after) [] [] None)).holds v ≡ is_member v (closed_value ds e)
 
   abbrev pub OriginHeld : Option Origin → Type 0
   OriginHeld None = Unit {0}
@@ -149,7 +149,7 @@ module _ (s : Spec) (consts : List (Name × Data)) (names : StartNames s consts)
       (λ h. (h.0, h.1, sym (held h.0 h.1) ∙ h.2), λ h. (h.0, h.1, held h.0 h.1 ∙ h.2)))
     where
       held : (v : Data) → find x u ≡ Some v → (sem e (here [])).holds v ≡ is_member v (closed_value ds e)
-      held v q = ap (λ m. m.holds v) (start_sem s consts names u known after e a []) ∙ k v x q
+      held v q = ap (λ m. m.holds v) (start_sem s consts free names u known after e a []) ∙ k v x q
 
   -- an item of a local or a value parameter of a process with these identifiers
   module _ (it : Tree) (ids : List Data) (ids_there : option_and_then members_of (val it (here [])) ≡ Some ids) (few_ids : length ids ≤ 64) (ids_sorted : IsSorted ids) where

@@ -20,9 +20,9 @@ use Rattle.pgo_translate.specs.Avoids.{Avoids}
 use Rattle.pgo_sections.specs.Among.{is_among}
 use Rattle.pgo_translate.specs.ModuleOf.{constants_with}
 use Rattle.pgo_translate.proofs.ByProcess.{written_process, own_module}
-use Rattle.pgo_translate.specs.Premises.{BodyAvoids, is_taken, is_further, StartNames}
+use Rattle.pgo_translate.specs.Premises.{BodyAvoids, ModuleNames, process_names, is_taken, is_further, StartNames}
 use Rattle.pgo_translate.proofs.Alike.{sem_alike}
-use Rattle.pgo_translate.proofs.Actions.{module_defs, specification_defs, later_defined, among_left, among_right, further, further_defined, fold_append, call_further, defined_name}
+use Rattle.pgo_translate.proofs.Actions.{apart_from_all, module_defs, specification_defs, later_defined, among_left, among_right, further, further_defined, fold_append, call_further, defined_name}
 
 pub or_left : (a b : Bool) → (a || b) ≡ false → a ≡ false
 or_left true b h = absurd (cc)
@@ -60,7 +60,7 @@ module _ (bad : Name → Bool) (u : Vars) (after : Option Vars) (unseen : (x : N
   meanings_related [] a ms ns r = r
   meanings_related (d ∷ ds) a ms ns r = meanings_related ds a.1 (meaning_of u after ms d) (meaning_of [] None ns d) (one_more d a.0 ms ns r)
 
-module _ (s : Spec) (consts : List (Name × Data)) (names : StartNames s consts) (u : Vars) (known : map (λ p. p.0) u ≡ variables_of s) (after : Option Vars) where
+module _ (s : Spec) (consts : List (Name × Data)) (free : ModuleNames s) (names : StartNames s consts) (u : Vars) (known : map (λ p. p.0) u ≡ variables_of s) (after : Option Vars) where
   abbrev pub specification : List Defined
   specification = map defined_view (values.defs_of s consts)
 
@@ -100,13 +100,26 @@ module _ (s : Spec) (consts : List (Name × Data)) (names : StartNames s consts)
   abbrev behind_set : List Defined
   behind_set = process_definitions (map (written_process s) s.processes) ++ (Means terminating [] (terminating_body (own_module s)) ∷ [])
 
+  proc_set_free : is_among proc_set (variables_of s) ≡ false
+  proc_set_free = go (is_among proc_set (variables_of s)) refl
+    where
+      first : is_further s proc_set ≡ true
+      first = ap (λ b. b || is_among proc_set (process_names s s.processes ++ (terminating ∷ []))) (same_name-self proc_set)
+
+      go : (b : Bool) → is_among proc_set (variables_of s) ≡ b → b ≡ false
+      go true e = absurd (let k : is_further s proc_set ≡ false = free.apart proc_set e in let q = first in cc)
+      go false e = refl
+
+  proc_set_once : is_among proc_set (process_names s s.processes ++ (terminating ∷ [])) ≡ false
+  proc_set_once = apart_from_all proc_set (process_names s s.processes ++ (terminating ∷ [])) free.differ.0
+
   -- ProcSet is the union of the processes' sets, over the specification's definitions
   pub proc_set_value : val (name proc_set) (at_start []) ≡ val set_body (record { names = []; part = None; now = u; next = after; defs = meanings specification u after })
   proc_set_value =
-      ap (λ o. or_else o (λ v. Some v) (call_def proc_set [] (meanings written_module u after))) (not_found proc_set u (ap (is_among proc_set) known ∙ names.proc_set_free))
+      ap (λ o. or_else o (λ v. Some v) (call_def proc_set [] (meanings written_module u after))) (not_found proc_set u (ap (is_among proc_set) known ∙ proc_set_free))
       ∙ ap (λ ds. call_def proc_set [] (meanings ds u after)) (module_defs s consts)
       ∙ ap (call_def proc_set []) (fold_append (meaning_of u after) (default_meaning ∷ []) specification (further s))
-      ∙ call_further u after proc_set [] behind_set (meaning_of u after (meanings specification u after) (Means proc_set [] set_body)) (ap (is_among proc_set) (later_defined s) ∙ names.proc_set_once)
+      ∙ call_further u after proc_set [] behind_set (meaning_of u after (meanings specification u after) (Means proc_set [] set_body)) (ap (is_among proc_set) (later_defined s) ∙ proc_set_once)
       ∙ ap (λ b. if b then val set_body (record { names = []; part = None; now = u; next = after; defs = meanings specification u after }) else call_def proc_set [] (meanings specification u after)) (same_name-self proc_set)
 
   definition_name : (ds : List Definition) → map defined_name (map (λ d. defined_view (meant d)) ds) ≡ map (λ d. d.name.name) ds

@@ -52,7 +52,7 @@ use Rattle.pgo_translate.specs.Items.{only}
 use Rattle.pgo_translate.specs.ModuleOf.{module_of, constants_with, global_starts, own_starts}
 use Rattle.pgo_translate.proofs.ByProcess.{own_module, module_by, module_is, init_is, written_process, argument_starts, process_starts, starts_or_none, first_label_or, first_arm, places_start, start_items}
 use Rattle.pgo_pluscal.specs.PlusCalOf.{ids_tree}
-use Rattle.pgo_translate.specs.Premises.{StartNames, ProcessAvoids, OriginAvoids, ArgumentAvoids, is_taken, is_taken_or_self}
+use Rattle.pgo_translate.specs.Premises.{ModuleNames, StartNames, ProcessAvoids, OriginAvoids, ArgumentAvoids, is_taken, is_taken_or_self}
 use Rattle.pgo_translate.proofs.Sets.{SetsOrdered}
 use Rattle.pgo_translate.proofs.Weaker.{origin_fewer}
 use Rattle.pgo_translate.proofs.Actions.{pc_there}
@@ -174,7 +174,7 @@ part_length f x [] h = absurd h
 part_length f x (y ∷ ys) (inl e) = let q : length (f x) ≡ length (f y) = ap (λ z. length (f z)) e in omega (arith, q, length_append (f y) (flat_map f ys))
 part_length f x (y ∷ ys) (inr h) = omega (arith, part_length f x ys h, length_append (f y) (flat_map f ys))
 
-module _ (s : Spec) (consts : List (Name × Data)) (names : StartNames s consts) (w : WellNamed s) (h : heads_refused s.archetypes (values.defs_of s consts) (runs_of s (values.defs_of s consts)) (globals_of s (values.defs_of s consts) (runs_of s (values.defs_of s consts))) ≡ None) (sets : SetsOrdered s consts) (u : Vars) (hu : IsState (bound_of s consts) u) (after : Option Vars) where
+module _ (s : Spec) (consts : List (Name × Data)) (free : ModuleNames s) (names : StartNames s consts) (w : WellNamed s) (h : heads_refused s.archetypes (values.defs_of s consts) (runs_of s (values.defs_of s consts)) (globals_of s (values.defs_of s consts) (runs_of s (values.defs_of s consts))) ≡ None) (sets : SetsOrdered s consts) (u : Vars) (hu : IsState (bound_of s consts) u) (after : Option Vars) where
   abbrev ds : List memory.Defined
   ds = values.defs_of s consts
 
@@ -185,10 +185,10 @@ module _ (s : Spec) (consts : List (Name × Data)) (names : StartNames s consts)
   gs = globals_of s ds rs
 
   abbrev here : Names → Scope
-  here ns = at_start s consts names u hu.variables after ns
+  here ns = at_start s consts free names u hu.variables after ns
 
   abbrev spec_defs : List Defined
-  spec_defs = specification s consts names u hu.variables after
+  spec_defs = specification s consts free names u hu.variables after
 
   none : Unrefused s.archetypes ds rs gs
   none = unrefused s.archetypes ds rs gs h
@@ -257,10 +257,10 @@ module _ (s : Spec) (consts : List (Name × Data)) (names : StartNames s consts)
   own = record { names = []; part = None; now = u; next = after; defs = meanings spec_defs u after }
 
   own_value : (e : Tree) → Avoids (is_taken s) e → val e own ≡ closed_value ds e
-  own_value e a = ap (λ m. m.value) (sem_start s consts names u hu.variables after (meanings spec_defs u after) (own_related s consts names u hu.variables after) e a [])
+  own_value e a = ap (λ m. m.value) (sem_start s consts free names u hu.variables after (meanings spec_defs u after) (own_related s consts free names u hu.variables after) e a [])
 
   here_value : (e : Tree) → Avoids (is_taken s) e → val e (here []) ≡ closed_value ds e
-  here_value e a = ap (λ m. m.value) (start_sem s consts names u hu.variables after e a [])
+  here_value e a = ap (λ m. m.value) (start_sem s consts free names u hu.variables after e a [])
 
   own_has : (p : Process) → IsAmong p s.processes → Has own (ids_tree p.ids) (ids_in p)
   own_has p m = ids_has own (is_taken s) own_value (ids_of ds p.ids) p.ids (ids_named p m) refl (ids_in p) (ids_known p m) (id_bound p m)
@@ -298,7 +298,7 @@ module _ (s : Spec) (consts : List (Name × Data)) (names : StartNames s consts)
   -- ProcSet is the set of all identifiers
   set_there : option_and_then members_of (val (name proc_set) (here [])) ≡ Some gathered.members
   set_there =
-      ap (option_and_then members_of) (proc_set_value s consts names u hu.variables after)
+      ap (option_and_then members_of) (proc_set_value s consts free names u hu.variables after)
       ∙ ap (λ ts. option_and_then members_of (val (union_of ts) own)) (map_map (written_process s) (λ p. p.ids) s.processes)
       ∙ gathered.has
 
@@ -318,10 +318,10 @@ module _ (s : Spec) (consts : List (Name × Data)) (names : StartNames s consts)
 
   -- an expression that doesn't name `self` is the same under it
   sem_self : (e : Tree) (id : Data) → Avoids (is_taken_or_self s) e → sem e (here (at_self id)) ≡ sem e (seen spec_defs [] [] None)
-  sem_self e id a = sem_alike (is_taken_or_self s) e (here (at_self id)) (seen spec_defs [] [] None) (record { names = unnamed; part = refl; now = λ x g. unknown x (or_left (is_taken s x) (same_name x self_name) g); calls = λ x args g. module_related s consts names u hu.variables after x args (or_left (is_taken s x) (same_name x self_name) g) }) a
+  sem_self e id a = sem_alike (is_taken_or_self s) e (here (at_self id)) (seen spec_defs [] [] None) (record { names = unnamed; part = refl; now = λ x g. unknown x (or_left (is_taken s x) (same_name x self_name) g); calls = λ x args g. module_related s consts free names u hu.variables after x args (or_left (is_taken s x) (same_name x self_name) g) }) a
     where
       unknown : (x : Name) → is_taken s x ≡ false → find x u ≡ None
-      unknown x g = unseen s consts names u hu.variables after x g
+      unknown x g = unseen s consts free names u hu.variables after x g
 
       unnamed : (x : Name) → is_taken_or_self s x ≡ false → find x (at_self id) ≡ None
       unnamed x g = ap (λ b. if b then Some (Some id) else None) (or_right (is_taken s x) (same_name x self_name) g)
@@ -350,7 +350,7 @@ module _ (s : Spec) (consts : List (Name × Data)) (names : StartNames s consts)
 
   pub places-yes : is_true (val (places_start s) (here [])) ↔ PlacesAll
   places-yes =
-      iff_then (equal-each s consts names u hu.variables after (name proc_set) gathered.members set_there set_few gathered.sorted pc (pc_there s) places_keys.0 places_keys.1 set_keyed hu.shallow
+      iff_then (equal-each s consts free names u hu.variables after (name proc_set) gathered.members set_there set_few gathered.sorted pc (pc_there s) places_keys.0 places_keys.1 set_keyed hu.shallow
       (case_of (arms (map (first_arm s) s.processes))) (λ id v. val (case_of (arms (map (first_arm s) s.processes))) (here (at_self id)) ≡ Some v) (λ id v. (λ k. k, λ k. k)))
       (to, from)
     where
@@ -374,7 +374,7 @@ module _ (s : Spec) (consts : List (Name × Data)) (names : StartNames s consts)
       let own_vars = flat_map (λ p. map (written p.name.name) (own_names s p)) s.processes in
       among_is d.name.name (variables_of s) (among_left d.name.name (ns ++ (pc ∷ [])) own_vars (among_left d.name.name ns (pc ∷ []) (among_map (λ d. d.name.name) d s.globals m)))
 
-  global_held : (d : Declaration) → IsAmong d s.globals → (o : Option Origin) → d.initial ≡ o → OriginHeld s consts names u hu.variables after o
+  global_held : (d : Declaration) → IsAmong d s.globals → (o : Option Origin) → d.initial ≡ o → OriginHeld s consts free names u hu.variables after o
   global_held d m None q = tt
   global_held d m (Some (Equals e)) q = tt
   global_held d m (Some (In e)) q = λ v x f.
@@ -393,7 +393,7 @@ module _ (s : Spec) (consts : List (Name × Data)) (names : StartNames s consts)
       (λ k d m. (one d m).0 (k d m), λ k d m. (one d m).1 (k d m))
     where
       one : (d : Declaration) → IsAmong d s.globals → is_true (val (global_starts d.name.name d.initial) (here [])) ↔ ((v : Data) × (find d.name.name u ≡ Some v) × StartsAs ds d.initial v)
-      one d m = global-yes s consts names u hu.variables after d.name.name d.initial (global_there d m) (all_at (λ d. OriginAvoids (is_taken s) d.initial) d s.globals names.globals m) (global_held d m d.initial refl)
+      one d m = global-yes s consts free names u hu.variables after d.name.name d.initial (global_there d m) (all_at (λ d. OriginAvoids (is_taken s) d.initial) d s.globals names.globals m) (global_held d m d.initial refl)
 
   -- items of a process
   module _ (p : Process) (m : IsAmong p s.processes) (a : Archetype) (e : archetype_named p.archetype.name s.archetypes ≡ Some a) where
@@ -420,16 +420,16 @@ module _ (s : Spec) (consts : List (Name × Data)) (names : StartNames s consts)
     few_here : length (ids_in p) ≤ 64
     few_here = omega (arith, part_length ids_in p s.processes m, ap length ids_all, none.few_ids)
 
-    own_item : (x : Name) → IsAmong x (names_with p a) → (o : Option Origin) → OriginAvoids (is_taken s) o → OriginSet s consts names u hu.variables after o
+    own_item : (x : Name) → IsAmong x (names_with p a) → (o : Option Origin) → OriginAvoids (is_taken s) o → OriginSet s consts free names u hu.variables after o
         → is_true (val (own_starts (ids_tree p.ids) (written p.name.name x) o) (here [])) ↔ ((id : Data) → IsAmong id (ids_in p) → (v : Data) × (value_in u (written p.name.name x) id ≡ Some v) × StartsAt ds o id v)
     own_item x i o n k =
         let f = own_function x i in
-        own-yes s consts names u hu.variables after (ids_tree p.ids) (ids_in p) (here_has p m) few_here (ids_sorted p m) (written p.name.name x) (own_there x i) f.0 f.1 f.2 hu.shallow o n k
+        own-yes s consts free names u hu.variables after (ids_tree p.ids) (ids_in p) (here_has p m) few_here (ids_sorted p m) (written p.name.name x) (own_there x i) f.0 f.1 f.2 hu.shallow o n k
 
     local_named : (d : Declaration) → IsAmong d a.locals → OriginAvoids (is_taken s) d.initial
     local_named d i = all_at (λ d. OriginAvoids (is_taken s) d.initial) d a.locals (all_at (λ a. AllByRecursion (λ d. OriginAvoids (is_taken s) d.initial) a.locals) a s.archetypes names.archetypes (archetype_among p.archetype.name s.archetypes a e)) i
 
-    local_set_there : (d : Declaration) → IsAmong d a.locals → (o : Option Origin) → d.initial ≡ o → OriginSet s consts names u hu.variables after o
+    local_set_there : (d : Declaration) → IsAmong d a.locals → (o : Option Origin) → d.initial ≡ o → OriginSet s consts free names u hu.variables after o
     local_set_there d i None q = tt
     local_set_there d i (Some (Equals f)) q = tt
     local_set_there d i (Some (In f)) q =
@@ -538,11 +538,11 @@ module _ (s : Spec) (consts : List (Name × Data)) (names : StartNames s consts)
       (iff_then items-yes (iff_then runs-yes (iff_back (declares-runs s consts w h u))))
 
 -- the module's Init agrees with the declared starts
-begins-own : (s : Spec) (consts : List (Name × Data)) → StartNames s consts → SetsOrdered s consts → WellNamed s → bind_refusal s consts ≡ None → BeginsAgree (own_module s) (constants_with s consts) (bound_of s consts)
-begins-own s consts names sets w r u hu =
+begins-own : (s : Spec) (consts : List (Name × Data)) → ModuleNames s → StartNames s consts → SetsOrdered s consts → WellNamed s → bind_refusal s consts ≡ None → BeginsAgree (own_module s) (constants_with s consts) (bound_of s consts)
+begins-own s consts free names sets w r u hu =
     let ds = values.defs_of s consts in
-    begins-declares s consts names w (none_next (constants_refused s consts) (heads_refused s.archetypes ds (runs_of s ds) (globals_of s ds (runs_of s ds))) r) sets u hu None
+    begins-declares s consts free names w (none_next (constants_refused s consts) (heads_refused s.archetypes ds (runs_of s ds) (globals_of s ds (runs_of s ds))) r) sets u hu None
 
-pub begins-agree : (s : Spec) (consts : List (Name × Data)) → StartNames s consts → SetsOrdered s consts → WellNamed s → bind_refusal s consts ≡ None → BeginsAgree (module_of s) (constants_with s consts) (bound_of s consts)
-begins-agree s consts names sets w r =
-    subst (λ m. BeginsAgree m (constants_with s consts) (bound_of s consts)) (ap (λ ts. module_by s (all_of ts)) (sym (init_is s w names.places)) ∙ module_is s) (begins-own s consts names sets w r)
+pub begins-agree : (s : Spec) (consts : List (Name × Data)) → ModuleNames s → StartNames s consts → SetsOrdered s consts → WellNamed s → bind_refusal s consts ≡ None → BeginsAgree (module_of s) (constants_with s consts) (bound_of s consts)
+begins-agree s consts free names sets w r =
+    subst (λ m. BeginsAgree m (constants_with s consts) (bound_of s consts)) (ap (λ ts. module_by s (all_of ts)) (sym (init_is s w names.places)) ∙ module_is s) (begins-own s consts free names sets w r)

@@ -1,13 +1,13 @@
 -- The module of a specification with definitions, constants, all kinds of declarations and two processes; and that what is asked
 -- of names can be met.
-use Rattle.std.proofs.Common.{◌≡◌, Bool, false, List, [], ◌∷◌, codes, Option, Some, None, refl, ap, sym, ◌∙◌}
+use Rattle.std.proofs.Common.{◌≡◌, Bool, true, false, List, [], ◌∷◌, codes, Option, Some, None, refl, ap, sym, ◌∙◌}
 use Rattle.std.specs.Prelude.{◌||◌}
 use Rattle.pgo_base.specs.declared.expr.Infix.TheVariants as op
 use Rattle.pgo_base.specs.Tree.{Tree, name, text, binary, set_of, index, call, trees}
-use Rattle.pgo_base.specs.Lookup.{Name, same_name}
+use Rattle.pgo_base.specs.Lookup.{Name, same_name, find}
 use Rattle.pgo_model.specs.ModuleText.{Line, line, module_lines}
 use Rattle.pgo_model.specs.Written.{written, made, self_name, done}
-use Rattle.pgo_model.specs.Names.{same_name-self}
+use Rattle.pgo_model.specs.Names.{same_name-is, same_name-self}
 use Rattle.pgo_syntax.specs.Statement.{Statement, assign}
 use Rattle.pgo_syntax.specs.declared.archetype.Archetype.{Archetype}
 use Rattle.pgo_syntax.specs.declared.archetype.Extent.TheVariants as extent
@@ -27,7 +27,16 @@ use Rattle.pgo_pluscal.specs.declared.pluscal.PlusCal.{PlusCal}
 use Rattle.pgo_pluscal.specs.PlusCalOf.{process_of as expanded_process}
 use Rattle.pgo_meaning.specs.Expansions.{trees_of}
 use Rattle.pgo_translate.specs.ModuleOf.{module_with}
-use Rattle.pgo_translate.specs.Premises.{IsFree, TreeNamed, ActionNames, StartNames, is_further}
+use Rattle.pgo_translate.specs.Premises.{IsFree, ModuleNames, TreeNamed, StartNames, further_names, is_further}
+use Rattle.pgo_translate.proofs.StartValues.{or_left, or_right}
+use Rattle.pgo_sections.proofs.PlainTest.{not_made}
+use Rattle.pgo_sections.specs.PlainTest.{looks_made}
+use Rattle.pgo_sections.specs.Among.{is_among}
+use Rattle.pgo_bound.specs.State.{variables_of}
+use Rattle.pgo_model.specs.Sequences.{operators}
+use Rattle.pgo_base.specs.Data.{Data}
+use Rattle.std.specs.List.{list_any}
+use Rattle.std.specs.Prelude.{is_some}
 
 abbrev at_0 : Name → PlacedName
 at_0 x = record { name = x; place = 0 }
@@ -161,9 +170,32 @@ own_tree p g = (written p (codes "l"), tree.With (made (codes "val") 1) (binary 
 own_trees : trees_of two ≡ own_tree (codes "P") (codes "x") ∷ own_tree (codes "Q") (codes "y") ∷ []
 own_trees = refl
 
+-- what passes no test on a list passes none on its names
+none_passes : (f : Name → Bool) (xs : List Name) → list_any f xs ≡ false → (x : Name) → is_among x xs ≡ true → f x ≡ false
+none_passes f [] e x h = absurd (cc)
+none_passes f (y ∷ ys) e x h = go (same_name x y) refl h (none_passes f ys (or_right (f y) (list_any f ys) e) x)
+  where
+    go : (b : Bool) → same_name x y ≡ b → (b || is_among x ys) ≡ true → (is_among x ys ≡ true → f x ≡ false) → f x ≡ false
+    go true q k r = ap f (same_name-is x y q) ∙ or_left (f y) (list_any f ys) e
+    go false q k r = r k
+
+no_operator : (o : Option (List Data → Option Data)) → is_some o ≡ false → o ≡ None
+no_operator None h = refl
+no_operator (Some f) h = absurd (cc)
+
 -- what the laws ask of names holds of it
-pub two_named : ActionNames two
-two_named = record { self = refl; labels = ((refl, tt), (tt, tt)) }
+pub two_named : ModuleNames two
+two_named = record {
+  self_variable = refl;
+  self_further = refl;
+  written = λ x h. not_made x (none_passes looks_made (variables_of two) refl x h);
+  further = λ x h. not_made x (none_passes looks_made (further_names two) refl x h);
+  apart = λ x h. none_passes (is_further two) (variables_of two) refl x h;
+  differ = ((refl, (refl, (refl, (refl, (refl, tt))))), ((refl, (refl, (refl, (refl, tt)))), ((refl, (refl, (refl, tt))), ((refl, (refl, tt)), ((refl, tt), (tt, tt))))));
+  operators = λ x h. no_operator (find x operators) (none_passes (λ y. is_some (find y operators)) (further_names two) refl x h);
+  assert = refl;
+  content = refl;
+}
 
 -- each of its trees is named as they ask
 tree_named : (p g : Name) → IsFree two (made (codes "val") 1) → (is_further two g ≡ false) × (is_further two (written p (codes "k")) ≡ false) → TreeNamed two (own_tree p g).1
@@ -177,15 +209,12 @@ second_named = tree_named (codes "Q") (codes "y") (record { self = refl; variabl
 
 pub two_starts : StartNames two []
 two_starts = record {
-  self = refl;
   bodies = (tt, ((refl, refl), ((refl, (refl, tt)), (((refl, refl), (refl, refl)), tt))));
   globals = (refl, (refl, (tt, tt)));
   processes = (record { ids = tt; arguments = (tt, (refl, tt)) }, (record { ids = refl; arguments = (tt, ((refl, (refl, tt)), tt)) }, tt));
   archetypes = ((refl, (refl, (tt, tt))), tt);
   default = refl;
   default_defined = refl;
-  proc_set_free = refl;
-  proc_set_once = refl;
   places = (at_label, (at_label, tt));
 }
   where

@@ -24,7 +24,7 @@ module _ (trees : TreesLaw) (sections : SectionsLaw) (labels : LabelsLaw) (actio
   steps : StepsAgree (module_of s) (constants_with s consts) b
   steps k i l u t at_k is_label is_u is_t =
       let n = h.instances k i at_k in
-      iff_then (actions s consts l h.actions (tree_named sections naming s consts h i n l is_label) (id_of i) u t is_u is_t)
+      iff_then (actions s consts l h.names (tree_named sections naming s consts h i n l is_label) (id_of i) u t is_u is_t)
       (at_label (λ at_l. trees b k i l u t at_k n.named n.labels h.unlabelled n.done is_label is_u is_t at_l))
 
   pub agrees : BeginsAgree (module_of s) (constants_with s consts) b → Agrees (module_of s) (constants_with s consts) b

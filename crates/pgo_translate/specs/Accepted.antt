@@ -16,8 +16,8 @@ use Rattle.pgo_meaning.specs.LabelSections.{AreUnlabelled, NoneIsDone}
 use Rattle.pgo_meaning.specs.Parameters.{places_of}
 use Rattle.pgo_meaning.specs.TreesAgree.{Named, OwnLabels, sections_at}
 use Rattle.pgo_translate.specs.ModuleOf.{declared}
-use Rattle.pgo_translate.specs.Named.{FurtherNames, taken_names}
-use Rattle.pgo_translate.specs.Premises.{ActionNames, CallNames, StartNames, ConstantsAreValues}
+use Rattle.pgo_translate.specs.Named.{taken_names}
+use Rattle.pgo_translate.specs.Premises.{ModuleNames, StartNames, ConstantsAreValues}
 
 -- of an instance: what the law of trees asks; and its sections name no further definition
 pub record InstanceAccepted (s : Spec) (b : Bound) (i : Instance) : Type 0 where
@@ -28,9 +28,7 @@ pub record InstanceAccepted (s : Spec) (b : Bound) (i : Instance) : Type 0 where
       → PlainCode (taken_names s) (declared s.globals) (places_of i.process i.archetype i.bindings) [] c
 
 pub record Accepted (s : Spec) (consts : List (Name × Data)) : Type 0 where
-  pub actions : ActionNames s
-  pub further : FurtherNames s
-  pub calls : CallNames s
+  pub names : ModuleNames s
   pub starts : StartNames s consts
   pub constants : ConstantsAreValues s consts
   pub well : WellNamed s

@@ -1,28 +1,18 @@
 -- When the expansion of a section is named as the module asks.
-use Rattle.std.specs.Prelude.{◌≡◌, true, false, List, [], ◌++◌, Some}
+use Rattle.std.specs.Prelude.{◌≡◌, true, List, [], ◌++◌, Some}
 use Rattle.pgo_base.specs.Lookup.{Name, find}
-use Rattle.pgo_model.specs.Written.{self_name}
 use Rattle.pgo_syntax.specs.declared.spec.Spec.{Spec}
 use Rattle.pgo_bound.specs.State.{variables_of}
 use Rattle.pgo_sections.specs.Among.{is_among}
-use Rattle.pgo_sections.specs.Code.{Place, variable_of, Code, content_name}
+use Rattle.pgo_sections.specs.Code.{Place, variable_of, Code}
 use Rattle.pgo_sections.specs.Expand.{expansion}
-use Rattle.pgo_sections.specs.WellFormed.{NotMade, PlainCode}
+use Rattle.pgo_sections.specs.WellFormed.{PlainCode}
 use Rattle.pgo_translate.specs.ModuleOf.{declared}
-use Rattle.pgo_translate.specs.Premises.{TreeNamed, further_names, is_further}
+use Rattle.pgo_translate.specs.Premises.{ModuleNames, TreeNamed, further_names}
 
 -- what a name in a section may not be, but by what it stands for: a variable or a further definition
 abbrev pub taken_names : Spec → List Name
 taken_names s = variables_of s ++ further_names s
-
--- of names alone: no variable and no further definition is a made name, no variable is a further definition, `self` is neither
--- of them, and `$variable` is no further definition
-pub record FurtherNames (s : Spec) : Type 0 where
-  pub written : (x : Name) → is_among x (variables_of s) ≡ true → NotMade x
-  pub further : (x : Name) → is_further s x ≡ true → NotMade x
-  pub apart : (x : Name) → is_among x (variables_of s) ≡ true → is_further s x ≡ false
-  pub self_further : is_further s self_name ≡ false
-  pub content_further : is_further s content_name ≡ false
 
 -- what names stand for are variables
 abbrev pub PlacesAmong : Spec → List (Name × Place) → Type 0
@@ -30,5 +20,5 @@ PlacesAmong s ps = (x : Name) (p : Place) → find x ps ≡ Some p → is_among 
 
 abbrev pub TreesAreNamed : Type 0
 TreesAreNamed =
-    (s : Spec) (ps : List (Name × Place)) (c : Code) → FurtherNames s → PlacesAmong s ps → PlainCode (taken_names s) (declared s.globals) ps [] c
+    (s : Spec) (ps : List (Name × Place)) (c : Code) → ModuleNames s → PlacesAmong s ps → PlainCode (taken_names s) (declared s.globals) ps [] c
     → TreeNamed s (expansion (variables_of s) ps c)

@@ -22,8 +22,10 @@ use Rattle.pgo_bound.specs.Runs.{archetype_named}
 use Rattle.pgo_bound.specs.State.{AreDifferent, variables_of}
 use Rattle.pgo_bound.specs.Values.{defs_of, define_of}
 use Rattle.pgo_sections.specs.Among.{is_among}
+use Rattle.pgo_sections.specs.Code.{content_name}
+use Rattle.pgo_sections.specs.WellFormed.{NotMade}
 use Rattle.pgo_sections.specs.Expansion.{Expansion, With, In, Skip, Await, Assert, Print, If, Either, End, Expansions, no_expansions, more_expansions}
-use Rattle.pgo_meaning.specs.Expansions.{process_expansions, trees_of}
+use Rattle.pgo_meaning.specs.Expansions.{process_expansions}
 use Rattle.pgo_translate.specs.Avoids.{Avoids}
 
 -- the label actions of each process, and its own definition
@@ -47,7 +49,21 @@ is_taken s x = is_among x (variables_of s) || is_further s x
 abbrev pub is_taken_or_self : Spec → Name → Bool
 is_taken_or_self s x = is_taken s x || same_name x self_name
 
--- ---- actions
+-- Of the names that a module writes: no variable and no further definition is `self` or a made name; no variable is a further
+-- definition; and no two further definitions have one name. None has the name of an operator of the modules, nor that by which a
+-- mapping macro's block speaks of the content.
+pub record ModuleNames (s : Spec) : Type 0 where
+  pub self_variable : is_among self_name (variables_of s) ≡ false
+  pub self_further : is_further s self_name ≡ false
+  pub written : (x : Name) → is_among x (variables_of s) ≡ true → NotMade x
+  pub further : (x : Name) → is_further s x ≡ true → NotMade x
+  pub apart : (x : Name) → is_among x (variables_of s) ≡ true → is_further s x ≡ false
+  pub differ : AreDifferent (further_names s)
+  pub operators : (x : Name) → is_further s x ≡ true → find x operators ≡ None
+  pub assert : is_further s assert_name ≡ false
+  pub content : is_further s content_name ≡ false
+
+-- ---- trees
 
 module _ (bad : Name → Bool) (free : Name → Type 0) where
   abbrev mutual
@@ -76,19 +92,6 @@ pub record IsFree (s : Spec) (x : Name) : Type 0 where
 -- the tree binds no variable and not `self`, names no further definition, and assigns what is bound above
 abbrev pub TreeNamed : Spec → Expansion → Type 0
 TreeNamed s x = IsNamed (is_further s) (IsFree s) [] x
-
--- what the actions ask: no variable is `self`, and no two labels have one written name
-pub record ActionNames (s : Spec) : Type 0 where
-  pub self : is_among self_name (variables_of s) ≡ false
-  pub labels : AreDifferent (map (λ l. l.0) (trees_of s))
-
--- ---- Next
-
--- what Next asks besides: the definitions that it calls differ, and none has the name of an operator of the modules
-pub record CallNames (s : Spec) : Type 0 where
-  pub differ : AreDifferent (further_names s)
-  pub operators : (x : Name) → is_further s x ≡ true → find x operators ≡ None
-  pub assert : is_further s assert_name ≡ false
 
 -- ---- Init
 
@@ -122,18 +125,14 @@ StartsAtLabel s p =
     → archetype_named p.archetype.name s.archetypes ≡ Some a → a.body ≡ (Some l, t) ∷ rest → same_name l.name done ≡ false
 
 -- what Init asks: expressions of definitions, initial values, identifiers and value arguments name no variable and no
--- further definition; nothing but `defaultInitValue` has its name; `self` and ProcSet are no variables, ProcSet is no
--- other further definition, and no process starts at a label `Done`
+-- further definition; nothing but `defaultInitValue` has its name; and no process starts at a label `Done`
 pub record StartNames (s : Spec) (consts : List (Name × Data)) : Type 0 where
-  pub self : is_among self_name (variables_of s) ≡ false
   pub bodies : AllByRecursion (BodyAvoids (is_taken s)) (map defined_view (defs_of s consts))
   pub globals : AllByRecursion (λ d. OriginAvoids (is_taken s) d.initial) s.globals
   pub processes : AllByRecursion (ProcessAvoids s) s.processes
   pub archetypes : AllByRecursion (λ a. AllByRecursion (λ d. OriginAvoids (is_taken s) d.initial) a.locals) s.archetypes
   pub default : is_taken s default_init_value ≡ false
   pub default_defined : is_among default_init_value (definition_names s) ≡ false
-  pub proc_set_free : is_among proc_set (variables_of s) ≡ false
-  pub proc_set_once : is_among proc_set (process_names s s.processes ++ (terminating ∷ [])) ≡ false
   pub places : AllByRecursion (StartsAtLabel s) s.processes
 
 -- the value that a definition is given is one

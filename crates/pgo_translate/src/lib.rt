@@ -11,7 +11,7 @@ ghost use Rattle.pgo_heads.specs.Refusals.{bind_refusal};
 ghost use Rattle.pgo_sections.specs.Expansion.{Expansion};
 ghost use Rattle.pgo_meaning.specs.Expansions.{trees_of};
 ghost use Rattle.pgo_translate.specs.ModuleOf.{module_of, constants_with};
-ghost use Rattle.pgo_translate.specs.Premises.{ActionNames, TreeNamed, StartNames, ConstantsAreValues};
+ghost use Rattle.pgo_translate.specs.Premises.{ModuleNames, TreeNamed, StartNames, ConstantsAreValues};
 ghost use Rattle.pgo_translate.specs.Named.{TreesAreNamed};
 ghost use Rattle.pgo_translate.specs.Accepted.{Accepted};
 ghost use Rattle.pgo_translate.specs.Agrees.{ActsAgree, BeginsAgree, Agrees};
@@ -22,14 +22,14 @@ use pgo_meaning::{sections_of_labels, trees_agree};
 ///
 /// Source: the translation of A PlusCal User's Manual.
 pub fn actions_agree()
-    ensures { (s : Spec) (consts : List (Name × Data)) (a : Name) → ActionNames s → ((x : Expansion) → find a (trees_of s) ≡ Some x → TreeNamed s x) → ActsAgree (module_of s) (constants_with s consts) (bound_of s consts) (trees_of s) a }
+    ensures { (s : Spec) (consts : List (Name × Data)) (a : Name) → ModuleNames s → ((x : Expansion) → find a (trees_of s) ≡ Some x → TreeNamed s x) → ActsAgree (module_of s) (constants_with s consts) (bound_of s consts) (trees_of s) a }
 {}
 
 /// Init of a specification's module is TRUE of exactly the declared starts.
 ///
 /// Source: the translation of A PlusCal User's Manual.
 pub fn starts_agree()
-    ensures { (s : Spec) (consts : List (Name × Data)) → StartNames s consts → ConstantsAreValues s consts → WellNamed s → bind_refusal s consts ≡ None → BeginsAgree (module_of s) (constants_with s consts) (bound_of s consts) }
+    ensures { (s : Spec) (consts : List (Name × Data)) → ModuleNames s → StartNames s consts → ConstantsAreValues s consts → WellNamed s → bind_refusal s consts ≡ None → BeginsAgree (module_of s) (constants_with s consts) (bound_of s consts) }
 {}
 
 /// The expansion of a section whose names are well formed is named as its label's action asks.
