@@ -7,7 +7,7 @@ use Rattle.pgo_base.specs.Lookup.{Name, Names, Vars, same_name, find}
 use Rattle.pgo_base.specs.Tree.{Tree}
 use Rattle.pgo_base.specs.ValueCode.{value_from}
 use Rattle.pgo_model.specs.Acts.{Acts}
-use Rattle.pgo_model.specs.Module.{actions_in, actions_of, defs_of, process_definitions, action_definition, process_body, proc_set_of, terminating_body}
+use Rattle.pgo_model.specs.Module.{actions_in, actions_of, defs_of, process_definitions, action_definition, process_body, proc_set_of, terminating_body, stands_at}
 use Rattle.pgo_model.specs.ModuleView.{defined_view}
 use Rattle.pgo_base.specs.declared.module.Defined.TheVariants as base_variants
 use Rattle.pgo_model.specs.Names.{same_name-is, same_name-not, same_name-self}
@@ -39,7 +39,7 @@ use Rattle.pgo_translate.specs.Agrees.{ActsAgree}
 use Rattle.pgo_translate.proofs.FoundBack.{found_back}
 use Rattle.pgo_translate.proofs.Alike.{Alike, sem_alike}
 use Rattle.pgo_translate.proofs.Kleene.{is_true, iff_then, pair_iff, some_is}
-use Rattle.pgo_translate.proofs.Paths.{Binds, ArmsBind, Holds, body-yes}
+use Rattle.pgo_translate.proofs.Paths.{Binds, ArmsBind, Holds, body-yes, stands-yes}
 
 -- a path depends on the definitions only by the values of expressions that avoid the bad names
 module _ (bad : Name → Bool) (free : Name → Type 0) (c : List Defined) (d : List Defined) (vars globals : List Name) (id : Data) (s t : Vars) where
@@ -120,7 +120,7 @@ label_names : (s : Spec) (ls : List (Name × Expansion)) → map defined_name (m
 label_names s [] = refl
 label_names s (l ∷ ls) = ap (λ xs. l.0 ∷ xs) (label_names s ls)
 
-process_defined : (s : Spec) (ps : List Process) → map defined_name (process_definitions (map (written_process s) ps)) ≡ process_names s ps
+pub process_defined : (s : Spec) (ps : List Process) → map defined_name (process_definitions (map (written_process s) ps)) ≡ process_names s ps
 process_defined s [] = refl
 process_defined s (p ∷ ps) =
     map-append defined_name (map action_definition (label_actions s (process_expansions s p))) (Means p.name.name (self_name ∷ []) (process_body (written_process s p)) ∷ process_definitions (map (written_process s) ps))
@@ -307,30 +307,35 @@ module _ (s : Spec) (consts : List (Name × Data)) (names : ModuleNames s) where
   abbrev only_self : Data → Names
   only_self id = (self_name, Some id) ∷ []
 
+  module _ (more : List Defined) (id : Data) (u t : Vars) (hu : IsState (bound_of s consts) u) (ht : IsState (bound_of s consts) t) where
+    known : (x : Name) → is_among x (variables_of s) ≡ true → (v : Data) × (find x u ≡ Some v)
+    known = named_known u (variables_of s) hu.variables
+
+    next_known : (x : Name) → is_among x (variables_of s) ≡ true → (v : Data) × (find x t ≡ Some v)
+    next_known = named_known t (variables_of s) ht.variables
+
+    holds : Holds (with_more more id) u t known (pc_there s) next_known [] (only_self id)
+    holds = record {
+      self = ap (λ b. if b then Some (Some id) else None) (same_name-self self_name);
+      plain = λ y m. ap (λ b. if b then Some (Some id) else None) (self_apart y (variables_of s) m names.self_variable);
+      bound_above = λ y m. absurd (cc);
+    }
+
+    -- `pc` has the label at the identifier
+    pub stands-over : (l : Name) → is_true (Val (specification_definitions ++ more) (stands_at l) (only_self id) u (Some t)) ↔ (option_and_then (λ f. apply f id) (find pc u) ≡ Some (string l))
+    stands-over l = stands-yes (with_more more id) u t known (pc_there s) next_known l [] (only_self id) holds
+
   -- with some of the further definitions, an action's body is TRUE exactly where the instance stands at the label and a path of the
   -- tree leads on
   pub acts-over : (more : List Defined) → ((x : Name) → is_further s x ≡ false → is_among x (map defined_name more) ≡ false) → (a : Name) (id : Data) (u t : Vars) → IsState (bound_of s consts) u → IsState (bound_of s consts) t → (x : Expansion) → TreeNamed s x
       → is_true (Val (specification_definitions ++ more) (action_body (variables_of s) (global_names s) a x) (only_self id) u (Some t))
       ↔ ((option_and_then (λ f. apply f id) (find pc u) ≡ Some (string a)) × Path (path_context (bound_of s consts) id) x (only_self id) u t)
   acts-over more few a id u t hu ht x named =
-      iff_then (body-yes (with_more more id) u t known (pc_there s) next_known a x [] (only_self id) holds (binds_of (is_further s) s [] x named))
+      iff_then (body-yes (with_more more id) u t (known more id u t hu ht) (pc_there s) (next_known more id u t hu ht) a x [] (only_self id) (holds more id u t hu ht) (binds_of (is_further s) s [] x named))
       (pair_iff (λ h. h, λ h. h) (
         path_over (is_further s) (IsFree s) (specification_definitions ++ more) specification_definitions (variables_of s) (global_names s) id u t (λ f ns g. value_same s consts more u t f ns few g) x [] (only_self id) named,
         path_over (is_further s) (IsFree s) specification_definitions (specification_definitions ++ more) (variables_of s) (global_names s) id u t (λ f ns g. sym (value_same s consts more u t f ns few g)) x [] (only_self id) named,
       ))
-    where
-      known : (x : Name) → is_among x (variables_of s) ≡ true → (v : Data) × (find x u ≡ Some v)
-      known = named_known u (variables_of s) hu.variables
-
-      next_known : (x : Name) → is_among x (variables_of s) ≡ true → (v : Data) × (find x t ≡ Some v)
-      next_known = named_known t (variables_of s) ht.variables
-
-      holds : Holds (with_more more id) u t known (pc_there s) next_known [] (only_self id)
-      holds = record {
-        self = ap (λ b. if b then Some (Some id) else None) (same_name-self self_name);
-        plain = λ y m. ap (λ b. if b then Some (Some id) else None) (self_apart y (variables_of s) m names.self_variable);
-        bound_above = λ y m. absurd (cc);
-      }
 
   acts-tree : (a : Name) (id : Data) (u t : Vars) → IsState (bound_of s consts) u → IsState (bound_of s consts) t → (x : Expansion) → TreeNamed s x
       → is_true (Val module_definitions (action_body (variables_of s) (global_names s) a x) (only_self id) u (Some t))

@@ -23,6 +23,7 @@ mod Naming
 mod Calls
 mod Next
 mod LabelTrees
+mod Ended
 mod NextSteps
 mod Whole
 mod CompileRows

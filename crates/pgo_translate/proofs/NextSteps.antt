@@ -37,7 +37,8 @@ use Rattle.pgo_meaning.specs.Statements.{label_of}
 use Rattle.pgo_meaning.specs.TreesAgree.{expansions_at, sections_at}
 use Rattle.pgo_pluscal.specs.PlusCalOf.{ids_tree}
 use Rattle.pgo_translate.specs.Accepted.{Accepted, InstanceAccepted}
-use Rattle.pgo_translate.specs.Agrees.{HasEnded, IsNext, NextAgrees, SomeActs}
+use Rattle.pgo_translate.specs.Agrees.{IsNext, NextAgrees, SomeActs, AllDone, IsUnchanged}
+use Rattle.pgo_translate.proofs.Ended.{HasEnded, ended-yes}
 use Rattle.pgo_translate.specs.ModuleOf.{constants_with, module_of}
 use Rattle.pgo_translate.specs.Named.{TreesAreNamed}
 use Rattle.pgo_translate.specs.Premises.{TreeNamed}
@@ -223,7 +224,10 @@ module _ (sections : SectionsLaw) (labels : LabelsLaw) (actions : ActionsLaw) (n
           let r = runs_as k.number k.instance k.there in
           (r.0, r.3.among, (r.1, r.2, stands_at r.0 r.1 k.number k.instance r.3 k.label k.is_label k.acts))
 
+  next-whole : IsNext m (constants_with s consts) u t ↔ (SomeActs (module_of s) (constants_with s consts) b u t ⊎ (AllDone b u × IsUnchanged b u t))
+  next-whole = iff_then next-own (sum_iff some-acts (ended-yes s consts h.names h.starts h.well none sets u t hu ht))
+
 pub next-agrees : (sections : SectionsLaw) (labels : LabelsLaw) (actions : ActionsLaw) (naming : TreesAreNamed) (s : Spec) (consts : List (Name × Data)) → Accepted s consts → NextAgrees (module_of s) (constants_with s consts) (bound_of s consts)
 next-agrees sections labels actions naming s consts h u t hu ht =
-    subst (λ m. IsNext m (constants_with s consts) u t ↔ (SomeActs (module_of s) (constants_with s consts) (bound_of s consts) u t ⊎ HasEnded m (constants_with s consts) u t)) (module_is s)
-    (iff_then (next-own sections labels actions naming s consts h u t hu ht) (sum_iff (some-acts sections labels actions naming s consts h u t hu ht) (λ k. k, λ k. k)))
+    subst (λ m. IsNext m (constants_with s consts) u t ↔ (SomeActs (module_of s) (constants_with s consts) (bound_of s consts) u t ⊎ (AllDone (bound_of s consts) u × IsUnchanged (bound_of s consts) u t))) (module_is s)
+    (next-whole sections labels actions naming s consts h u t hu ht)

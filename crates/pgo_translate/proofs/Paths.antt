@@ -261,7 +261,7 @@ module _ (a : PathContext) (s t : Vars)
         sum_iff (iff_then (all-yes (under ns) (items vars globals x)) (items-path x above ns h b.0)) (arms-path rest above ns h b.1)
 
   -- the instance stands at the label
-  stands-yes : (l : Name) (above : List Name) (ns : Names) → Holds above ns → is_true (value (stands_at l) ns) ↔ (option_and_then (λ f. apply f id) (find pc s) ≡ Some (string l))
+  pub stands-yes : (l : Name) (above : List Name) (ns : Names) → Holds above ns → is_true (value (stands_at l) ns) ↔ (option_and_then (λ f. apply f id) (find pc s) ≡ Some (string l))
   stands-yes l above ns h = subst (λ o. is_true (value (stands_at l) ns) ↔ (o ≡ Some (string l))) place_value (iff_then (equal-yes (value (index (name pc) (trees (name self_name ∷ []))) ns) (Some (string l))) (to, λ k. (string l, k, refl)))
     where
       place_value : value (index (name pc) (trees (name self_name ∷ []))) ns ≡ option_and_then (λ f. apply f id) (find pc s)

@@ -9,7 +9,7 @@ use Rattle.pgo_base.specs.Lookup.{Name, Names, Vars, same_name, find}
 use Rattle.pgo_base.specs.Sets.{in_order, IsSorted, same_sorted, sorted-in_order, in-in_order, in_order-in}
 use Rattle.pgo_base.specs.Size.{depth}
 use Rattle.pgo_base.specs.Tree.{Tree, name, binary, case_of, arms}
-use Rattle.pgo_model.specs.Module.{all_of, union_of}
+use Rattle.pgo_model.specs.Module.{all_of, proc_set_of, union_of}
 use Rattle.pgo_model.specs.Names.{same_name-self}
 use Rattle.pgo_model.specs.Operators.{both, contains, members_of, is_member, set_from, joined, from_truth}
 use Rattle.pgo_model.specs.State.{AllValues}
@@ -253,7 +253,7 @@ module _ (s : Spec) (consts : List (Name × Data)) (free : ModuleNames s) (names
   id_bound : (p : Process) → IsAmong p s.processes → (v : Data) → IsAmong v (ids_in p) → CanBeBound v
   id_bound p m v i = can_be_bound v (id_low v (process_ids p v m i))
 
-  abbrev own : Scope
+  abbrev pub own : Scope
   own = record { names = []; part = None; now = u; next = after; defs = meanings spec_defs u after }
 
   own_value : (e : Tree) → Avoids (is_taken s) e → val e own ≡ closed_value ds e
@@ -286,21 +286,23 @@ module _ (s : Spec) (consts : List (Name × Data)) (free : ModuleNames s) (names
   all_sorted [] f = tt
   all_sorted (p ∷ ps) f = (ids_sorted p (f p (inl refl)), all_sorted ps (λ q m. f q (inr m)))
 
-  joined_all : joined (map ids_in s.processes) ≡ all_ids rs
+  pub joined_all : joined (map ids_in s.processes) ≡ all_ids rs
   joined_all = joined_map ids_in s.processes ∙ sym ids_all
 
-  gathered : Gathers own (union_of (map (λ p. ids_tree p.ids) s.processes)) (joined (map ids_in s.processes))
+  pub gathered : Gathers own (union_of (map (λ p. ids_tree p.ids) s.processes)) (joined (map ids_in s.processes))
   gathered =
       union_gathers own (map (λ p. ids_tree p.ids) s.processes) (map ids_in s.processes) (all_have s.processes (λ p m. m)) (all_sorted s.processes (λ p m. m))
       (subst (λ ids. length ids ≤ 64) (sym joined_all) none.few_ids)
       (λ q i. id_low q (subst (IsAmong q) joined_all i))
 
+  pub own_set : option_and_then members_of (val (proc_set_of (own_module s)) own) ≡ Some gathered.members
+  own_set =
+      ap (λ ts. option_and_then members_of (val (union_of ts) own)) (map_map (written_process s) (λ p. p.ids) s.processes)
+      ∙ gathered.has
+
   -- ProcSet is the set of all identifiers
   set_there : option_and_then members_of (val (name proc_set) (here [])) ≡ Some gathered.members
-  set_there =
-      ap (option_and_then members_of) (proc_set_value s consts free names u hu.variables after)
-      ∙ ap (λ ts. option_and_then members_of (val (union_of ts) own)) (map_map (written_process s) (λ p. p.ids) s.processes)
-      ∙ gathered.has
+  set_there = ap (option_and_then members_of) (proc_set_value s consts free names u hu.variables after) ∙ own_set
 
   set_few : length gathered.members ≤ 64
   set_few = omega (arith, gathered.few, ap length joined_all, none.few_ids)

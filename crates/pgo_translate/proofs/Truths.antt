@@ -31,7 +31,7 @@ truth_of-yes o = (to o, λ h. ap truth_of h)
     to (Some (set xs)) h = absurd (cc)
     to (Some (function ps)) h = absurd (cc)
 
-and3-yes : (p q : Option Bool) → (and3 p q ≡ Some true) ↔ ((p ≡ Some true) × (q ≡ Some true))
+pub and3-yes : (p q : Option Bool) → (and3 p q ≡ Some true) ↔ ((p ≡ Some true) × (q ≡ Some true))
 and3-yes (Some true) (Some true) = (λ h. (refl, refl), λ h. refl)
 and3-yes (Some true) (Some false) = (λ h. absurd (cc), λ h. h.1)
 and3-yes (Some true) None = (λ h. absurd (cc), λ h. h.1)

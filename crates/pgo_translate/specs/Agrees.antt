@@ -1,17 +1,17 @@
 -- What the module of a specification says of steps and of starts.
-use Rattle.std.specs.Prelude.{◌≡◌, ◌↔◌, ◌⊎◌, ℕ, List, [], Some}
+use Rattle.std.specs.Prelude.{◌≡◌, ◌↔◌, ◌⊎◌, ℕ, true, List, [], Some}
 use Rattle.pgo_base.specs.Data.{Data, string}
-use Rattle.pgo_base.specs.Lookup.{Name, Vars}
-use Rattle.pgo_base.specs.Tree.{name}
+use Rattle.pgo_base.specs.Lookup.{Name, Vars, find}
 use Rattle.pgo_model.specs.Acts.{Acts, Begins, IsTrueOn}
 use Rattle.pgo_model.specs.Machine.{nth}
 use Rattle.pgo_model.specs.Module.{Module, next_body}
-use Rattle.pgo_model.specs.Written.{pc, terminating}
+use Rattle.pgo_model.specs.Written.{pc, done}
 use Rattle.pgo_syntax.specs.declared.bound.Bound.{Bound}
 use Rattle.pgo_syntax.specs.declared.bound.Instance.{Instance}
 use Rattle.pgo_bound.specs.Declares.{Declares, value_in}
 use Rattle.pgo_bound.specs.Sound.{IsLabel}
-use Rattle.pgo_bound.specs.State.{IsState, id_of}
+use Rattle.pgo_bound.specs.State.{IsState, id_of, variables_of}
+use Rattle.pgo_sections.specs.Among.{is_among}
 use Rattle.pgo_sections.specs.Expansion.{Expansion}
 use Rattle.pgo_meaning.specs.Sect.{Allows}
 use Rattle.pgo_meaning.specs.TreeAllows.{TreeAllows}
@@ -33,12 +33,9 @@ StepsAgree m consts b =
     (k : ℕ) (i : Instance) (l : Name) (s t : Vars) → nth b.instances k ≡ Some i → IsLabel i l → IsState b s → IsState b t
     → Acts m consts l (id_of i) s t ↔ ((value_in s pc (id_of i) ≡ Some (string l)) × Allows b k s t)
 
--- a step of Next; and of Terminating, where nothing changes
+-- Next is TRUE
 abbrev pub IsNext : Module → List (Name × Data) → Vars → Vars → Type 0
 IsNext m consts s t = IsTrueOn m consts [] s (Some t) (next_body m)
-
-abbrev pub HasEnded : Module → List (Name × Data) → Vars → Vars → Type 0
-HasEnded m consts s t = IsTrueOn m consts [] s (Some t) (name terminating)
 
 -- some instance's action, at some label, is TRUE
 pub record SomeActs (m : Module) (consts : List (Name × Data)) (b : Bound) (s t : Vars) : Type 0 where
@@ -49,9 +46,17 @@ pub record SomeActs (m : Module) (consts : List (Name × Data)) (b : Bound) (s t
   pub is_label : IsLabel instance label
   pub acts : Acts m consts label (id_of instance) s t
 
--- Next is TRUE of exactly the steps of instances, and where all have ended
+-- every instance is at Done
+abbrev pub AllDone : Bound → Vars → Type 0
+AllDone b s = (k : ℕ) (i : Instance) → nth b.instances k ≡ Some i → value_in s pc (id_of i) ≡ Some (string done)
+
+-- each variable has in t what it has in s
+abbrev pub IsUnchanged : Bound → Vars → Vars → Type 0
+IsUnchanged b s t = (x : Name) → is_among x (variables_of b.spec) ≡ true → find x t ≡ find x s
+
+-- Next is TRUE of exactly the steps of instances, and where all have ended and nothing changes
 abbrev pub NextAgrees : Module → List (Name × Data) → Bound → Type 0
-NextAgrees m consts b = (s t : Vars) → IsState b s → IsState b t → IsNext m consts s t ↔ (SomeActs m consts b s t ⊎ HasEnded m consts s t)
+NextAgrees m consts b = (s t : Vars) → IsState b s → IsState b t → IsNext m consts s t ↔ (SomeActs m consts b s t ⊎ (AllDone b s × IsUnchanged b s t))
 
 pub record Agrees (m : Module) (consts : List (Name × Data)) (b : Bound) : Type 0 where
   pub steps : StepsAgree m consts b

@@ -52,7 +52,8 @@ pub fn trees_are_named()
 /// - `steps`: at each label of an instance's process, the label's action is TRUE of exactly the pairs of states where the instance
 ///   stands at the label and its section allows the step;
 /// - `starts`: Init is TRUE of exactly the declared starts;
-/// - `next`: Next is TRUE of exactly the pairs of states where some instance's action is TRUE, or Terminating.
+/// - `next`: Next is TRUE of exactly the pairs of states where some instance's action is TRUE, or where all instances are at Done and
+///   nothing changes.
 ///
 /// Source: the translation of A PlusCal User's Manual.
 pub fn module_agrees()
