@@ -1,4 +1,3 @@
--- The law at the product's types.
 use Rattle.pgo_translate.proofs.Actions.{acts-agree}
 use Rattle.pgo_translate.proofs.actions_agree.Goals as goal
 

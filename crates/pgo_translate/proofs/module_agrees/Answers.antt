@@ -1,4 +1,3 @@
--- The law at the product's types.
 use Rattle.pgo_translate.proofs.Whole.{agrees}
 use Rattle.pgo_translate.proofs.module_agrees.Goals as goal
 

@@ -1,4 +1,3 @@
--- The law at the product's types.
 use Rattle.pgo_translate.proofs.Sets.{sets_ordered}
 use Rattle.pgo_translate.proofs.Starts.{begins-agree}
 use Rattle.pgo_translate.proofs.starts_agree.Goals as goal

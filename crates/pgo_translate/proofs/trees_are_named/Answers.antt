@@ -1,4 +1,3 @@
--- The law at the product's types.
 use Rattle.pgo_translate.proofs.Naming as naming
 use Rattle.pgo_translate.proofs.trees_are_named.Goals as goal
 
