@@ -13,12 +13,12 @@ use Rattle.pgo_sections.specs.Expand.{Renames, Current, untouched, current, plac
 use Rattle.pgo_sections.specs.Expansion.{With as EWith}
 use Rattle.pgo_sections.specs.Among.{is_among}
 use Rattle.pgo_translate.specs.Avoids.{Avoids}
-use Rattle.pgo_translate.specs.Premises.{IsNamed, ArmsNamed, IsFree, is_further, further_names}
+use Rattle.pgo_translate.specs.Premises.{IsNamed, ArmsNamed, IsFree, is_further, further_names, taken_names}
 use Rattle.pgo_translate.specs.ModuleOf.{declared}
 use Rattle.pgo_translate.proofs.Actions.{among_right, among_front}
 use Rattle.pgo_sections.proofs.Apart.{self_not_made}
 use Rattle.pgo_bound.specs.State.{variables_of, own_names}
-use Rattle.pgo_translate.specs.Named.{taken_names, TreesAreNamed}
+use Rattle.pgo_translate.specs.Named.{TreesAreNamed}
 use Rattle.pgo_sections.specs.WellFormed.{NotMade, Bindable, Alone, Applied, PlainTree, KnownIndex, PlainCode, PlainCodes}
 use Rattle.pgo_sections.proofs.Here.{sources, among_found}
 use Rattle.pgo_translate.proofs.Avoiding.{plain_avoids}

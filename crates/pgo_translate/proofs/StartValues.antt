@@ -20,7 +20,8 @@ use Rattle.pgo_translate.specs.Avoids.{Avoids}
 use Rattle.pgo_sections.specs.Among.{is_among}
 use Rattle.pgo_translate.specs.ModuleOf.{constants_with}
 use Rattle.pgo_translate.proofs.ByProcess.{written_process, own_module}
-use Rattle.pgo_translate.specs.Premises.{BodyAvoids, ModuleNames, process_names, is_taken, is_further, StartNames}
+use Rattle.pgo_translate.specs.Premises.{ModuleNames, further_names, process_names, taken_names, is_taken, is_further, StartNames}
+use Rattle.pgo_sections.specs.Closed.{AreClosed}
 use Rattle.pgo_translate.proofs.Alike.{sem_alike}
 use Rattle.pgo_translate.proofs.Actions.{apart_from_all, module_defs, specification_defs, later_defined, among_left, among_right, further, further_defined, fold_append, call_further, defined_name}
 
@@ -40,6 +41,16 @@ not_found x (p ∷ ps) h = go (same_name x p.0) h (not_found x ps)
     go : (b : Bool) → (b || is_among x (map (λ p. p.0) ps)) ≡ false → (is_among x (map (λ p. p.0) ps) ≡ false → find x ps ≡ None) → (if b then Some p.1 else find x ps) ≡ None
     go true k r = absurd (cc)
     go false k r = r k
+
+-- of a definition, that its body avoids the names
+abbrev BodyAvoids : (Name → Bool) → Defined → Type 0
+BodyAvoids bad (Given x v) = Unit {0}
+BodyAvoids bad (Means x ps e) = Avoids bad e
+
+bodies_avoid : (vs : List Name) (ds : List Defined) → AreClosed vs ds → AllByRecursion (BodyAvoids (λ x. is_among x vs)) ds
+bodies_avoid vs [] h = tt
+bodies_avoid vs (Given x v ∷ ds) h = (tt, bodies_avoid vs ds h.1)
+bodies_avoid vs (Means x ps e ∷ ds) h = (h.0, bodies_avoid vs ds h.1)
 
 -- whatever the next state is, since no such expression asks for it
 module _ (bad : Name → Bool) (u : Vars) (after : Option Vars) (unseen : (x : Name) → bad x ≡ false → find x u ≡ None) where
@@ -71,16 +82,16 @@ module _ (s : Spec) (consts : List (Name × Data)) (free : ModuleNames s) (names
   taken = is_taken s
 
   pub unseen : (x : Name) → taken x ≡ false → find x u ≡ None
-  unseen x h = not_found x u (ap (is_among x) known ∙ or_left (is_among x (variables_of s)) (is_further s x) h)
+  unseen x h = not_found x u (ap (is_among x) known ∙ among_left x (variables_of s) (further_names s) h)
 
   pub own_related : Related taken u after unseen (meanings specification u after) (meanings specification [] None)
-  own_related = meanings_related taken u after unseen specification names.bodies (default_meaning ∷ []) (default_meaning ∷ []) (λ x args h. refl)
+  own_related = meanings_related taken u after unseen specification (bodies_avoid (taken_names s) specification names.bodies) (default_meaning ∷ []) (default_meaning ∷ []) (λ x args h. refl)
 
   pub module_related : Related taken u after unseen (meanings written_module u after) (meanings specification [] None)
   module_related x args h =
       ap (λ ds. call_def x args (meanings ds u after)) (module_defs s consts)
       ∙ ap (call_def x args) (fold_append (meaning_of u after) (default_meaning ∷ []) specification (further s))
-      ∙ call_further u after x args (further s) (meanings specification u after) (ap (is_among x) (further_defined s) ∙ or_right (is_among x (variables_of s)) (is_further s x) h)
+      ∙ call_further u after x args (further s) (meanings specification u after) (ap (is_among x) (further_defined s) ∙ among_right x (variables_of s) (further_names s) h)
       ∙ own_related x args h
 
   -- over the state and some meanings, an expression is what it is over the specification's definitions alone

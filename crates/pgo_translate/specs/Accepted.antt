@@ -16,8 +16,7 @@ use Rattle.pgo_meaning.specs.LabelSections.{AreUnlabelled, NoneIsDone}
 use Rattle.pgo_meaning.specs.Parameters.{places_of}
 use Rattle.pgo_meaning.specs.TreesAgree.{Named, OwnLabels, sections_at}
 use Rattle.pgo_translate.specs.ModuleOf.{declared}
-use Rattle.pgo_translate.specs.Named.{taken_names}
-use Rattle.pgo_translate.specs.Premises.{ModuleNames, StartNames, ConstantsAreValues}
+use Rattle.pgo_translate.specs.Premises.{ModuleNames, StartNames, ConstantsAreValues, taken_names}
 
 -- of an instance: what the law of trees asks; and its sections name no further definition
 pub record InstanceAccepted (s : Spec) (b : Bound) (i : Instance) : Type 0 where

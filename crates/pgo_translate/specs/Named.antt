@@ -1,5 +1,5 @@
 -- When the expansion of a section is named as the module asks.
-use Rattle.std.specs.Prelude.{◌≡◌, true, List, [], ◌++◌, Some}
+use Rattle.std.specs.Prelude.{◌≡◌, true, List, [], Some}
 use Rattle.pgo_base.specs.Lookup.{Name, find}
 use Rattle.pgo_syntax.specs.declared.spec.Spec.{Spec}
 use Rattle.pgo_bound.specs.State.{variables_of}
@@ -8,11 +8,7 @@ use Rattle.pgo_sections.specs.Code.{Place, variable_of, Code}
 use Rattle.pgo_sections.specs.Expand.{expansion}
 use Rattle.pgo_sections.specs.WellFormed.{PlainCode}
 use Rattle.pgo_translate.specs.ModuleOf.{declared}
-use Rattle.pgo_translate.specs.Premises.{ModuleNames, TreeNamed, further_names}
-
--- what a name in a section may not be, but by what it stands for: a variable or a further definition
-abbrev pub taken_names : Spec → List Name
-taken_names s = variables_of s ++ further_names s
+use Rattle.pgo_translate.specs.Premises.{ModuleNames, TreeNamed, taken_names}
 
 -- what names stand for are variables
 abbrev pub PlacesAmong : Spec → List (Name × Place) → Type 0

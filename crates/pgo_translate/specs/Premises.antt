@@ -22,6 +22,7 @@ use Rattle.pgo_bound.specs.Runs.{archetype_named}
 use Rattle.pgo_bound.specs.State.{AreDifferent, variables_of}
 use Rattle.pgo_bound.specs.Values.{defs_of, define_of}
 use Rattle.pgo_sections.specs.Among.{is_among}
+use Rattle.pgo_sections.specs.Closed.{AreClosed}
 use Rattle.pgo_sections.specs.Code.{content_name}
 use Rattle.pgo_sections.specs.WellFormed.{NotMade}
 use Rattle.pgo_sections.specs.Expansion.{Expansion, With, In, Skip, Await, Assert, Print, If, Either, End, Expansions, no_expansions, more_expansions}
@@ -41,9 +42,13 @@ further_names s = proc_set ∷ process_names s s.processes ++ (terminating ∷ [
 abbrev pub is_further : Spec → Name → Bool
 is_further s x = is_among x (further_names s)
 
--- a variable or a further definition: what an expression outside sections may not name
+-- the variables and the further definitions: what an expression outside sections may not name, and one in a section only by what
+-- stands for it
+abbrev pub taken_names : Spec → List Name
+taken_names s = variables_of s ++ further_names s
+
 abbrev pub is_taken : Spec → Name → Bool
-is_taken s x = is_among x (variables_of s) || is_further s x
+is_taken s x = is_among x (taken_names s)
 
 -- or `self`
 abbrev pub is_taken_or_self : Spec → Name → Bool
@@ -99,11 +104,6 @@ TreeNamed s x = IsNamed (is_further s) (IsFree s) [] x
 abbrev pub definition_names : Spec → List Name
 definition_names s = map (λ d. d.name.name) s.definitions ++ map (λ d. d.name.name) (define_of s.define)
 
--- of a definition, that its body avoids the names
-abbrev pub BodyAvoids : (Name → Bool) → Defined → Type 0
-BodyAvoids bad (Given x v) = Unit {0}
-BodyAvoids bad (Means x ps e) = Avoids bad e
-
 abbrev pub OriginAvoids : (Name → Bool) → Option Origin → Type 0
 OriginAvoids bad None = Unit {0}
 OriginAvoids bad (Some (Equals e)) = Avoids bad e
@@ -127,7 +127,7 @@ StartsAtLabel s p =
 -- what Init asks: expressions of definitions, initial values, identifiers and value arguments name no variable and no
 -- further definition; nothing but `defaultInitValue` has its name; and no process starts at a label `Done`
 pub record StartNames (s : Spec) (consts : List (Name × Data)) : Type 0 where
-  pub bodies : AllByRecursion (BodyAvoids (is_taken s)) (map defined_view (defs_of s consts))
+  pub bodies : AreClosed (taken_names s) (map defined_view (defs_of s consts))
   pub globals : AllByRecursion (λ d. OriginAvoids (is_taken s) d.initial) s.globals
   pub processes : AllByRecursion (ProcessAvoids s) s.processes
   pub archetypes : AllByRecursion (λ a. AllByRecursion (λ d. OriginAvoids (is_taken s) d.initial) a.locals) s.archetypes
