@@ -22,14 +22,14 @@ use Rattle.pgo_translate.specs.ModuleOf.{module_with}
 abbrev placed_name : Name → PlacedName
 placed_name x = record { name = x; place = 0 }
 
-abbrev declaration : Name → Option Origin → Declaration
+abbrev pub declaration : Name → Option Origin → Declaration
 declaration x o = record { name = placed_name x; initial = o }
 
 abbrev definition : Name → Tree → Definition
 definition x e = record { name = placed_name x; params = []; body = e }
 
 -- a specification with this name and these constants; the rest of it stands in its expansion
-abbrev heading : Name → List Name → Spec
+abbrev pub heading : Name → List Name → Spec
 heading x cs = record {
   name = placed_name x;
   extends = [];
@@ -44,10 +44,10 @@ heading x cs = record {
   processes = [];
 }
 
-abbrev process : Name → Tree → List Declaration → List (Name × Expansion) → ExpandedProcess
+abbrev pub process : Name → Tree → List Declaration → List (Name × Expansion) → ExpandedProcess
 process x ids ds ts = record { name = x; ids = ids; variables = ds; trees = ts }
 
-abbrev expanded : Name → List Declaration → Option (List Definition) → List ExpandedProcess → PlusCal
+abbrev pub expanded : Name → List Declaration → Option (List Definition) → List ExpandedProcess → PlusCal
 expanded x gs ds ps = record { name = x; globals = gs; define = ds; processes = ps }
 
 -- the counter

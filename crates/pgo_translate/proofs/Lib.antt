@@ -28,3 +28,4 @@ mod NextSteps
 mod Whole
 mod CompileRows
 mod TwoProcesses
+mod ActionRows
