@@ -29,3 +29,4 @@ mod Whole
 mod CompileRows
 mod TwoProcesses
 mod ActionRows
+mod RowLaws
