@@ -30,3 +30,4 @@ mod CompileRows
 mod TwoProcesses
 mod ActionRows
 mod RowLaws
+mod DefinitionViews

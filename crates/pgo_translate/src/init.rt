@@ -3,7 +3,7 @@ ghost use Rattle.std.specs.Prelude.{◌≡◌, ◌∷◌, ◌++◌, [], map, Som
 ghost use Rattle.std.specs.List.{flat_map};
 ghost use Rattle.pgo_base.specs.Tree.{Tree, arms, binary, case_of, fun_set, name, text};
 ghost use Rattle.pgo_model.specs.Module as written;
-ghost use Rattle.pgo_model.specs.Written.{default_init_value};
+ghost use Rattle.pgo_model.specs.Written.{default_init_value, self_name};
 ghost use Rattle.pgo_translate.specs.Items.{equals};
 ghost use Rattle.pgo_translate.specs.ModuleOf as spec;
 
@@ -103,12 +103,7 @@ fn own_with(alloc: Global, ids: Sub, x: &Text, initial: &Origin) -> Result<Sub, 
 }
 
 /// What a process's own variable starts with.
-fn own_start(
-    alloc: Global,
-    ids: Sub,
-    x: &Text,
-    initial: &Option<Origin>,
-) -> Result<Sub, AllocError>
+fn own_start(alloc: Global, ids: Sub, x: &Text, initial: &Option<Origin>) -> Result<Sub, AllocError>
     ensures { IfOk result (λ s. s ≡ spec.own_starts ids x.now initial.now) }
 {
     match initial {
@@ -170,13 +165,21 @@ fn first_label(alloc: Global, labels: &[(Text, Part)]) -> Result<Sub, AllocError
     }
 }
 
+/// `self \in ids`
+fn self_among(alloc: Global, ids: &Sub) -> Result<Sub, AllocError>
+    ensures { IfOk result (λ s. s ≡ spec.member (name self_name) ids.now) }
+{
+    let own = name_of(alloc, b"self");
+    related(alloc, Infix::In, own, ids.copy(alloc))
+}
+
 /// Where the instances of a process start: a test on the identifier, and the label.
 fn first_arm(alloc: Global, process: &ExpandedProcess) -> Result<(Sub, Sub), AllocError>
     ensures { IfOk result (λ arm. arm ≡ spec.first_arm process.now) }
 {
-    let own = name_of(alloc, b"self");
-    let test = related(alloc, Infix::In, own, process.ids.copy(alloc));
-    both(test, first_label(alloc, process.trees.as_slice()))
+    let label = first_label(alloc, process.trees.as_slice());
+    let (test, label) = both(self_among(alloc, &process.ids), label)?;
+    Ok((test, label))
 }
 
 /// The case of each process.

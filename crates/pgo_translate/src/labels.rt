@@ -74,7 +74,10 @@ fn ending_items(
             if_items(alloc, copy_of(alloc, e), a, b)
         }
         Ending::Either(arms) => {
-            either_items(alloc, arm_bodies(alloc, variables, globals, arms.as_slice()))
+            either_items(
+                alloc,
+                arm_bodies(alloc, variables, globals, arms.as_slice()),
+            )
         }
         Ending::End(changes, label) => {
             let changes = changes.as_slice();
@@ -100,12 +103,7 @@ fn part_items(
 
 /// What a part says: all its items.
 #[cycle(labels)]
-fn body(
-    alloc: Global,
-    variables: &[Text],
-    globals: &[Text],
-    part: &Part,
-) -> Result<Sub, AllocError>
+fn body(alloc: Global, variables: &[Text], globals: &[Text], part: &Part) -> Result<Sub, AllocError>
     ensures { IfOk result (λ s. s ≡ written.all_of (spec.items variables.now globals.now part.now)) }
 {
     let items = part_items(alloc, variables, globals, part)?;

@@ -16,7 +16,6 @@ ghost use Rattle.pgo_translate.specs.Named.{TreesAreNamed};
 ghost use Rattle.pgo_translate.specs.Accepted.{Accepted};
 ghost use Rattle.pgo_translate.specs.Agrees.{ActsAgree, BeginsAgree, Agrees};
 
-
 mod ends;
 mod init;
 mod joined;
