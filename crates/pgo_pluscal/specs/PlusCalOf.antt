@@ -1,4 +1,4 @@
--- The specification whose labels are expanded that belongs to a specification: its heads, each process with its own variables
+-- The specification whose labels are expanded that belongs to a specification: its header, its heads, each process with its own variables
 -- by their written names, and one tree for each label.
 use Rattle.std.specs.Prelude.{List, [], ◌++◌, map, Option, Some, None}
 use Rattle.std.specs.List.{filter_map}
@@ -18,6 +18,7 @@ use Rattle.pgo_syntax.specs.declared.spec.Spec.{Spec}
 use Rattle.pgo_bound.specs.Runs.{archetype_named, handed_from}
 use Rattle.pgo_meaning.specs.Expansions.{process_expansions}
 use Rattle.pgo_pluscal.specs.declared.pluscal.ExpandedProcess.{ExpandedProcess}
+use Rattle.pgo_pluscal.specs.declared.pluscal.Header.{Header}
 use Rattle.pgo_pluscal.specs.declared.pluscal.PlusCal.{PlusCal}
 
 -- `P = e` has the identifiers of `P \in {e}`
@@ -51,8 +52,13 @@ process_of s p = record {
   trees = process_expansions s p;
 }
 
+-- what stands before the algorithm
+abbrev pub header_of : Spec → Header
+header_of s = record { name = s.name.name; constants = s.constants; definitions = s.definitions }
+
 abbrev pub pluscal_of : Spec → PlusCal
 pluscal_of s = record {
+  header = header_of s;
   name = s.algorithm.name;
   globals = s.globals;
   define = s.define;

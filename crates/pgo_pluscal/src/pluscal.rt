@@ -9,6 +9,7 @@ use pgo_base::items::Items;
 use pgo_base::text::Text;
 use pgo_syntax::binding::Origin;
 use pgo_syntax::declaration::{Declarations, Definitions};
+use pgo_syntax::name::PlacedNames;
 use std::alloc::{AllocError, Global};
 
 /// Labels by their written names, each with what it becomes, in the order of the text.
@@ -29,11 +30,23 @@ pub struct ExpandedProcess {
 /// Processes in the order of the text.
 pub type ExpandedProcesses = Items<ExpandedProcess>;
 
-/// A specification whose labels are expanded: its heads, and one tree for each label.
+/// What a module has before its algorithm. The text of a specification whose labels are expanded has none of it.
+#[derive(Drop)]
+pub struct Header {
+    /// the module's name
+    pub name: Text,
+    /// its declared constants
+    pub constants: PlacedNames,
+    /// the definitions before the algorithm
+    pub definitions: Definitions,
+}
+
+/// A specification whose labels are expanded: its header, its heads, and one tree for each label.
 ///
 /// `pluscal_of` of `specs/PlusCalOf` says which one a specification has.
 #[derive(Drop)]
 pub struct PlusCal {
+    pub header: Header,
     /// the algorithm's name
     pub name: Text,
     pub globals: Declarations,

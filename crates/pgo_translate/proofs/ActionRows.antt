@@ -26,8 +26,8 @@ arms =
 
 abbrev m : Module
 m =
-    module_with (heading (codes "Counter") [])
-    (expanded (codes "Counter") (declaration (codes "x") (Some (Equals (number (pos 0)))) ∷ []) None (process (codes "P") (only (number (pos 1))) [] ((codes "P_l", arms) ∷ []) ∷ []))
+    module_with
+    (expanded (heading (codes "Counter") []) (codes "Counter") (declaration (codes "x") (Some (Equals (number (pos 0)))) ∷ []) None (process (codes "P") (only (number (pos 1))) [] ((codes "P_l", arms) ∷ []) ∷ []))
 
 abbrev state : ℕ → Name → Vars
 state n l = (codes "x", int n) ∷ (pc, function (pairs ((int 1, string l) ∷ []))) ∷ []

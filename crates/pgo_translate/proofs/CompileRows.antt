@@ -12,9 +12,9 @@ use Rattle.pgo_syntax.specs.declared.binding.Origin.TheVariants.{Equals, In as I
 use Rattle.pgo_syntax.specs.declared.declaration.Declaration.{Declaration}
 use Rattle.pgo_syntax.specs.declared.declaration.Definition.{Definition}
 use Rattle.pgo_syntax.specs.declared.name.PlacedName.{PlacedName}
-use Rattle.pgo_syntax.specs.declared.spec.Spec.{Spec}
 use Rattle.pgo_sections.specs.Expansion.{Expansion, With, Await, Assert, Print, If, Either, End, no_expansions, more_expansions}
 use Rattle.pgo_pluscal.specs.declared.pluscal.ExpandedProcess.{ExpandedProcess}
+use Rattle.pgo_pluscal.specs.declared.pluscal.Header.{Header}
 use Rattle.pgo_pluscal.specs.declared.pluscal.PlusCal.{PlusCal}
 use Rattle.pgo_translate.specs.Items.{only}
 use Rattle.pgo_translate.specs.ModuleOf.{module_with}
@@ -28,27 +28,15 @@ declaration x o = record { name = placed_name x; initial = o }
 abbrev definition : Name → Tree → Definition
 definition x e = record { name = placed_name x; params = []; body = e }
 
--- a specification with this name and these constants; the rest of it stands in its expansion
-abbrev pub heading : Name → List Name → Spec
-heading x cs = record {
-  name = placed_name x;
-  extends = [];
-  constants = map placed_name cs;
-  definitions = [];
-  algorithm = placed_name x;
-  define = None;
-  macros = [];
-  mappings = [];
-  archetypes = [];
-  globals = [];
-  processes = [];
-}
+-- a module with this name and these constants, and no definition before its algorithm
+abbrev pub heading : Name → List Name → Header
+heading x cs = record { name = x; constants = map placed_name cs; definitions = [] }
 
 abbrev pub process : Name → Tree → List Declaration → List (Name × Expansion) → ExpandedProcess
 process x ids ds ts = record { name = x; ids = ids; variables = ds; trees = ts }
 
-abbrev pub expanded : Name → List Declaration → Option (List Definition) → List ExpandedProcess → PlusCal
-expanded x gs ds ps = record { name = x; globals = gs; define = ds; processes = ps }
+abbrev pub expanded : Header → Name → List Declaration → Option (List Definition) → List ExpandedProcess → PlusCal
+expanded h x gs ds ps = record { header = h; name = x; globals = gs; define = ds; processes = ps }
 
 -- the counter
 abbrev one_lines : List Line
@@ -73,7 +61,7 @@ one_lines =
     line (codes "Spec == Init /\\ [][Next]_vars") ∷
     line (codes "====") ∷ []
 
-pub one : module_lines (module_with (heading (codes "Counter") ([])) (expanded (codes "Counter") (declaration (codes "x") (Some (Equals (name (codes "0")))) ∷ []) (None) (process (codes "P") (only (name (codes "1"))) ([]) ((
+pub one : module_lines (module_with (expanded (heading (codes "Counter") ([])) (codes "Counter") (declaration (codes "x") (Some (Equals (name (codes "0")))) ∷ []) (None) (process (codes "P") (only (name (codes "1"))) ([]) ((
   (codes "P_l"),
   (With (codes "val__1") (binary infixs.Add (name (codes "x")) (name (codes "1")))
       (End (((codes "x"), (codes "val__1")) ∷ []) (codes "Done"))),
@@ -103,7 +91,7 @@ either_novalue_lines =
     line (codes "Spec == Init /\\ [][Next]_vars") ∷
     line (codes "====") ∷ []
 
-either_novalue : module_lines (module_with (heading (codes "Counter") ([])) (expanded (codes "Counter") (declaration (codes "x") (Some (Equals (name (codes "0")))) ∷ []) (None) (process (codes "P") (only (name (codes "1"))) ([]) ((
+either_novalue : module_lines (module_with (expanded (heading (codes "Counter") ([])) (codes "Counter") (declaration (codes "x") (Some (Equals (name (codes "0")))) ∷ []) (None) (process (codes "P") (only (name (codes "1"))) ([]) ((
   (codes "P_l"),
   (Either (more_expansions (With (codes "val__1") (name (codes "1"))
       (End (((codes "x"), (codes "val__1")) ∷ []) (codes "Done")))
@@ -140,7 +128,7 @@ loop_lines =
     line (codes "Spec == Init /\\ [][Next]_vars") ∷
     line (codes "====") ∷ []
 
-loop : module_lines (module_with (heading (codes "Counter") ([])) (expanded (codes "Counter") (declaration (codes "x") (Some (InSet (set_of (trees (name (codes "5") ∷ name (codes "3") ∷ []))))) ∷ []) (None) (process (codes "P") (only (name (codes "1"))) (declaration (codes "P_n") (Some (Equals (name (codes "0")))) ∷ []) ((
+loop : module_lines (module_with (expanded (heading (codes "Counter") ([])) (codes "Counter") (declaration (codes "x") (Some (InSet (set_of (trees (name (codes "5") ∷ name (codes "3") ∷ []))))) ∷ []) (None) (process (codes "P") (only (name (codes "1"))) (declaration (codes "P_n") (Some (Equals (name (codes "0")))) ∷ []) ((
   (codes "P_l"),
   (If (binary infixs.Less (index (name (codes "P_n")) (trees (name self_name ∷ []))) (name (codes "2")))
       (With (codes "val__1") (binary infixs.Add (index (name (codes "P_n")) (trees (name self_name ∷ []))) (name (codes "1")))
@@ -178,7 +166,7 @@ twopops_lines =
     line (codes "Spec == Init /\\ [][Next]_vars") ∷
     line (codes "====") ∷ []
 
-twopops : module_lines (module_with (heading (codes "Counter") (codes "BUFFER_SIZE" ∷ [])) (expanded (codes "Counter") (declaration (codes "net") (Some (Equals (fun_of (bound ((codes "i" ∷ [], only (name (codes "1"))) ∷ [])) (tuple (trees (name (codes "3") ∷ name (codes "4") ∷ [])))))) ∷ []) (None) (process (codes "P") (only (name (codes "1"))) (declaration (codes "P_v") (Some (Equals (name (codes "0")))) ∷ []) ((
+twopops : module_lines (module_with (expanded (heading (codes "Counter") (codes "BUFFER_SIZE" ∷ [])) (codes "Counter") (declaration (codes "net") (Some (Equals (fun_of (bound ((codes "i" ∷ [], only (name (codes "1"))) ∷ [])) (tuple (trees (name (codes "3") ∷ name (codes "4") ∷ [])))))) ∷ []) (None) (process (codes "P") (only (name (codes "1"))) (declaration (codes "P_v") (Some (Equals (name (codes "0")))) ∷ []) ((
   (codes "P_l"),
   (With (codes "at__1") (name (codes "1"))
       (With (codes "old__2") (index (name (codes "net")) (trees ((name (codes "at__1")) ∷ [])))
@@ -248,7 +236,7 @@ lock_server_lines =
     line (codes "Spec == Init /\\ [][Next]_vars") ∷
     line (codes "====") ∷ []
 
-pub lock_server : module_lines (module_with (heading (codes "LockServer") (codes "NumClients" ∷ codes "BUFFER_SIZE" ∷ [])) (expanded (codes "LockServer") (declaration (codes "net") (Some (Equals (fun_of (bound ((codes "i" ∷ [], name (codes "NodeSet")) ∷ [])) (tuple (trees []))))) ∷ []) (Some (definition (codes "ServerID") (name (codes "0")) ∷ definition (codes "ClientSet") (binary infixs.Range (name (codes "1")) (name (codes "NumClients"))) ∷ definition (codes "NodeSet") (binary infixs.Range (name (codes "0")) (name (codes "NumClients"))) ∷ [])) (process (codes "Server") (only (name (codes "ServerID"))) (declaration (codes "Server_q") (Some (Equals (tuple (trees [])))) ∷ declaration (codes "Server_count") (Some (Equals (name (codes "0")))) ∷ declaration (codes "Server_seen") (Some (Equals (name (codes "0")))) ∷ declaration (codes "Server_msg") (None) ∷ []) ((
+pub lock_server : module_lines (module_with (expanded (heading (codes "LockServer") (codes "NumClients" ∷ codes "BUFFER_SIZE" ∷ [])) (codes "LockServer") (declaration (codes "net") (Some (Equals (fun_of (bound ((codes "i" ∷ [], name (codes "NodeSet")) ∷ [])) (tuple (trees []))))) ∷ []) (Some (definition (codes "ServerID") (name (codes "0")) ∷ definition (codes "ClientSet") (binary infixs.Range (name (codes "1")) (name (codes "NumClients"))) ∷ definition (codes "NodeSet") (binary infixs.Range (name (codes "0")) (name (codes "NumClients"))) ∷ [])) (process (codes "Server") (only (name (codes "ServerID"))) (declaration (codes "Server_q") (Some (Equals (tuple (trees [])))) ∷ declaration (codes "Server_count") (Some (Equals (name (codes "0")))) ∷ declaration (codes "Server_seen") (Some (Equals (name (codes "0")))) ∷ declaration (codes "Server_msg") (None) ∷ []) ((
   (codes "Server_loop"),
   (If (binary infixs.Less (index (name (codes "Server_count")) (trees (name self_name ∷ []))) (binary infixs.Multiply (name (codes "2")) (name (codes "NumClients"))))
       (With (codes "at__1") (name (codes "self"))

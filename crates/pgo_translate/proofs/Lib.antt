@@ -29,3 +29,5 @@ mod Whole
 mod CompileRows
 mod TwoProcesses
 mod ActionRows
+mod RowLaws
+mod DefinitionViews

@@ -24,7 +24,7 @@ use Rattle.pgo_sections.specs.Expansion as tree
 use Rattle.pgo_sections.specs.Expansion.{Expansion, Expansions, no_expansions, more_expansions}
 use Rattle.pgo_pluscal.specs.declared.pluscal.ExpandedProcess.{ExpandedProcess}
 use Rattle.pgo_pluscal.specs.declared.pluscal.PlusCal.{PlusCal}
-use Rattle.pgo_pluscal.specs.PlusCalOf.{process_of as expanded_process}
+use Rattle.pgo_pluscal.specs.PlusCalOf.{header_of, process_of as expanded_process}
 use Rattle.pgo_meaning.specs.Expansions.{trees_of}
 use Rattle.pgo_translate.specs.ModuleOf.{module_with}
 use Rattle.pgo_translate.specs.Premises.{IsFree, ModuleNames, TreeNamed, StartNames, further_names, is_further}
@@ -107,6 +107,7 @@ with_trees q ts = record { name = q.name; ids = q.ids; variables = q.variables; 
 
 abbrev expanded : PlusCal
 expanded = record {
+  header = header_of two;
   name = codes "Two";
   globals = two.globals;
   define = two.define;
@@ -160,7 +161,7 @@ two_lines =
     line (codes "Spec == Init /\\ [][Next]_vars") ∷
     line (codes "====") ∷ []
 
-pub same_module : module_lines (module_with two expanded) ≡ two_lines
+pub same_module : module_lines (module_with expanded) ≡ two_lines
 same_module = refl
 
 -- its own trees

@@ -83,20 +83,19 @@ written_process vs gs q = record { name = q.name; ids = q.ids; actions = label_a
 abbrev pub definitions_of : List Definition → List Defined
 definitions_of ds = map (λ d. defined_view (meant d)) ds
 
--- The module with algorithm p. Of s, the specification whose expansion p is, it has what stands around the algorithm: the name,
--- the constants and the definitions before it. Those of `define` come behind these.
-abbrev pub module_with : Spec → PlusCal → Module
-module_with s p = record {
-  name = s.name.name;
-  constants = map (λ c. c.name) s.constants;
-  definitions = definitions_of s.definitions ++ definitions_of (define_of p.define);
+-- The definitions of `define` come behind those before the algorithm.
+abbrev pub module_with : PlusCal → Module
+module_with p = record {
+  name = p.header.name;
+  constants = map (λ c. c.name) p.header.constants;
+  definitions = definitions_of p.header.definitions ++ definitions_of (define_of p.define);
   variables = variables_in p;
   init = all_of (start_items p);
   processes = map (written_process (variables_in p) (declared p.globals)) p.processes;
 }
 
 abbrev pub module_of : Spec → Module
-module_of s = module_with s (pluscal_of s)
+module_of s = module_with (pluscal_of s)
 
 -- ---- its constants
 

@@ -16,6 +16,14 @@ ghost use Rattle.pgo_translate.specs.Named.{TreesAreNamed};
 ghost use Rattle.pgo_translate.specs.Accepted.{Accepted};
 ghost use Rattle.pgo_translate.specs.Agrees.{ActsAgree, BeginsAgree, Agrees};
 
+mod ends;
+mod init;
+mod joined;
+mod labels;
+mod rows;
+pub mod translate;
+mod trees;
+
 use pgo_meaning::{sections_of_labels, trees_agree};
 
 /// A label's action is TRUE of exactly the pairs of states where `pc` has the label at the identifier and the label's tree allows

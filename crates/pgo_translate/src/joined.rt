@@ -1,0 +1,55 @@
+// Expressions joined from the left.
+ghost use Rattle.std.specs.Prelude.{◌≡◌, reverse, true, false, IfOk};
+ghost use Rattle.pgo_base.specs.Tree.{truth};
+ghost use Rattle.pgo_model.specs.Module as written;
+
+use crate::trees::binary_of;
+use pgo_base::expr::{Expr, Infix, Sub};
+use std::alloc::{AllocError, Global};
+
+/// e joined with the others, of which the last stands first.
+#[tactic(auto, using(crate::proofs::RowLaws::reversed_more))]
+fn joined(alloc: Global, o: Infix, e: Sub, others: Vec<Sub>) -> Result<Sub, AllocError>
+    ensures { IfOk result (λ s. s ≡ written.joined_by o e (reverse others.items)) }
+{
+    let mut whole = e;
+    let mut left = others;
+    for _ in 0..u64::MAX {
+        match left.pop() {
+            Some(next) => whole = binary_of(alloc, o, whole, next)?,
+            None => return Ok(whole),
+        }
+    }
+    Err(AllocError)
+}
+
+/// TRUE or FALSE
+fn truth_of(alloc: Global, holds: bool) -> Result<Sub, AllocError>
+    ensures { IfOk result (λ s. s ≡ truth holds) }
+{
+    Sub::new(alloc, Expr::Truth(holds))
+}
+
+/// The conjunction of these, of which the last stands first.
+#[tactic(auto, using(crate::proofs::RowLaws::reversed_more))]
+pub fn all_of(alloc: Global, items: Vec<Sub>) -> Result<Sub, AllocError>
+    ensures { IfOk result (λ s. s ≡ written.all_of (reverse items.items)) }
+{
+    let mut left = items;
+    match left.pop() {
+        Some(first) => joined(alloc, Infix::And, first, left),
+        None => truth_of(alloc, true),
+    }
+}
+
+/// The disjunction of these, of which the last stands first.
+#[tactic(auto, using(crate::proofs::RowLaws::reversed_more))]
+pub fn any_of(alloc: Global, items: Vec<Sub>) -> Result<Sub, AllocError>
+    ensures { IfOk result (λ s. s ≡ written.any_of (reverse items.items)) }
+{
+    let mut left = items;
+    match left.pop() {
+        Some(first) => joined(alloc, Infix::Or, first, left),
+        None => truth_of(alloc, false),
+    }
+}
