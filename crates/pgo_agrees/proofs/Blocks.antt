@@ -87,7 +87,7 @@ module _ (s : Spec) (k : NoFindings s) (fit : AllByRecursion (ArgumentsFit s.arc
       not_here : IsVariable s value_name → ⊥
       not_here (is_global d a e) =
           let t = all_at DeclarationOfText d s.globals of_text.globals a in
-          let n = bytes_no_dollar d.name.name (identifier_bytes d.name.name t) in
+          let n = bytes_no_dollar d.name.name (identifier_bytes d.name.name t.0) in
           let q : true ≡ false = ap dollar_first e ∙ n in cc
       not_here (is_place e) = let q : true ≡ false = ap dollar_first e in cc
       not_here (is_own p a y b e n q) = let z : false ≡ true = ap has_mark q ∙ written_marked p.name.name y in cc

@@ -6,6 +6,7 @@ pub mod Instances
 pub mod Heads
 pub mod Uses
 pub mod Variables
+pub mod Further
 pub mod Stands
 pub mod FromUses
 pub mod Places
@@ -35,6 +36,7 @@ pub mod RunBody
 pub mod Premises
 pub mod SpokenExpressions
 pub mod SpokenStatements
+pub mod SpokenLabels
 pub mod OfText
 mod Rows
 mod Limits

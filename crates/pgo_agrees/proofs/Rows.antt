@@ -75,11 +75,12 @@ element = index (name (codes "x")) (trees (name (codes "self") ∷ []))
 accepted : IsAccepted (spec_with (y ∷ element ∷ [])) []
 accepted = record {
   of_text = record {
-    globals = (refl, tt);
+    globals = ((refl, (((tt, tt), tt), tt)), tt);
     definitions = tt;
     macros = (((refl, (refl, tt)), ((tt, (tt, tt), tt), tt)), tt);
     mappings = tt;
-    archetypes = (((refl, tt), (refl, tt), ((tt, ((tt, (tt, tt)), tt)), tt)), tt);
+    archetypes = (((refl, tt), ((refl, tt), tt), ((tt, ((tt, (tt, tt)), tt)), tt), (refl, tt)), tt);
+    processes = ((refl, tt, (tt, tt)), tt);
   };
   names = refl;
   labels = refl;
@@ -90,11 +91,12 @@ accepted = record {
 written_too : IsAccepted (spec_with (element ∷ y ∷ [])) []
 written_too = record {
   of_text = record {
-    globals = (refl, tt);
+    globals = ((refl, (((tt, tt), tt), tt)), tt);
     definitions = tt;
     macros = (((refl, (refl, tt)), ((tt, (tt, tt), tt), tt)), tt);
     mappings = tt;
-    archetypes = (((refl, tt), (refl, tt), (((tt, (tt, tt)), (tt, tt)), tt)), tt);
+    archetypes = (((refl, tt), ((refl, tt), tt), (((tt, (tt, tt)), (tt, tt)), tt), (refl, tt)), tt);
+    processes = ((refl, tt, (tt, tt)), tt);
   };
   names = refl;
   labels = refl;
