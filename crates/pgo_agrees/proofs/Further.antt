@@ -17,11 +17,12 @@ use Rattle.pgo_scope.specs.Clash.{itself, fixed_names, fixed_things, shared_thin
 use Rattle.pgo_scope.specs.declared.things.Thing.{Thing}
 use Rattle.pgo_bound.specs.Among.{IsAmong, among_left, among_right, among_append, from_map}
 use Rattle.pgo_bound.specs.State.{variables_of}
+use Rattle.pgo_sections.specs.Among.{is_among}
 use Rattle.pgo_accept.proofs.Fitting.{ArgumentsFit}
 use Rattle.pgo_accept.proofs.WrittenOnce.{writes}
 use Rattle.pgo_agrees.proofs.Names.{has_mark, written_marked}
 use Rattle.pgo_agrees.proofs.Things.{writes_some, counted, bound_apart, bound_not_fixed, process_among, written_by, rows_of}
-use Rattle.pgo_agrees.proofs.Variables.{IsVariable, variable_is, others_none, not_self, bound_no_variable}
+use Rattle.pgo_agrees.proofs.Variables.{IsVariable, variable_is, not_among, is_among_there, others_none, not_self, bound_no_variable}
 
 abbrev pub further_written : Spec → List Name
 further_written s = proc_set ∷ terminating ∷ map (λ (t : Thing). t.written) (written_by s)
@@ -38,6 +39,13 @@ pub data IsFurther (s : Spec) (x : Name) : Type 0 where
 
 abbrev pub IsTaken : Spec → Name → Type 0
 IsTaken s x = IsVariable s x ⊎ IsFurther s x
+
+-- what is no name of the longer list is none of the shorter
+fewer_left : (x : Name) (xs ys : List Name) → is_among x (xs ++ ys) ≡ false → is_among x xs ≡ false
+fewer_left x xs ys h = not_among x xs (λ a. (let e = is_among_there x (xs ++ ys) (among_left x xs ys a) in let q : true ≡ false = sym e ∙ h in cc))
+
+pub variables_among : (s : Spec) (x : Name) → is_among x (names_written s) ≡ false → is_among x (variables_of s) ≡ false
+variables_among s x h = fewer_left x (variables_of s) (further_written s) h
 
 -- ---- what processes write
 

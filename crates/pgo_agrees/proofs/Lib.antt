@@ -33,6 +33,7 @@ pub mod MacroNames
 pub mod MacroCalls
 pub mod InMacro
 pub mod RunBody
+pub mod Fewer
 pub mod Premises
 pub mod SpokenExpressions
 pub mod SpokenStatements

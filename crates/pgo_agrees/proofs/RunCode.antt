@@ -46,6 +46,7 @@ use Rattle.pgo_agrees.specs.Accepted.{IsOfText}
 use Rattle.pgo_agrees.proofs.Blocks.{mapping_plain}
 use Rattle.pgo_agrees.proofs.Env.{C, B, D, Common, place_apart}
 use Rattle.pgo_agrees.proofs.Fine.{LabeledFine}
+use Rattle.pgo_agrees.proofs.Further.{names_written}
 use Rattle.pgo_agrees.proofs.GoodCode.{CodeRules, section_good}
 use Rattle.pgo_agrees.proofs.Heads.{ref_declared}
 use Rattle.pgo_agrees.proofs.Hoist.{Hoistable, never}
@@ -144,7 +145,7 @@ module _ (s : Spec) (consts : List (Name × Data)) (k : NoFindings s) (fit : All
     by g = is_by_element (kind_in (bound_of s consts) g)
 
     abbrev pub vs : List Name
-    vs = variables_of s
+    vs = names_written s
 
     abbrev pub gs : List Name
     gs = map (λ (d : Declaration). d.name.name) s.globals
