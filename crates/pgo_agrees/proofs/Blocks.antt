@@ -47,11 +47,11 @@ use Rattle.pgo_agrees.proofs.Variables.{is_global, is_place, is_own}
 use Rattle.pgo_model.specs.ValueText.{is_word_byte, all_word_bytes}
 
 -- `$`: no identifier begins with it
-abbrev dollar_first : Name → Bool
+abbrev pub dollar_first : Name → Bool
 dollar_first [] = false
 dollar_first (b ∷ bs) = nat_eq b 36
 
-bytes_no_dollar : (x : Name) → all_word_bytes x ≡ true → dollar_first x ≡ false
+pub bytes_no_dollar : (x : Name) → all_word_bytes x ≡ true → dollar_first x ≡ false
 bytes_no_dollar [] h = refl
 bytes_no_dollar (b ∷ bs) h = go (nat_eq b 36) refl
   where

@@ -39,5 +39,8 @@ pub mod SpokenExpressions
 pub mod SpokenStatements
 pub mod SpokenLabels
 pub mod OfText
+pub mod ConstantValues
+pub mod FurtherNames
+pub mod NameCounts
 mod Rows
 mod Limits

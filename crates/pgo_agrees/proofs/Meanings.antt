@@ -53,7 +53,7 @@ defined_row x (d ∷ ds) h = go (same_name x d.name.name) refl h (defined_row x 
     go true e k more = (d, inl refl, same_name-is x d.name.name e)
     go false e k more = let r = more k in (r.0, inr r.1, r.2)
 
-defined_name : (d : Definition) (ds : List Definition) → IsAmong d ds → IsAmong d.name (definition_names ds)
+pub defined_name : (d : Definition) (ds : List Definition) → IsAmong d ds → IsAmong d.name (definition_names ds)
 defined_name d [] a = absurd a
 defined_name d (e ∷ ds) (inl q) = inl (ap (λ (z : Definition). z.name) q)
 defined_name d (e ∷ ds) (inr a) = inr (defined_name d ds a)
@@ -137,7 +137,7 @@ module _ (s : Spec) (k : NoFindings s) (fit : AllByRecursion (ArgumentsFit s.arc
       let z = others_taken s k.clashes fit x v in
       omega (arith, c, z)
 
-  global_unit : (x : PlacedName) → IsAmong x (shared_names s) → IsAmong x (unit_names s)
+  pub global_unit : (x : PlacedName) → IsAmong x (shared_names s) → IsAmong x (unit_names s)
   global_unit x a =
       let ms = macro_names s.macros in
       let ns = mapping_names s.mappings in
@@ -146,7 +146,7 @@ module _ (s : Spec) (k : NoFindings s) (fit : AllByRecursion (ArgumentsFit s.arc
       let shared = shared_names s in
       among_left x (shared ++ ms ++ ns ++ as') ps (among_left x (shared ++ ms ++ ns) as' (among_left x (shared ++ ms) ns (among_left x shared ms a)))
 
-  process_unit : (p : Process) → IsAmong p s.processes → IsAmong p.name (unit_names s)
+  pub process_unit : (p : Process) → IsAmong p s.processes → IsAmong p.name (unit_names s)
   process_unit p a =
       among_right p.name (shared_names s ++ macro_names s.macros ++ mapping_names s.mappings ++ archetype_names s.archetypes) (process_names s.processes) (process_named p s.processes a)
 
@@ -192,7 +192,7 @@ module _ (s : Spec) (k : NoFindings s) (fit : AllByRecursion (ArgumentsFit s.arc
 
   -- ---- no made name
 
-  shared_of : (x : PlacedName) → IsAmong x (s.constants ++ definition_names (all_definitions s)) → IsAmong x (shared_names s)
+  pub shared_of : (x : PlacedName) → IsAmong x (s.constants ++ definition_names (all_definitions s)) → IsAmong x (shared_names s)
   shared_of x a = among_left x (s.constants ++ definition_names (all_definitions s)) (declared_names s.globals) a
 
   constant_single : (x : Name) → is_among x (name_rows s.constants) ≡ true → has_double x ≡ false
