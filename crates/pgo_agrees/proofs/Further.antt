@@ -1,6 +1,6 @@
 -- What a module writes beside its variables: ProcSet, Terminating, and what processes write. No constant, definition or bound name
 -- is one of these, nor is `self`.
-use Rattle.std.proofs.Common.{◌≡◌, ℕ, ◌+◌, Bool, true, false, ◌==◌, List, [], ◌∷◌, ◌++◌, map, refl, ap, sym, ◌∙◌, inl, inr, arith}
+use Rattle.std.proofs.Common.{◌≡◌, ℕ, ◌+◌, Bool, true, false, ◌==◌, List, [], ◌∷◌, ◌++◌, map, refl, ap, sym, ◌∙◌, subst, inl, inr, arith}
 use Rattle.std.specs.Prelude.{◌⊎◌}
 use Rattle.std.specs.List.{AllByRecursion}
 use Rattle.pgo_base.specs.Lookup.{Name, same_name, find}
@@ -15,7 +15,7 @@ use Rattle.pgo_uses.specs.declared.uses.Use.{Use}
 use Rattle.pgo_uses.specs.declared.uses.Form.TheVariants as forms
 use Rattle.pgo_scope.specs.Clash.{itself, fixed_names, fixed_things, shared_things, or_none, own_thing, own_things, process_things, name_clashes}
 use Rattle.pgo_scope.specs.declared.things.Thing.{Thing}
-use Rattle.pgo_bound.specs.Among.{IsAmong, among_left, among_right, among_append, from_map}
+use Rattle.pgo_bound.specs.Among.{IsAmong, among_left, among_right, among_append, among_map, from_map}
 use Rattle.pgo_bound.specs.State.{variables_of}
 use Rattle.pgo_sections.specs.Among.{is_among}
 use Rattle.pgo_accept.proofs.Fitting.{ArgumentsFit}
@@ -164,3 +164,13 @@ module _ (s : Spec) (h : name_clashes s ≡ []) (fit : AllByRecursion (Arguments
   pub bound_not_taken : (u : Use) → IsAmong u (all_uses s) → u.form ≡ forms.Bound → IsTaken s u.name → ⊥
   bound_not_taken u a f (inl v) = bound_no_variable s h fit u a f v
   bound_not_taken u a f (inr v) = bound_not_further u a f v
+
+-- ---- and what is one of these is listed
+pub further_among : (s : Spec) (x : Name) → IsFurther s x → IsAmong x (further_written s)
+further_among s x (is_proc_set e) = inl e
+further_among s x (is_terminating e) = inr (inl e)
+further_among s x (is_process p a e) =
+    let t = itself false p.name.name p.name.place in
+    inr (inr (subst (λ z. IsAmong z (map (λ (u : Thing). u.written) (written_by s))) (sym e) (among_map (λ (u : Thing). u.written) t (written_by s) (process_itself (rows_of s) p s.processes a))))
+further_among s x (is_written p y a b e) =
+    inr (inr (subst (λ z. IsAmong z (map (λ (u : Thing). u.written) (written_by s))) (sym e) (among_map (λ (u : Thing). u.written) (own_thing p y) (written_by s) (process_among (rows_of s) p y s.processes a b))))

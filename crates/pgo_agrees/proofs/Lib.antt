@@ -42,5 +42,6 @@ pub mod OfText
 pub mod ConstantValues
 pub mod FurtherNames
 pub mod NameCounts
+pub mod ModuleNames
 mod Rows
 mod Limits
