@@ -43,5 +43,8 @@ pub mod ConstantValues
 pub mod FurtherNames
 pub mod NameCounts
 pub mod ModuleNames
+pub mod Avoided
+pub mod StartNames
+pub mod ModuleAccepted
 mod Rows
 mod Limits

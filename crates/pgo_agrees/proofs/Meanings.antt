@@ -78,7 +78,7 @@ operators_unmarked = (refl, (refl, (refl, (refl, (refl, (refl, (refl, (refl, tt)
 operators_single : AllByRecursion (λ r. has_double r.0 ≡ false) operator_rows
 operators_single = (refl, (refl, (refl, (refl, (refl, (refl, (refl, (refl, tt))))))))
 
-operators_not_self : AllByRecursion (λ r. same_name r.0 self_name ≡ false) operator_rows
+pub operators_not_self : AllByRecursion (λ r. same_name r.0 self_name ≡ false) operator_rows
 operators_not_self = (refl, (refl, (refl, (refl, (refl, (refl, (refl, (refl, tt))))))))
 
 pub earlier_row : (i : ℕ) (x : Name) (rows : Rows) → is_earlier i x rows ≡ true → is_among x rows ≡ true

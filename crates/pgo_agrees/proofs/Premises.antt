@@ -34,7 +34,7 @@ use Rattle.pgo_meaning.specs.Parameters.{places_of}
 use Rattle.pgo_meaning.specs.Sect.{context_of, is_by_element}
 use Rattle.pgo_meaning.specs.Sections.{sections_of}
 use Rattle.pgo_meaning.specs.SystemStates.{RefsDeclared}
-use Rattle.pgo_meaning.specs.TreesAgree.{Named, OwnLabels}
+use Rattle.pgo_meaning.specs.TreesAgree.{Named, OwnLabels, sections_at}
 use Rattle.pgo_meaning.specs.MacrosPlaced.{bodies, placed_among}
 use Rattle.pgo_agrees.specs.Accepted.{IsAccepted, AreSmall}
 use Rattle.pgo_agrees.proofs.Closed.{definitions_closed}
@@ -52,16 +52,16 @@ use Rattle.pgo_agrees.proofs.Uses.{FineUse, fine_use, of_archetype}
 use Rattle.pgo_agrees.proofs.Variables.{variable_written}
 
 module _ (s : Spec) (consts : List (Name × Data)) (h : IsAccepted s consts) where
-  names : NoFindings s
+  pub names : NoFindings s
   names = no_findings s h.names
 
-  labels : NoLabelFindings s
+  pub labels : NoLabelFindings s
   labels = no_label_findings s h.labels
 
-  fit : AllByRecursion (ArgumentsFit s.archetypes) s.processes
+  pub fit : AllByRecursion (ArgumentsFit s.archetypes) s.processes
   fit = arguments_fit s consts h.binding
 
-  well : WellNamed s
+  pub well : WellNamed s
   well = accepted_well_named s consts h.names h.labels h.binding
 
   pub unlabelled : AreUnlabelled s.macros
@@ -105,6 +105,11 @@ module _ (s : Spec) (consts : List (Name × Data)) (h : IsAccepted s consts) whe
         let free = none_flat_map label_in_with r.archetype s.archetypes labels.withs r.declared in
         let f = body.body_fine s names fit h.of_text unlabelled consts h.binding r.process r.archetype r.among r.named r.declared len there.0 there.1 there.2 free in
         code.sections_good s consts names fit h.of_text h.binding labels.mappings r.process r.archetype r.among r.named r.declared len there.0 there.1 there.2 i i_among i_binds (placed_among (bodies s.macros) (labeled r.archetype.body)) f l c e
+
+    -- the instance's sections name nothing that the module writes but variables, and those by what stands for them
+    pub written_plain : (l : Name) (c : Code) → find l (sections_at (bound_of s consts) i) ≡ Some c → PlainCode (names_written s) (map (λ (d : Declaration). d.name.name) s.globals) (places_of i.process i.archetype i.bindings) [] c
+    written_plain =
+        subst (λ (z : Instance). (l : Name) (c : Code) → find l (sections_at (bound_of s consts) z) ≡ Some c → PlainCode (names_written s) (map (λ (d : Declaration). d.name.name) s.globals) (places_of z.process z.archetype z.bindings) [] c) (sym r.is) (λ l c e. (sections l c e).0)
 
     at_places : (t : Vars) (z : Place) → IsPlaceOf s names.heads r.process r.archetype r.among r.named z → IsPlace (context_of (bound_of s consts) (instance_at s r.number (run_with (defs_of s consts) r.process r.archetype, r.id)) t) z
     at_places t (Whole x) g = g
