@@ -1,5 +1,5 @@
 -- Initial values, identifiers and value arguments name nothing that the module writes beside the definitions.
-use Rattle.std.proofs.Common.{◌≡◌, ℕ, suc, Bool, true, false, not, ◌&&◌, ◌||◌, List, [], ◌∷◌, ◌++◌, Option, Some, None, refl, ap, sym, ◌∙◌, subst, inl, inr, arith}
+use Rattle.std.proofs.Common.{◌≡◌, ℕ, Bool, true, false, not, ◌||◌, List, [], ◌∷◌, ◌++◌, Option, Some, None, refl, ap, sym, ◌∙◌, subst, inl, inr, arith}
 use Rattle.std.specs.Prelude.{◌⊎◌}
 use Rattle.std.specs.List.{AllByRecursion}
 use Rattle.pgo_base.specs.Lookup.{Name, same_name}
@@ -14,7 +14,7 @@ use Rattle.pgo_syntax.specs.declared.process.Argument.{Argument}
 use Rattle.pgo_syntax.specs.declared.process.Argument.TheVariants as arguments
 use Rattle.pgo_syntax.specs.declared.process.Process.{Process}
 use Rattle.pgo_syntax.specs.declared.spec.Spec.{Spec}
-use Rattle.pgo_uses.specs.AllUses.{start, parameter_names, variable_names, parameter_uses, local_uses, initial_uses, value_uses, global_uses, archetype_uses, process_uses}
+use Rattle.pgo_uses.specs.AllUses.{start, parameter_names, variable_names, parameter_uses, local_uses, initial_uses, value_uses, process_uses}
 use Rattle.pgo_uses.specs.Names.{is_among as among_rows, is_at}
 use Rattle.pgo_uses.specs.StatementUses.{placed, origin_tree, uses_of_block}
 use Rattle.pgo_uses.specs.Tables.{name_rows, tables_of, operator_rows}
@@ -35,7 +35,7 @@ use Rattle.pgo_translate.specs.Premises.{OriginAvoids, ArgumentAvoids, ProcessAv
 use Rattle.pgo_agrees.specs.Accepted.{IsOfText, OriginOfText, DeclarationOfText, ArchetypeOfText, ArgumentOfText, ProcessOfText}
 use Rattle.pgo_agrees.specs.Spoken.{Spoken}
 use Rattle.pgo_agrees.proofs.Closed.{all_among}
-use Rattle.pgo_agrees.proofs.FromUses.{IsAt, Known, Tells, stands}
+use Rattle.pgo_agrees.proofs.FromUses.{IsAt, Tells, stands}
 use Rattle.pgo_agrees.proofs.Further.{IsTaken, bound_not_taken}
 use Rattle.pgo_agrees.proofs.FurtherNames.{name_of, named_further}
 use Rattle.pgo_agrees.proofs.Kept.{NoFindings, NoLabelFindings}

@@ -14,7 +14,7 @@ use Rattle.pgo_syntax.specs.declared.name.PlacedName.{PlacedName}
 use Rattle.pgo_syntax.specs.declared.declaration.Definition.{Definition}
 use Rattle.pgo_syntax.specs.declared.spec.Spec.{Spec}
 use Rattle.pgo_bound.specs.Among.{some_is}
-use Rattle.pgo_bound.specs.Values.{latest, given_value, given_constant, meant, default_definition, define_of, defs_of}
+use Rattle.pgo_bound.specs.Values.{latest, given_value, given_constant, meant, default_definition, define_of}
 use Rattle.pgo_translate.specs.Premises.{GivenValue, ConstantsAreValues}
 
 items_same : (xs : Items) → items (members xs) ≡ xs

@@ -8,7 +8,7 @@ use Rattle.pgo_sections.specs.Code.{Place, Code, Empty, Skip, Let, Pick, Become,
 use Rattle.pgo_sections.specs.Among.{is_among}
 use Rattle.pgo_sections.specs.Closed.{Apart, AreClosed}
 use Rattle.pgo_sections.specs.Plain.{All, Plain, PlainAll, PlainArms, PlainFields, PlainLet, PlainBound, PlainPaths}
-use Rattle.pgo_sections.specs.WellFormed.{NotMade, Bindable, Alone, Applied, PlainTree, KnownIndex, PlainCode, PlainCodes}
+use Rattle.pgo_sections.specs.WellFormed.{Bindable, Alone, Applied, PlainTree, KnownIndex, PlainCode, PlainCodes}
 
 module _ (N C B N' C' B' : Name → Type 0) (fn : (x : Name) → N x → N' x) (fc : (x : Name) → C x → C' x) (fb : (x : Name) → B x → B' x) where
   all_weaker : (xs : List Name) → All B xs → All B' xs

@@ -1,8 +1,8 @@
 -- The further definitions of a module by the specification: ProcSet, Terminating, each process and each of its labels.
-use Rattle.std.proofs.Common.{◌≡◌, ℕ, Bool, true, false, List, [], ◌∷◌, ◌++◌, map, Option, Some, None, refl, ap, sym, ◌∙◌, subst, inl, inr}
+use Rattle.std.proofs.Common.{◌≡◌, true, false, List, [], ◌∷◌, ◌++◌, map, Option, Some, None, refl, ap, sym, ◌∙◌, subst, inl, inr}
 use Rattle.std.specs.Prelude.{◌⊎◌}
 use Rattle.std.specs.List.{AllByRecursion}
-use Rattle.pgo_base.specs.Lookup.{Name, same_name, find}
+use Rattle.pgo_base.specs.Lookup.{Name, same_name}
 use Rattle.pgo_model.specs.Options.{on}
 use Rattle.pgo_model.specs.ValueText.{is_identifier}
 use Rattle.pgo_model.specs.Written.{done, proc_set, terminating, written}
@@ -10,7 +10,7 @@ use Rattle.pgo_syntax.specs.Statement.{labeled}
 use Rattle.pgo_syntax.specs.declared.archetype.Archetype.{Archetype}
 use Rattle.pgo_syntax.specs.declared.process.Process.{Process}
 use Rattle.pgo_syntax.specs.declared.spec.Spec.{Spec}
-use Rattle.pgo_uses.specs.AllUses.{parameter_names, variable_names, parameter_uses, local_uses, start, archetype_uses}
+use Rattle.pgo_uses.specs.AllUses.{parameter_names, variable_names, parameter_uses, local_uses, start}
 use Rattle.pgo_uses.specs.Heads.{head_names, unit_names, named_by}
 use Rattle.pgo_uses.specs.StatementUses.{uses_of_block}
 use Rattle.pgo_uses.specs.declared.uses.Home.TheVariants as homes
@@ -24,7 +24,6 @@ use Rattle.pgo_bound.specs.Runs.{archetype_named}
 use Rattle.pgo_bound.specs.Sound.{labels_among}
 use Rattle.pgo_bound.specs.State.{variables_of}
 use Rattle.pgo_accept.proofs.Fitting.{ArgumentsFit}
-use Rattle.pgo_sections.specs.Code.{Code}
 use Rattle.pgo_sections.specs.Expand.{expansion}
 use Rattle.pgo_sections.specs.WellFormed.{NotMade}
 use Rattle.pgo_meaning.specs.Expansions.{expansions_of, process_bindings, process_expansions}
@@ -40,7 +39,6 @@ use Rattle.pgo_agrees.proofs.Kept.{NoFindings, NoLabelFindings, nothing_if, none
 use Rattle.pgo_agrees.proofs.Labels.{label_own, label_among, label_written, found_own}
 use Rattle.pgo_agrees.proofs.Meanings.{process_unit}
 use Rattle.pgo_agrees.proofs.Names.{single, written_single, identifier_letter}
-use Rattle.pgo_agrees.proofs.Things.{rows_of}
 use Rattle.pgo_agrees.proofs.Unlabelled.{are_unlabelled, none_is_done}
 use Rattle.pgo_agrees.proofs.Uses.{fine_use, of_archetype}
 

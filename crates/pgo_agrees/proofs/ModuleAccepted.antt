@@ -1,5 +1,5 @@
 -- All that is asked of a specification, for its module to agree with what it is bound to, holds of an accepted one.
-use Rattle.std.specs.Prelude.{◌≡◌, ℕ, List, [], Some, map}
+use Rattle.std.specs.Prelude.{◌≡◌, ℕ, List, [], Some}
 use Rattle.std.specs.List.{AllByRecursion}
 use Rattle.pgo_base.specs.Data.{Data}
 use Rattle.pgo_base.specs.Lookup.{Name}

@@ -1,5 +1,5 @@
 -- The names that the module of an accepted specification writes are as its laws ask.
-use Rattle.std.proofs.Common.{◌≡◌, ℕ, Bool, true, false, not, ◌&&◌, List, [], ◌∷◌, ◌++◌, Option, Some, None, refl, ap, sym, ◌∙◌, inl, inr, arith}
+use Rattle.std.proofs.Common.{◌≡◌, Bool, true, false, not, ◌&&◌, List, [], ◌∷◌, Some, None, refl, ap, sym, ◌∙◌, inr, arith}
 use Rattle.std.specs.Prelude.{if◌then◌else◌}
 use Rattle.std.specs.List.{AllByRecursion}
 use Rattle.pgo_base.specs.Lookup.{Name, same_name, find}
@@ -10,7 +10,7 @@ use Rattle.pgo_syntax.specs.declared.spec.Spec.{Spec}
 use Rattle.pgo_scope.specs.Twice.{is_reserved}
 use Rattle.pgo_bound.specs.Among.{IsAmong, all_at}
 use Rattle.pgo_bound.specs.State.{variables_of}
-use Rattle.pgo_accept.proofs.Counted.{times, different}
+use Rattle.pgo_accept.proofs.Counted.{different}
 use Rattle.pgo_accept.proofs.Fitting.{ArgumentsFit}
 use Rattle.pgo_sections.specs.Among.{is_among}
 use Rattle.pgo_sections.specs.Code.{content_name}

@@ -2,7 +2,7 @@
 use Rattle.std.proofs.Common.{◌≡◌, ◌≤◌, ℕ, suc, ◌+◌, Bool, true, false, ◌||◌, if◌then◌else◌, List, [], ◌∷◌, ◌++◌, map, codes, Option, Some, None, refl, ap, sym, ◌∙◌, subst, inl, inr, arith}
 use Rattle.std.proofs.lemmas.List.{append_cancel_left}
 use Rattle.std.specs.Prelude.{flat_map}
-use Rattle.std.specs.List.{AllByRecursion, filter_map, cons_option, list_any}
+use Rattle.std.specs.List.{AllByRecursion, filter_map, cons_option}
 use Rattle.pgo_base.specs.Lookup.{Name, same_name, find}
 use Rattle.pgo_model.specs.Names.{same_name-self, same_name-is, same_name-not}
 use Rattle.pgo_model.specs.Written.{pc, proc_set, terminating, written}
@@ -38,11 +38,11 @@ use Rattle.pgo_meaning.specs.Expansions.{process_expansions}
 use Rattle.pgo_translate.specs.Premises.{process_names, further_names}
 use Rattle.pgo_agrees.proofs.FurtherNames.{label_names, tree_names}
 use Rattle.pgo_agrees.proofs.Kept.{NoFindings, NoLabelFindings}
-use Rattle.pgo_agrees.proofs.Labels.{label_own, found_own, body_label}
+use Rattle.pgo_agrees.proofs.Labels.{found_own, body_label}
 use Rattle.pgo_agrees.proofs.Names.{or_left, or_right}
-use Rattle.pgo_agrees.proofs.Things.{counted, rows_of, written_by}
+use Rattle.pgo_agrees.proofs.Things.{counted, rows_of}
 use Rattle.pgo_agrees.proofs.Unlabelled.{body_names, placed_name}
-use Rattle.pgo_agrees.proofs.Variables.{among_is, not_among}
+use Rattle.pgo_agrees.proofs.Variables.{among_is}
 
 -- ---- how often a name stands in a list
 

@@ -31,7 +31,7 @@ use Rattle.pgo_labels.specs.Rules.{label_in_mapping}
 use Rattle.pgo_bound.specs.Among.{IsAmong, among_map, from_map, from_flat_map, from_filter_map, nth_among, some_is, mapped_some}
 use Rattle.pgo_bound.specs.BoundOf.{bound_of}
 use Rattle.pgo_bound.specs.Runs.{Handed, archetype_named, mapping_named, mapping_without, mapping_by, speaking, target_of, binding_of, kind_of_extents}
-use Rattle.pgo_bound.specs.State.{variables_of, names_with, target_extent, kind_in}
+use Rattle.pgo_bound.specs.State.{names_with, target_extent, kind_in}
 use Rattle.pgo_heads.specs.Refusals.{bind_refusal}
 use Rattle.pgo_accept.proofs.Fitting.{ArgumentsFit}
 use Rattle.pgo_sections.specs.Access.{Mapped}

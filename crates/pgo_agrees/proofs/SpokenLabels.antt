@@ -1,5 +1,5 @@
 -- The labels in statements that tokens of a specification spell are identifiers.
-use Rattle.std.specs.Prelude.{ℕ, Bool, List, [], ◌∷◌, ◌++◌, Option, Some, None}
+use Rattle.std.specs.Prelude.{ℕ, Bool, List, [], ◌∷◌, ◌++◌, Option}
 use Rattle.std.specs.List.{AllByRecursion}
 use Rattle.pgo_base.specs.Lookup.{Name}
 use Rattle.pgo_base.specs.Tree.{Tree}

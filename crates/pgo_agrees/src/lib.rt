@@ -38,7 +38,7 @@ ghost use Rattle.pgo_pluscal.specs.PlusCalOf.{pluscal_of};
 ghost use Rattle.pgo_agrees.specs.Trees.{trees_in};
 ghost use Rattle.pgo_translate.specs.Accepted.{Accepted};
 ghost use Rattle.pgo_translate.specs.Agrees.{Agrees};
-ghost use Rattle.pgo_translate.specs.ModuleOf.{module_of, constants_with};
+ghost use Rattle.pgo_translate.specs.ModuleOf.{module_with, constants_with};
 ghost use Rattle.pgo_translate.specs.Premises.{ModuleNames, StartNames};
 
 use pgo_meaning::{ends_are_states, sections_touch, system_states, trees_agree};
@@ -138,12 +138,13 @@ pub fn module_premises_hold()
 {}
 
 /// The law of modules: of the one specification that a text spells, where nothing refuses it with these constants, neither the rules of
-/// names, of labels and of binding nor the limits of its expansion, and the constants' values are values. Its module (`module_of`)
-/// with the constants' values says of steps, of starts and by Next what it is bound to says (`Agrees` of `pgo_translate`).
+/// names, of labels and of binding nor the limits of its expansion, and where the constants' values are values, let p be its expansion.
+/// Then its module, which has p as its algorithm (`module_with`), with the constants' values says what the bound specification says of
+/// steps, of starts and by Next (`Agrees` of `pgo_translate`).
 ///
 /// Source: this project's choice.
 pub fn modules_agree()
-    ensures { (text : List ℕ) (s : Spec) (consts : List (Name × Data)) → SpellsSpec text s → NothingRefuses s consts → AllValues consts → Agrees (module_of s) (constants_with s consts) (bound_of s consts) }
+    ensures { (text : List ℕ) (s : Spec) (consts : List (Name × Data)) (p : PlusCal) → SpellsSpec text s → NothingRefuses s consts → AllValues consts → p ≡ pluscal_of s → Agrees (module_with s p) (constants_with s consts) (bound_of s consts) }
 {
     texts_are_accepted();
     module_premises_hold();
