@@ -24,13 +24,12 @@ use Rattle.pgo_labels.specs.Rules.{found_at, labels_here, label_in_mapping}
 use Rattle.pgo_labels.specs.declared.errors.LabelError.TheVariants.{LabelHere}
 use Rattle.pgo_bound.specs.Among.{IsAmong, among_left, among_right, all_at, empty_map, none_left, none_right, none_flat_map}
 use Rattle.pgo_bound.specs.Sound.{labels_among}
-use Rattle.pgo_bound.specs.State.{variables_of}
 use Rattle.pgo_accept.proofs.Fitting.{ArgumentsFit}
 use Rattle.pgo_sections.specs.Among.{is_among}
 use Rattle.pgo_sections.specs.Code.{Place, Whole, content_name, content_places}
 use Rattle.pgo_sections.specs.WellFormed.{NotMade, PlainCode}
 use Rattle.pgo_meaning.specs.Parameters.{block_setting, block_code, reads_by, writes_by}
-use Rattle.pgo_agrees.specs.Accepted.{IsOfText, MappingOfText, DefinitionOfText, DeclarationOfText}
+use Rattle.pgo_agrees.specs.Accepted.{IsOfText, MappingOfText, DefinitionOfText, DeclarationOfText, ProcessOfText}
 use Rattle.pgo_agrees.specs.Spoken.{LabeledSpoken}
 use Rattle.pgo_agrees.proofs.Closed.{all_among, apart}
 use Rattle.pgo_agrees.proofs.Env.{C, B, D, Known', Inside, InStatements, place_apart, UnitRules, tells_all}
@@ -43,15 +42,16 @@ use Rattle.pgo_agrees.proofs.Meanings.{common_apart, common_single, applicable_a
 use Rattle.pgo_agrees.proofs.Names.{and_left, single, written_marked, has_mark, identifier_bytes}
 use Rattle.pgo_agrees.proofs.Unlabelled.{body_names, placed_name}
 use Rattle.pgo_agrees.proofs.Uses.{FineUse, fine_use, of_mapping}
-use Rattle.pgo_agrees.proofs.Variables.{IsVariable, is_global, is_place, is_own}
+use Rattle.pgo_agrees.proofs.Further.{IsTaken, names_written, is_proc_set, is_terminating, is_process, is_written}
+use Rattle.pgo_agrees.proofs.Variables.{is_global, is_place, is_own}
 use Rattle.pgo_model.specs.ValueText.{is_word_byte, all_word_bytes}
 
 -- `$`: no identifier begins with it
-abbrev dollar_first : Name → Bool
+abbrev pub dollar_first : Name → Bool
 dollar_first [] = false
 dollar_first (b ∷ bs) = nat_eq b 36
 
-bytes_no_dollar : (x : Name) → all_word_bytes x ≡ true → dollar_first x ≡ false
+pub bytes_no_dollar : (x : Name) → all_word_bytes x ≡ true → dollar_first x ≡ false
 bytes_no_dollar [] h = refl
 bytes_no_dollar (b ∷ bs) h = go (nat_eq b 36) refl
   where
@@ -68,7 +68,7 @@ given_names = variable_name ∷ value_name ∷ []
 
 module _ (s : Spec) (k : NoFindings s) (fit : AllByRecursion (ArgumentsFit s.archetypes) s.processes) (of_text : IsOfText s) where
   abbrev vs : List Name
-  vs = variables_of s
+  vs = names_written s
 
   dollar_apart : (x y : Name) → C s k fit of_text x → dollar_first y ≡ true → same_name x y ≡ false
   dollar_apart x y c h = same_name-not x y (λ e. (let q : true ≡ false = sym h ∙ sym (ap dollar_first e) ∙ none x c in cc))
@@ -80,17 +80,24 @@ module _ (s : Spec) (k : NoFindings s) (fit : AllByRecursion (ArgumentsFit s.arc
           let t = all_at DefinitionOfText d.0 (all_definitions s) of_text.definitions d.1 in
           ap dollar_first d.2 ∙ bytes_no_dollar d.0.name.name (identifier_bytes d.0.name.name t.0)
 
-  -- no variable is `$value`
+  -- `$value` is none of these
   value_apart : is_among value_name vs ≡ false
   value_apart = apart s k fit of_text value_name not_here
     where
-      not_here : IsVariable s value_name → ⊥
-      not_here (is_global d a e) =
+      not_here : IsTaken s value_name → ⊥
+      not_here (inl (is_global d a e)) =
           let t = all_at DeclarationOfText d s.globals of_text.globals a in
-          let n = bytes_no_dollar d.name.name (identifier_bytes d.name.name t) in
+          let n = bytes_no_dollar d.name.name (identifier_bytes d.name.name t.0) in
           let q : true ≡ false = ap dollar_first e ∙ n in cc
-      not_here (is_place e) = let q : true ≡ false = ap dollar_first e in cc
-      not_here (is_own p a y b e n q) = let z : false ≡ true = ap has_mark q ∙ written_marked p.name.name y in cc
+      not_here (inl (is_place e)) = let q : true ≡ false = ap dollar_first e in cc
+      not_here (inl (is_own p a y b e n q)) = let z : false ≡ true = ap has_mark q ∙ written_marked p.name.name y in cc
+      not_here (inr (is_proc_set e)) = let q : true ≡ false = ap dollar_first e in cc
+      not_here (inr (is_terminating e)) = let q : true ≡ false = ap dollar_first e in cc
+      not_here (inr (is_process p a e)) =
+          let t = all_at ProcessOfText p s.processes of_text.processes a in
+          let n = bytes_no_dollar p.name.name (identifier_bytes p.name.name t.0) in
+          let q : true ≡ false = ap dollar_first e ∙ n in cc
+      not_here (inr (is_written p y a b e)) = let z : false ≡ true = ap has_mark e ∙ written_marked p.name.name y in cc
 
   abbrev BlockName : List Name → Bool → Bool → Name → Type 0
   BlockName ns h i x = NotMade x × ((is_among x ns ≡ true) ⊎ (((p : Place) × (find x content_places ≡ Some p)) ⊎ (is_among x vs ≡ false)))

@@ -1,4 +1,4 @@
--- Definitions name no variable.
+-- Definitions name nothing that the module writes beside them: no variable, no label, no process, not ProcSet and not Terminating.
 use Rattle.std.proofs.Common.{◌≡◌, ℕ, Bool, true, false, if◌then◌else◌, List, [], ◌∷◌, ◌++◌, map, Option, Some, None, option_map, refl, sym, subst, inl, inr}
 use Rattle.std.specs.Prelude.{◌⊎◌}
 use Rattle.std.specs.List.{AllByRecursion, filter_map, cons_option}
@@ -23,7 +23,6 @@ use Rattle.pgo_uses.specs.declared.uses.Form.TheVariants as forms
 use Rattle.pgo_uses.specs.declared.uses.Home.TheVariants as homes
 use Rattle.pgo_uses.specs.declared.uses.Use.{Use}
 use Rattle.pgo_bound.specs.Among.{IsAmong, among_left, among_right, all_at}
-use Rattle.pgo_bound.specs.State.{variables_of}
 use Rattle.pgo_bound.specs.Values.{given_value, given_constant, meant, default_definition, define_of, defs_of}
 use Rattle.pgo_accept.proofs.Fitting.{ArgumentsFit}
 use Rattle.pgo_sections.specs.Among.{is_among}
@@ -34,7 +33,8 @@ use Rattle.pgo_agrees.proofs.FromUses.{Known, Tells, stands}
 use Rattle.pgo_agrees.proofs.Kept.{NoFindings}
 use Rattle.pgo_agrees.proofs.Meanings.{common_apart, applicable_apart, alone_means, alone_no_global, defined_here, applied_is}
 use Rattle.pgo_agrees.proofs.Uses.{FineUse, fine_use, of_definition}
-use Rattle.pgo_agrees.proofs.Variables.{IsVariable, variable_is, not_among, bound_no_variable}
+use Rattle.pgo_agrees.proofs.Variables.{not_among}
+use Rattle.pgo_agrees.proofs.Further.{IsTaken, names_written, taken_is, bound_not_taken}
 use Rattle.pgo_agrees.proofs.Weaker.{plain}
 
 pub all_among : {A : Type 0} (P : A → Type 0) (xs : List A) → ((x : A) → IsAmong x xs → P x) → AllByRecursion P xs
@@ -60,42 +60,42 @@ meant_closed vs (d ∷ ds) f = (f d (inl refl), meant_closed vs ds (λ e a. f e 
 
 module _ (s : Spec) (k : NoFindings s) (fit : AllByRecursion (ArgumentsFit s.archetypes) s.processes) (of_text : IsOfText s) where
   abbrev vs : List Name
-  vs = variables_of s
+  vs = names_written s
 
-  pub apart : (x : Name) → (IsVariable s x → ⊥) → is_among x (variables_of s) ≡ false
-  apart x f = not_among x (variables_of s) (λ a. f (variable_is s x a))
+  pub apart : (x : Name) → (IsTaken s x → ⊥) → is_among x (names_written s) ≡ false
+  apart x f = not_among x (names_written s) (λ a. f (taken_is s x a))
 
-  pub bound_use_apart : (u : Use) → FineUse s u → u.form ≡ forms.Bound → is_among u.name (variables_of s) ≡ false
-  bound_use_apart u f e = apart u.name (bound_no_variable s k.clashes fit u f.among e)
+  pub bound_use_apart : (u : Use) → FineUse s u → u.form ≡ forms.Bound → is_among u.name (names_written s) ≡ false
+  bound_use_apart u f e = apart u.name (bound_not_taken s k.clashes fit u f.among e)
 
-  tells : (i : ℕ) → Tells (FineUse s) (homes.Definition i) false (λ h j x. is_among x (variables_of s) ≡ false) (λ x. is_among x (variables_of s) ≡ false) (λ x. is_among x (variables_of s) ≡ false) (λ x. is_among x (variables_of s) ≡ false)
+  tells : (i : ℕ) → Tells (FineUse s) (homes.Definition i) false (λ h j x. is_among x (names_written s) ≡ false) (λ x. is_among x (names_written s) ≡ false) (λ x. is_among x (names_written s) ≡ false) (λ x. is_among x (names_written s) ≡ false)
   tells i = record {
     alone = alone;
     applied = λ u n f w e. apart u.name (applicable_apart s k fit of_text u.name (applied_is s k fit of_text u n f e));
     binds = λ u f w e. bound_use_apart u f e;
   }
     where
-      alone : (u : Use) → FineUse s u → (u.around.home ≡ homes.Definition i) × (u.around.passed ≡ false) → u.form ≡ forms.Alone → (u.inner ≡ true → is_among u.name (variables_of s) ≡ false) → is_among u.name (variables_of s) ≡ false
+      alone : (u : Use) → FineUse s u → (u.around.home ≡ homes.Definition i) × (u.around.passed ≡ false) → u.form ≡ forms.Alone → (u.inner ≡ true → is_among u.name (names_written s) ≡ false) → is_among u.name (names_written s) ≡ false
       alone u f w e inner = go u.inner refl
         where
-          go : (b : Bool) → u.inner ≡ b → is_among u.name (variables_of s) ≡ false
+          go : (b : Bool) → u.inner ≡ b → is_among u.name (names_written s) ≡ false
           go true j = inner j
           go false j =
               let m = subst (λ z. means (tables_of s) s.archetypes z u.name ≡ true) w.0 (alone_means s k fit of_text u f e j) in
               apart u.name (common_apart s k fit of_text u.name (defined_here s k fit of_text i u.name m (alone_no_global s k fit of_text u f e j)))
 
-  parameters_known : (ps : List PlacedName) (ns : List Name) (a : Around) → ((u : Use) → IsAmong u (heads forms.Bound ns a ps) → FineUse s u) → Known (λ x. is_among x (variables_of s) ≡ false) (names_of ps) []
+  parameters_known : (ps : List PlacedName) (ns : List Name) (a : Around) → ((u : Use) → IsAmong u (heads forms.Bound ns a ps) → FineUse s u) → Known (λ x. is_among x (names_written s) ≡ false) (names_of ps) []
   parameters_known [] ns a f x h = absurd (let e : false ≡ true = h in cc)
   parameters_known (p ∷ ps) ns a f x h = go (same_name x p.name) refl h (parameters_known ps (ns ++ p.name ∷ []) a (λ u b. f u (inr b)) x)
     where
       use' : Use
       use' = record { name = p.name; form = forms.Bound; inner = is_member p.name ns; around = at_place p.place a }
 
-      here : is_among p.name (variables_of s) ≡ false
+      here : is_among p.name (names_written s) ≡ false
       here = bound_use_apart use' (f use' (inl refl)) refl
 
-      go : (b : Bool) → same_name x p.name ≡ b → (if b then true else is_member x (names_of ps)) ≡ true → (is_member x (names_of ps) ≡ true → (is_among x [] ≡ true) ⊎ (is_among x (variables_of s) ≡ false)) → (is_among x [] ≡ true) ⊎ (is_among x (variables_of s) ≡ false)
-      go true e g more = inr (subst (λ z. is_among z (variables_of s) ≡ false) (sym (same_name-is x p.name e)) here)
+      go : (b : Bool) → same_name x p.name ≡ b → (if b then true else is_member x (names_of ps)) ≡ true → (is_member x (names_of ps) ≡ true → (is_among x [] ≡ true) ⊎ (is_among x (names_written s) ≡ false)) → (is_among x [] ≡ true) ⊎ (is_among x (names_written s) ≡ false)
+      go true e g more = inr (subst (λ z. is_among z (names_written s) ≡ false) (sym (same_name-is x p.name e)) here)
       go false e g more = more g
 
   definition_plain : (d : Definition) → IsAmong d (all_definitions s) → Plain (Apart vs) (Apart vs) (λ y. Unit {0}) d.body
@@ -111,7 +111,7 @@ module _ (s : Spec) (k : NoFindings s) (fit : AllByRecursion (ArgumentsFit s.arc
       let st = stands (FineUse s) (homes.Definition j.0) false (λ h i x. Apart vs x) (Apart vs) (Apart vs) (Apart vs) (tells j.0) (names_of d.params) [] at' d.body (refl, refl) known text.1 (all_among (FineUse s) us (λ u b. fine u (among_right u hs us b))) in
       plain (λ h i x. Apart vs x) (Apart vs) (Apart vs) (Apart vs) (Apart vs) (λ y. Unit {0}) (λ h i x g. g) (λ x g. g) (λ x g. tt) (λ x g. g) [] false false d.body (λ x h. absurd (let e : false ≡ true = h in cc)) st
 
-  pub definitions_closed : (consts : List (Name × Data)) → AreClosed (variables_of s) (map defined_view (defs_of s consts))
+  pub definitions_closed : (consts : List (Name × Data)) → AreClosed (names_written s) (map defined_view (defs_of s consts))
   definitions_closed consts =
       let given = filter_map (given_constant consts) s.constants in
       let first = given ++ (default_definition ∷ []) in

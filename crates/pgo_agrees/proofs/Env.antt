@@ -20,7 +20,6 @@ use Rattle.pgo_uses.specs.declared.uses.Use.{Use}
 use Rattle.pgo_scope.specs.Twice.{is_reserved, may_be_global, hides, hiding_of}
 use Rattle.pgo_scope.specs.Unknown.{is_common, knows_self, means}
 use Rattle.pgo_bound.specs.Among.{all_at}
-use Rattle.pgo_bound.specs.State.{variables_of}
 use Rattle.pgo_accept.proofs.Fitting.{ArgumentsFit}
 use Rattle.pgo_sections.specs.Access.{place}
 use Rattle.pgo_sections.specs.Among.{is_among}
@@ -30,6 +29,7 @@ use Rattle.pgo_agrees.specs.Spoken.{Spoken, ArgumentsSpoken}
 use Rattle.pgo_agrees.proofs.Closed.{bound_use_apart}
 use Rattle.pgo_agrees.proofs.FineUses.{TellsAll, Within}
 use Rattle.pgo_agrees.proofs.FromUses.{Known, IsAt, Tells, stands}
+use Rattle.pgo_agrees.proofs.Further.{names_written}
 use Rattle.pgo_agrees.proofs.Kept.{NoFindings}
 use Rattle.pgo_agrees.proofs.Meanings.{IsCommon, IsApplicable, defined_row, row_test, alone_means, alone_no_global, common_here, applied_is}
 use Rattle.pgo_agrees.proofs.Names.{or_left, or_right, and_left, and_right, single, identifier_bytes}
@@ -74,7 +74,7 @@ module _ (s : Spec) (k : NoFindings s) (fit : AllByRecursion (ArgumentsFit s.arc
   C = IsApplicable s
 
   abbrev pub B : Name → Type 0
-  B = Bindable (variables_of s)
+  B = Bindable (names_written s)
 
   abbrev pub Common : Name → Type 0
   Common = IsCommon s

@@ -36,7 +36,7 @@ use Rattle.pgo_scope.specs.declared.mapped.Mapped.{Mapped as Kind}
 use Rattle.pgo_scope.specs.declared.mapped.Mapped.TheVariants.{ByElement}
 use Rattle.pgo_bound.specs.Among.{IsAmong, among_left, among_append, from_map, from_filter_map}
 use Rattle.pgo_bound.specs.Runs.{Handed, handed_from, archetype_named}
-use Rattle.pgo_bound.specs.State.{variables_of, names_with, value_name}
+use Rattle.pgo_bound.specs.State.{names_with, value_name}
 use Rattle.pgo_accept.proofs.Fitting.{ArgumentsFit}
 use Rattle.pgo_sections.specs.Access.{Mapped}
 use Rattle.pgo_sections.specs.Among.{is_among}
@@ -47,6 +47,7 @@ use Rattle.pgo_agrees.specs.Accepted.{IsOfText}
 use Rattle.pgo_agrees.proofs.Closed.{apart}
 use Rattle.pgo_agrees.proofs.Env.{C, D, Inside, InStatements, NamedFacts, named_facts}
 use Rattle.pgo_agrees.proofs.FromUses.{IsAt}
+use Rattle.pgo_agrees.proofs.Further.{names_written}
 use Rattle.pgo_agrees.proofs.Hoist.{never}
 use Rattle.pgo_agrees.proofs.Kept.{NoFindings}
 use Rattle.pgo_agrees.proofs.MappedPlaces.{mapped_from, element_kind, parameter_or_mapped, local_placed}
@@ -243,7 +244,7 @@ module _ (s : Spec) (k : NoFindings s) (fit : AllByRecursion (ArgumentsFit s.arc
 
     abbrev pub RunName : List Name → Bool → Bool → Name → Type 0
     RunName ns h i x =
-        NotMade x × ((is_among x ns ≡ true) ⊎ (((z : Place) × (find x places ≡ Some z)) ⊎ ((is_among x (variables_of s) ≡ false) ⊎ Hoisted' i x)))
+        NotMade x × ((is_among x ns ≡ true) ⊎ (((z : Place) × (find x places ≡ Some z)) ⊎ ((is_among x (names_written s) ≡ false) ⊎ Hoisted' i x)))
 
     abbrev pub RunAssigned : List Name → Shape → Name → Type 0
     RunAssigned ns h x = NotMade x × (kind x ≡ ByElement → h ≡ OneIndex)
@@ -271,7 +272,7 @@ module _ (s : Spec) (k : NoFindings s) (fit : AllByRecursion (ArgumentsFit s.arc
     run_name ns h i x (inl (inl e)) f = (single x e.1.0, inl e.0)
     run_name ns h i x (inl (inr e)) f = (mine_single x (mine x e), by (place_or_mapped x e))
       where
-        by : ((z : Place) × (find x places ≡ Some z)) ⊎ ((m : Mapped) × (find x (all_mapped (binds s p a)) ≡ Some m)) → (is_among x ns ≡ true) ⊎ (((z : Place) × (find x places ≡ Some z)) ⊎ ((is_among x (variables_of s) ≡ false) ⊎ Hoisted' i x))
+        by : ((z : Place) × (find x places ≡ Some z)) ⊎ ((m : Mapped) × (find x (all_mapped (binds s p a)) ≡ Some m)) → (is_among x ns ≡ true) ⊎ (((z : Place) × (find x places ≡ Some z)) ⊎ ((is_among x (names_written s) ≡ false) ⊎ Hoisted' i x))
         by (inl z) = inr (inl z)
         by (inr m) = inr (inr (inr (m.0, m.1, λ g. f (element_is x m.0 m.1 g))))
     run_name ns h i x (inr c) f =

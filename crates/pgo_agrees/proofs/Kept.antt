@@ -25,7 +25,7 @@ use Rattle.pgo_labels.specs.declared.errors.LabelError.{LabelError}
 use Rattle.pgo_labels.specs.declared.finding.Finding as labels
 use Rattle.pgo_labels.specs.Least.{sooner_of, least}
 use Rattle.pgo_labels.specs.Refusal.{findings, first_refusal, label_refusal}
-use Rattle.pgo_labels.specs.Rules.{label_in_with, label_in_macro, label_in_mapping, reserved_done, yield_rule}
+use Rattle.pgo_labels.specs.Rules.{label_in_with, label_in_macro, label_in_mapping, label_twice, reserved_done, yield_rule}
 use Rattle.pgo_bound.specs.Among.{IsAmong, none_left, none_right}
 
 -- ---- names
@@ -147,6 +147,7 @@ pub record NoLabelFindings (s : Spec) : Type 0 where
   pub withs : flat_map label_in_with s.archetypes ≡ []
   pub macros : flat_map label_in_macro s.macros ≡ []
   pub mappings : flat_map label_in_mapping s.mappings ≡ []
+  pub twice : flat_map label_twice s.archetypes ≡ []
   pub dones : flat_map reserved_done s.archetypes ≡ []
   pub yields : flat_map yield_rule s.mappings ≡ []
 
@@ -160,6 +161,7 @@ no_label_findings s h =
       withs = none_left withs macros (none_left (withs ++ macros) mappings r.1.0);
       macros = none_right withs macros (none_left (withs ++ macros) mappings r.1.0);
       mappings = none_right (withs ++ macros) mappings r.1.0;
+      twice = r.1.1.1.0;
       dones = r.1.1.1.1.0;
       yields = r.1.1.1.1.1.0;
     }

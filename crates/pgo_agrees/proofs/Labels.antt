@@ -45,7 +45,7 @@ use Rattle.pgo_agrees.proofs.Unlabelled.{none_is_done}
 
 -- ---- a label is used as a label
 
-abbrev LabelUse : Name → List Use → Type 0
+abbrev pub LabelUse : Name → List Use → Type 0
 LabelUse x us = (u : Use) × IsAmong u us × (u.form ≡ forms.Label) × (u.name ≡ x)
 
 first_part : (x : Name) (us vs : List Use) → LabelUse x us → LabelUse x (us ++ vs)
@@ -90,7 +90,7 @@ mutual
   label_each (more_statements t ts) x ns a h =
       either_part x (statement_uses ns a t) (uses_of_alternatives ns a ts) (labels_in t) (labels_each ts) (λ k. label_in t x ns a k) (λ k. label_each ts x ns a k) h
 
-  label_among : (ls : LabeledStatements) (x : Name) (ns : List Name) (a : Around) → IsAmong x (labels_among ls) → LabelUse x (uses_of_block ns a ls)
+  pub label_among : (ls : LabeledStatements) (x : Name) (ns : List Name) (a : Around) → IsAmong x (labels_among ls) → LabelUse x (uses_of_block ns a ls)
   label_among no_labeled x ns a h = absurd h
   label_among (more_labeled l t ls) x ns a h =
       either_part x (label_uses ns a l ++ statement_uses ns a t) (uses_of_block ns a ls) (on [] l (λ y. y.name ∷ []) ++ labels_in t) (labels_among ls) (λ k. either_part x (label_uses ns a l) (statement_uses ns a t) (on [] l (λ y. y.name ∷ [])) (labels_in t) (λ j. of_label x ns a l j) (λ j. label_in t x ns a j) k) (λ k. label_among ls x ns a k) h
@@ -136,21 +136,26 @@ label_listed u before (v ∷ us) (inr a) e = go (new_label before v v.form) (lab
         more (inl g) = here (one_more u.name l before g)
         more (inr g) = inr (inr g)
 
-label_own : (j : ℕ) (a : Archetype) (x : Name) → IsAmong x (labels_among (labeled a.body)) → IsAmong x (own_names j a)
-label_own j a x h =
+-- a label of the body is listed
+pub body_label : (j : ℕ) (a : Archetype) (x : Name) → IsAmong x (labels_among (labeled a.body)) → IsAmong x (labels_from [] (archetype_uses j a))
+body_label j a x h =
     let s = start (homes.Body j) a.name.place in
     let ns = parameter_names a.params ++ variable_names a.locals in
     let ps = parameter_uses [] s a.params in
     let ls = local_uses j (parameter_names a.params) s a.locals in
     let bs = uses_of_block ns s (labeled a.body) in
     let u = second_part x (ps ++ ls) bs (label_among (labeled a.body) x ns s h) in
-    subst (λ y. IsAmong y (own_names j a)) u.3 (among_right u.0.name (value_names a.params ++ variable_names a.locals) (labels_from [] (archetype_uses j a)) (listed u.0.name (label_listed u.0 [] (archetype_uses j a) u.1 u.2)))
+    subst (λ y. IsAmong y (labels_from [] (archetype_uses j a))) u.3 (listed u.0.name (label_listed u.0 [] (archetype_uses j a) u.1 u.2))
   where
     listed : (y : Name) → (is_among y [] ≡ true) ⊎ IsAmong y (labels_from [] (archetype_uses j a)) → IsAmong y (labels_from [] (archetype_uses j a))
     listed y (inl e) = absurd (let q : false ≡ true = e in cc)
     listed y (inr b) = b
 
-found_own : (x : Name) (j : ℕ) (as' : List Archetype) (a : Archetype) → archetype_named x as' ≡ Some a → (k : ℕ) × (find x (own_rows j as') ≡ Some (own_names k a))
+pub label_own : (j : ℕ) (a : Archetype) (x : Name) → IsAmong x (labels_among (labeled a.body)) → IsAmong x (own_names j a)
+label_own j a x h =
+    among_right x (value_names a.params ++ variable_names a.locals) (labels_from [] (archetype_uses j a)) (body_label j a x h)
+
+pub found_own : (x : Name) (j : ℕ) (as' : List Archetype) (a : Archetype) → archetype_named x as' ≡ Some a → (k : ℕ) × (find x (own_rows j as') ≡ Some (own_names k a))
 found_own x j [] a h = absurd (cc)
 found_own x j (b ∷ bs) a h = go (same_name x b.name.name) h (found_own x (suc j) bs a)
   where
@@ -180,7 +185,7 @@ find_map {A} {B} f (p ∷ l) x = go (same_name x p.0) (find_map f l x)
     go true e = refl
     go false e = e
 
-label_written : (p x : Name) → same_name x done ≡ false → label_of p x ≡ written p x
+pub label_written : (p x : Name) → same_name x done ≡ false → label_of p x ≡ written p x
 label_written p x e = ap (λ b. if b then done else written p x) e
 
 module _ (s : Spec) (clashes : name_clashes s ≡ []) (unlabelled : AreUnlabelled s.macros) (dones : flat_map reserved_done s.archetypes ≡ []) where

@@ -6,6 +6,7 @@ pub mod Instances
 pub mod Heads
 pub mod Uses
 pub mod Variables
+pub mod Further
 pub mod Stands
 pub mod FromUses
 pub mod Places
@@ -32,9 +33,18 @@ pub mod MacroNames
 pub mod MacroCalls
 pub mod InMacro
 pub mod RunBody
+pub mod Fewer
 pub mod Premises
 pub mod SpokenExpressions
 pub mod SpokenStatements
+pub mod SpokenLabels
 pub mod OfText
+pub mod ConstantValues
+pub mod FurtherNames
+pub mod NameCounts
+pub mod ModuleNames
+pub mod Avoided
+pub mod StartNames
+pub mod ModuleAccepted
 mod Rows
 mod Limits

@@ -1,4 +1,5 @@
--- What a name means where nothing around it gives it a meaning: a constant, an operator, a definition or `self`, and no variable.
+-- What a name means where nothing around it gives it a meaning: a constant, an operator, a definition or `self`, and no variable nor
+-- another name that the module writes.
 use Rattle.std.proofs.Common.{◌≡◌, ℕ, suc, Bool, true, false, not, ◌&&◌, ◌||◌, if◌then◌else◌, nat_eq, List, [], ◌∷◌, ◌++◌, length, Option, Some, None, option_map, refl, ap, sym, ◌∙◌, subst, inl, inr, arith}
 use Rattle.std.specs.Prelude.{◌⊎◌, is_some}
 use Rattle.std.specs.List.{AllByRecursion}
@@ -7,6 +8,7 @@ use Rattle.pgo_model.specs.Names.{same_name-self, same_name-is, same_name-not}
 use Rattle.pgo_model.specs.Written.{self_name, default_init_value}
 use Rattle.pgo_syntax.specs.declared.name.PlacedName.{PlacedName}
 use Rattle.pgo_syntax.specs.declared.declaration.Definition.{Definition}
+use Rattle.pgo_syntax.specs.declared.process.Process.{Process}
 use Rattle.pgo_syntax.specs.declared.spec.Spec.{Spec}
 use Rattle.pgo_uses.specs.Heads.{definition_names, declared_names, shared_names, macro_names, mapping_names, archetype_names, process_names, unit_names}
 use Rattle.pgo_uses.specs.Names.{Rows, is_among, first_at, is_below, is_earlier}
@@ -30,7 +32,8 @@ use Rattle.pgo_agrees.proofs.Names.{single, written_marked, has_mark}
 use Rattle.pgo_agrees.proofs.Stands.{or_in}
 use Rattle.pgo_agrees.proofs.Things.{writes_some, counted, shared_among}
 use Rattle.pgo_agrees.proofs.Uses.{FineUse}
-use Rattle.pgo_agrees.proofs.Variables.{IsVariable, is_global as a_global, is_place, is_own, others_none, not_self, global_shared, shared_single}
+use Rattle.pgo_agrees.proofs.Variables.{is_global as a_global, is_place, is_own, global_shared, shared_single}
+use Rattle.pgo_agrees.proofs.Further.{IsTaken, is_proc_set, is_terminating, is_process, is_written, others_taken, taken_not_self}
 
 -- ---- rows
 
@@ -50,10 +53,15 @@ defined_row x (d ∷ ds) h = go (same_name x d.name.name) refl h (defined_row x 
     go true e k more = (d, inl refl, same_name-is x d.name.name e)
     go false e k more = let r = more k in (r.0, inr r.1, r.2)
 
-defined_name : (d : Definition) (ds : List Definition) → IsAmong d ds → IsAmong d.name (definition_names ds)
+pub defined_name : (d : Definition) (ds : List Definition) → IsAmong d ds → IsAmong d.name (definition_names ds)
 defined_name d [] a = absurd a
 defined_name d (e ∷ ds) (inl q) = inl (ap (λ (z : Definition). z.name) q)
 defined_name d (e ∷ ds) (inr a) = inr (defined_name d ds a)
+
+process_named : (p : Process) (ps : List Process) → IsAmong p ps → IsAmong p.name (process_names ps)
+process_named p [] a = absurd a
+process_named p (q ∷ ps) (inl e) = inl (ap (λ (r : Process). r.name) e)
+process_named p (q ∷ ps) (inr a) = inr (process_named p ps a)
 
 -- what is so of no name in the rows is not so of one that is found
 pub row_test : (f : Name → Bool) (x : Name) (rows : Rows) → AllByRecursion (λ r. f r.0 ≡ false) rows → is_among x rows ≡ true → f x ≡ false
@@ -70,7 +78,7 @@ operators_unmarked = (refl, (refl, (refl, (refl, (refl, (refl, (refl, (refl, tt)
 operators_single : AllByRecursion (λ r. has_double r.0 ≡ false) operator_rows
 operators_single = (refl, (refl, (refl, (refl, (refl, (refl, (refl, (refl, tt))))))))
 
-operators_not_self : AllByRecursion (λ r. same_name r.0 self_name ≡ false) operator_rows
+pub operators_not_self : AllByRecursion (λ r. same_name r.0 self_name ≡ false) operator_rows
 operators_not_self = (refl, (refl, (refl, (refl, (refl, (refl, (refl, (refl, tt))))))))
 
 pub earlier_row : (i : ℕ) (x : Name) (rows : Rows) → is_earlier i x rows ≡ true → is_among x rows ≡ true
@@ -113,23 +121,23 @@ module _ (s : Spec) (k : NoFindings s) (fit : AllByRecursion (ArgumentsFit s.arc
   contradiction : true ≡ false → ⊥
   contradiction e = cc
 
-  -- ---- no variable
+  -- ---- nothing that the module writes
 
-  constant_apart : (x : Name) → is_among x (name_rows s.constants) ≡ true → IsVariable s x → ⊥
+  constant_apart : (x : Name) → is_among x (name_rows s.constants) ≡ true → IsTaken s x → ⊥
   constant_apart x h v =
       let n = named_row x s.constants h in
       let c = writes_some x (itself false n.0.name n.0.place) (shared_things s.constants) (shared_among n.0 s.constants n.1) (ap (same_name x) (sym n.2) ∙ same_name-self x) in
-      let z = others_none s k.clashes fit x v in
+      let z = others_taken s k.clashes fit x v in
       omega (arith, c, z)
 
-  definition_apart : (x : Name) → is_among x (definition_rows (all_definitions s)) ≡ true → IsVariable s x → ⊥
+  definition_apart : (x : Name) → is_among x (definition_rows (all_definitions s)) ≡ true → IsTaken s x → ⊥
   definition_apart x h v =
       let d = defined_row x (all_definitions s) h in
       let c = writes_some x (itself false d.0.name.name d.0.name.place) (shared_things (definition_names (all_definitions s))) (shared_among d.0.name (definition_names (all_definitions s)) (defined_name d.0 (all_definitions s) d.1)) (ap (same_name x) (sym d.2) ∙ same_name-self x) in
-      let z = others_none s k.clashes fit x v in
+      let z = others_taken s k.clashes fit x v in
       omega (arith, c, z)
 
-  global_unit : (x : PlacedName) → IsAmong x (shared_names s) → IsAmong x (unit_names s)
+  pub global_unit : (x : PlacedName) → IsAmong x (shared_names s) → IsAmong x (unit_names s)
   global_unit x a =
       let ms = macro_names s.macros in
       let ns = mapping_names s.mappings in
@@ -138,21 +146,31 @@ module _ (s : Spec) (k : NoFindings s) (fit : AllByRecursion (ArgumentsFit s.arc
       let shared = shared_names s in
       among_left x (shared ++ ms ++ ns ++ as') ps (among_left x (shared ++ ms ++ ns) as' (among_left x (shared ++ ms) ns (among_left x shared ms a)))
 
-  reserved_apart : (x : Name) → is_reserved x ≡ true → has_mark x ≡ false → IsVariable s x → ⊥
-  reserved_apart x h m (a_global d a e) =
+  pub process_unit : (p : Process) → IsAmong p s.processes → IsAmong p.name (unit_names s)
+  process_unit p a =
+      among_right p.name (shared_names s ++ macro_names s.macros ++ mapping_names s.mappings ++ archetype_names s.archetypes) (process_names s.processes) (process_named p s.processes a)
+
+  pub reserved_apart : (x : Name) → is_reserved x ≡ true → has_mark x ≡ false → IsTaken s x → ⊥
+  reserved_apart x h m (inl (a_global d a e)) =
       let n = nothing_if (is_reserved d.name.name) d.name.place (errors.Twice d.name.name) (none_of_name reserved_name (unit_names s) k.reserved d.name (global_unit d.name (global_shared s d a))) in
       contradiction (sym h ∙ ap is_reserved e ∙ n)
-  reserved_apart x h m (is_place e) = contradiction (sym h ∙ ap is_reserved e)
-  reserved_apart x h m (is_own p a y b e n q) = contradiction (sym (ap has_mark q ∙ written_marked p.name.name y) ∙ m)
+  reserved_apart x h m (inl (is_place e)) = contradiction (sym h ∙ ap is_reserved e)
+  reserved_apart x h m (inl (is_own p a y b e n q)) = contradiction (sym (ap has_mark q ∙ written_marked p.name.name y) ∙ m)
+  reserved_apart x h m (inr (is_proc_set e)) = contradiction (sym h ∙ ap is_reserved e)
+  reserved_apart x h m (inr (is_terminating e)) = contradiction (sym h ∙ ap is_reserved e)
+  reserved_apart x h m (inr (is_process p a e)) =
+      let n = nothing_if (is_reserved p.name.name) p.name.place (errors.Twice p.name.name) (none_of_name reserved_name (unit_names s) k.reserved p.name (process_unit p a)) in
+      contradiction (sym h ∙ ap is_reserved e ∙ n)
+  reserved_apart x h m (inr (is_written p y a b e)) = contradiction (sym (ap has_mark e ∙ written_marked p.name.name y) ∙ m)
 
-  operator_apart : (x : Name) → is_among x operator_rows ≡ true → IsVariable s x → ⊥
+  operator_apart : (x : Name) → is_among x operator_rows ≡ true → IsTaken s x → ⊥
   operator_apart x h v = reserved_apart x (ap (λ b. b || same_name x default_init_value) h) (row_test has_mark x operator_rows operators_unmarked h) v
 
-  default_apart : (x : Name) → same_name x default_init_value ≡ true → IsVariable s x → ⊥
+  default_apart : (x : Name) → same_name x default_init_value ≡ true → IsTaken s x → ⊥
   default_apart x h v =
       let e = same_name-is x default_init_value h in reserved_apart x (ap is_reserved e) (ap has_mark e) v
 
-  constants_apart : (x : Name) → is_constant (tables_of s) x ≡ true → IsVariable s x → ⊥
+  constants_apart : (x : Name) → is_constant (tables_of s) x ≡ true → IsTaken s x → ⊥
   constants_apart x h v = go (or_in (is_among x (name_rows s.constants) || is_among x operator_rows) (same_name x default_init_value) h)
     where
       first : (is_among x (name_rows s.constants) ≡ true) ⊎ (is_among x operator_rows ≡ true) → ⊥
@@ -163,18 +181,18 @@ module _ (s : Spec) (k : NoFindings s) (fit : AllByRecursion (ArgumentsFit s.arc
       go (inl e) = first (or_in (is_among x (name_rows s.constants)) (is_among x operator_rows) e)
       go (inr e) = default_apart x e v
 
-  pub common_apart : (x : Name) → IsCommon s x → IsVariable s x → ⊥
+  pub common_apart : (x : Name) → IsCommon s x → IsTaken s x → ⊥
   common_apart x (inl e) v = constants_apart x e v
   common_apart x (inr (inl e)) v = definition_apart x e v
-  common_apart x (inr (inr e)) v = not_self s k.clashes fit x v e
+  common_apart x (inr (inr e)) v = taken_not_self s k.clashes fit x v e
 
-  pub applicable_apart : (x : Name) → IsApplicable s x → IsVariable s x → ⊥
+  pub applicable_apart : (x : Name) → IsApplicable s x → IsTaken s x → ⊥
   applicable_apart x (inl e) v = definition_apart x e v
   applicable_apart x (inr e) v = operator_apart x e v
 
   -- ---- no made name
 
-  shared_of : (x : PlacedName) → IsAmong x (s.constants ++ definition_names (all_definitions s)) → IsAmong x (shared_names s)
+  pub shared_of : (x : PlacedName) → IsAmong x (s.constants ++ definition_names (all_definitions s)) → IsAmong x (shared_names s)
   shared_of x a = among_left x (s.constants ++ definition_names (all_definitions s)) (declared_names s.globals) a
 
   constant_single : (x : Name) → is_among x (name_rows s.constants) ≡ true → has_double x ≡ false

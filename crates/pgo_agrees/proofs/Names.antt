@@ -26,7 +26,7 @@ pub and_right : (a b : Bool) → a && b ≡ true → b ≡ true
 and_right true b h = h
 and_right false b h = absurd (cc)
 
-false_or : (a b : Bool) → a ≡ false → b ≡ false → a || b ≡ false
+pub false_or : (a b : Bool) → a ≡ false → b ≡ false → a || b ≡ false
 false_or true b h g = absurd (cc)
 false_or false b h g = g
 

@@ -20,7 +20,7 @@ use Rattle.pgo_mpcal_read.specs.Leaves as leaf
 use Rattle.pgo_mpcal_read.specs.Spells.{IsHeader, IsPart, declarations_of, SpellsTokens}
 use Rattle.pgo_mpcal_read.specs.Spells as spells
 use Rattle.pgo_mpcal_read.specs.Texts.{SpellsSpec}
-use Rattle.pgo_mpcal_read.specs.Units.{IsDefinition, IsDeclaration, IsDeclarations, IsVariables, IsParameter, IsMacro, IsMappingMacro, IsLocals, IsArchetype, IsDefine, IsUnit, AreUnits, is_plain, may_stand_in_macro, all_are}
+use Rattle.pgo_mpcal_read.specs.Units.{IsDefinition, IsDeclaration, IsDeclarations, IsVariables, IsParameter, IsMacro, IsMappingMacro, IsLocals, IsArchetype, IsArgument, IsProcess, IsDefine, IsUnit, AreUnits, is_plain, may_stand_in_macro, all_are}
 use Rattle.pgo_mpcal_read.specs.Units as unit
 use Rattle.pgo_mpcal_read.specs.declared.header.Header.{Header}
 use Rattle.pgo_mpcal_read.specs.declared.units.Units.{Units}
@@ -31,12 +31,15 @@ use Rattle.pgo_syntax.specs.declared.declaration.Definition.{Definition}
 use Rattle.pgo_syntax.specs.declared.macros.Macro.{Macro}
 use Rattle.pgo_syntax.specs.declared.macros.MappingMacro.{MappingMacro}
 use Rattle.pgo_syntax.specs.declared.name.PlacedName.{PlacedName}
+use Rattle.pgo_syntax.specs.declared.process.Argument.{Argument}
+use Rattle.pgo_syntax.specs.declared.process.Process.{Process}
 use Rattle.pgo_syntax.specs.declared.spec.Spec.{Spec}
 use Rattle.pgo_uses.specs.Tables.{defined}
-use Rattle.pgo_agrees.specs.Accepted.{DefinitionOfText, MacroParameterOfText, MacroOfText, MappingOfText, ParameterOfText, DeclarationOfText, ArchetypeOfText, IsOfText}
+use Rattle.pgo_agrees.specs.Accepted.{DefinitionOfText, MacroParameterOfText, MacroOfText, MappingOfText, ParameterOfText, DeclarationOfText, ArchetypeOfText, ArgumentOfText, ProcessOfText, IsOfText}
 use Rattle.pgo_agrees.specs.TextTokens.{AllowedSign, Allowed, AllAllowed}
 use Rattle.pgo_agrees.proofs.Names.{and_left, and_right}
-use Rattle.pgo_agrees.proofs.SpokenStatements.{AllOk, cut, expression, all_in_brackets, all_in_row, body_spoken}
+use Rattle.pgo_agrees.proofs.SpokenStatements.{AllOk, cut, expression, origin_spoken, all_in_brackets, all_in_row, body_spoken}
+use Rattle.pgo_agrees.proofs.SpokenLabels.{body_labels}
 
 -- ---- tokens
 
@@ -125,8 +128,8 @@ definition_of b xs d (unit.with_params c e {xs = ys} {ts = ts} n i) h =
     let q = cut b ys _ h.1.1 in (h.0.0, expression b i q.1.1.1)
 
 declaration_of : (b : Bool) (xs : List Lexeme) (d : Declaration) → IsDeclaration xs d → AllOk b xs → DeclarationOfText d
-declaration_of b xs d unit.without_value h = h.0.0
-declaration_of b xs d (unit.with_value o) h = h.0.0
+declaration_of b xs d unit.without_value h = (h.0.0, tt)
+declaration_of b xs d (unit.with_value {ts = ys} {o = o} i) h = (h.0.0, origin_spoken b ys o i h.1)
 
 declarations_of' : (b : Bool) (xs : List Lexeme) (ds : List Declaration) → IsDeclarations xs ds → AllOk b xs → AllByRecursion DeclarationOfText ds
 declarations_of' b xs ds (unit.last_declaration {xs = ys} {d = d} i e) h = (declaration_of b ys d i (cut b ys _ h).0, tt)
@@ -161,7 +164,18 @@ archetype_of : (xs : List Lexeme) (a : Archetype) → IsArchetype xs a → AllOk
 archetype_of xs a (unit.archetype_of {xs = us} {ys = ys} {zs = zs} {ps = ps} {ds = ds} i l r) h =
     let q = cut false us _ h.1.1 in
     let w = cut false ys zs q.1 in
-    (all_in_brackets false IsParameter ParameterOfText (parameter_of false) us ps i q.0, locals_of false ys ds l w.0, body_spoken r false w.1)
+    (all_in_brackets false IsParameter ParameterOfText (parameter_of false) us ps i q.0, locals_of false ys ds l w.0, body_spoken r false w.1, body_labels r false w.1)
+
+argument_of : (b : Bool) (xs : List Lexeme) (a : Argument) → IsArgument xs a → AllOk b xs → ArgumentOfText a
+argument_of b xs a (unit.value_argument d) h = expression b d h
+argument_of b xs a (unit.ref_argument e) h = tt
+
+process_of : (xs : List Lexeme) (p : Process) → IsProcess xs p → AllOk false xs → ProcessOfText p
+process_of xs q (unit.instance_of p a n b d i m {fs = fs} {os = os} {vs = vs} {o = o} {as' = as'} f g r cs z) h =
+    let front = cut false fs _ h in
+    let ids = cut false os _ front.1.1.1.1 in
+    let given = cut false vs _ ids.1.1.1.1.1 in
+    (front.1.1.1.0.0, origin_spoken false os o g ids.0, all_in_brackets false IsArgument ArgumentOfText (argument_of false) vs as' r given.0)
 
 define_of : (xs : List Lexeme) (ds : List Definition) → IsDefine xs ds → AllOk false xs → AllByRecursion DefinitionOfText ds
 define_of xs ds (unit.definitions c {xs = ys} r) h = all_in_row false IsDefinition DefinitionOfText (definition_of false) ys ds r (cut false ys _ h.1.1).0
@@ -172,21 +186,22 @@ record UnitsOfText (u : Units) : Type 0 where
   pub mappings : AllByRecursion MappingOfText u.mappings
   pub archetypes : AllByRecursion ArchetypeOfText u.archetypes
   pub globals : AllByRecursion DeclarationOfText (declarations_of u.globals)
+  pub processes : AllByRecursion ProcessOfText u.processes
 
 one_more : {A : Type 0} (P : A → Type 0) (xs : List A) (x : A) → AllByRecursion P xs → P x → AllByRecursion P (xs ++ x ∷ [])
 one_more P [] x h g = (g, tt)
 one_more P (y ∷ xs) x h g = (h.0, one_more P xs x h.1 g)
 
 unit_of : (b a : Units) (xs : List Lexeme) → IsUnit b xs a → Told xs → UnitsOfText b → UnitsOfText a
-unit_of b a xs (unit.define {xs = ys} {ds = ds} n d p) h g = record { define = define_of ys ds d (ok_plain ys h p); macros = g.macros; mappings = g.mappings; archetypes = g.archetypes; globals = g.globals }
-unit_of b a xs (unit.macro_definition {xs = ys} {m = m} d p l) h g = record { define = g.define; macros = one_more MacroOfText b.macros m g.macros (macro_of ys m d (ok_macro ys h p)); mappings = g.mappings; archetypes = g.archetypes; globals = g.globals }
-unit_of b a xs (unit.mapping {xs = ys} {m = m} d l k) h g = record { define = g.define; macros = g.macros; mappings = one_more MappingOfText b.mappings m g.mappings (mapping_of ys m d (ok_any ys h)); archetypes = g.archetypes; globals = g.globals }
-unit_of b a xs (unit.archetype {xs = ys} {a = r} d p l) h g = record { define = g.define; macros = g.macros; mappings = g.mappings; archetypes = one_more ArchetypeOfText b.archetypes r g.archetypes (archetype_of ys r d (ok_plain ys h p)); globals = g.globals }
-unit_of b a xs (unit.globals {xs = ys} {ds = ds} n d p) h g = record { define = g.define; macros = g.macros; mappings = g.mappings; archetypes = g.archetypes; globals = variables_of false ys ds d (ok_plain ys h p) }
-unit_of b a xs (unit.process d p) h g = record { define = g.define; macros = g.macros; mappings = g.mappings; archetypes = g.archetypes; globals = g.globals }
+unit_of b a xs (unit.define {xs = ys} {ds = ds} n d p) h g = record { define = define_of ys ds d (ok_plain ys h p); macros = g.macros; mappings = g.mappings; archetypes = g.archetypes; globals = g.globals; processes = g.processes }
+unit_of b a xs (unit.macro_definition {xs = ys} {m = m} d p l) h g = record { define = g.define; macros = one_more MacroOfText b.macros m g.macros (macro_of ys m d (ok_macro ys h p)); mappings = g.mappings; archetypes = g.archetypes; globals = g.globals; processes = g.processes }
+unit_of b a xs (unit.mapping {xs = ys} {m = m} d l k) h g = record { define = g.define; macros = g.macros; mappings = one_more MappingOfText b.mappings m g.mappings (mapping_of ys m d (ok_any ys h)); archetypes = g.archetypes; globals = g.globals; processes = g.processes }
+unit_of b a xs (unit.archetype {xs = ys} {a = r} d p l) h g = record { define = g.define; macros = g.macros; mappings = g.mappings; archetypes = one_more ArchetypeOfText b.archetypes r g.archetypes (archetype_of ys r d (ok_plain ys h p)); globals = g.globals; processes = g.processes }
+unit_of b a xs (unit.globals {xs = ys} {ds = ds} n d p) h g = record { define = g.define; macros = g.macros; mappings = g.mappings; archetypes = g.archetypes; globals = variables_of false ys ds d (ok_plain ys h p); processes = g.processes }
+unit_of b a xs (unit.process {xs = ys} {q = q} d p) h g = record { define = g.define; macros = g.macros; mappings = g.mappings; archetypes = g.archetypes; globals = g.globals; processes = one_more ProcessOfText b.processes q g.processes (process_of ys q d (ok_plain ys h p)) }
 
 units_of : {xs : List Lexeme} {a : Units} → AreUnits xs a → Told xs → UnitsOfText a
-units_of unit.no_unit h = record { define = tt; macros = tt; mappings = tt; archetypes = tt; globals = tt }
+units_of unit.no_unit h = record { define = tt; macros = tt; mappings = tt; archetypes = tt; globals = tt; processes = tt }
 units_of (unit.unit {xs = xs} {ys = ys} {a = a} {b = b} r u) h = let q = told_parts xs ys h in unit_of b a ys u q.1 (units_of r q.0)
 
 header_of : {xs : List Lexeme} {h : Header} → IsHeader xs h → Told xs → AllByRecursion DefinitionOfText h.definitions
@@ -210,6 +225,7 @@ tokens_of_text hs as' s (spells.spec c {hs = ks} {xs = xs} {h = h} {us = us} hea
       macros = u.macros;
       mappings = u.mappings;
       archetypes = u.archetypes;
+      processes = u.processes;
     }
 
 pub of_text : (bytes : List ℕ) (s : Spec) → SpellsSpec bytes s → IsOfText s

@@ -5,6 +5,7 @@ use Rattle.std.specs.List.{AllByRecursion}
 use Rattle.pgo_base.specs.Data.{Data}
 use Rattle.pgo_base.specs.Lookup.{Name, Vars, find}
 use Rattle.pgo_model.specs.Machine.{nth}
+use Rattle.pgo_model.specs.ModuleView.{defined_view}
 use Rattle.pgo_syntax.specs.Statement.{labeled}
 use Rattle.pgo_syntax.specs.declared.archetype.Archetype.{Archetype}
 use Rattle.pgo_syntax.specs.declared.bound.Instance.{Instance}
@@ -33,10 +34,12 @@ use Rattle.pgo_meaning.specs.Parameters.{places_of}
 use Rattle.pgo_meaning.specs.Sect.{context_of, is_by_element}
 use Rattle.pgo_meaning.specs.Sections.{sections_of}
 use Rattle.pgo_meaning.specs.SystemStates.{RefsDeclared}
-use Rattle.pgo_meaning.specs.TreesAgree.{Named, OwnLabels}
+use Rattle.pgo_meaning.specs.TreesAgree.{Named, OwnLabels, sections_at}
 use Rattle.pgo_meaning.specs.MacrosPlaced.{bodies, placed_among}
 use Rattle.pgo_agrees.specs.Accepted.{IsAccepted, AreSmall}
 use Rattle.pgo_agrees.proofs.Closed.{definitions_closed}
+use Rattle.pgo_agrees.proofs.Fewer.{code_fewer, closed_fewer}
+use Rattle.pgo_agrees.proofs.Further.{names_written, variables_among}
 use Rattle.pgo_agrees.proofs.Heads.{refs_declared}
 use Rattle.pgo_agrees.proofs.Instances.{RunsAs, runs_as}
 use Rattle.pgo_agrees.proofs.Kept.{NoFindings, no_findings, NoLabelFindings, no_label_findings}
@@ -49,16 +52,16 @@ use Rattle.pgo_agrees.proofs.Uses.{FineUse, fine_use, of_archetype}
 use Rattle.pgo_agrees.proofs.Variables.{variable_written}
 
 module _ (s : Spec) (consts : List (Name × Data)) (h : IsAccepted s consts) where
-  names : NoFindings s
+  pub names : NoFindings s
   names = no_findings s h.names
 
-  labels : NoLabelFindings s
+  pub labels : NoLabelFindings s
   labels = no_label_findings s h.labels
 
-  fit : AllByRecursion (ArgumentsFit s.archetypes) s.processes
+  pub fit : AllByRecursion (ArgumentsFit s.archetypes) s.processes
   fit = arguments_fit s consts h.binding
 
-  well : WellNamed s
+  pub well : WellNamed s
   well = accepted_well_named s consts h.names h.labels h.binding
 
   pub unlabelled : AreUnlabelled s.macros
@@ -97,11 +100,16 @@ module _ (s : Spec) (consts : List (Name × Data)) (h : IsAccepted s consts) whe
     i_among = among_nth i (bound_of s consts).instances k at_k
 
     sections : (l : Name) (c : Code) → find l (sections_of s.macros r.process.name.name r.archetype (binds s r.process r.archetype)) ≡ Some c
-        → PlainCode (variables_of s) (map (λ (d : Declaration). d.name.name) s.globals) (places_of r.process.name.name r.archetype (binds s r.process r.archetype)) [] c × ByElements (λ g. is_by_element (kind_in (bound_of s consts) g)) c
+        → PlainCode (names_written s) (map (λ (d : Declaration). d.name.name) s.globals) (places_of r.process.name.name r.archetype (binds s r.process r.archetype)) [] c × ByElements (λ g. is_by_element (kind_in (bound_of s consts) g)) c
     sections l c e =
         let free = none_flat_map label_in_with r.archetype s.archetypes labels.withs r.declared in
         let f = body.body_fine s names fit h.of_text unlabelled consts h.binding r.process r.archetype r.among r.named r.declared len there.0 there.1 there.2 free in
         code.sections_good s consts names fit h.of_text h.binding labels.mappings r.process r.archetype r.among r.named r.declared len there.0 there.1 there.2 i i_among i_binds (placed_among (bodies s.macros) (labeled r.archetype.body)) f l c e
+
+    -- the instance's sections name nothing that the module writes but variables, and those by what stands for them
+    pub written_plain : (l : Name) (c : Code) → find l (sections_at (bound_of s consts) i) ≡ Some c → PlainCode (names_written s) (map (λ (d : Declaration). d.name.name) s.globals) (places_of i.process i.archetype i.bindings) [] c
+    written_plain =
+        subst (λ (z : Instance). (l : Name) (c : Code) → find l (sections_at (bound_of s consts) z) ≡ Some c → PlainCode (names_written s) (map (λ (d : Declaration). d.name.name) s.globals) (places_of z.process z.archetype z.bindings) [] c) (sym r.is) (λ l c e. (sections l c e).0)
 
     at_places : (t : Vars) (z : Place) → IsPlaceOf s names.heads r.process r.archetype r.among r.named z → IsPlace (context_of (bound_of s consts) (instance_at s r.number (run_with (defs_of s consts) r.process r.archetype, r.id)) t) z
     at_places t (Whole x) g = g
@@ -116,8 +124,8 @@ module _ (s : Spec) (consts : List (Name × Data)) (h : IsAccepted s consts) whe
           written = variable_written s names fit h.of_text;
           owns = owns s names.heads r.process r.archetype r.among r.named;
           places = λ t x z e. at_places t z (places s names.heads r.process r.archetype r.among r.named x z e);
-          closed = definitions_closed s names fit h.of_text consts;
-          plain = λ l c e. (sections l c e).0;
+          closed = closed_fewer (names_written s) (variables_of s) (variables_among s) (map defined_view (defs_of s consts)) (definitions_closed s names fit h.of_text consts);
+          plain = λ l c e. code_fewer (names_written s) (variables_of s) (variables_among s) (map (λ (d : Declaration). d.name.name) s.globals) (places_of r.process.name.name r.archetype (binds s r.process r.archetype)) [] c (sections l c e).0;
           few = λ l c e. few_names s small l (expansion (variables_of s) (places_of r.process.name.name r.archetype (binds s r.process r.archetype)) c) (tree_of_label s names.clashes unlabelled labels.dones r.process r.archetype r.among r.named l c e).0;
         }
 

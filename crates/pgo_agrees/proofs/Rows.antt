@@ -1,5 +1,5 @@
 -- That the premises can be met, computed: a specification with a macro, whose argument is an element of a mapped global, is
--- accepted; and three like it that aren't, each for what the law rests on.
+-- accepted and expanded; and five like it that aren't accepted, each for what the laws rest on.
 use Rattle.std.specs.Prelude.{◌≡◌, ℕ, pos, List, [], ◌∷◌, Some, None, codes, refl}
 use Rattle.pgo_base.specs.Tree.{Tree, name, number, set_of, fun_of, index, binary, trees, no_bound, more_bound}
 use Rattle.pgo_base.specs.Lookup.{Name}
@@ -14,8 +14,9 @@ use Rattle.pgo_syntax.specs.declared.process.Argument.TheVariants as arguments
 use Rattle.pgo_syntax.specs.declared.process.Process.{Process}
 use Rattle.pgo_syntax.specs.declared.spec.Spec.{Spec}
 use Rattle.pgo_syntax.specs.Statement.{assign, call_macro}
-use Rattle.pgo_scope.specs.declared.errors.ScopeError.TheVariants.{AssignedNotRef, MappedReadHere, Arity}
+use Rattle.pgo_scope.specs.declared.errors.ScopeError.TheVariants.{AssignedNotRef, MappedReadHere, Arity, NameClash, Twice}
 use Rattle.pgo_scope.specs.Refusal.{scope_refusal}
+use Rattle.pgo_accept.specs.Answers.{NothingRefuses}
 use Rattle.pgo_agrees.specs.Accepted.{IsAccepted}
 
 abbrev placed : ℕ → Name → PlacedName
@@ -75,11 +76,12 @@ element = index (name (codes "x")) (trees (name (codes "self") ∷ []))
 accepted : IsAccepted (spec_with (y ∷ element ∷ [])) []
 accepted = record {
   of_text = record {
-    globals = (refl, tt);
+    globals = ((refl, (((tt, tt), tt), tt)), tt);
     definitions = tt;
     macros = (((refl, (refl, tt)), ((tt, (tt, tt), tt), tt)), tt);
     mappings = tt;
-    archetypes = (((refl, tt), (refl, tt), ((tt, ((tt, (tt, tt)), tt)), tt)), tt);
+    archetypes = (((refl, tt), ((refl, tt), tt), ((tt, ((tt, (tt, tt)), tt)), tt), (refl, tt)), tt);
+    processes = ((refl, tt, (tt, tt)), tt);
   };
   names = refl;
   labels = refl;
@@ -90,11 +92,12 @@ accepted = record {
 written_too : IsAccepted (spec_with (element ∷ y ∷ [])) []
 written_too = record {
   of_text = record {
-    globals = (refl, tt);
+    globals = ((refl, (((tt, tt), tt), tt)), tt);
     definitions = tt;
     macros = (((refl, (refl, tt)), ((tt, (tt, tt), tt), tt)), tt);
     mappings = tt;
-    archetypes = (((refl, tt), (refl, tt), (((tt, (tt, tt)), (tt, tt)), tt)), tt);
+    archetypes = (((refl, tt), ((refl, tt), tt), (((tt, (tt, tt)), (tt, tt)), tt), (refl, tt)), tt);
+    processes = ((refl, tt, (tt, tt)), tt);
   };
   names = refl;
   labels = refl;
@@ -112,3 +115,19 @@ no_left_side = refl
 -- m(y): a parameter without an argument
 one_argument : scope_refusal (spec_with (y ∷ [])) ≡ Some (Arity (codes "m") 1)
 one_argument = refl
+
+-- nothing refuses it, the limits of its expansion included
+passes : NothingRefuses (spec_with (y ∷ element ∷ [])) []
+passes = record { names = refl; labels = refl; binding = refl; limits = refl }
+
+-- with another name of the process
+abbrev process_called : Name → Spec
+process_called x = record (spec_with (y ∷ element ∷ [])) { processes = record run { name = placed 40 x } ∷ [] }
+
+-- ProcSet is a definition of the module
+no_proc_set : scope_refusal (process_called (codes "ProcSet")) ≡ Some (NameClash (codes "ProcSet") (codes "ProcSet"))
+no_proc_set = refl
+
+-- and Assert an operator
+no_assert : scope_refusal (process_called (codes "Assert")) ≡ Some (Twice (codes "Assert"))
+no_assert = refl

@@ -31,7 +31,7 @@ use Rattle.pgo_labels.specs.Rules.{label_in_mapping}
 use Rattle.pgo_bound.specs.Among.{IsAmong, among_map, from_map, from_flat_map, from_filter_map, nth_among, some_is, mapped_some}
 use Rattle.pgo_bound.specs.BoundOf.{bound_of}
 use Rattle.pgo_bound.specs.Runs.{Handed, archetype_named, mapping_named, mapping_without, mapping_by, speaking, target_of, binding_of, kind_of_extents}
-use Rattle.pgo_bound.specs.State.{variables_of, names_with, target_extent, kind_in}
+use Rattle.pgo_bound.specs.State.{names_with, target_extent, kind_in}
 use Rattle.pgo_heads.specs.Refusals.{bind_refusal}
 use Rattle.pgo_accept.proofs.Fitting.{ArgumentsFit}
 use Rattle.pgo_sections.specs.Access.{Mapped}
@@ -46,6 +46,7 @@ use Rattle.pgo_agrees.specs.Accepted.{IsOfText}
 use Rattle.pgo_agrees.proofs.Blocks.{mapping_plain}
 use Rattle.pgo_agrees.proofs.Env.{C, B, D, Common, place_apart}
 use Rattle.pgo_agrees.proofs.Fine.{LabeledFine}
+use Rattle.pgo_agrees.proofs.Further.{names_written}
 use Rattle.pgo_agrees.proofs.GoodCode.{CodeRules, section_good}
 use Rattle.pgo_agrees.proofs.Heads.{ref_declared}
 use Rattle.pgo_agrees.proofs.Hoist.{Hoistable, never}
@@ -144,7 +145,7 @@ module _ (s : Spec) (consts : List (Name × Data)) (k : NoFindings s) (fit : All
     by g = is_by_element (kind_in (bound_of s consts) g)
 
     abbrev pub vs : List Name
-    vs = variables_of s
+    vs = names_written s
 
     abbrev pub gs : List Name
     gs = map (λ (d : Declaration). d.name.name) s.globals

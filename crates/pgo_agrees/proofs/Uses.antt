@@ -2,11 +2,13 @@
 use Rattle.std.proofs.Common.{◌≡◌, ℕ, zero, suc, ◌+◌, false, List, [], ◌∷◌, ◌++◌, Some, refl, ap, sym, subst, inl, inr, arith}
 use Rattle.std.specs.Prelude.{slice_get}
 use Rattle.pgo_syntax.specs.declared.archetype.Archetype.{Archetype}
+use Rattle.pgo_syntax.specs.declared.declaration.Declaration.{Declaration}
 use Rattle.pgo_syntax.specs.declared.declaration.Definition.{Definition}
 use Rattle.pgo_syntax.specs.declared.macros.Macro.{Macro}
 use Rattle.pgo_syntax.specs.declared.macros.MappingMacro.{MappingMacro}
+use Rattle.pgo_syntax.specs.declared.process.Process.{Process}
 use Rattle.pgo_syntax.specs.declared.spec.Spec.{Spec}
-use Rattle.pgo_uses.specs.AllUses.{definition_uses, definitions_uses, globals_uses, macro_uses, macros_uses, mapping_uses, mappings_uses, archetype_uses, archetypes_uses, processes_uses, all_uses}
+use Rattle.pgo_uses.specs.AllUses.{definition_uses, definitions_uses, global_uses, globals_uses, macro_uses, macros_uses, mapping_uses, mappings_uses, archetype_uses, archetypes_uses, process_uses, processes_uses, all_uses}
 use Rattle.pgo_uses.specs.Tables.{all_definitions, tables_of}
 use Rattle.pgo_uses.specs.declared.uses.Use.{Use}
 use Rattle.pgo_scope.specs.Arity.{arity_of, arity_use}
@@ -130,3 +132,16 @@ module _ (s : Spec) where
       there [] c = absurd c
       there (x ∷ xs) (inl e) = among_left u (mapping_uses x) (mappings_uses xs) (subst (λ z. IsAmong u (mapping_uses z)) e b)
       there (x ∷ xs) (inr c) = among_right u (mapping_uses x) (mappings_uses xs) (there xs c)
+
+  pub of_global : (d : Declaration) → IsAmong d s.globals → (i : ℕ) × (slice_get s.globals i ≡ Some d) × Within (global_uses i d) (all_uses s)
+  of_global d h =
+      let r = from_start global_uses globals_uses (λ n x xs. refl) d s.globals h in
+      (r.0, r.1, λ u b. among_left u (ds ++ gs ++ ms ++ ps ++ rs) qs (among_left u (ds ++ gs ++ ms ++ ps) rs (among_left u (ds ++ gs ++ ms) ps (among_left u (ds ++ gs) ms (among_right u ds gs (r.2 u b))))))
+
+  pub of_process : (p : Process) → IsAmong p s.processes → Within (process_uses p) (all_uses s)
+  of_process p h u b = among_right u (ds ++ gs ++ ms ++ ps ++ rs) qs (there s.processes h)
+    where
+      there : (xs : List Process) → IsAmong p xs → IsAmong u (processes_uses xs)
+      there [] c = absurd c
+      there (x ∷ xs) (inl e) = among_left u (process_uses x) (processes_uses xs) (subst (λ z. IsAmong u (process_uses z)) e b)
+      there (x ∷ xs) (inr c) = among_right u (process_uses x) (processes_uses xs) (there xs c)

@@ -279,7 +279,7 @@ module _ (s : Spec) (k : NoFindings s) where
         go (inr v) =
             let q = from_map (λ (d : Declaration). d.name.name) y a.locals v in
             let u = local_fine a there q.0 q.1 in
-            let is : is_identifier q.0.name.name ≡ true = all_at DeclarationOfText q.0 a.locals text.1 q.1 in (
+            let is : is_identifier q.0.name.name ≡ true = (all_at DeclarationOfText q.0 a.locals text.1 q.1).0 in (
               ap has_double (q.2 ∙ sym u.2) ∙ u.1.double,
               ap has_letter q.2 ∙ identifier_letter q.0.name.name is,
             )

@@ -1,4 +1,4 @@
-// The law of trees, of every specification that the rules of names, labels and binding let pass.
+// The laws of trees and of modules, of every specification that the rules of names, labels and binding let pass.
 #![tactic(auto)]
 
 ghost use Rattle.std.specs.Prelude.{◌≡◌, ◌↔◌, ℕ, true, List, Some, None};
@@ -36,8 +36,13 @@ ghost use Rattle.pgo_accept.specs.Answers.{NothingRefuses};
 ghost use Rattle.pgo_pluscal.specs.declared.pluscal.PlusCal.{PlusCal};
 ghost use Rattle.pgo_pluscal.specs.PlusCalOf.{pluscal_of};
 ghost use Rattle.pgo_agrees.specs.Trees.{trees_in};
+ghost use Rattle.pgo_translate.specs.Accepted.{Accepted};
+ghost use Rattle.pgo_translate.specs.Agrees.{Agrees};
+ghost use Rattle.pgo_translate.specs.ModuleOf.{module_with, constants_with};
+ghost use Rattle.pgo_translate.specs.Premises.{ModuleNames, StartNames};
 
 use pgo_meaning::{ends_are_states, sections_touch, system_states, trees_agree};
+use pgo_translate::module_agrees;
 
 /// What a text gives of the specification that it spells.
 ///
@@ -115,4 +120,33 @@ pub fn expansions_agree()
 {
     texts_are_accepted();
     accepted_trees_agree();
+}
+
+/// What is asked of a specification for its module to agree with what it is bound to (`Accepted` of `pgo_translate`), of an accepted
+/// specification (`IsAccepted`), where no expansion has 2^64 nodes (`AreSmall`) and the constants' values are values (`AllValues`):
+///
+/// - `names` (`ModuleNames`): no variable and no further definition of the module is `self` or a made name, they all differ, and none
+///   has the name of an operator;
+/// - `starts` (`StartNames`): definitions, initial values, identifiers and value arguments name no variable and no further definition;
+/// - `all` (`Accepted`): all that is asked.
+///
+/// Source: this project's choice.
+pub fn module_premises_hold()
+    ensures names { (s : Spec) (consts : List (Name × Data)) → IsAccepted s consts → ModuleNames s }
+    ensures starts { (s : Spec) (consts : List (Name × Data)) → IsAccepted s consts → StartNames s consts }
+    ensures all { (s : Spec) (consts : List (Name × Data)) → IsAccepted s consts → AreSmall s → AllValues consts → Accepted s consts }
+{}
+
+/// The law of modules: of the one specification that a text spells, where nothing refuses it with these constants, neither the rules of
+/// names, of labels and of binding nor the limits of its expansion, and where the constants' values are values, let p be its expansion.
+/// Then its module, which has p as its algorithm (`module_with`), with the constants' values says what the bound specification says of
+/// steps, of starts and by Next (`Agrees` of `pgo_translate`).
+///
+/// Source: this project's choice.
+pub fn modules_agree()
+    ensures { (text : List ℕ) (s : Spec) (consts : List (Name × Data)) (p : PlusCal) → SpellsSpec text s → NothingRefuses s consts → AllValues consts → p ≡ pluscal_of s → Agrees (module_with s p) (constants_with s consts) (bound_of s consts) }
+{
+    texts_are_accepted();
+    module_premises_hold();
+    module_agrees();
 }
