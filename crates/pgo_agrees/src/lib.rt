@@ -144,7 +144,7 @@ pub fn module_premises_hold()
 ///
 /// Source: this project's choice.
 pub fn modules_agree()
-    ensures { (text : List ℕ) (s : Spec) (consts : List (Name × Data)) (p : PlusCal) → SpellsSpec text s → NothingRefuses s consts → AllValues consts → p ≡ pluscal_of s → Agrees (module_with s p) (constants_with s consts) (bound_of s consts) }
+    ensures { (text : List ℕ) (s : Spec) (consts : List (Name × Data)) (p : PlusCal) → SpellsSpec text s → NothingRefuses s consts → AllValues consts → p ≡ pluscal_of s → Agrees (module_with p) (constants_with s consts) (bound_of s consts) }
 {
     texts_are_accepted();
     module_premises_hold();

@@ -8,4 +8,4 @@ use Rattle.pgo_agrees.proofs.modules_agree.Goals as goal
 pub returns : goal.returns
 returns c text s consts p spells passes values is =
     let accepted = c.texts_are_accepted.ensures.accepted text s consts spells passes.names passes.labels passes.binding in
-    subst (λ q. Agrees (module_with s q) (constants_with s consts) (bound_of s consts)) (sym is) (c.module_agrees.ensures s consts (c.module_premises_hold.ensures.all s consts accepted (small s passes.limits) values))
+    subst (λ q. Agrees (module_with q) (constants_with s consts) (bound_of s consts)) (sym is) (c.module_agrees.ensures s consts (c.module_premises_hold.ensures.all s consts accepted (small s passes.limits) values))
