@@ -5,7 +5,7 @@ ghost use Rattle.pgo_expand.specs.Limits.{Answers, expand_refusal, most_nodes, n
 ghost use Rattle.pgo_expand.specs.Module.{globals_of, module_height, own_in};
 ghost use Rattle.pgo_meaning.specs.Expansions.{trees_of};
 ghost use Rattle.pgo_meaning.specs.LabelSections.{AreUnlabelled};
-ghost use Rattle.pgo_pluscal.specs.PlusCalOf.{pluscal_of, process_of};
+ghost use Rattle.pgo_pluscal.specs.PlusCalOf.{header_of, pluscal_of, process_of};
 ghost use Rattle.pgo_sizes.specs.Left.{left_after};
 ghost use Rattle.pgo_measure.specs.Heights.{capped};
 
@@ -15,8 +15,9 @@ use crate::measure::{Left, Names, behind_all};
 use crate::names::{globals, variables};
 use crate::own::own_of;
 use crate::trees::expanded;
-use pgo_base::items::Items;
-use pgo_pluscal::pluscal::{ExpandedProcess, PlusCal};
+use pgo_base::items::{Copied, Items};
+use pgo_base::results::both;
+use pgo_pluscal::pluscal::{ExpandedProcess, Header, PlusCal};
 use pgo_syntax::declaration::{Declarations, Definitions};
 use pgo_syntax::spec::Spec;
 use std::alloc::{AllocError, Global};
@@ -95,6 +96,19 @@ fn copy_define(
     }
 }
 
+/// What stands before the algorithm.
+fn header(alloc: Global, spec: &Spec) -> Result<Header, AllocError>
+    ensures { IfOk result (λ h. h ≡ header_of spec.now) }
+{
+    let name = spec.name.name.copy(alloc)?;
+    let (constants, definitions) = both(spec.constants.copy(alloc), spec.definitions.copy(alloc))?;
+    Ok(Header {
+        name,
+        constants,
+        definitions,
+    })
+}
+
 /// The specification whose labels are expanded.
 fn made(alloc: Global, spec: &Spec, names: &Names) -> Result<PlusCal, AllocError>
     requires unlabelled { AreUnlabelled spec.now.macros }
@@ -102,10 +116,11 @@ fn made(alloc: Global, spec: &Spec, names: &Names) -> Result<PlusCal, AllocError
     ensures { IfOk result (λ p. p ≡ pluscal_of spec.now) }
 {
     let processes = Items::from_vec(processes(alloc, spec, names)?);
-    let name = spec.algorithm.name.copy(alloc)?;
+    let (header, name) = both(header(alloc, spec), spec.algorithm.name.copy(alloc))?;
     let globals = spec.globals.copy(alloc)?;
     let define = copy_define(alloc, &spec.define)?;
     Ok(PlusCal {
+        header,
         name,
         globals,
         define,

@@ -31,3 +31,4 @@ mod TwoProcesses
 mod ActionRows
 mod RowLaws
 mod DefinitionViews
+mod MappedRows
