@@ -1,5 +1,5 @@
 -- What is asked of a specification with constants, so that its module agrees with what it is bound to. Each field is to follow from
--- what the rules on names, on labels and of binding let pass.
+-- what the grammar, the rules on names, on labels and of binding, and the limits on expansions let pass, but for `constants`.
 use Rattle.std.specs.Prelude.{◌≡◌, ℕ, List, [], Some, None}
 use Rattle.pgo_base.specs.Data.{Data}
 use Rattle.pgo_base.specs.Lookup.{Name, find}

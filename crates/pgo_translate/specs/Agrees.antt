@@ -22,7 +22,7 @@ abbrev pub ActsAgree : Module → List (Name × Data) → Bound → List (Name �
 ActsAgree m consts b trees a =
     (id : Data) (s t : Vars) → IsState b s → IsState b t → Acts m consts a id s t ↔ ((value_in s pc id ≡ Some (string a)) × TreeAllows trees b a id s t)
 
--- Init is TRUE of exactly the declared starts
+-- of the states, Init is TRUE of exactly the declared starts
 abbrev pub BeginsAgree : Module → List (Name × Data) → Bound → Type 0
 BeginsAgree m consts b = (s : Vars) → IsState b s → Begins m consts s ↔ Declares b s
 

@@ -21,15 +21,16 @@ use pgo_meaning::{sections_of_labels, trees_agree};
 /// A label's action is TRUE of exactly the pairs of states where `pc` has the label at the identifier and the label's tree allows
 /// the step, whatever the identifier.
 ///
-/// What is asked: the names that the module writes differ (`ModuleNames`), and the label's tree, if it has one, binds no variable and
-/// names none of the module's further definitions (`TreeNamed`).
+/// What is asked: the names that the module writes differ (`ModuleNames`), and the label's tree, if it has one, is named as `TreeNamed`
+/// says: it binds neither a variable nor `self`, names none of the module's further definitions, has no prime, and assigns at its ends
+/// names that it binds.
 ///
 /// Source: the translation of A PlusCal User's Manual.
 pub fn actions_agree()
     ensures { (s : Spec) (consts : List (Name × Data)) (a : Name) → ModuleNames s → ((x : Expansion) → find a (trees_of s) ≡ Some x → TreeNamed s x) → ActsAgree (module_of s) (constants_with s consts) (bound_of s consts) (trees_of s) a }
 {}
 
-/// Init is TRUE of exactly the declared starts.
+/// Of the states, Init is TRUE of exactly the declared starts.
 ///
 /// What is asked: names (`ModuleNames`, `StartNames`, `WellNamed`); that the constants are values; and that binding refuses
 /// nothing.
@@ -40,7 +41,7 @@ pub fn starts_agree()
 {}
 
 /// The expansion of a section is named as its label's action asks, where the section's names are well formed over the variables and
-/// the module's further definitions.
+/// the module's further definitions, what they stand for are variables, and the names that the module writes differ (`ModuleNames`).
 ///
 /// Source: this project's choice.
 pub fn trees_are_named()
@@ -51,7 +52,7 @@ pub fn trees_are_named()
 ///
 /// - `steps`: at each label of an instance's process, the label's action is TRUE of exactly the pairs of states where the instance
 ///   stands at the label and its section allows the step;
-/// - `starts`: Init is TRUE of exactly the declared starts;
+/// - `starts`: of the states, Init is TRUE of exactly the declared starts;
 /// - `next`: Next is TRUE of exactly the pairs of states where some instance's action is TRUE, or where all instances are at Done and
 ///   nothing changes.
 ///
