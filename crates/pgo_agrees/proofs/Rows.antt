@@ -17,7 +17,10 @@ use Rattle.pgo_syntax.specs.Statement.{assign, call_macro}
 use Rattle.pgo_scope.specs.declared.errors.ScopeError.TheVariants.{AssignedNotRef, MappedReadHere, Arity, NameClash, Twice}
 use Rattle.pgo_scope.specs.Refusal.{scope_refusal}
 use Rattle.pgo_accept.specs.Answers.{NothingRefuses}
+use Rattle.pgo_translate.specs.Accepted.{Accepted}
 use Rattle.pgo_agrees.specs.Accepted.{IsAccepted}
+use Rattle.pgo_agrees.proofs.Limits.{small}
+use Rattle.pgo_agrees.proofs.ModuleAccepted.{module_accepted}
 
 abbrev placed : ℕ → Name → PlacedName
 placed p n = record { name = n; place = p }
@@ -119,6 +122,10 @@ one_argument = refl
 -- nothing refuses it, the limits of its expansion included
 passes : NothingRefuses (spec_with (y ∷ element ∷ [])) []
 passes = record { names = refl; labels = refl; binding = refl; limits = refl }
+
+-- so all that the law of modules asks can be met at once
+all_met : Accepted (spec_with (y ∷ element ∷ [])) []
+all_met = module_accepted (spec_with (y ∷ element ∷ [])) [] accepted (small (spec_with (y ∷ element ∷ [])) refl) tt
 
 -- with another name of the process
 abbrev process_called : Name → Spec
