@@ -1,5 +1,6 @@
--- What is asked of a specification with constants, so that its module agrees with what it is bound to. Each field is to follow from
--- what the grammar, the rules on names, on labels and of binding, and the limits on expansions let pass, but for `constants`.
+-- What is asked of a specification with constants, so that its module agrees with what it is bound to. Each field follows from
+-- what the grammar, the rules on names, on labels and of binding, and the limits on expansions let pass (`pgo_agrees`), but for
+-- `constants`.
 use Rattle.std.specs.Prelude.{◌≡◌, ℕ, List, [], Some, None}
 use Rattle.pgo_base.specs.Data.{Data}
 use Rattle.pgo_base.specs.Lookup.{Name, find}
