@@ -7,10 +7,11 @@ ghost use Rattle.pgo_sections.specs.Among.{is_among};
 ghost use Rattle.pgo_sections.specs.Expansion.{End};
 ghost use Rattle.pgo_translate.specs.Items as spec;
 
-use crate::trees::{binary_of, name_of, one_expr, primed_name, text_of};
+use crate::trees::primed_name;
 use pgo_base::expr::{Expr, Infix, Names, Sub, Updates};
 use pgo_base::results::both;
 use pgo_base::text::Text;
+use pgo_module_trees::small::{binary_of, name_of, one_expr, text_of};
 use std::alloc::{AllocError, Global};
 
 /// The name that has the new value of x, where x is changed.

@@ -7,11 +7,11 @@ ghost use Rattle.pgo_model.specs.Written.{default_init_value, self_name};
 ghost use Rattle.pgo_translate.specs.Items.{equals};
 ghost use Rattle.pgo_translate.specs.ModuleOf as spec;
 
-use crate::joined::all_of;
-use crate::trees::{binary_of, binder, name_of, text_of};
 use pgo_base::expr::{Arms, Expr, Infix, Sub};
 use pgo_base::results::both;
 use pgo_base::text::Text;
+use pgo_module_trees::joined::all_of;
+use pgo_module_trees::small::{binary_of, binder, name_of, text_of};
 use pgo_pluscal::part::Part;
 use pgo_pluscal::pluscal::{ExpandedProcess, PlusCal};
 use pgo_syntax::binding::Origin;

@@ -8,13 +8,14 @@ ghost use Rattle.pgo_translate.specs.Items as spec;
 ghost use Rattle.pgo_translate.specs.ModuleOf.{label_actions};
 
 use crate::ends::{Ended, end_items};
-use crate::joined::{all_of, any_of};
 use crate::rows::{one, row_items};
-use crate::trees::{copy_of, place_is};
+use crate::trees::copy_of;
 use pgo_base::expr::{Expr, Sub};
 use pgo_base::module::{Action, Actions};
 use pgo_base::results::both;
 use pgo_base::text::Text;
+use pgo_module_trees::joined::{all_of, any_of};
+use pgo_module_trees::small::place_is;
 use pgo_pluscal::part::{Ending, Part};
 use std::alloc::{AllocError, Global};
 
@@ -122,7 +123,7 @@ fn action_body(
     ensures { IfOk result (λ s. s ≡ spec.action_body variables.now globals.now label.now part.now) }
 {
     let mut items = part_items(alloc, variables, globals, part)?;
-    items.push(place_is(alloc, label)?)?;
+    items.push(place_is(alloc, label.as_bytes())?)?;
     all_of(alloc, items)
 }
 

@@ -18,7 +18,6 @@ ghost use Rattle.pgo_translate.specs.Agrees.{ActsAgree, BeginsAgree, Agrees};
 
 mod ends;
 mod init;
-mod joined;
 mod labels;
 mod rows;
 pub mod translate;

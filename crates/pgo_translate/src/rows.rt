@@ -5,11 +5,11 @@ ghost use Rattle.pgo_model.specs.Module as written;
 ghost use Rattle.pgo_translate.specs.Items.{some_in};
 ghost use Rattle.pgo_translate.specs.Rows as spec;
 
-use crate::joined::all_of;
 use crate::trees::{assert_of, copy_of, only_of, print_of, some_of};
 use pgo_base::expr::Sub;
 use pgo_base::results::both;
 use pgo_base::text::Text;
+use pgo_module_trees::joined::all_of;
 use pgo_pluscal::part::Step;
 use std::alloc::{AllocError, Global};
 

@@ -1,35 +1,20 @@
 // Small trees.
-ghost use Rattle.std.specs.Prelude.{◌≡◌, [], ◌∷◌, IfOk};
+ghost use Rattle.std.specs.Prelude.{◌≡◌, IfOk};
 ghost use Rattle.pgo_base.specs.ExprView.{tree};
-ghost use Rattle.pgo_base.specs.Tree.{binary, call, index, name, primed, text, trees};
-ghost use Rattle.pgo_model.specs.Module.{stands_at};
-ghost use Rattle.pgo_model.specs.Written.{pc, self_name};
+ghost use Rattle.pgo_base.specs.Tree.{primed};
 ghost use Rattle.pgo_translate.specs.Items.{asserts, only, prints, some_in};
 
-use pgo_base::expr::{Binders, Expr, Exprs, Infix, Names, Quantifier, Sub};
+use pgo_base::expr::{Expr, Quantifier, Sub};
 use pgo_base::results::both;
 use pgo_base::text::Text;
+use pgo_module_trees::small::{call_of, one_expr, quantified_of, text_of};
 use std::alloc::{AllocError, Global};
-
-/// `x`
-pub fn name_of(alloc: Global, x: &[u8]) -> Result<Sub, AllocError>
-    ensures { IfOk result (λ s. s ≡ name x.now) }
-{
-    Sub::new(alloc, Expr::Name(Text::from_slice(alloc, x)?))
-}
 
 /// `x'`
 pub fn primed_name(alloc: Global, x: &[u8]) -> Result<Sub, AllocError>
     ensures { IfOk result (λ s. s ≡ primed x.now) }
 {
     Sub::new(alloc, Expr::Primed(Text::from_slice(alloc, x)?))
-}
-
-/// `"x"`
-pub fn text_of(alloc: Global, x: &[u8]) -> Result<Sub, AllocError>
-    ensures { IfOk result (λ s. s ≡ text x.now) }
-{
-    Sub::new(alloc, Expr::Text(Text::from_slice(alloc, x)?))
 }
 
 /// The same expression once more.
@@ -39,47 +24,11 @@ pub fn copy_of(alloc: Global, e: &Expr) -> Result<Sub, AllocError>
     Sub::new(alloc, e.copy(alloc)?)
 }
 
-/// `a o b`
-pub fn binary_of(alloc: Global, o: Infix, a: Sub, b: Sub) -> Result<Sub, AllocError>
-    ensures { IfOk result (λ s. s ≡ binary o a b) }
-{
-    Sub::new(alloc, Expr::Infix(o, a, b))
-}
-
-/// One expression.
-pub fn one_expr(alloc: Global, e: Sub) -> Result<Exprs, AllocError>
-    ensures { IfOk result (λ es. es ≡ e ∷ []) }
-{
-    let mut list = Exprs::new(alloc);
-    list.push(e)?;
-    Ok(list)
-}
-
-/// One name.
-pub fn one_name(alloc: Global, x: &[u8]) -> Result<Names, AllocError>
-    ensures { IfOk result (λ xs. xs ≡ x.now ∷ []) }
-{
-    let mut list = Names::new(alloc);
-    list.push(Text::from_slice(alloc, x)?)?;
-    Ok(list)
-}
-
-/// `x \in r`, where a name is bound.
-pub fn binder(alloc: Global, x: &[u8], r: Sub) -> Result<Binders, AllocError>
-    ensures { IfOk result (λ bs. bs ≡ (x.now ∷ [], r) ∷ []) }
-{
-    let names = one_name(alloc, x)?;
-    let mut list = Binders::new(alloc);
-    list.push(names, r)?;
-    Ok(list)
-}
-
 /// `\E x \in r : p`
 pub fn some_of(alloc: Global, x: &[u8], r: Sub, p: Sub) -> Result<Sub, AllocError>
     ensures { IfOk result (λ s. s ≡ some_in x.now r p) }
 {
-    let bound = binder(alloc, x, r)?;
-    Sub::new(alloc, Expr::Quantified(Quantifier::Exists, bound, p))
+    quantified_of(alloc, Quantifier::Exists, x, r, p)
 }
 
 /// `{e}`
@@ -88,14 +37,6 @@ pub fn only_of(alloc: Global, e: &Expr) -> Result<Sub, AllocError>
 {
     let members = one_expr(alloc, copy_of(alloc, e)?)?;
     Sub::new(alloc, Expr::SetOf(members))
-}
-
-/// A call.
-fn call_of(alloc: Global, x: &[u8], arguments: Exprs) -> Result<Sub, AllocError>
-    ensures { IfOk result (λ s. s ≡ call x.now (trees arguments)) }
-{
-    let x = Text::from_slice(alloc, x)?;
-    Sub::new(alloc, Expr::Call(x, arguments))
 }
 
 /// `Assert(e, "assert")`
@@ -114,21 +55,4 @@ pub fn print_of(alloc: Global, e: &Expr) -> Result<Sub, AllocError>
 {
     let arguments = one_expr(alloc, copy_of(alloc, e)?)?;
     call_of(alloc, b"PrintT", arguments)
-}
-
-/// `pc[self]`
-fn place_of_self(alloc: Global) -> Result<Sub, AllocError>
-    ensures { IfOk result (λ s. s ≡ index (name pc) (trees (name self_name ∷ []))) }
-{
-    let (pc, own) = both(name_of(alloc, b"pc"), name_of(alloc, b"self"))?;
-    let indices = one_expr(alloc, own)?;
-    Sub::new(alloc, Expr::Index(pc, indices))
-}
-
-/// `pc[self] = "l"`
-pub fn place_is(alloc: Global, label: &Text) -> Result<Sub, AllocError>
-    ensures { IfOk result (λ s. s ≡ stands_at label.now) }
-{
-    let (place, label) = both(place_of_self(alloc), text_of(alloc, label.as_bytes()))?;
-    binary_of(alloc, Infix::Equal, place, label)
 }

@@ -1,14 +1,14 @@
 // Expressions joined from the left.
-ghost use Rattle.std.specs.Prelude.{◌≡◌, reverse, true, false, IfOk};
-ghost use Rattle.pgo_base.specs.Tree.{truth};
+ghost use Rattle.std.specs.Prelude.{◌≡◌, [], reverse, true, false, IfOk};
+ghost use Rattle.pgo_base.specs.Tree.{set_of, trees, truth};
 ghost use Rattle.pgo_model.specs.Module as written;
 
-use crate::trees::binary_of;
-use pgo_base::expr::{Expr, Infix, Sub};
+use crate::small::binary_of;
+use pgo_base::expr::{Expr, Exprs, Infix, Sub};
 use std::alloc::{AllocError, Global};
 
 /// e joined with the others, of which the last stands first.
-#[tactic(auto, using(crate::proofs::RowLaws::reversed_more))]
+#[tactic(auto, using(crate::proofs::Reversed::reversed_more))]
 fn joined(alloc: Global, o: Infix, e: Sub, others: Vec<Sub>) -> Result<Sub, AllocError>
     ensures { IfOk result (λ s. s ≡ written.joined_by o e (reverse others.items)) }
 {
@@ -31,7 +31,7 @@ fn truth_of(alloc: Global, holds: bool) -> Result<Sub, AllocError>
 }
 
 /// The conjunction of these, of which the last stands first.
-#[tactic(auto, using(crate::proofs::RowLaws::reversed_more))]
+#[tactic(auto, using(crate::proofs::Reversed::reversed_more))]
 pub fn all_of(alloc: Global, items: Vec<Sub>) -> Result<Sub, AllocError>
     ensures { IfOk result (λ s. s ≡ written.all_of (reverse items.items)) }
 {
@@ -43,7 +43,7 @@ pub fn all_of(alloc: Global, items: Vec<Sub>) -> Result<Sub, AllocError>
 }
 
 /// The disjunction of these, of which the last stands first.
-#[tactic(auto, using(crate::proofs::RowLaws::reversed_more))]
+#[tactic(auto, using(crate::proofs::Reversed::reversed_more))]
 pub fn any_of(alloc: Global, items: Vec<Sub>) -> Result<Sub, AllocError>
     ensures { IfOk result (λ s. s ≡ written.any_of (reverse items.items)) }
 {
@@ -51,5 +51,24 @@ pub fn any_of(alloc: Global, items: Vec<Sub>) -> Result<Sub, AllocError>
     match left.pop() {
         Some(first) => joined(alloc, Infix::Or, first, left),
         None => truth_of(alloc, false),
+    }
+}
+
+/// `{}`
+fn empty_set(alloc: Global) -> Result<Sub, AllocError>
+    ensures { IfOk result (λ s. s ≡ set_of (trees [])) }
+{
+    Sub::new(alloc, Expr::SetOf(Exprs::new(alloc)))
+}
+
+/// The union of these, of which the last stands first.
+#[tactic(auto, using(crate::proofs::Reversed::reversed_more))]
+pub fn union_of(alloc: Global, sets: Vec<Sub>) -> Result<Sub, AllocError>
+    ensures { IfOk result (λ s. s ≡ written.union_of (reverse sets.items)) }
+{
+    let mut left = sets;
+    match left.pop() {
+        Some(first) => joined(alloc, Infix::Union, first, left),
+        None => empty_set(alloc),
     }
 }

@@ -1,0 +1,3 @@
+mod Split
+mod Words
+mod Joins

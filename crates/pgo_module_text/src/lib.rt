@@ -1,0 +1,7 @@
+// The canonical text of a written module.
+#![tactic(auto)]
+
+mod bodies;
+mod conjuncts;
+mod lines;
+pub mod write;
