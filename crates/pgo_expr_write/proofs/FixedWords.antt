@@ -122,7 +122,7 @@ pub box : {st : List Bracket} {p : Bool} {rest : List ℕ} {us : List Token} →
 box d = blank (single 91 (93 ∷ []) (w.sign (91 ∷ 93 ∷ []) _ 32 _ refl refl refl refl refl) refl refl (blank d))
 
 pub defines : {st : List Bracket} {p : Bool} {rest : List ℕ} {us : List Token} → Lexed st false rest us → Lexed st p (32 ∷ 61 ∷ 61 ∷ 32 ∷ rest) (token sign.Defines ∷ us)
-defines d = blank (single 61 (61 ∷ []) (w.sign (61 ∷ 61 ∷ []) _ 32 _ refl refl refl refl refl) refl refl (blank d))
+defines d = blank (w.defines d)
 
 pub maps_to : {st : List Bracket} {p : Bool} {rest : List ℕ} {us : List Token} → Lexed st false rest us → Lexed st p (32 ∷ 124 ∷ 45 ∷ 62 ∷ 32 ∷ rest) (token sign.MapsTo ∷ us)
 maps_to d = blank (single 124 (45 ∷ 62 ∷ []) (w.sign (124 ∷ 45 ∷ 62 ∷ []) _ 32 _ refl refl refl refl refl) refl refl (blank d))

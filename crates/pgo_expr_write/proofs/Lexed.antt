@@ -5,6 +5,7 @@ use Rattle.pgo_lexer.specs.declared.token.Token.{Token}
 use Rattle.pgo_lexer.specs.declared.token.Lexeme.{Lexeme}
 use Rattle.pgo_lexer.specs.declared.token.Token.TheVariants as t
 use Rattle.pgo_lexer.specs.declared.symbol.Symbol.{Symbol}
+use Rattle.pgo_lexer.specs.declared.symbol.Symbol.TheVariants as symbols
 use Rattle.pgo_lexer.specs.declared.symbol.Bracket.{Bracket}
 use Rattle.pgo_lexer.specs.declared.kind.Kind.TheVariants as kind
 use Rattle.pgo_lexer.specs.declared.kind.Role.TheVariants as role
@@ -31,40 +32,60 @@ SignsEnd = (front rest : List ℕ) (b : ℕ) (symbol : Symbol) → find front si
     → opens (front ++ b ∷ rest) ≡ false → opens_line (front ++ b ∷ rest) ≡ false → opens_word (front ++ b ∷ rest) ≡ false
     → IsPiece front (b ∷ rest) (Some (t.Symbol symbol))
 
-as_piece : SignsEnd → {front rest : List ℕ} {k : Token} → IsWritten front rest k → IsPiece front rest (Some k)
+pub as_piece : SignsEnd → {front rest : List ℕ} {k : Token} → IsWritten front rest k → IsPiece front rest (Some k)
 as_piece ends (piece is) = is
 as_piece ends (sign front rest b symbol found none c n w) = ends front rest b symbol found none c n w
+
+-- `==`
+abbrev pub is_defines : Token → Bool
+is_defines (t.Symbol symbols.Defines) = true
+is_defines _ = false
+
+-- a token that isn't written as others are: those of mapping macros, and `==`, behind which a blank stands
+abbrev pub is_apart : Token → Bool
+is_apart k = is_mapped k || is_defines k
 
 -- Lexed st p bs ts: the bytes are these tokens. st has the brackets that are open before them, the innermost first, and p
 -- says whether an operand ends before them.
 pub data Lexed : List Bracket → Bool → List ℕ → List Token → Type 0 where
   end : {p : Bool} → Lexed [] p [] []
   blank : {st : List Bracket} {p : Bool} {rest : List ℕ} {ts : List Token} → Lexed st p rest ts → Lexed st p (32 ∷ rest) ts
+  defines : {st : List Bracket} {p : Bool} {rest : List ℕ} {ts : List Token} → Lexed st false rest ts → Lexed st p (61 ∷ 61 ∷ 32 ∷ rest) (t.Symbol symbols.Defines ∷ ts)
   single : {st : List Bracket} {p : Bool} (b : ℕ) (front : List ℕ) {rest : List ℕ} {k : Token} {ts : List Token} → IsWritten (b ∷ front) rest k
-      → is_mapped k ≡ false → role_of p (kind_of k) ≡ role.Plain → Lexed st (ends_operand k) rest ts → Lexed st p (b ∷ (front ++ rest)) (k ∷ ts)
+      → is_apart k ≡ false → role_of p (kind_of k) ≡ role.Plain → Lexed st (ends_operand k) rest ts → Lexed st p (b ∷ (front ++ rest)) (k ∷ ts)
   opening : {st : List Bracket} {p : Bool} (b : ℕ) (front : List ℕ) {rest : List ℕ} {k : Token} {ts : List Token} {z : Bracket} → IsWritten (b ∷ front) rest k
       → is_mapped k ≡ false → kind_of k ≡ kind.Open z → Lexed (z ∷ st) false rest ts → Lexed st p (b ∷ (front ++ rest)) (k ∷ ts)
   closing : {st : List Bracket} {p : Bool} (b : ℕ) (front : List ℕ) {rest : List ℕ} {k : Token} {ts : List Token} {z : Bracket} → IsWritten (b ∷ front) rest k
       → is_mapped k ≡ false → kind_of k ≡ kind.Close z → Lexed st true rest ts → Lexed (z ∷ st) p (b ∷ (front ++ rest)) (k ∷ ts)
 
+left_false : (a b : Bool) → (a || b) ≡ false → a ≡ false
+left_false true b h = cc
+left_false false b h = refl
+
 pub plain : {st : List Bracket} {p : Bool} {bs : List ℕ} {ts : List Token} → Lexed st p bs ts → has_mapped ts ≡ false
 plain end = refl
 plain (blank d) = plain d
-plain (single b front {ts = ts} is no_mapped may d) = ap (λ z. z || has_mapped ts) no_mapped ∙ plain d
+plain (defines d) = plain d
+plain (single b front {k = k} {ts = ts} is not_apart may d) = ap (λ z. z || has_mapped ts) (left_false (is_mapped k) (is_defines k) not_apart) ∙ plain d
 plain (opening b front {ts = ts} is no_mapped may d) = ap (λ z. z || has_mapped ts) no_mapped ∙ plain d
 plain (closing b front {ts = ts} is no_mapped may d) = ap (λ z. z || has_mapped ts) no_mapped ∙ plain d
 
 few : {st : List Bracket} {p : Bool} {bs : List ℕ} {ts : List Token} → Lexed st p bs ts → length ts ≤ length bs
 few end = omega arith
 few (blank d) = omega (arith, few d)
-few (single b front {rest} is no_mapped may d) = omega (arith, few d, length-append front rest)
+few (defines d) = omega (arith, few d)
+few (single b front {rest} is not_apart may d) = omega (arith, few d, length-append front rest)
 few (opening b front {rest} is no_mapped may d) = omega (arith, few d, length-append front rest)
 few (closing b front {rest} is no_mapped may d) = omega (arith, few d, length-append front rest)
+
+-- `==` before a blank
+pub defines_written : (rest : List ℕ) → IsWritten (61 ∷ 61 ∷ []) (32 ∷ rest) (t.Symbol symbols.Defines)
+defines_written rest = sign (61 ∷ 61 ∷ []) rest 32 symbols.Defines refl refl refl refl refl
 
 -- ---- marks
 
 -- the tokens with no mark among them, behind these open brackets
-data Nest : List Bracket → Bool → List Lexeme → Type 0 where
+pub data Nest : List Bracket → Bool → List Lexeme → Type 0 where
   whole : {p q : Bool} {rs : List Lexeme} → Marked true 0 p rs rs q → Nest [] p rs
   inside : {k : Bracket} {ks : List Bracket} {p u : Bool} (z : Lexeme) {xs rs : List Lexeme} → Marked true 0 p xs xs u → kind_of z.token ≡ kind.Close k → Nest ks true rs
       → Nest (k ∷ ks) p (xs ++ (z ∷ rs))
@@ -84,21 +105,29 @@ nest_close r is n = inside r {xs = []} m.done is n
 
 -- ---- places
 
-record Placed (st : List Bracket) (p : Bool) (c o : ℕ) (bs : List ℕ) (ts : List Token) : Type 0 where
-  lexemes : List Lexeme
-  lexed : Lexes c o bs lexemes
-  same : tokens_of lexemes ≡ ts
-  nest : Nest st p lexemes
+pub record Placed (st : List Bracket) (p : Bool) (c o : ℕ) (bs : List ℕ) (ts : List Token) : Type 0 where
+  pub lexemes : List Lexeme
+  pub lexed : Lexes c o bs lexemes
+  pub same : tokens_of lexemes ≡ ts
+  pub nest : Nest st p lexemes
 
 abbrev at_place : Token → (c o n : ℕ) → Lexeme
 at_place k c o n = record { token = k; column = c; start = o; stop = o + n }
 
-placed : SignsEnd → {st : List Bracket} {p : Bool} {bs : List ℕ} {ts : List Token} → Lexed st p bs ts → (c o : ℕ) → Placed st p c o bs ts
+pub placed : SignsEnd → {st : List Bracket} {p : Bool} {bs : List ℕ} {ts : List Token} → Lexed st p bs ts → (c o : ℕ) → Placed st p c o bs ts
 placed ends end c o = record { lexemes = []; lexed = l.end; same = refl; nest = whole m.done }
 placed ends (blank d) c o =
     let q = placed ends d (columns_behind c (32 ∷ [])) (o + length {A = ℕ} (32 ∷ [])) in
     record { lexemes = q.lexemes; lexed = l.pass (32 ∷ []) (l.blank refl) q.lexed; same = q.same; nest = q.nest }
-placed ends (single b front {k = k} is no_mapped may d) c o =
+placed ends (defines {rest = rest} d) c o =
+    let q = placed ends d (columns_behind (columns_behind c (61 ∷ 61 ∷ [])) (32 ∷ [])) (o + length {A = ℕ} (61 ∷ 61 ∷ []) + length {A = ℕ} (32 ∷ [])) in
+    record {
+      lexemes = at_place (t.Symbol symbols.Defines) c o 2 ∷ q.lexemes;
+      lexed = l.token (61 ∷ 61 ∷ []) (as_piece ends (defines_written rest)) (l.pass (32 ∷ []) (l.blank refl) q.lexed);
+      same = ap (λ z. t.Symbol symbols.Defines ∷ z) q.same;
+      nest = nest_plain (at_place (t.Symbol symbols.Defines) c o 2) refl q.nest;
+    }
+placed ends (single b front {k = k} is not_apart may d) c o =
     let q = placed ends d (columns_behind c (b ∷ front)) (o + length (b ∷ front)) in
     record {
       lexemes = at_place k c o (length (b ∷ front)) ∷ q.lexemes;

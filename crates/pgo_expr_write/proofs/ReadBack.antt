@@ -61,11 +61,11 @@ string_told l.none = refl
 string_told (l.plain {b = b} is d) = λ i. plain_told b is i && string_told d i
 string_told (l.escape {b = b} {c = c} is d) = λ i. by_self c b (nat_eq c 34 || nat_eq c 92) refl is i && string_told d i
 
-abbrev ToldBy : Option Token → Type 0
+abbrev pub ToldBy : Option Token → Type 0
 ToldBy (Some k) = Told k
 ToldBy None = Unit {0}
 
-piece_told : {front rest : List ℕ} {o : Option Token} → IsPiece front rest o → ToldBy o
+pub piece_told : {front rest : List ℕ} {o : Option Token} → IsPiece front rest o → ToldBy o
 piece_told (l.blank h) = tt
 piece_told (l.line r) = tt
 piece_told (l.comment c) = tt
@@ -78,11 +78,11 @@ piece_told (l.slashed r f) = tt
 piece_told (l.dollar r f) = tt
 piece_told (l.sign is) = tt
 
-abbrev TheyTell : List Lexeme → Type 0
+abbrev pub TheyTell : List Lexeme → Type 0
 TheyTell [] = Unit {0}
 TheyTell (r ∷ rs) = Told r.token × TheyTell rs
 
-lexes_told : {c o : ℕ} {bs : List ℕ} {ls : List Lexeme} → Lexes c o bs ls → TheyTell ls
+pub lexes_told : {c o : ℕ} {bs : List ℕ} {ls : List Lexeme} → Lexes c o bs ls → TheyTell ls
 lexes_told l.end = tt
 lexes_told (l.pass front is d) = lexes_told d
 lexes_told (l.token front is d) = (piece_told is, lexes_told d)
@@ -96,7 +96,7 @@ both_told [] ys h k = k
 both_told (r ∷ xs) ys h k = (h.0, both_told xs ys h.1 k)
 
 mutual
-  marked_told : {u : Bool} {b : ℕ} {p q : Bool} {rs ms : List Lexeme} → Marked u b p rs ms q → TheyTell rs → TheyTell ms
+  pub marked_told : {u : Bool} {b : ℕ} {p q : Bool} {rs ms : List Lexeme} → Marked u b p rs ms q → TheyTell rs → TheyTell ms
   marked_told m.done h = tt
   marked_told (m.plain low is d) h = (h.0, marked_told d h.1)
   marked_told (m.separator low is d) h = (h.0, marked_told d h.1)
@@ -108,7 +108,7 @@ mutual
       let r = parts_told ys rs q.1 in
       (tt, both_told ls (ms ++ (list_close ∷ ns)) (marked_told d q.0) (both_told ms (list_close ∷ ns) (bullets_told d' r.0) (tt, marked_told d'' r.1)))
 
-  bullets_told : {op : Junction} {c : ℕ} {p q : Bool} {rs ms : List Lexeme} → Bullets op c p rs ms q → TheyTell rs → TheyTell ms
+  pub bullets_told : {op : Junction} {c : ℕ} {p q : Bool} {rs ms : List Lexeme} → Bullets op c p rs ms q → TheyTell rs → TheyTell ms
   bullets_told m.none h = tt
   bullets_told (m.next {xs = xs} {ys = ys} {ms = ms} {ns = ns} is here d d') h =
       let q = parts_told xs ys h.1 in
@@ -118,7 +118,7 @@ neither : (x y : Bool) → (x || y) ≡ false → (x ≡ false) × (y ≡ false)
 neither true y h = cc
 neither false y h = (refl, h)
 
-all_told : (ls : List Lexeme) → TheyTell ls → has_mapped (tokens_of ls) ≡ false → AllTold (tokens_of ls)
+pub all_told : (ls : List Lexeme) → TheyTell ls → has_mapped (tokens_of ls) ≡ false → AllTold (tokens_of ls)
 all_told [] h plain = tt
 all_told (r ∷ rs) h plain = let q = neither (is_mapped r.token) (has_mapped (tokens_of rs)) plain in (h.0, q.0, all_told rs h.1 q.1)
 

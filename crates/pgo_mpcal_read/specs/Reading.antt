@@ -134,8 +134,12 @@ abbrev pub on_tokens : List Lexeme → expression_parsers.Outcome (Read Tree) �
 on_tokens i (Some p) = Some (p.0.tree, left_of i (length p.1))
 on_tokens i None = None
 
-unfoldable pub expression : Parser Tree
-expression i = on_tokens i (expression_reading.expr most_height 0 (tokens_of i))
+-- an expression that is no higher than the limit
+unfoldable pub expression_within : (limit : ℕ) → Parser Tree
+expression_within limit i = on_tokens i (expression_reading.expr limit 0 (tokens_of i))
+
+abbrev pub expression : Parser Tree
+expression = expression_within most_height
 
 unfoldable pub range : Parser Tree
 range i = on_tokens i (expression_reading.range most_height (expression_reading.expr most_height) 0 (tokens_of i))

@@ -372,15 +372,22 @@ impl<'a> Cursor<'a> {
         }
     }
 
+    /// An expression no higher than the limit, as far as it goes.
+    #[tactic(auto, unfolding(crate::specs::Reading::expression_within))]
+    pub fn expression_within(&mut self, alloc: Global, limit: u32) -> Result<Sub, TextStop>
+        ensures { Reads (spec.expression_within limit self.old) result self.new }
+    {
+        let mut inner = ExprCursor::new(self.rest, self.end);
+        let read = reader::expr(alloc, &mut inner, limit, 0)?;
+        self.rest = last(self.rest, inner.left());
+        Ok(read.tree)
+    }
+
     /// An expression, as far as it goes.
-    #[tactic(auto, unfolding(crate::specs::Reading::expression))]
     pub fn expression(&mut self, alloc: Global) -> Result<Sub, TextStop>
         ensures { Reads (spec.expression self.old) result self.new }
     {
-        let mut inner = ExprCursor::new(self.rest, self.end);
-        let read = reader::expr(alloc, &mut inner, MOST_HEIGHT, 0)?;
-        self.rest = last(self.rest, inner.left());
-        Ok(read.tree)
+        self.expression_within(alloc, MOST_HEIGHT)
     }
 
     /// What stands at the right of a `\in`: an expression, or `Nat`, `Int` or `STRING` alone.

@@ -41,7 +41,7 @@ fn more_dashes(cursor: &mut Cursor<'_>, first: usize) -> usize
 
 /// A row of four dashes or more.
 #[tactic(auto, unfolding(crate::specs::ReadingSpec::dashes))]
-fn dashes(cursor: &mut Cursor<'_>) -> Result<(), TextStop>
+pub fn dashes(cursor: &mut Cursor<'_>) -> Result<(), TextStop>
     ensures { Reads (spec.dashes cursor.old) result cursor.new }
 {
     if !cursor.sees(Symbol::Infix(Infix::Subtract)) {

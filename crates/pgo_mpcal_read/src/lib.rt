@@ -2,12 +2,12 @@
 #![tactic(auto)]
 
 mod assignments;
-mod cursor;
+pub mod cursor;
 mod declarations;
 mod deep;
 mod depths;
-mod header;
-mod item;
+pub mod header;
+pub mod item;
 mod lead;
 mod names;
 mod nesting;

@@ -32,13 +32,13 @@ then_some (Some a) f b Goal e k = k a refl e
 
 -- ---- places
 
-column_there : (text before rest : List ℕ) → text ≡ before ++ rest → column_at text (length before) ≡ column_of before
+pub column_there : (text before rest : List ℕ) → text ≡ before ++ rest → column_at text (length before) ≡ column_of before
 column_there text before rest e = ap column_of ((λ i. take (length before) (e i)) ∙ take-append_seam before rest)
 
-rest_there : (text before rest : List ℕ) → text ≡ before ++ rest → drop (length before) text ≡ rest
+pub rest_there : (text before rest : List ℕ) → text ≡ before ++ rest → drop (length before) text ≡ rest
 rest_there text before rest e = (λ i. drop (length before) (e i)) ∙ drop-append_seam before rest
 
-length_there : (text before rest : List ℕ) → text ≡ before ++ rest → length text - length rest ≡ length before
+pub length_there : (text before rest : List ℕ) → text ≡ before ++ rest → length text - length rest ≡ length before
 length_there text before rest e = let q = ap length e ∙ length-append before rest in omega (arith, q)
 
 -- ---- the closing row
@@ -187,7 +187,7 @@ cut_sound text p e = then_some _ _ p _ e (λ rest got h.
 
 -- ---- what is right is given
 
-line_given : (before rest : List ℕ) → IsFirst IsModuleLine before rest → module_from true (before ++ rest) ≡ Some rest
+pub line_given : (before rest : List ℕ) → IsFirst IsModuleLine before rest → module_from true (before ++ rest) ≡ Some rest
 line_given before rest h = ap (λ s. module_from s (before ++ rest)) (sym fresh_first) ∙ first_found IsModuleLine is_line_at is_fresh fresh tells_module [] before rest h.here (λ l r e k. h.first l r e k)
 
 -- a step of a chain

@@ -83,7 +83,7 @@ fn is_last(depth: usize, token: &Option<Token>) -> bool
 }
 
 /// The piece that the rest of a text begins with, which stands at an offset.
-fn next_piece(alloc: Global, rest: &[u8], at: usize) -> Result<Piece, TextStop>
+pub fn next_piece(alloc: Global, rest: &[u8], at: usize) -> Result<Piece, TextStop>
     ensures value { Gives (piece.first_piece rest.now) result }
     ensures within { IfOk result (λ p. p.length ≤ length rest.now) }
 {

@@ -2,6 +2,6 @@
 #![tactic(auto)]
 
 pub mod before;
-mod cut;
+pub mod cut;
 pub mod parts;
-mod search;
+pub mod search;
