@@ -3,5 +3,6 @@
 
 mod bodies;
 mod conjuncts;
+pub mod laws;
 mod lines;
 pub mod write;

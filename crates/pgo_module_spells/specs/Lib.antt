@@ -1,0 +1,4 @@
+pub mod Parts
+pub mod Grammar
+pub mod Spells
+pub mod Written

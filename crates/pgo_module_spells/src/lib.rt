@@ -1,0 +1,2 @@
+// Which texts spell a written module.
+#![tactic(auto)]
