@@ -1,2 +1,4 @@
-pub mod Finding
-pub mod Refused
+pub mod Answers
+pub mod Cutting
+pub mod Reading
+pub mod Building

@@ -1,8 +1,11 @@
-// The module of a counter from its canonical text.
+// The reader of written modules.
 #![tactic(auto)]
 
-mod builder;
-mod compare;
-pub mod errors;
-mod finder;
-pub mod module_reader;
+mod build;
+mod cut;
+mod lines;
+mod processes;
+pub mod read;
+mod rows;
+mod same;
+mod steps;

@@ -1,0 +1,30 @@
+use Rattle.std.proofs.Common.{rules, arith}
+use Rattle.std.proofs.lemmas.Grind.{common_steps}
+use Rattle.pgo_mpcal_read.specs.Reading.{one_more, folded}
+use Rattle.pgo_mpcal_read.proofs.Turns.{turn_more, no_more}
+use Rattle.pgo_module_read.specs.Reading.{is_action, action}
+use Rattle.pgo_module_read.proofs.rows.actions.Goals as goal
+
+pub returns-then-not-sees_second : goal.returns-then-not-sees_second
+unfolding folded
+returns-then-not-sees_second c =
+    let e = turn_more (λ n. folded is_action (one_more action) n c.loop-turn.all c.loop-turn.cursor) _ c.loop-turn._turn c.loop-turn-test.true c.loop-turn.invariant in
+    first_of (search rules, grind (arith, common_steps))
+
+pub returns-in_err-more_actions : goal.returns-in_err-more_actions
+unfolding folded
+returns-in_err-more_actions c =
+    let e = turn_more (λ n. folded is_action (one_more action) n c.loop-turn.all c.loop-turn.cursor) _ c.loop-turn._turn c.loop-turn-test.true c.loop-turn.invariant in
+    first_of (search rules, grind (arith, common_steps))
+
+pub loop-turn-preserved : goal.loop-turn-preserved
+unfolding folded
+loop-turn-preserved c =
+    let e = turn_more (λ n. folded is_action (one_more action) n c.loop-turn.all c.loop-turn.cursor) _ c.loop-turn._turn c.loop-turn-test.true c.loop-turn.invariant in
+    first_of (search rules, grind (arith, common_steps))
+
+pub returns : goal.returns
+unfolding folded
+returns c =
+    let e = no_more (λ n. folded is_action (one_more action) n c.loop-turn.all c.loop-turn.cursor) _ c.loop-turn._turn c.loop-turn-test.false c.loop-turn.invariant in
+    first_of (search rules, grind (arith, common_steps))

@@ -1,0 +1,7 @@
+use Rattle.std.proofs.Common.{◌≡◌, ◌-◌, length, []}
+use Rattle.pgo_mpcal_read.specs.Reading.{one_more, folded}
+use Rattle.pgo_module_read.specs.Reading.{is_definition, definition}
+use Rattle.pgo_module_read.proofs.rows.definitions.Given as goal
+
+abbrev pub invariant-loop-turn : goal.invariant-loop-turn
+invariant-loop-turn l = folded is_definition (one_more definition) (length l.fn.cursor) [] l.fn.cursor ≡ folded is_definition (one_more definition) (l._turn-end - l._turn) l.all l.cursor

@@ -1,0 +1,150 @@
+// The tokens of a module's text.
+ghost use Rattle.std.specs.Prelude.{◌≡◌, ◌≤◌, ◌<◌, ◌+◌, ◌*◌, [], None, length, drop};
+ghost use Rattle.pgo_lexer.specs.Answers.{Gives, ok_as};
+ghost use Rattle.pgo_module_spells.specs.Spells as spells;
+ghost use Rattle.pgo_module_read.specs.Cutting as spec;
+
+use pgo_lexer::bytes::{columns_behind, first, skip};
+use pgo_lexer::errors::TextStop;
+use pgo_lexer::piece::Piece;
+use pgo_lexer::symbol::Symbol;
+use pgo_lexer::token::{Lexeme, Token, Tokens};
+use pgo_lexer::tokenizer::marked;
+use pgo_spec_text::cut::next_piece;
+use pgo_spec_text::parts::{MOST_BYTES, column_at};
+use pgo_spec_text::search::module_from;
+use std::alloc::Global;
+
+/// The most tokens of a module.
+const MOST_TOKENS: usize = 4294967295;
+
+fn is_defines(token: &Token) -> bool
+    ensures { result ≡ spells.is_defines token.now }
+{
+    match token {
+        Token::Symbol(Symbol::Defines) => true,
+        _ => false,
+    }
+}
+
+/// Where the last token stops, if it is a `==`. This piece, which stops at an offset, is behind it.
+fn row_behind(row: Option<usize>, stop: usize, token: &Option<Token>) -> Option<usize>
+    ensures { result ≡ spec.row_behind row stop token.now }
+{
+    match token {
+        None => row,
+        Some(token) => { if is_defines(token) { Some(stop) } else { None } }
+    }
+}
+
+/// Whether the token that begins at an offset is a `==`, and the last one is another that stops there.
+fn touches(row: Option<usize>, start: usize, token: &Token) -> bool
+    ensures { result ≡ spec.touches row start token.now }
+{
+    match row {
+        None => false,
+        Some(stop) => is_defines(token) && start == stop,
+    }
+}
+
+/// Whether a piece is the second of two `==` that touch.
+fn is_last(row: Option<usize>, start: usize, token: &Option<Token>) -> bool
+    ensures { result ≡ spec.is_last row start token.now }
+{
+    match token {
+        None => false,
+        Some(token) => touches(row, start, token),
+    }
+}
+
+/// Adds the token that a piece is, if it is one and the limit allows it.
+fn add(
+    tokens: &mut Tokens,
+    limit: usize,
+    column: usize,
+    start: usize,
+    piece: Piece,
+) -> Result<(), TextStop>
+    requires { start + piece.length < 18446744073709551616 }
+    ensures { Gives (spec.added limit column start tokens.old piece.length piece.token) (ok_as tokens.new result) }
+{
+    let stop = start + piece.length;
+    match piece.token {
+        None => Ok(()),
+        Some(token) => {
+            if tokens.len() < limit {
+                let lexeme = Lexeme {
+                    token,
+                    column,
+                    start,
+                    stop,
+                };
+                tokens.push(lexeme)?;
+                Ok(())
+            } else {
+                Err(TextStop::at(start))
+            }
+        }
+    }
+}
+
+/// The tokens of a text from an offset on, which stands in a column, up to the first two `==` that touch.
+fn module_tokens(
+    alloc: Global,
+    text: &[u8],
+    column: usize,
+    start: usize,
+    limit: usize,
+) -> Result<Tokens, TextStop>
+    requires small { length text.now ≤ 1152921504606846976 }
+    requires within { start ≤ length text.now }
+    requires near { column ≤ 8 * start }
+    ensures { Gives (spec.module_tokens limit (length text.now) None column start [] (drop start text.now)) result }
+{
+    let mut tokens = Tokens::new(alloc);
+    let mut rest = skip(text, start);
+    let mut column = column;
+    let mut at = start;
+    let mut row = None;
+    for _turn in 0..text.len() {
+        let p = next_piece(alloc, rest, at)?;
+        let length = p.length;
+        let last = is_last(row, at, &p.token);
+        let next = row_behind(row, at + length, &p.token);
+        add(&mut tokens, limit, column, at, p)?;
+        if last {
+            return Ok(tokens);
+        }
+        row = next;
+        column = columns_behind(column, first(rest, length));
+        at += length;
+        rest = skip(rest, length);
+    }
+    Err(TextStop::at(at))
+}
+
+/// The tokens with their marks, where the line of MODULE begins at an offset.
+#[tactic(auto, unfolding(crate::specs::Cutting::from_module))]
+fn from_module(alloc: Global, text: &[u8], start: usize) -> Result<Tokens, TextStop>
+    requires small { length text.now ≤ 1152921504606846976 }
+    requires within { start ≤ length text.now }
+    ensures { Gives (spec.from_module text.now start) result }
+{
+    let column = column_at(text, start);
+    let unmarked = module_tokens(alloc, text, column, start, MOST_TOKENS)?;
+    marked(alloc, unmarked, text.len())
+}
+
+/// The tokens of a module from the first line of MODULE up to its closing row, which is two `==` that touch, with the marks of
+/// their junction lists.
+pub fn cut(alloc: Global, text: &[u8]) -> Result<Tokens, TextStop>
+    ensures { Gives (spec.cut text.now) result }
+{
+    if text.len() > MOST_BYTES {
+        return Err(TextStop::NoMemory);
+    }
+    match module_from(text) {
+        None => Err(TextStop::at(text.len())),
+        Some(rest) => from_module(alloc, text, text.len().saturating_sub(rest.len())),
+    }
+}
