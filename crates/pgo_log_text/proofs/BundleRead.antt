@@ -1,162 +1,152 @@
 -- A bundle is read where the text is one, and is the only one that the text is.
-use Rattle.std.proofs.Common.{lit<, ◌≡◌, ◌<◌, ◌^◌, ℕ, List, [], ◌∷◌, ◌++◌, length, map, decimal, Some, None, Err, refl, sym, ap, subst, ◌∙◌, append_assoc}
-use Rattle.std.specs.Prelude.{codes}
-use Rattle.std.proofs.lemmas.Fmt.{decimal_digit}
-use Rattle.pgo_base.specs.Data.{Data}
-use Rattle.pgo_base.specs.Lookup.{Name}
+use Rattle.std.proofs.Common.{◌≡◌, List, [], ◌∷◌, ◌++◌, length, map, decimal, Some, None, Err, sym, ap, subst, ◌∙◌}
+use Rattle.std.specs.Prelude.{ℕ, codes}
+use Rattle.pgo_base.specs.Lookup.{Vars}
 use Rattle.pgo_model.specs.Module.{Module}
-use Rattle.pgo_model.specs.ModuleText.{line, flatten, module_lines, Text}
+use Rattle.pgo_model.specs.ModuleText.{flatten}
 use Rattle.pgo_model.specs.Log.{Log}
-use Rattle.pgo_model.specs.IsBundle.{IsBundle}
-use Rattle.pgo_counter.specs.CounterModules.{IsCounterModule}
-use Rattle.pgo_module_read.proofs.ModuleReads.{same_text}
+use Rattle.pgo_model.specs.Bundle.{value_line}
+use Rattle.pgo_module_spells.specs.Spells.{SpellsModule}
 use Rattle.pgo_log_text.specs.declared.errors.LogStop.{LogStop}
 use Rattle.pgo_log_text.specs.declared.errors.LogStop.TheVariants.{BadLog, NoMemory}
-use Rattle.pgo_log_text.specs.Parsers.{ReadsAs}
-use Rattle.pgo_log_text.specs.Head.{opening, module_part}
-use Rattle.pgo_log_text.specs.Lines.{log_and_end}
-use Rattle.pgo_log_text.specs.IsLogText.{head_lines}
-use Rattle.pgo_log_text.specs.ReadBundle.{IsReadBundle, IsOnlyBundle, IsNoBundle, IsRefused, SpellsModule, SpellsNone, HasNoModule}
-use Rattle.pgo_log_text.proofs.BytesSteps.{bind_then, then_at, some_pair}
-use Rattle.pgo_log_text.proofs.Bytes.{expect_some, number_some, number_finds, taken_some, taken_finds}
-use Rattle.pgo_log_text.proofs.LinesLog.{log_some, log_finds}
-use Rattle.pgo_log_text.proofs.LinesBundle.{bundle_is_parted, parted_is_bundle}
+use Rattle.pgo_log_text.specs.Parsers.{ReadsAs, Reads}
+use Rattle.pgo_log_text.specs.Lines.{constants_part, module_part, log_of}
+use Rattle.pgo_log_text.specs.ReadBundle.{IsReadBundle, IsOnlyBundle, IsNoBundle, IsRefused, SpellsOnly, SpellsNone, HasNoModule}
+use Rattle.pgo_log_text.proofs.BytesSteps.{some_pair}
+use Rattle.pgo_log_text.proofs.LinesConstants.{head_opened, opened_some, opened_finds, module_some, module_finds, log_of_some, log_of_finds}
 
--- ---- the head
+-- what the readers gave: constants, the module's bytes, and what stands behind each
+pub record Head (text : List ℕ) (cs : Vars) (x r : List ℕ) : Type 0 where
+  pub behind : List ℕ
+  pub opened : constants_part text ≡ Some (cs, behind)
+  pub part : module_part behind ≡ Some (x, r)
 
-zero_text : decimal 0 ≡ 48 ∷ []
-zero_text = decimal_digit 0 (lit< tt)
+-- ---- what was read is a bundle
 
-parts_joined : (d t b : List ℕ) → ((d ++ 10 ∷ []) ++ t) ++ b ≡ d ++ 10 ∷ (t ++ b)
-parts_joined d t b = simp append_assoc
-
-head_opened : (m : Module) (bs : List ℕ) → flatten (head_lines m) ++ bs ≡ opening ++ (decimal (length (Text m)) ++ 10 ∷ (Text m ++ bs))
-head_opened m bs =
-    (λ i. flatten (line (codes "pgo 1") ∷ line (codes "consts " ++ zero_text i) ∷ line (codes "module " ++ decimal (length (Text m))) ∷ module_lines m) ++ bs)
-    ∙ ap (λ z. opening ++ z) (parts_joined (decimal (length (Text m))) (Text m) bs)
-
--- what was read as the module's bytes
-module_some : (bs x r : List ℕ) → module_part bs ≡ Some (x, r) → (bs ≡ opening ++ (decimal (length x) ++ 10 ∷ (x ++ r))) × (length x < 2 ^ 32)
-unfolding module_part
-module_some bs x r e =
-    let G : Type 0 = (bs ≡ opening ++ (decimal (length x) ++ 10 ∷ (x ++ r))) × (length x < 2 ^ 32) in
-    bind_then _ _ _ G e (λ u i a e. bind_then _ _ _ G e (λ n j b e. bind_then _ _ _ G e (λ v k c e.
-    let first = expect_some opening bs u i a in
-    let count = number_some i n j b in
-    let newline = expect_some (codes "\n") j v k c in
-    let rest = taken_some n k x r e in
-    (first ∙ ap (λ z. opening ++ z) (count.0 ∙ (λ h. decimal (sym rest.1 h) ++ (newline ∙ ap (λ z. 10 ∷ z) rest.0) h)), subst (λ h. h < 2 ^ 32) (sym rest.1) count.1))))
-
-module_at : (x bs : List ℕ) → length x < 2 ^ 32 → module_part (opening ++ (decimal (length x) ++ 10 ∷ (x ++ bs))) ≡ Some (x, bs)
-unfolding module_part
-module_at x bs h = then_at _ _ _ (length x) (10 ∷ (x ++ bs)) (number_finds (length x) (10 ∷ (x ++ bs)) h refl) (taken_finds x bs)
-
-module_finds : (m : Module) (bs : List ℕ) → length (Text m) < 2 ^ 32 → module_part (flatten (head_lines m) ++ bs) ≡ Some (Text m, bs)
-module_finds m bs h = ap module_part (head_opened m bs) ∙ module_at (Text m) bs h
-
--- ---- constants
-
-no_constants : (m : Module) → IsCounterModule m → m.constants ≡ []
-no_constants m h = ap (λ n. n.constants) h.means
-
-no_values : (cs : List (Name × Data)) → map (λ p. p.0) cs ≡ [] → cs ≡ []
-no_values [] e = refl
-no_values (c ∷ cs) e = absurd (cc)
-
--- ---- the whole
-
--- what was read is a bundle
-pub bundle_read : (text x r : List ℕ) (m : Module) (l : Log) (rest : List ℕ) → module_part text ≡ Some (x, r) → SpellsModule x m
-    → log_and_end m.variables r ≡ Some (l, rest) → IsReadBundle text m [] l
-bundle_read text x r m l rest head spelled log =
-    let opened = module_some text x r head in
-    let is : x ≡ Text m = spelled.text_is in (
-      spelled.of_form,
-      parted_is_bundle text m l (record {
-        log_text = r;
-        text_is = opened.0 ∙ (λ i. opening ++ (decimal (length (is i)) ++ 10 ∷ (is i ++ r))) ∙ sym (head_opened m r);
-        is_log_text = (log_some m.variables r l rest log).0;
-        constants = no_constants m spelled.of_form;
-        module_count = subst (λ t. length t < 2 ^ 32) is opened.1;
-      }),
-    )
-
--- what is read of a bundle
-pub record Found (text : List ℕ) (m : Module) (consts : List (Name × Data)) (l : Log) : Type 0 where
-  pub none : consts ≡ []
-  pub log_text : List ℕ
-  pub head : module_part text ≡ Some (Text m, log_text)
-  pub log : log_and_end m.variables log_text ≡ Some (l, [])
-
-found : (text : List ℕ) (m : Module) (consts : List (Name × Data)) (l : Log) → IsReadBundle text m consts l → Found text m consts l
-found text m consts l b =
-    let none = no_values consts (b.1.constants ∙ no_constants m b.0) in
-    let parted = bundle_is_parted text m l (subst (λ cs. IsBundle text m cs l) none b.1) in
+pub bundle_read : (text : List ℕ) (cs : Vars) (x r : List ℕ) (m : Module) (l : Log) (rest : List ℕ) → Head text cs x r → SpellsModule x m
+    → log_of cs m.constants m.variables r ≡ Some (l, rest) → IsReadBundle text m cs l
+bundle_read text cs x r m l rest head spelled log =
+    let opened = opened_some text cs head.behind head.opened in
+    let part = module_some head.behind x r head.part in
+    let read = log_of_some cs m.constants m.variables r l rest log in
     record {
-      none = none;
-      log_text = parted.log_text;
-      head = ap module_part parted.text_is ∙ module_finds m parted.log_text parted.module_count;
-      log = log_finds m.variables parted.log_text l parted.is_log_text;
+      module_text = x;
+      log_text = r;
+      text_is = opened.text_is ∙ ap (λ z. codes "pgo 1\nconsts " ++ (decimal (length cs) ++ 10 ∷ (flatten (map value_line cs) ++ z))) part.0 ∙ sym (head_opened cs (length x) (x ++ r));
+      module_count = part.1;
+      spells = spelled;
+      names = read.0;
+      constant_count = opened.count;
+      constants = opened.constants;
+      log = read.1;
     }
 
--- a text is the bundle of one module, constants and log alone
-pub one_bundle : (text : List ℕ) (m : Module) (consts : List (Name × Data)) (l : Log) → IsReadBundle text m consts l → IsOnlyBundle text m consts l
-one_bundle text m consts l b n cs k c =
-    let f = found text m consts l b in let g = found text n cs k c in
-    let parts = some_pair (Text m) (Text n) f.log_text g.log_text (sym f.head ∙ g.head) in
-    let module_is : n ≡ m = same_text n m c.0 b.0 (sym parts.0) in
-    let log_is : log_and_end m.variables f.log_text ≡ Some (k, []) = (λ i. log_and_end (sym module_is i).variables (parts.1 i)) ∙ g.log in
-    (module_is, g.none ∙ sym f.none, (some_pair k l [] [] (sym log_is ∙ f.log)).0)
+-- ---- a bundle is read
 
--- of a bundle and of what was read: the module's bytes and the log's text are the same
-same_parts : (text x r : List ℕ) (m : Module) (consts : List (Name × Data)) (l : Log) → module_part text ≡ Some (x, r) → (f : Found text m consts l)
-    → (x ≡ Text m) × (r ≡ f.log_text)
-same_parts text x r m consts l head f = some_pair x (Text m) r f.log_text (sym head ∙ f.head)
+-- what is read of a bundle
+record Found (text : List ℕ) (m : Module) (cs : Vars) (l : Log) : Type 0 where
+  part : List ℕ
+  log_text : List ℕ
+  head : Head text cs part log_text
+  spells : SpellsModule part m
+  log : log_of cs m.constants m.variables log_text ≡ Some (l, [])
 
--- a bundle is what was read
-pub only_read : (text x r : List ℕ) (m : Module) (l : Log) (rest : List ℕ) → module_part text ≡ Some (x, r) → SpellsModule x m
-    → log_and_end m.variables r ≡ Some (l, rest) → IsOnlyBundle text m [] l
-only_read text x r m l rest head spelled log n cs k b =
-    let f = found text n cs k b in
-    let parts = same_parts text x r n cs k head f in
-    let module_is : n ≡ m = spelled.only n b.0 parts.0 in
-    let log_is : log_and_end m.variables r ≡ Some (k, []) = (λ i. log_and_end (sym module_is i).variables (parts.1 i)) ∙ f.log in
-    (module_is, f.none, (some_pair k l [] rest (sym log_is ∙ log)).0)
+found : (text : List ℕ) (m : Module) (cs : Vars) (l : Log) → IsReadBundle text m cs l → Found text m cs l
+found text m cs l b =
+    let behind : List ℕ = codes "module " ++ (decimal (length b.module_text) ++ 10 ∷ (b.module_text ++ b.log_text)) in
+    record {
+      part = b.module_text;
+      log_text = b.log_text;
+      head = record {
+        behind = behind;
+        opened = ap constants_part (b.text_is ∙ head_opened cs (length b.module_text) (b.module_text ++ b.log_text)) ∙ opened_finds cs behind b.constant_count b.constants;
+        part = module_finds b.module_text b.log_text b.module_count;
+      };
+      spells = b.spells;
+      log = log_of_finds cs m.constants m.variables b.log_text l b.names b.log;
+    }
 
--- a text without a head is no bundle
-pub none_without_head : (text : List ℕ) → module_part text ≡ None → IsNoBundle text
-none_without_head text e m cs l b = let f = found text m cs l b in let g = sym e ∙ f.head in absurd (cc)
+-- the head of a text is read in one way
+record SameHead (cs ds : Vars) (x y r s : List ℕ) : Type 0 where
+  constants : cs ≡ ds
+  part : x ≡ y
+  behind : r ≡ s
 
--- nor one whose module is not of the form
-pub none_without_module : (text x r : List ℕ) → module_part text ≡ Some (x, r) → SpellsNone x → IsNoBundle text
-none_without_module text x r head none m cs l b =
-    let f = found text m cs l b in none m b.0 (same_parts text x r m cs l head f).0
+same_head : (text : List ℕ) (cs ds : Vars) (x y r s : List ℕ) → Head text cs x r → Head text ds y s → SameHead cs ds x y r s
+same_head text cs ds x y r s g h =
+    let first = some_pair cs ds g.behind h.behind (sym g.opened ∙ h.opened) in
+    let second = some_pair x y r s (sym g.part ∙ ap module_part first.1 ∙ h.part) in
+    record { constants = first.0; part = second.0; behind = second.1 }
+
+-- what the log's reader gives of a bundle with this head, whose module is this one
+same_log : (cs ds : Vars) (m n : Module) (r s : List ℕ) (k : Log) → cs ≡ ds → n ≡ m → r ≡ s → log_of ds n.constants n.variables s ≡ Some (k, []) → log_of cs m.constants m.variables r ≡ Some (k, [])
+same_log cs ds m n r s k c e b log = (λ i. log_of (c i) (sym e i).constants (sym e i).variables (b i)) ∙ log
+
+-- ---- what was read is the only one
+
+pub only_read : (text : List ℕ) (cs : Vars) (x r : List ℕ) (m : Module) (l : Log) (rest : List ℕ) → Head text cs x r → SpellsOnly x m
+    → log_of cs m.constants m.variables r ≡ Some (l, rest) → IsOnlyBundle text m cs l
+only_read text cs x r m l rest head spelled log n ds k b =
+    let f = found text n ds k b in
+    let same = same_head text cs ds x f.part r f.log_text head f.head in
+    let module_is : n ≡ m = spelled.only n (subst (λ y. SpellsModule y n) (sym same.part) f.spells) in
+    let other = same_log cs ds m n r f.log_text k same.constants module_is same.behind f.log in
+    (module_is, sym same.constants, (some_pair k l [] rest (sym other ∙ log)).0)
+
+-- a text is the bundle of one module, constants and log alone, where it spells one module alone
+pub one_bundle : ((t : List ℕ) (m n : Module) → SpellsModule t m → SpellsModule t n → m ≡ n) → (text : List ℕ) (m : Module) (cs : Vars) (l : Log) → IsReadBundle text m cs l → IsOnlyBundle text m cs l
+one_bundle one text m cs l b =
+    let f = found text m cs l b in
+    only_read text cs f.part f.log_text m l [] f.head (record { spells = f.spells; only = λ n h. one f.part n m h f.spells }) f.log
+
+-- ---- what is no bundle
+
+-- a text without constants is none
+none_without_constants : (text : List ℕ) → constants_part text ≡ None → IsNoBundle text
+none_without_constants text e m cs l b = let f = found text m cs l b in let g = sym e ∙ f.head.opened in absurd (cc)
+
+-- nor is one whose module has no bytes
+none_without_part : (text behind : List ℕ) (cs : Vars) → constants_part text ≡ Some (cs, behind) → module_part behind ≡ None → IsNoBundle text
+none_without_part text behind cs e p m ds l b =
+    let f = found text m ds l b in
+    let first = some_pair cs ds behind f.head.behind (sym e ∙ f.head.opened) in
+    let g = sym p ∙ ap module_part first.1 ∙ f.head.part in absurd (cc)
+
+-- nor one whose module's bytes spell none
+none_without_module : (text : List ℕ) (cs : Vars) (x r : List ℕ) → Head text cs x r → SpellsNone x → IsNoBundle text
+none_without_module text cs x r head none m ds l b =
+    let f = found text m ds l b in
+    let same = same_head text cs ds x f.part r f.log_text head f.head in
+    none m (subst (λ y. SpellsModule y m) (sym same.part) f.spells)
 
 -- nor one whose log is none
-pub none_without_log : (text x r : List ℕ) (m : Module) → module_part text ≡ Some (x, r) → SpellsModule x m → log_and_end m.variables r ≡ None → IsNoBundle text
-none_without_log text x r m head spelled e n cs k b =
-    let f = found text n cs k b in
-    let parts = same_parts text x r n cs k head f in
-    let module_is : n ≡ m = spelled.only n b.0 parts.0 in
-    let log_is : log_and_end m.variables r ≡ Some (k, []) = (λ i. log_and_end (sym module_is i).variables (parts.1 i)) ∙ f.log in
-    let g = sym e ∙ log_is in absurd (cc)
+none_without_log : (text : List ℕ) (cs : Vars) (x r : List ℕ) (m : Module) → Head text cs x r → SpellsOnly x m → log_of cs m.constants m.variables r ≡ None → IsNoBundle text
+none_without_log text cs x r m head spelled e n ds k b =
+    let f = found text n ds k b in
+    let same = same_head text cs ds x f.part r f.log_text head f.head in
+    let module_is : n ≡ m = spelled.only n (subst (λ y. SpellsModule y n) (sym same.part) f.spells) in
+    let g = sym e ∙ same_log cs ds m n r f.log_text k same.constants module_is same.behind f.log in absurd (cc)
 
 -- ---- why a text is refused
 
-head_refused_there : {B : Type 0} (see : B → List ℕ) (text new : List ℕ) (stop : LogStop) → ReadsAs see (module_part text) (Err stop) new → IsRefused text stop
-head_refused_there see text new BadLog h = none_without_head text h
-head_refused_there see text new NoMemory h = tt
+constants_refused_there : (text new : List ℕ) (stop : LogStop) → Reads {A = Vars} (constants_part text) (Err stop) new → IsRefused text stop
+constants_refused_there text new BadLog h = none_without_constants text h
+constants_refused_there text new NoMemory h = tt
 
-pub head_refused : {B : Type 0} (see : B → List ℕ) (text here new : List ℕ) (stop : LogStop) → here ≡ text → ReadsAs see (module_part here) (Err stop) new
+pub constants_refused : (text here new : List ℕ) (stop : LogStop) → here ≡ text → Reads {A = Vars} (constants_part here) (Err stop) new → IsRefused text stop
+constants_refused text here new stop e h = constants_refused_there text new stop (subst (λ t. Reads {A = Vars} (constants_part t) (Err stop) new) e h)
+
+pub part_refused : {B : Type 0} (see : B → List ℕ) (text behind new : List ℕ) (cs : Vars) (stop : LogStop) → constants_part text ≡ Some (cs, behind) → ReadsAs see (module_part behind) (Err stop) new
     → IsRefused text stop
-head_refused see text here new stop e h = head_refused_there see text new stop (subst (λ t. ReadsAs see (module_part t) (Err stop) new) e h)
+part_refused see text behind new cs BadLog e h = none_without_part text behind cs e h
+part_refused see text behind new cs NoMemory e h = tt
 
-pub module_refused : (text x r : List ℕ) (stop : LogStop) → module_part text ≡ Some (x, r) → HasNoModule x stop → IsRefused text stop
-module_refused text x r BadLog head h = none_without_module text x r head h
-module_refused text x r NoMemory head h = tt
+pub module_refused : (text : List ℕ) (cs : Vars) (x r : List ℕ) (stop : LogStop) → Head text cs x r → HasNoModule x stop → IsRefused text stop
+module_refused text cs x r BadLog head h = none_without_module text cs x r head h
+module_refused text cs x r NoMemory head h = tt
 
-pub log_refused : {B : Type 0} (see : B → Log) (text x r new : List ℕ) (m : Module) (stop : LogStop) → module_part text ≡ Some (x, r) → SpellsModule x m
-    → ReadsAs see (log_and_end m.variables r) (Err stop) new
+pub log_refused : {B : Type 0} (see : B → Log) (text : List ℕ) (cs : Vars) (x r new : List ℕ) (m : Module) (stop : LogStop) → Head text cs x r → SpellsOnly x m
+    → ReadsAs see (log_of cs m.constants m.variables r) (Err stop) new
     → IsRefused text stop
-log_refused see text x r new m BadLog head spelled h = none_without_log text x r m head spelled h
-log_refused see text x r new m NoMemory head spelled h = tt
+log_refused see text cs x r new m BadLog head spelled h = none_without_log text cs x r m head spelled h
+log_refused see text cs x r new m NoMemory head spelled h = tt

@@ -3,9 +3,10 @@ use Rattle.std.proofs.Common.{◌≡◌, ◌<◌, ◌^◌, ℕ, true, IsTrue, Li
 use Rattle.pgo_base.specs.Data.{Data}
 use Rattle.pgo_base.specs.Lookup.{Name}
 use Rattle.pgo_model.specs.ValueText.{value_text}
-use Rattle.pgo_model.specs.IsBundle.{is_read_name, is_read_value}
-use Rattle.pgo_log_text.specs.Bytes.{is_apart, expect, begins, taken, number, name, value}
-use Rattle.pgo_log_text.proofs.BytesRuns.{expected, expects, begins_so, counted, counts}
+use Rattle.pgo_model.specs.IsBundle.{is_read_name}
+use Rattle.pgo_log_text.specs.IsBundle.{IsCanonicalValue}
+use Rattle.pgo_log_text.specs.Bytes.{is_apart, is_behind_value, expect, taken, number, name, value}
+use Rattle.pgo_log_text.proofs.BytesRuns.{expected, expects, counted, counts}
 use Rattle.pgo_log_text.proofs.BytesNumbers.{number_of, number_at, name_of, name_at}
 use Rattle.pgo_log_text.proofs.BytesValues.{value_of, value_at}
 
@@ -14,9 +15,6 @@ expect_some = expected
 
 pub expect_finds : (w r : List ℕ) → expect w (w ++ r) ≡ Some (tt, r)
 expect_finds = expects
-
-pub begins_finds : (w r : List ℕ) → begins w (w ++ r) ≡ true
-begins_finds = begins_so
 
 pub number_some : (bs : List ℕ) (n : ℕ) (r : List ℕ) → number bs ≡ Some (n, r) → (bs ≡ decimal n ++ r) × (n < 2 ^ 32)
 number_some = number_of
@@ -30,10 +28,10 @@ name_some = name_of
 pub name_finds : (x : Name) (r : List ℕ) → IsTrue (is_read_name x) → is_apart r ≡ true → name (x ++ r) ≡ Some (x, r)
 name_finds = name_at
 
-pub value_some : (bs : List ℕ) (v : Data) (r : List ℕ) → value bs ≡ Some (v, r) → (bs ≡ value_text v ++ r) × IsTrue (is_read_value v)
+pub value_some : (bs : List ℕ) (v : Data) (r : List ℕ) → value bs ≡ Some (v, r) → (bs ≡ value_text v ++ r) × IsCanonicalValue v
 value_some = value_of
 
-pub value_finds : (v : Data) (r : List ℕ) → IsTrue (is_read_value v) → is_apart r ≡ true → value (value_text v ++ r) ≡ Some (v, r)
+pub value_finds : (v : Data) (r : List ℕ) → IsCanonicalValue v → is_behind_value r ≡ true → value (value_text v ++ r) ≡ Some (v, r)
 value_finds = value_at
 
 pub taken_some : (n : ℕ) (bs x r : List ℕ) → taken n bs ≡ Some (x, r) → (bs ≡ x ++ r) × (length x ≡ n)

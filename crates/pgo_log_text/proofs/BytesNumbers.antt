@@ -114,15 +114,6 @@ of_decimal n h =
     ∙ digits_complete 0 (decimal n) (digits_decimal own n h) (subst (λ x. x ≤ most) (sym v) (omega arith))
     ∙ ap Some v
 
--- the first byte of a number is a digit
-pub decimal_front : (n : ℕ) → n < 2 ^ 64 → (b : ℕ) × (bs : List ℕ) × (decimal n ≡ b ∷ bs) × (48 ≤ b) × (b ≤ 57)
-unfolding AreDigits
-decimal_front n h = go (decimal n) (decimal_nonempty n h) (digits_decimal own n h)
-  where
-    go : (ds : List ℕ) → 0 < length ds → all_digits ds ≡ true → (b : ℕ) × (bs : List ℕ) × (ds ≡ b ∷ bs) × (48 ≤ b) × (b ≤ 57)
-    go [] l d = absurd (omega arith)
-    go (b ∷ bs) l d = let k = digit_range b (and_parts (is_digit b) (all_digits bs) d).0 in (b, bs, refl, k.0, k.1)
-
 pub natural_some : (bs : List ℕ) (n : ℕ) (r : List ℕ) → natural bs ≡ Some (n, r) → (bs ≡ decimal n ++ r) × (n < 2 ^ 64)
 unfolding natural
 natural_some bs n r e =

@@ -1,7 +1,7 @@
 pub mod BytesSteps
 pub mod BytesRuns
 pub mod BytesNumbers
-pub mod BytesStrings
+pub mod ValueEnds
 pub mod BytesValues
 pub mod Bytes
 pub mod Turns
@@ -12,5 +12,7 @@ pub mod LinesParts
 pub mod LinesEntries
 pub mod LinesAccounts
 pub mod LinesLog
+pub mod Names
+pub mod LinesConstants
 pub mod LinesBundle
 pub mod BundleRead

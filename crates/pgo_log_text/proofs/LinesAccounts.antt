@@ -7,7 +7,8 @@ use Rattle.pgo_model.specs.ModuleText.{Line, line, flatten}
 use Rattle.pgo_model.specs.Machine.{Step}
 use Rattle.pgo_model.specs.Core.{End, Done, Stopped, JournalFull, Spent}
 use Rattle.pgo_model.specs.Bundle.{fields, end_text, record_lines}
-use Rattle.pgo_model.specs.IsBundle.{Account, read_accounts_lines, AreCounts, IsReadAccount, AreReadAccounts}
+use Rattle.pgo_model.specs.IsBundle.{Account, read_accounts_lines, AreCounts}
+use Rattle.pgo_log_text.specs.IsBundle.{IsAccount, AreAccounts}
 use Rattle.pgo_log_text.specs.Bytes.{begins}
 use Rattle.pgo_log_text.specs.Lines.{end_word, record_line, records, account, accounts}
 use Rattle.pgo_log_text.proofs.BytesSteps.{if_some, bind_then, then_at, some_pair}
@@ -111,10 +112,10 @@ account_joined : (b0 b1 b2 b3 b4 b5 k n w v f r : List ℕ) → b0 ≡ codes "in
 account_joined b0 b1 b2 b3 b4 b5 k n w v f r e0 e1 e2 e3 e4 e5 =
     e0 ∙ ap (λ z. codes "inst " ++ z) (e1 ∙ ap (λ z. k ++ 32 ∷ z) (e2 ∙ ap (λ z. n ++ 32 ∷ z) (e3 ∙ ap (λ z. w ++ 32 ∷ z) (e4 ∙ ap (λ z. v ++ 10 ∷ z) e5)))) ∙ sym (account_nest k n w v f r)
 
-account_some : (k : ℕ) (bs : List ℕ) (v : Data) (r : List ℕ) → account k bs ≡ Some (v, r) → PartText id_of account_text IsReadAccount k bs v r
+account_some : (k : ℕ) (bs : List ℕ) (v : Data) (r : List ℕ) → account k bs ≡ Some (v, r) → PartText id_of account_text IsAccount k bs v r
 unfolding account
 account_some k bs v r h =
-    let G : Data → Type 0 = λ v. PartText id_of account_text IsReadAccount k bs v r in
+    let G : Data → Type 0 = λ v. PartText id_of account_text IsAccount k bs v r in
     bind_then _ _ _ (G v) h (λ t b1 h0 h. bind_then _ _ _ (G v) h (λ u b2 h1 h. bind_then _ _ _ (G v) h (λ n b3 h2 h. bind_then _ _ _ (G v) h (λ s b4 h3 h.
     bind_then _ _ _ (G v) h (λ w b5 h4 h. bind_then _ _ _ (G v) h (λ q b6 h5 h.
     let e1 = this_field_some k b1 u b2 h1 in
@@ -132,7 +133,7 @@ account_some k bs v r h =
       valid = record { id = e4.1; count = subst (λ x. x < 2 ^ 32) (sym e5.count) e2.1; steps = e5.read };
     })))))))
 
-account_finds : (k : ℕ) (a : Account) (r : List ℕ) → k < 2 ^ 32 → IsReadAccount a → account k (account_text k a ++ r) ≡ Some (a.id, r)
+account_finds : (k : ℕ) (a : Account) (r : List ℕ) → k < 2 ^ 32 → IsAccount a → account k (account_text k a ++ r) ≡ Some (a.id, r)
 unfolding account
 account_finds k a r below h =
     let f : List ℕ = flatten (record_lines [] 1 (map Step a.steps)) in
@@ -158,11 +159,11 @@ accounts_texts : (k : ℕ) (as' : List Account) → flatten (read_accounts_lines
 accounts_texts k [] = refl
 accounts_texts k (a ∷ as') = flatten_append (account_lines k a) (read_accounts_lines (suc k) as') ∙ ap (λ z. account_text k a ++ z) (accounts_texts (suc k) as')
 
-are_read : (as' : List Account) → Each IsReadAccount as' → AreReadAccounts as'
+are_read : (as' : List Account) → Each IsAccount as' → AreAccounts as'
 are_read [] h = tt
 are_read (a ∷ as') h = (h.0, are_read as' h.1)
 
-each_read : (as' : List Account) → AreReadAccounts as' → Each IsReadAccount as'
+each_read : (as' : List Account) → AreAccounts as' → Each IsAccount as'
 each_read [] h = tt
 each_read (a ∷ as') h = (h.0, each_read as' h.1)
 
@@ -171,15 +172,15 @@ pub record AccountsText (left k : ℕ) (is : List Data) (bs r : List ℕ) : Type
   pub ids : is ≡ map id_of made
   pub text_is : bs ≡ flatten (read_accounts_lines k made) ++ r
   pub few : length made ≤ left
-  pub read : AreReadAccounts made
+  pub read : AreAccounts made
 
 pub accounts_some : (left k : ℕ) (bs : List ℕ) (is : List Data) (r : List ℕ) → accounts left k [] bs ≡ Some (is, r) → AccountsText left k is bs r
 accounts_some left k bs is r h =
-    let p = parts_some (codes "inst ") account id_of account_text IsReadAccount account_some left k [] bs is r h in
+    let p = parts_some (codes "inst ") account id_of account_text IsAccount account_some left k [] bs is r h in
     record { made = p.behind; ids = p.is_all; text_is = p.text_is ∙ ap (λ z. z ++ r) (sym (accounts_texts k p.behind)); few = p.few; read = are_read p.behind p.each }
 
-pub accounts_finds : (left k : ℕ) (as' : List Account) (r : List ℕ) → length as' ≤ left → k + length as' ≤ 2 ^ 32 → AreReadAccounts as' → begins (codes "inst ") r ≡ false
+pub accounts_finds : (left k : ℕ) (as' : List Account) (r : List ℕ) → length as' ≤ left → k + length as' ≤ 2 ^ 32 → AreAccounts as' → begins (codes "inst ") r ≡ false
     → accounts left k [] (flatten (read_accounts_lines k as') ++ r) ≡ Some (map id_of as', r)
 accounts_finds left k as' r few room h b =
     ap (λ z. accounts left k [] (z ++ r)) (accounts_texts k as')
-    ∙ parts_finds (codes "inst ") account id_of account_text IsReadAccount (2 ^ 32) account_starts account_finds left k [] as' r few room (each_read as' h) b
+    ∙ parts_finds (codes "inst ") account id_of account_text IsAccount (2 ^ 32) account_starts account_finds left k [] as' r few room (each_read as' h) b

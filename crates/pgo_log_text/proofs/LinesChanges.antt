@@ -8,7 +8,8 @@ use Rattle.pgo_model.specs.ValueText.{value_text}
 use Rattle.pgo_model.specs.ModuleText.{line, flatten}
 use Rattle.pgo_model.specs.Log.{Unowned, Change}
 use Rattle.pgo_model.specs.Bundle.{indexed_text, change_line}
-use Rattle.pgo_model.specs.IsBundle.{is_read_name, is_read_value, is_read_index, IsReadChange, AreReadChanges}
+use Rattle.pgo_model.specs.IsBundle.{is_read_name}
+use Rattle.pgo_log_text.specs.IsBundle.{IsCanonicalValue, IsCanonicalIndex, IsChange, AreChanges}
 use Rattle.pgo_log_text.specs.Bytes.{is_apart, begins}
 use Rattle.pgo_log_text.specs.Lines.{index_part, as_index, index, change, changes}
 use Rattle.pgo_log_text.proofs.BytesSteps.{if_some, cond_false, bind_then, then_at, some_pair}
@@ -20,34 +21,34 @@ abbrev pub index_text : Option Data → List ℕ
 index_text None = []
 index_text (Some i) = 91 ∷ value_text i ++ 93 ∷ []
 
-index_part_some : (bs : List ℕ) (v : Data) (r : List ℕ) → index_part bs ≡ Some (v, r) → (bs ≡ 91 ∷ (value_text v ++ 93 ∷ r)) × IsTrue (is_read_value v)
+index_part_some : (bs : List ℕ) (v : Data) (r : List ℕ) → index_part bs ≡ Some (v, r) → (bs ≡ 91 ∷ (value_text v ++ 93 ∷ r)) × IsCanonicalValue v
 unfolding index_part
 index_part_some bs v r e =
-    let G : Type 0 = (bs ≡ 91 ∷ (value_text v ++ 93 ∷ r)) × IsTrue (is_read_value v) in
+    let G : Type 0 = (bs ≡ 91 ∷ (value_text v ++ 93 ∷ r)) × IsCanonicalValue v in
     bind_then _ _ _ G e (λ t i a e. bind_then _ _ _ G e (λ w j b e. bind_then _ _ _ G e (λ u k c e.
     let read = value_some i w j b in
     let same = some_pair w v k r e in (
       expect_some (codes "[") bs t i a ∙ ap (λ z. 91 ∷ z) (read.0 ∙ ap (λ z. value_text w ++ z) (expect_some (codes "]") j u k c)) ∙ (λ n. 91 ∷ (value_text (same.0 n) ++ 93 ∷ same.1 n)),
-      subst (λ w. IsTrue (is_read_value w)) same.0 read.1,
+      subst (λ w. IsCanonicalValue w) same.0 read.1,
     ))))
 
-index_part_finds : (v : Data) (r : List ℕ) → IsTrue (is_read_value v) → index_part (91 ∷ (value_text v ++ 93 ∷ r)) ≡ Some (v, r)
+index_part_finds : (v : Data) (r : List ℕ) → IsCanonicalValue v → index_part (91 ∷ (value_text v ++ 93 ∷ r)) ≡ Some (v, r)
 unfolding index_part
 index_part_finds v r h = then_at _ _ _ v (93 ∷ r) (value_finds v (93 ∷ r) h refl) refl
 
-index_some : (bs : List ℕ) (o : Option Data) (r : List ℕ) → index bs ≡ Some (o, r) → (bs ≡ index_text o ++ r) × IsTrue (is_read_index o)
+index_some : (bs : List ℕ) (o : Option Data) (r : List ℕ) → index bs ≡ Some (o, r) → (bs ≡ index_text o ++ r) × IsCanonicalIndex o
 unfolding index
 index_some bs o r e =
-    let G : Option Data → Type 0 = λ o. (bs ≡ index_text o ++ r) × IsTrue (is_read_index o) in
+    let G : Option Data → Type 0 = λ o. (bs ≡ index_text o ++ r) × IsCanonicalIndex o in
     if_some (begins (codes "[") bs) _ _ (o, r) (G o) e
     (λ _ e. bind_then (index_part bs) as_index _ (G o) e (λ v i a e.
     let read = index_part_some bs v i a in
     let same = some_pair (Some v) o i r e in
     subst G same.0 (read.0 ∙ ap (λ z. 91 ∷ (value_text v ++ 93 ∷ z)) same.1 ∙ sym (append_assoc (91 ∷ value_text v) (93 ∷ []) r), read.1)))
-    (λ _ e. let same = some_pair None o bs r e in subst G same.0 (same.1, refl))
+    (λ _ e. let same = some_pair None o bs r e in subst G same.0 (same.1, tt))
 
 -- an index is found where no bracket follows it
-index_finds : (o : Option Data) (r : List ℕ) → IsTrue (is_read_index o) → begins (codes "[") r ≡ false → index (index_text o ++ r) ≡ Some (o, r)
+index_finds : (o : Option Data) (r : List ℕ) → IsCanonicalIndex o → begins (codes "[") r ≡ false → index (index_text o ++ r) ≡ Some (o, r)
 unfolding index
 index_finds None r h n = cond_false (begins (codes "[") r) _ _ n
 index_finds (Some v) r h n =
@@ -65,10 +66,10 @@ change_joined : (bs i j k l r x o v : List ℕ) → bs ≡ codes "set " ++ i →
     → bs ≡ codes "set " ++ (x ++ (o ++ (codes " = " ++ (v ++ 10 ∷ r))))
 change_joined bs i j k l r x o v a b c d e = a ∙ ap (λ z. codes "set " ++ z) (b ∙ ap (λ z. x ++ z) (c ∙ ap (λ z. o ++ z) (d ∙ ap (λ z. codes " = " ++ z) e)))
 
-change_some : (bs : List ℕ) (c : Change) (r : List ℕ) → change bs ≡ Some (c, r) → (bs ≡ change_text c r) × IsReadChange c
+change_some : (bs : List ℕ) (c : Change) (r : List ℕ) → change bs ≡ Some (c, r) → (bs ≡ change_text c r) × IsChange c
 unfolding change
 change_some bs c r e =
-    let G : Change → Type 0 = λ c. (bs ≡ change_text c r) × IsReadChange c in
+    let G : Change → Type 0 = λ c. (bs ≡ change_text c r) × IsChange c in
     bind_then _ _ _ (G c) e (λ t i a e. bind_then _ _ _ (G c) e (λ x j b e. bind_then _ _ _ (G c) e (λ o k d e. bind_then _ _ _ (G c) e (λ u l f e. bind_then _ _ _ (G c) e (λ v m g e.
     let is_name = name_some i x j b in
     let is_index = index_some j o k d in
@@ -85,7 +86,7 @@ apart_index : (o : Option Data) (r : List ℕ) → is_apart (index_text o ++ (co
 apart_index None r = refl
 apart_index (Some i) r = refl
 
-change_finds : (x : Name) (o : Option Data) (v : Data) (r : List ℕ) → IsTrue (is_read_name x) → IsTrue (is_read_index o) → IsTrue (is_read_value v)
+change_finds : (x : Name) (o : Option Data) (v : Data) (r : List ℕ) → IsTrue (is_read_name x) → IsCanonicalIndex o → IsCanonicalValue v
     → change (change_text (record { component = record { variable = x; index = o; owner = Unowned }; value = v }) r)
     ≡ Some (record { component = record { variable = x; index = o; owner = Unowned }; value = v }, r)
 unfolding change
@@ -102,7 +103,7 @@ pub record ChangesText (n : ℕ) (done all : List Change) (bs r : List ℕ) : Ty
   pub is_all : all ≡ done ++ behind
   pub text_is : bs ≡ flatten (map change_line behind) ++ r
   pub count : length behind ≡ n
-  pub read : AreReadChanges behind
+  pub read : AreChanges behind
 
 pub changes_some : (n : ℕ) (done : List Change) (bs : List ℕ) (all : List Change) (r : List ℕ) → changes n done bs ≡ Some (all, r) → ChangesText n done all bs r
 unfolding changes
@@ -122,14 +123,14 @@ changes_some (suc n) done bs all r e =
       read = (read.1, more.read);
     })
 
-change_finds_whole : (c : Change) (r : List ℕ) → IsReadChange c → change (change_text c r) ≡ Some (c, r)
+change_finds_whole : (c : Change) (r : List ℕ) → IsChange c → change (change_text c r) ≡ Some (c, r)
 change_finds_whole c r h =
     let o = h.owner in
     let same : ◌≡◌ {A = Change} (record { component = record { variable = c.component.variable; index = c.component.index; owner = Unowned }; value = c.value }) c =
     λ i. record { component = record { variable = c.component.variable; index = c.component.index; owner = sym o i }; value = c.value } in
     change_finds c.component.variable c.component.index c.value r h.variable h.index h.value ∙ ap (λ c. Some (c, r)) same
 
-pub changes_finds : (cs : List Change) (n : ℕ) (done : List Change) (r : List ℕ) → n ≡ length cs → AreReadChanges cs → changes n done (flatten (map change_line cs) ++ r) ≡ Some (done ++ cs, r)
+pub changes_finds : (cs : List Change) (n : ℕ) (done : List Change) (r : List ℕ) → n ≡ length cs → AreChanges cs → changes n done (flatten (map change_line cs) ++ r) ≡ Some (done ++ cs, r)
 unfolding changes
 changes_finds [] zero done r n h = λ i. Some (sym (append-nil done) i, r)
 changes_finds [] (suc k) done r n h = absurd (cc)

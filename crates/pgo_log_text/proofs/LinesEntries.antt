@@ -6,7 +6,7 @@ use Rattle.pgo_model.specs.ModuleText.{Line, line, flatten}
 use Rattle.pgo_model.specs.Machine.{Entry}
 use Rattle.pgo_model.specs.Log.{Change, Effect}
 use Rattle.pgo_model.specs.Bundle.{fields, change_line, entry_lines, entries_lines}
-use Rattle.pgo_model.specs.IsBundle.{AreReadChanges, IsReadEntry, AreReadEntries}
+use Rattle.pgo_log_text.specs.IsBundle.{AreChanges, IsEntry, AreEntries}
 use Rattle.pgo_log_text.specs.Bytes.{begins}
 use Rattle.pgo_log_text.specs.Lines.{entry, entries}
 use Rattle.pgo_log_text.proofs.BytesSteps.{bind_then, then_at, some_pair}
@@ -37,10 +37,10 @@ entry_text i e = flatten (entry_lines i e)
 abbrev itself : Entry Effect → Entry Effect
 itself e = e
 
-entry_some : (i : ℕ) (bs : List ℕ) (e : Entry Effect) (r : List ℕ) → entry i bs ≡ Some (e, r) → PartText itself entry_text IsReadEntry i bs e r
+entry_some : (i : ℕ) (bs : List ℕ) (e : Entry Effect) (r : List ℕ) → entry i bs ≡ Some (e, r) → PartText itself entry_text IsEntry i bs e r
 unfolding entry
 entry_some i bs e r h =
-    let G : Entry Effect → Type 0 = λ e. PartText itself entry_text IsReadEntry i bs e r in
+    let G : Entry Effect → Type 0 = λ e. PartText itself entry_text IsEntry i bs e r in
     bind_then _ _ _ (G e) h (λ t b1 h0 h. bind_then _ _ _ (G e) h (λ u b2 h1 h. bind_then _ _ _ (G e) h (λ k b3 h2 h. bind_then _ _ _ (G e) h (λ a b4 h3 h.
     bind_then _ _ _ (G e) h (λ l b5 h4 h. bind_then _ _ _ (G e) h (λ m b6 h5 h. bind_then _ _ _ (G e) h (λ n b7 h6 h. bind_then _ _ _ (G e) h (λ cs b8 h7 h.
     let e1 = this_field_some i b1 u b2 h1 in
@@ -58,10 +58,10 @@ entry_some i bs e r h =
       text_is = entry_joined bs b1 b2 b3 b4 b5 b6 b7 (decimal i) (decimal k) (decimal a) l m (decimal (length cs)) (flatten (map change_line cs)) r
           (expect_some (codes "step ") bs t b1 h0) e1.0 e2.0 e3.0 e4.0 e5.0 (e6.0 ∙ ap (λ x. decimal x ++ 10 ∷ b7) (sym many))
           (e7.text_is ∙ ap (λ z. flatten (map change_line z) ++ b8) (sym e7.is_all) ∙ ap (λ z. flatten (map change_line cs) ++ z) same.1);
-      valid = record { instance = e2.1; attempt = e3.1; label = e4.1; next = e5.1; count = subst (λ x. x < 2 ^ 32) (sym many) e6.1; changes = subst AreReadChanges (sym e7.is_all) e7.read; prints = refl };
+      valid = record { instance = e2.1; attempt = e3.1; label = e4.1; next = e5.1; count = subst (λ x. x < 2 ^ 32) (sym many) e6.1; changes = subst AreChanges (sym e7.is_all) e7.read; prints = refl };
     })))))))))
 
-entry_finds : (i : ℕ) (e : Entry Effect) (r : List ℕ) → i < 2 ^ 32 → IsReadEntry e → entry i (entry_text i e ++ r) ≡ Some (e, r)
+entry_finds : (i : ℕ) (e : Entry Effect) (r : List ℕ) → i < 2 ^ 32 → IsEntry e → entry i (entry_text i e ++ r) ≡ Some (e, r)
 unfolding entry
 entry_finds i e r below h =
     let cs : List Change = e.change.changes in
@@ -95,29 +95,29 @@ map_itself : (es : List (Entry Effect)) → map itself es ≡ es
 map_itself [] = refl
 map_itself (e ∷ es) = ap (λ z. e ∷ z) (map_itself es)
 
-are_read : (es : List (Entry Effect)) → Each IsReadEntry es → AreReadEntries es
+are_read : (es : List (Entry Effect)) → Each IsEntry es → AreEntries es
 are_read [] h = tt
 are_read (e ∷ es) h = (h.0, are_read es h.1)
 
-each_read : (es : List (Entry Effect)) → AreReadEntries es → Each IsReadEntry es
+each_read : (es : List (Entry Effect)) → AreEntries es → Each IsEntry es
 each_read [] h = tt
 each_read (e ∷ es) h = (h.0, each_read es h.1)
 
 pub record EntriesText (left i : ℕ) (es : List (Entry Effect)) (bs r : List ℕ) : Type 0 where
   pub text_is : bs ≡ flatten (entries_lines i es) ++ r
   pub few : length es ≤ left
-  pub read : AreReadEntries es
+  pub read : AreEntries es
 
 pub entries_some : (left i : ℕ) (bs : List ℕ) (es : List (Entry Effect)) (r : List ℕ) → entries left i [] bs ≡ Some (es, r) → EntriesText left i es bs r
 entries_some left i bs es r h =
-    let p = parts_some (codes "step ") entry itself entry_text IsReadEntry entry_some left i [] bs es r h in
+    let p = parts_some (codes "step ") entry itself entry_text IsEntry entry_some left i [] bs es r h in
     let same : es ≡ p.behind = p.is_all ∙ map_itself p.behind in
     subst (λ es. EntriesText left i es bs r) (sym same)
     (record { text_is = p.text_is ∙ ap (λ z. z ++ r) (sym (entries_texts i p.behind)); few = p.few; read = are_read p.behind p.each })
 
-pub entries_finds : (left i : ℕ) (es : List (Entry Effect)) (r : List ℕ) → length es ≤ left → i + length es ≤ 2 ^ 32 → AreReadEntries es → begins (codes "step ") r ≡ false
+pub entries_finds : (left i : ℕ) (es : List (Entry Effect)) (r : List ℕ) → length es ≤ left → i + length es ≤ 2 ^ 32 → AreEntries es → begins (codes "step ") r ≡ false
     → entries left i [] (flatten (entries_lines i es) ++ r) ≡ Some (es, r)
 entries_finds left i es r few room h b =
     ap (λ z. entries left i [] (z ++ r)) (entries_texts i es)
-    ∙ parts_finds (codes "step ") entry itself entry_text IsReadEntry (2 ^ 32) entry_starts entry_finds left i [] es r few room (each_read es h) b
+    ∙ parts_finds (codes "step ") entry itself entry_text IsEntry (2 ^ 32) entry_starts entry_finds left i [] es r few room (each_read es h) b
     ∙ ap (λ z. Some (z, r)) (map_itself es)

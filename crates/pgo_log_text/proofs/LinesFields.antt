@@ -5,7 +5,8 @@ use Rattle.std.proofs.lemmas.Bool.{eqb-true, eq-eqb}
 use Rattle.pgo_base.specs.Data.{Data}
 use Rattle.pgo_base.specs.Lookup.{Name}
 use Rattle.pgo_model.specs.ValueText.{value_text}
-use Rattle.pgo_model.specs.IsBundle.{is_read_name, is_read_value}
+use Rattle.pgo_model.specs.IsBundle.{is_read_name}
+use Rattle.pgo_log_text.specs.IsBundle.{IsCanonicalValue}
 use Rattle.pgo_log_text.specs.Bytes.{is_apart}
 use Rattle.pgo_log_text.specs.Lines.{where_holds, this_number, this_field, number_field, name_field, last_number, last_value}
 use Rattle.pgo_log_text.proofs.BytesSteps.{if_some, cond_true, bind_then, then_at, some_pair}
@@ -62,14 +63,14 @@ name_field_some bs x r e =
     let same = some_pair y x j r e in
     (read.0 ∙ ap (λ z. y ++ z) (expect_some (codes " ") i u j b) ∙ (λ k. same.0 k ++ 32 ∷ same.1 k), subst (λ y. IsTrue (is_read_name y)) same.0 read.1)))
 
-pub last_value_some : (bs : List ℕ) (v : Data) (r : List ℕ) → last_value bs ≡ Some (v, r) → (bs ≡ value_text v ++ 10 ∷ r) × IsTrue (is_read_value v)
+pub last_value_some : (bs : List ℕ) (v : Data) (r : List ℕ) → last_value bs ≡ Some (v, r) → (bs ≡ value_text v ++ 10 ∷ r) × IsCanonicalValue v
 unfolding last_value
 last_value_some bs v r e =
-    let G : Type 0 = (bs ≡ value_text v ++ 10 ∷ r) × IsTrue (is_read_value v) in
+    let G : Type 0 = (bs ≡ value_text v ++ 10 ∷ r) × IsCanonicalValue v in
     bind_then _ _ _ G e (λ w i a e. bind_then _ _ _ G e (λ u j b e.
     let read = value_some bs w i a in
     let same = some_pair w v j r e in
-    (read.0 ∙ ap (λ z. value_text w ++ z) (expect_some (codes "\n") i u j b) ∙ (λ k. value_text (same.0 k) ++ 10 ∷ same.1 k), subst (λ w. IsTrue (is_read_value w)) same.0 read.1)))
+    (read.0 ∙ ap (λ z. value_text w ++ z) (expect_some (codes "\n") i u j b) ∙ (λ k. value_text (same.0 k) ++ 10 ∷ same.1 k), subst (λ w. IsCanonicalValue w) same.0 read.1)))
 
 -- ---- what is read
 
@@ -93,6 +94,6 @@ pub name_field_finds : (x : Name) (r : List ℕ) → IsTrue (is_read_name x) →
 unfolding name_field
 name_field_finds x r h = then_at _ _ _ x (32 ∷ r) (name_finds x (32 ∷ r) h refl) refl
 
-pub last_value_finds : (v : Data) (r : List ℕ) → IsTrue (is_read_value v) → last_value (value_text v ++ 10 ∷ r) ≡ Some (v, r)
+pub last_value_finds : (v : Data) (r : List ℕ) → IsCanonicalValue v → last_value (value_text v ++ 10 ∷ r) ≡ Some (v, r)
 unfolding last_value
 last_value_finds v r h = then_at _ _ _ v (10 ∷ r) (value_finds v (10 ∷ r) h refl) refl

@@ -10,10 +10,10 @@ use Rattle.pgo_model.specs.Machine.{Entry}
 use Rattle.pgo_model.specs.Log.{Effect, Log}
 use Rattle.pgo_model.specs.ModuleText.{Line, line, flatten}
 use Rattle.pgo_model.specs.Bundle.{value_line, entries_lines}
-use Rattle.pgo_model.specs.IsBundle.{is_run_status, all_read, AreReadEntries, Account, AreReadAccounts, read_accounts_lines}
+use Rattle.pgo_model.specs.IsBundle.{is_run_status, Account, read_accounts_lines}
 use Rattle.pgo_log_text.specs.Bytes.{begins, at_end}
 use Rattle.pgo_log_text.specs.Lines.{most_parts, ending, finish, heading, log_and_end}
-use Rattle.pgo_log_text.specs.IsLogText.{log_lines, IsLogText}
+use Rattle.pgo_log_text.specs.IsBundle.{AreCanonical, AreEntries, AreAccounts, log_lines, IsLogText}
 use Rattle.pgo_log_text.proofs.BytesSteps.{if_some, cond_true, bind_then, then_at, some_pair}
 use Rattle.pgo_log_text.proofs.Bytes.{expect_some}
 use Rattle.pgo_log_text.proofs.LinesFields.{this_number_some, this_number_finds, this_field_some, this_field_finds, last_number_some, last_number_finds}
@@ -151,9 +151,9 @@ log_some names bs l r h =
         variable_count = subst (λ k. k < 2 ^ 32) (sym many) e0.1;
         entry_count = below_most (length es) e2.few;
         instance_count = below_most (length e3.made) e3.few;
-        start = subst (λ z. IsTrue (all_read z)) (sym e1.is_all) e1.read;
+        start = subst AreCanonical (sym e1.is_all) e1.read;
         entries = e2.read;
-        read_accounts = e3.read;
+        are_accounts = e3.read;
         status_is = e4.status;
       },
       sym same.1 ∙ e4.none,
@@ -164,7 +164,7 @@ no_step [] r = refl
 no_step (a ∷ as') r = refl
 
 text_finds : (s : Vars) (es : List (Entry Effect)) (as' : List Account) (n : ℕ) → length s < 2 ^ 32 → length es < 2 ^ 32 → length as' < 2 ^ 32
-    → IsTrue (all_read s) → AreReadEntries es → AreReadAccounts as' → IsTrue (is_run_status n)
+    → AreCanonical s → AreEntries es → AreAccounts as' → IsTrue (is_run_status n)
     → log_and_end (map name_of s) (log_text s es (read_accounts_lines 0 as') n) ≡ Some (record { ids = map id_of as'; start = s; entries = es }, [])
 unfolding log_and_end
 text_finds s es as' n few_s few_e few_a h e a st =
@@ -185,5 +185,5 @@ pub log_finds : (names : List Name) (bs : List ℕ) (l : Log) → IsLogText bs n
 log_finds names bs l h =
     let text = h.text_is ∙ log_nest l.start l.entries (read_accounts_lines 0 h.accounts) h.status in
     ap (λ ns. log_and_end ns bs) (sym h.variables) ∙ ap (log_and_end (map name_of l.start)) text
-    ∙ text_finds l.start l.entries h.accounts h.status h.variable_count h.entry_count h.instance_count h.start h.entries h.read_accounts h.status_is
+    ∙ text_finds l.start l.entries h.accounts h.status h.variable_count h.entry_count h.instance_count h.start h.entries h.are_accounts h.status_is
     ∙ ap (λ is. Some (record { ids = is; start = l.start; entries = l.entries }, [])) (sym h.ids)

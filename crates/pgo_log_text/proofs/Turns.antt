@@ -1,10 +1,13 @@
 -- Recursions on a count of turns, beside loops that count up.
-use Rattle.std.proofs.Common.{◌≡◌, ℕ, zero, suc, ◌+◌, ◌-◌, ◌<◌, ◌≤◌, true, false, cond, List, [], ◌∷◌, ◌++◌, Some, None, ap, sym, ◌∙◌, arith, map, drop, get_or, length}
-use Rattle.std.proofs.lemmas.List.{map-append, drop_more}
-use Rattle.pgo_base.specs.Lookup.{Name, Vars}
+use Rattle.std.proofs.Common.{◌≡◌, refl, ℕ, zero, suc, ◌+◌, ◌-◌, ◌<◌, ◌≤◌, Bool, true, false, ◌&&◌, cond, List, [], ◌∷◌, ◌++◌, Some, None, ap, sym, ◌∙◌, arith, map, drop, get_or, length}
+use Rattle.std.proofs.lemmas.List.{map-append, length-map, drop_more}
+use Rattle.pgo_base.specs.declared.value.Value.{Value}
+use Rattle.pgo_base.specs.Data.{Data}
+use Rattle.pgo_base.specs.Lookup.{Name, Vars, same_name}
+use Rattle.pgo_base.specs.View.{named_data}
 use Rattle.pgo_log_text.specs.Parsers.{Outcome, Parser, and_then}
 use Rattle.pgo_log_text.specs.Bytes.{begins}
-use Rattle.pgo_log_text.specs.Lines.{parts, variable_line, start}
+use Rattle.pgo_log_text.specs.Lines.{parts, variable_line, start, are_named}
 
 -- one turn more is to come
 pub one_more : {X : Type 0} {x : X} (f : ℕ → X) (n at : ℕ) → at < n → x ≡ f (n - at) → x ≡ f (suc (n - (at + 1)))
@@ -51,3 +54,19 @@ pub start_turn : {x : Outcome Vars} (names : List Name) (at : ℕ) (done : Vars)
 unfolding start
 start_turn names at done bs name e below is =
     e ∙ ap (λ ns. start ns done bs) (drop_more names at name below) ∙ ap (λ n. start (n ∷ drop (at + 1) names) done bs) (sym is)
+
+-- ---- the names of constants
+
+-- there are more of one than of the other
+pub named_counts : (cs : List (Name × Data)) (ns : List Name) → (length cs ≡ length ns → ⊥) → are_named cs ns ≡ false
+named_counts [] [] h = absurd (h refl)
+named_counts [] (x ∷ xs) h = refl
+named_counts (p ∷ ps) [] h = refl
+named_counts (p ∷ ps) (x ∷ xs) h = ap (λ t. same_name p.0 x && t) (named_counts ps xs (λ e. h (ap (λ k. suc k) e))) ∙ and_false (same_name p.0 x)
+  where
+    and_false : (b : Bool) → (b && false) ≡ false
+    and_false true = refl
+    and_false false = refl
+
+pub named_lengths : (cs : List (Name × Value)) (ns : List Name) → (length cs ≡ length ns → ⊥) → are_named (map named_data cs) ns ≡ false
+named_lengths cs ns h = named_counts (map named_data cs) ns (λ e. h (sym (length-map cs named_data) ∙ e))

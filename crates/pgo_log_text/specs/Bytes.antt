@@ -1,16 +1,24 @@
 -- The parts of a line as functions on bytes, in the shape of the code.
-use Rattle.std.specs.Prelude.{ℕ, zero, suc, ◌+◌, ◌-◌, ◌*◌, ◌^◌, ℤ, pos, negsuc, Bool, true, false, not, ◌&&◌, nat_eq, nat_lt, nat_le, if◌then◌else◌, List, [], ◌∷◌, ◌++◌, take, drop, codes, Option, Some, None}
+use Rattle.std.specs.Prelude.{ℕ, zero, suc, ◌+◌, ◌-◌, ◌*◌, ◌^◌, Bool, true, false, not, ◌&&◌, ◌||◌, nat_eq, nat_lt, if◌then◌else◌, List, [], ◌∷◌, take, drop, Option, Some, None}
 use Rattle.std.specs.List.{prefix_len}
-use Rattle.pgo_base.specs.Data.{Data, integer, string, function, no_pairs, pair}
+use Rattle.pgo_base.specs.Data.{Data}
 use Rattle.pgo_base.specs.Lookup.{Name}
-use Rattle.pgo_model.specs.ValueText.{is_digit, is_word_byte, is_number}
+use Rattle.pgo_model.specs.ValueText.{is_digit, is_word_byte, same_bytes, value_text}
 use Rattle.pgo_model.specs.IsBundle.{count_limit, is_read_name}
-use Rattle.pgo_log_text.specs.Parsers.{Outcome, Parser, ◌>>=◌, ◌>>◌, pure}
+use Rattle.pgo_value_text.specs.Reading.{whole}
+use Rattle.pgo_log_text.specs.declared.value.Place.{Place}
+use Rattle.pgo_log_text.specs.declared.value.Place.TheVariants.{Outside, Quoted, Escaped}
+use Rattle.pgo_log_text.specs.Parsers.{Outcome, Parser, ◌>>=◌}
 
--- what stands behind a number, a name or a value: nothing, or a byte that is in no word
+-- what stands behind a number or a name: nothing, or a byte that is in no word
 abbrev pub is_apart : List ℕ → Bool
 is_apart [] = true
 is_apart (b ∷ bs) = not (is_word_byte b)
+
+-- what stands behind a value: nothing, a newline or a `]`
+abbrev pub is_behind_value : List ℕ → Bool
+is_behind_value [] = true
+is_behind_value (b ∷ bs) = nat_eq b 10 || nat_eq b 93
 
 -- these bytes
 abbrev pub expect : List ℕ → Parser (Unit {0})
@@ -85,85 +93,43 @@ name bs = if is_read_name (front is_word_byte bs) then Some (front is_word_byte 
 
 -- ---- values
 
-abbrev pub positive : ℕ → Option ℤ
-positive n = if nat_lt n (2 ^ 63) then Some (pos n) else None
+-- where a value's text ends: before a newline, or before a `]` outside of strings that closes none of its brackets
+abbrev pub is_end : Place → (open_brackets : ℕ) → ℕ → Bool
+is_end Outside n b = nat_eq b 10 || (nat_eq b 93 && nat_eq n 0)
+is_end Quoted n b = nat_eq b 10
+is_end Escaped n b = nat_eq b 10
 
-abbrev pub negative : ℕ → Option ℤ
-negative n = if nat_eq n 0 then None else (if nat_lt (n - 1) (2 ^ 63) then Some (negsuc (n - 1)) else None)
+-- where the next byte stands
+abbrev pub place_behind : Place → ℕ → Place
+place_behind Outside b = if nat_eq b 34 then Quoted else Outside
+place_behind Quoted b = if nat_eq b 34 then Outside else if nat_eq b 92 then Escaped else Quoted
+place_behind Escaped b = Quoted
 
--- an integer of 64 bits below 0
-unfoldable pub below_zero : Parser ℤ
-below_zero = do
-  expect (codes "-")
-  n ← natural
-  give (negative n)
+-- how many brackets are open there
+abbrev pub brackets_behind : Place → ℕ → ℕ → ℕ
+brackets_behind Outside n b = if nat_eq b 91 then n + 1 else if nat_eq b 93 then n - 1 else n
+brackets_behind Quoted n b = n
+brackets_behind Escaped n b = n
 
-unfoldable pub from_zero : Parser ℤ
-from_zero = do
-  n ← natural
-  give (positive n)
+-- how many bytes stand before the end of a value, of which some were read
+unfoldable pub value_length : Place → ℕ → List ℕ → ℕ
+value_length p n [] = 0
+value_length p n (b ∷ bs) = if is_end p n b then 0 else 1 + value_length (place_behind p b) (brackets_behind p n b) bs
 
--- an integer of 64 bits
-unfoldable pub whole : Parser ℤ
-whole bs = if begins (codes "-") bs then below_zero bs else from_zero bs
+abbrev pub value_front : List ℕ → List ℕ
+value_front bs = take (value_length Outside 0 bs) bs
 
--- the byte that one behind a `\` stands for
-abbrev pub unescaped : ℕ → Option ℕ
-unescaped b =
-    if nat_eq b 34 then Some 34 else if nat_eq b 92 then Some 92 else if nat_eq b 110 then Some 10
-    else if nat_eq b 116 then Some 9 else None
+abbrev pub value_behind : List ℕ → List ℕ
+value_behind bs = drop (value_length Outside 0 bs) bs
 
-abbrev pub is_printable : ℕ → Bool
-is_printable b = nat_le 32 b && nat_le b 126
+abbrev pub if_canonical : List ℕ → Option Data → Option Data
+if_canonical bs None = None
+if_canonical bs (Some d) = if same_bytes (value_text d) bs then Some d else None
 
--- the bytes of a string behind these, up to its closing quote; a `\` may stand before the next byte
-unfoldable pub string_from : (escaping : Bool) → List ℕ → Parser (List ℕ)
-string_from e s [] = None
-string_from true s (b ∷ bs) = elim (unescaped b) as (λ o. Outcome (List ℕ)) [ None ↦ None | Some c ↦ string_from false (s ++ c ∷ []) bs ]
-string_from false s (b ∷ bs) =
-    if nat_eq b 34 then Some (s, bs) else if nat_eq b 92 then string_from true s bs
-    else if is_printable b then string_from false (s ++ b ∷ []) bs else None
+-- the value of which this is the canonical text
+unfoldable pub canonical : List ℕ → Option Data
+canonical bs = if_canonical bs (whole bs)
 
-unfoldable pub quoted : Parser (List ℕ)
-quoted = do
-  expect (codes "\"")
-  string_from false []
-
-unfoldable pub string_atom : Parser Data
-string_atom = do
-  s ← quoted
-  pure (string s)
-
-unfoldable pub integer_atom : Parser Data
-integer_atom = do
-  z ← whole
-  pure (integer z)
-
--- an integer or a string
-unfoldable pub atom : Parser Data
-atom bs = if begins (codes "\"") bs then string_atom bs else integer_atom bs
-
--- <<v>>
-unfoldable pub single : Parser Data
-single = do
-  expect (codes "<<")
-  v ← atom
-  expect (codes ">>")
-  pure (function (pair (integer (pos 1)) v no_pairs))
-
-abbrev pub at_key : ℤ → Data → Option Data
-at_key k v = if is_number 1 (integer k) then None else Some (function (pair (integer k) v no_pairs))
-
--- (k :> v), where k is not 1
-unfoldable pub mapped : Parser Data
-mapped = do
-  expect (codes "(")
-  k ← whole
-  expect (codes " :> ")
-  v ← atom
-  expect (codes ")")
-  give (at_key k v)
-
--- the canonical text of an integer, a string, or a function from one integer to one of these
+-- a value in its canonical text
 unfoldable pub value : Parser Data
-value bs = if begins (codes "<<") bs then single bs else if begins (codes "(") bs then mapped bs else atom bs
+value bs = give (canonical (value_front bs)) (value_behind bs)

@@ -1,12 +1,12 @@
 -- The lines of a bundle from `init` on as functions on bytes, in the shape of the code.
-use Rattle.std.specs.Prelude.{ℕ, zero, suc, Bool, ◌&&◌, nat_eq, if◌then◌else◌, List, [], ◌∷◌, ◌++◌, length, codes, Option, Some, None}
+use Rattle.std.specs.Prelude.{ℕ, zero, suc, Bool, true, false, ◌&&◌, nat_eq, if◌then◌else◌, List, [], ◌∷◌, ◌++◌, length, codes, Option, Some, None}
 use Rattle.pgo_base.specs.Data.{Data}
-use Rattle.pgo_base.specs.Lookup.{Name, Vars}
+use Rattle.pgo_base.specs.Lookup.{Name, Vars, same_name}
 use Rattle.pgo_model.specs.Machine.{Entry}
 use Rattle.pgo_model.specs.Log.{Unowned, Change, Effect, Log}
 use Rattle.pgo_model.specs.IsBundle.{is_run_status}
 use Rattle.pgo_log_text.specs.Parsers.{Parser, and_then, ◌>>=◌, ◌>>◌, pure}
-use Rattle.pgo_log_text.specs.Bytes.{expect, begins, at_end, number, name, value}
+use Rattle.pgo_log_text.specs.Bytes.{expect, begins, taken, at_end, number, name, value}
 
 -- ---- fields
 
@@ -69,6 +69,37 @@ start [] done = pure done
 start (x ∷ xs) done = do
   v ← variable_line x
   start xs (done ++ (x, v) ∷ [])
+
+-- ---- the head
+
+-- `x = value`, where x is any name
+unfoldable pub constant_line : Parser (Name × Data)
+constant_line = do
+  x ← name
+  expect (codes " = ")
+  v ← last_value
+  pure (x, v)
+
+-- so many lines of constants behind these
+unfoldable pub constants : ℕ → Vars → Parser Vars
+constants zero done = pure done
+constants (suc n) done = do
+  p ← constant_line
+  constants n (done ++ p ∷ [])
+
+-- the version and the constants
+unfoldable pub constants_part : Parser Vars
+constants_part = do
+  expect (codes "pgo 1\nconsts ")
+  n ← last_number
+  constants n []
+
+-- the bytes of the module
+unfoldable pub module_part : Parser (List ℕ)
+module_part = do
+  expect (codes "module ")
+  n ← last_number
+  taken n
 
 -- ---- entries
 
@@ -201,3 +232,14 @@ log_and_end names = do
   is ← accounts most_parts 0 []
   finish (length es)
   pure (record { ids = is; start = s; entries = es })
+
+-- whether these are the constants' names, in order
+abbrev pub are_named : Vars → List Name → Bool
+are_named [] [] = true
+are_named [] (x ∷ xs) = false
+are_named (p ∷ ps) [] = false
+are_named (p ∷ ps) (x ∷ xs) = same_name p.0 x && are_named ps xs
+
+-- the lines from `init` to `end` for these constants, of a module with these constants and these variables
+unfoldable pub log_of : Vars → (constants variables : List Name) → Parser Log
+log_of consts constants variables bs = if are_named consts constants then log_and_end variables bs else None

@@ -37,3 +37,9 @@ abbrev pub Reads : {A : Type 0} → Outcome A → Result A LogStop → List ℕ 
 Reads outcome (Ok a) new = outcome ≡ Some (a, new)
 Reads outcome (Err BadLog) new = outcome ≡ None
 Reads outcome (Err NoMemory) new = Unit {0}
+
+-- the same, where nothing is left
+abbrev pub MakesAs : {A B : Type 0} → (A → B) → Option B → Result A LogStop → Type 0
+MakesAs see made (Ok a) = made ≡ Some (see a)
+MakesAs see made (Err BadLog) = made ≡ None
+MakesAs see made (Err NoMemory) = Unit {0}

@@ -1,12 +1,13 @@
 // A cursor over the bytes of a text.
-ghost use Rattle.std.specs.Prelude.{◌≡◌, ◌≤◌, length, false, []};
+ghost use Rattle.std.specs.Prelude.{◌≡◌, ◌≤◌, length};
 ghost use Rattle.std.specs.List.{prefix_len};
 ghost use Rattle.pgo_model.specs.ValueText as text;
 ghost use Rattle.pgo_log_text.specs.Bytes as spec;
 ghost use Rattle.pgo_log_text.specs.Parsers.{Reads, ReadsAs};
 
 use crate::errors::LogStop;
-use crate::numbers::{natural_of, negative, positive};
+use crate::numbers::natural_of;
+use crate::value::value_length;
 use pgo_base::text::Text;
 use pgo_text::bytes::{is_digit, is_word_byte};
 use pgo_text::names::is_name;
@@ -93,6 +94,17 @@ impl<'a> Cursor<'a> {
         Ok(taken)
     }
 
+    /// The bytes up to the end of a value.
+    pub fn value_part(&mut self) -> &'a [u8]
+        ensures front { result.now ≡ spec.value_front self.old }
+        ensures behind { self.new ≡ spec.value_behind self.old }
+    {
+        let length = value_length(self.rest);
+        let part = &self.rest[..length];
+        self.rest = &self.rest[length..];
+        part
+    }
+
     /// A number of 64 bits.
     #[tactic(auto, unfolding(crate::specs::Bytes::natural))]
     fn natural(&mut self) -> Result<u64, LogStop>
@@ -132,92 +144,4 @@ impl<'a> Cursor<'a> {
             Err(LogStop::BadLog)
         }
     }
-
-    /// An integer of 64 bits below 0.
-    #[tactic(auto, unfolding(crate::specs::Bytes::below_zero))]
-    fn below_zero(&mut self) -> Result<i64, LogStop>
-        ensures { Reads (spec.below_zero self.old) result self.new }
-    {
-        self.expect(b"-")?;
-        match negative(self.natural()?) {
-            Some(z) => Ok(z),
-            None => Err(LogStop::BadLog),
-        }
-    }
-
-    #[tactic(auto, unfolding(crate::specs::Bytes::from_zero))]
-    fn from_zero(&mut self) -> Result<i64, LogStop>
-        ensures { Reads (spec.from_zero self.old) result self.new }
-    {
-        match positive(self.natural()?) {
-            Some(z) => Ok(z),
-            None => Err(LogStop::BadLog),
-        }
-    }
-
-    /// An integer of 64 bits.
-    #[tactic(auto, unfolding(crate::specs::Bytes::whole))]
-    pub(crate) fn whole(&mut self) -> Result<i64, LogStop>
-        ensures { Reads (spec.whole self.old) result self.new }
-    {
-        if self.begins(b"-") {
-            self.below_zero()
-        } else {
-            self.from_zero()
-        }
-    }
-
-    /// The bytes of a string behind its opening quote.
-    #[tactic(auto, unfolding(crate::specs::Bytes::string_from))]
-    pub(crate) fn string(&mut self, alloc: Global) -> Result<Text, LogStop>
-        ensures { Reads (spec.string_from false [] self.old) result self.new }
-    {
-        let bytes = self.rest;
-        let mut string = Text::new(alloc);
-        let mut escaping = false;
-        for (i, b) in bytes.iter().enumerate() {
-            if escaping {
-                match unescaped(*b) {
-                    Some(c) => {
-                        string.push(c)?;
-                        escaping = false;
-                        continue;
-                    }
-                    None => return Err(LogStop::BadLog),
-                }
-            }
-            if *b == b'"' {
-                self.rest = &bytes[i + 1..];
-                return Ok(string);
-            }
-            if *b == b'\\' {
-                escaping = true;
-                continue;
-            }
-            if !is_printable(*b) {
-                return Err(LogStop::BadLog);
-            }
-            string.push(*b)?;
-        }
-        Err(LogStop::BadLog)
-    }
-}
-
-/// The byte that one behind a `\` stands for.
-fn unescaped(b: u8) -> Option<u8>
-    ensures { result ≡ spec.unescaped b }
-{
-    match b {
-        b'"' => Some(b'"'),
-        b'\\' => Some(b'\\'),
-        b'n' => Some(b'\n'),
-        b't' => Some(b'\t'),
-        _ => None,
-    }
-}
-
-fn is_printable(b: u8) -> bool
-    ensures { result ≡ spec.is_printable b }
-{
-    b' ' <= b && b <= b'~'
 }

@@ -7,6 +7,7 @@ mod cursor;
 mod entry;
 pub mod errors;
 mod field;
+mod head;
 mod lines;
 mod numbers;
 mod value;

@@ -1,7 +1,7 @@
 // The lines of a bundle from `init` to `end`.
-ghost use Rattle.std.specs.Prelude.{◌≡◌, []};
+ghost use Rattle.std.specs.Prelude.{◌≡◌, [], map};
 ghost use Rattle.pgo_model.specs.IsBundle as is_bundle;
-ghost use Rattle.pgo_base.specs.View.{data_of};
+ghost use Rattle.pgo_base.specs.View.{data_of, named_data};
 ghost use Rattle.pgo_model.specs.LogView.{log_view};
 ghost use Rattle.pgo_log_text.specs.Lines as spec;
 ghost use Rattle.pgo_log_text.specs.Parsers.{Reads, ReadsAs};
@@ -11,7 +11,9 @@ use crate::cursor::Cursor;
 use crate::entry::entries;
 use crate::errors::LogStop;
 use crate::field::{last_number, last_value, this_field, this_number};
+use pgo_base::consts::Consts;
 use pgo_base::log::Log;
+use pgo_base::module::Module;
 use pgo_base::scope::State;
 use pgo_base::text::Text;
 use pgo_base::value::Value;
@@ -81,7 +83,7 @@ fn finish(cursor: &mut Cursor<'_>, steps: usize) -> Result<u32, LogStop>
 
 /// The log of a bundle from `init` on, with these variables.
 #[tactic(auto, unfolding(crate::specs::Lines::log_and_end))]
-pub fn log_and_end(alloc: Global, cursor: &mut Cursor<'_>, names: &[Text]) -> Result<Log, LogStop>
+fn log_and_end(alloc: Global, cursor: &mut Cursor<'_>, names: &[Text]) -> Result<Log, LogStop>
     ensures { ReadsAs log_view (spec.log_and_end names.now cursor.old) result cursor.new }
 {
     heading(cursor, names.len())?;
@@ -94,4 +96,36 @@ pub fn log_and_end(alloc: Global, cursor: &mut Cursor<'_>, names: &[Text]) -> Re
         start,
         entries,
     })
+}
+
+/// Whether these are the constants' names, in order.
+fn are_named(consts: &[(Text, Value)], names: &[Text]) -> bool
+    ensures { result ≡ spec.are_named (map named_data consts.now) names.now }
+{
+    if consts.len() != names.len() {
+        return false;
+    }
+    for (i, name) in names.iter().enumerate() {
+        if !consts[i].0.is(name) {
+            return false;
+        }
+    }
+    true
+}
+
+/// The log of a bundle from `init` on, with these constants, of this module.
+#[tactic(auto, unfolding(crate::specs::Lines::log_of))]
+pub fn log_of(
+    alloc: Global,
+    cursor: &mut Cursor<'_>,
+    consts: &Consts,
+    module: &Module,
+) -> Result<Log, LogStop>
+    ensures { ReadsAs log_view (spec.log_of consts.now module.now.constants module.now.variables cursor.old) result cursor.new }
+{
+    if are_named(consts.as_slice(), module.constants.as_slice()) {
+        log_and_end(alloc, cursor, module.variables.as_slice())
+    } else {
+        Err(LogStop::BadLog)
+    }
 }

@@ -44,23 +44,3 @@ pub fn natural_of(digits: &[u8]) -> Option<u64>
         None
     }
 }
-
-/// The integer that this number is.
-pub fn positive(n: u64) -> Option<i64>
-    ensures { result ≡ spec.positive n }
-{
-    i64::try_from(n).ok()
-}
-
-/// The integer that this number behind a minus is; there is no `-0`.
-pub fn negative(n: u64) -> Option<i64>
-    ensures { result ≡ spec.negative n }
-{
-    if n == 0 {
-        return None;
-    }
-    match i64::try_from(n - 1) {
-        Ok(z) => Some(-1 - z),
-        Err(_) => None,
-    }
-}

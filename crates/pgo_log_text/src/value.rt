@@ -1,98 +1,119 @@
 // The values of a bundle.
-ghost use Rattle.std.specs.Prelude.{◌≡◌, IfOk};
-ghost use Rattle.pgo_base.specs.Data.{integer, function, pair, no_pairs};
+ghost use Rattle.std.specs.Prelude.{◌≡◌, ◌≤◌, ◌<◌, length};
 ghost use Rattle.pgo_base.specs.View.{data_of};
 ghost use Rattle.pgo_log_text.specs.Bytes as spec;
-ghost use Rattle.pgo_log_text.specs.Parsers.{Reads, ReadsAs};
+ghost use Rattle.pgo_log_text.specs.Parsers.{MakesAs, ReadsAs};
+ghost use Rattle.pgo_log_text.specs.declared.value.Place.TheVariants.{Outside as outside};
 
 use crate::cursor::Cursor;
 use crate::errors::LogStop;
-use pgo_base::text::Text;
-use pgo_base::value::{Fun, Value};
-use std::alloc::{AllocError, Global};
+use pgo_base::value::Value;
+use pgo_text::names::same_bytes;
+use pgo_value_text::errors::ValueStop;
+use pgo_value_text::read::read_value;
+use pgo_value_text::write::write_value;
+use std::alloc::Global;
 
-/// The function of one key.
-fn at_one_key(alloc: Global, key: i64, value: Value) -> Result<Value, AllocError>
-    ensures { IfOk result (λ f. data_of f ≡ function (pair (integer key) (data_of value) no_pairs)) }
+/// Where a byte of a value's text stands.
+#[derive(Clone, Copy)]
+pub enum Place {
+    /// Outside of strings.
+    Outside,
+    /// In a string.
+    Quoted,
+    /// In a string, behind a `\`.
+    Escaped,
+}
+
+/// Whether a value's text ends before this byte: before a newline, or before a `]` outside of strings that closes none
+/// of its brackets.
+fn is_end(place: Place, open_brackets: usize, b: u8) -> bool
+    ensures { result ≡ spec.is_end place open_brackets b }
 {
-    let pairs = vec![in alloc; (Value::Int(key), value)]?;
-    Ok(Value::Fun(Fun::from_sorted(pairs)))
+    match place {
+        Place::Outside => b == b'\n' || (b == b']' && open_brackets == 0),
+        Place::Quoted => b == b'\n',
+        Place::Escaped => b == b'\n',
+    }
+}
+
+/// Where the next byte stands.
+fn place_behind(place: Place, b: u8) -> Place
+    ensures { result ≡ spec.place_behind place b }
+{
+    match place {
+        Place::Outside if b == b'"' => Place::Quoted,
+        Place::Outside => Place::Outside,
+        Place::Quoted if b == b'"' => Place::Outside,
+        Place::Quoted if b == b'\\' => Place::Escaped,
+        Place::Quoted => Place::Quoted,
+        Place::Escaped => Place::Quoted,
+    }
+}
+
+/// How many brackets are open behind this byte.
+fn brackets_behind(place: Place, open_brackets: usize, b: u8) -> usize
+    requires { open_brackets < usize.MAX }
+    ensures { result ≡ spec.brackets_behind place open_brackets b }
+{
+    match place {
+        Place::Outside if b == b'[' => open_brackets + 1,
+        Place::Outside if b == b']' => open_brackets.saturating_sub(1),
+        _ => open_brackets,
+    }
+}
+
+/// How many bytes stand before the end of a value.
+#[tactic(auto, unfolding(crate::specs::Bytes::value_length))]
+pub fn value_length(bytes: &[u8]) -> usize
+    ensures value { result ≡ spec.value_length outside 0 bytes.now }
+    ensures within { result ≤ length bytes.now }
+{
+    let mut place = Place::Outside;
+    let mut open_brackets = 0;
+    for (i, b) in bytes.iter().enumerate() {
+        if is_end(place, open_brackets, *b) {
+            return i;
+        }
+        open_brackets = brackets_behind(place, open_brackets, *b);
+        place = place_behind(place, *b);
+    }
+    bytes.len()
+}
+
+/// The value, where this is its canonical text.
+fn if_canonical(alloc: Global, value: Value, text: &[u8]) -> Result<Value, LogStop>
+    ensures { MakesAs data_of (spec.if_canonical text.now (Some (data_of value))) result }
+{
+    let Ok(written) = write_value(alloc, &value) else {
+        return Err(LogStop::NoMemory);
+    };
+    if same_bytes(written.as_bytes(), text) {
+        Ok(value)
+    } else {
+        Err(LogStop::BadLog)
+    }
+}
+
+/// The value of which this is the canonical text.
+#[tactic(auto, unfolding(crate::specs::Bytes::canonical))]
+fn canonical(alloc: Global, text: &[u8]) -> Result<Value, LogStop>
+    ensures { MakesAs data_of (spec.canonical text.now) result }
+{
+    match read_value(alloc, text) {
+        Ok(value) => if_canonical(alloc, value, text),
+        Err(ValueStop::Bad { .. }) => Err(LogStop::BadLog),
+        Err(ValueStop::NoMemory) => Err(LogStop::NoMemory),
+    }
 }
 
 impl<'a> Cursor<'a> {
-    /// A string with its quotes.
-    #[tactic(auto, unfolding(crate::specs::Bytes::quoted))]
-    fn quoted(&mut self, alloc: Global) -> Result<Text, LogStop>
-        ensures { Reads (spec.quoted self.old) result self.new }
-    {
-        self.expect(b"\"")?;
-        self.string(alloc)
-    }
-
-    #[tactic(auto, unfolding(crate::specs::Bytes::string_atom))]
-    fn string_atom(&mut self, alloc: Global) -> Result<Value, LogStop>
-        ensures { ReadsAs data_of (spec.string_atom self.old) result self.new }
-    {
-        Ok(Value::Str(self.quoted(alloc)?))
-    }
-
-    #[tactic(auto, unfolding(crate::specs::Bytes::integer_atom))]
-    fn integer_atom(&mut self) -> Result<Value, LogStop>
-        ensures { ReadsAs data_of (spec.integer_atom self.old) result self.new }
-    {
-        Ok(Value::Int(self.whole()?))
-    }
-
-    /// An integer or a string.
-    #[tactic(auto, unfolding(crate::specs::Bytes::atom))]
-    fn atom(&mut self, alloc: Global) -> Result<Value, LogStop>
-        ensures { ReadsAs data_of (spec.atom self.old) result self.new }
-    {
-        if self.begins(b"\"") {
-            self.string_atom(alloc)
-        } else {
-            self.integer_atom()
-        }
-    }
-
-    /// `<<v>>`.
-    #[tactic(auto, unfolding(crate::specs::Bytes::single))]
-    fn single(&mut self, alloc: Global) -> Result<Value, LogStop>
-        ensures { ReadsAs data_of (spec.single self.old) result self.new }
-    {
-        self.expect(b"<<")?;
-        let value = self.atom(alloc)?;
-        self.expect(b">>")?;
-        Ok(at_one_key(alloc, 1, value)?)
-    }
-
-    /// `(k :> v)`, where k is not 1.
-    #[tactic(auto, unfolding(crate::specs::Bytes::mapped))]
-    fn mapped(&mut self, alloc: Global) -> Result<Value, LogStop>
-        ensures { ReadsAs data_of (spec.mapped self.old) result self.new }
-    {
-        self.expect(b"(")?;
-        let key = self.whole()?;
-        self.expect(b" :> ")?;
-        let value = self.atom(alloc)?;
-        self.expect(b")")?;
-        if key == 1 {
-            return Err(LogStop::BadLog);
-        }
-        Ok(at_one_key(alloc, key, value)?)
-    }
-
-    /// The canonical text of an integer, a string, or a function from one integer to one of these.
+    /// A value in its canonical text.
     #[tactic(auto, unfolding(crate::specs::Bytes::value))]
     pub fn value(&mut self, alloc: Global) -> Result<Value, LogStop>
         ensures { ReadsAs data_of (spec.value self.old) result self.new }
     {
-        if self.begins(b"<<") {
-            self.single(alloc)
-        } else if self.begins(b"(") {
-            self.mapped(alloc)
-        } else {
-            self.atom(alloc)
-        }
+        let text = self.value_part();
+        canonical(alloc, text)
     }
 }

@@ -29,7 +29,7 @@ impl Bundles {
         let text = self.text.changed()?;
         let bundle = text.as_str().strip_suffix("\n").unwrap_or("");
         match read_bundle(self.alloc, bundle.as_bytes()) {
-            Ok(read) => part_of(self.alloc, &read.2, self.part.as_str()),
+            Ok(read) => part_of(self.alloc, &read.1, &read.2, self.part.as_str()),
             Err(LogStop::BadLog) => String::from_str(self.alloc, "refused"),
             Err(LogStop::NoMemory) => Err(AllocError),
         }

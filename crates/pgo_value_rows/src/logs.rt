@@ -1,18 +1,26 @@
-// The parts of a log as texts of one line.
+// The constants and the parts of a log as texts of one line.
 use crate::answers::text_of;
+use pgo_base::consts::Consts;
 use pgo_base::log::{Change, Entry, Log};
 use pgo_base::results::both;
-use pgo_base::scope::State;
+use pgo_base::text::Text;
 use pgo_base::value::Value;
 use pgo_sheet::answers::push_word;
 use std::alloc::{AllocError, Global};
 
-/// The part of this name: `ids`, `start` or `entries`. Without a name it is said that the log is read; another name stands for none.
-pub fn part_of(alloc: Global, log: &Log, part: &str) -> Result<String, AllocError> {
+/// The part of this name: `constants`, `ids`, `start` or `entries`. Without a name it is said that the log is read; another name stands
+/// for none.
+pub fn part_of(
+    alloc: Global,
+    consts: &Consts,
+    log: &Log,
+    part: &str,
+) -> Result<String, AllocError> {
     match part {
         "" => String::from_str(alloc, "read"),
+        "constants" => named(alloc, consts.as_slice()),
         "ids" => ids(alloc, log.ids.as_slice()),
-        "start" => start(alloc, &log.start),
+        "start" => named(alloc, log.start.as_slice()),
         "entries" => entries(alloc, log.entries.as_slice()),
         _ => String::from_str(alloc, "no such part"),
     }
@@ -29,9 +37,9 @@ fn ids(alloc: Global, ids: &[Value]) -> Result<String, AllocError> {
 }
 
 /// `x = 0, y = 1`
-fn start(alloc: Global, state: &State) -> Result<String, AllocError> {
+fn named(alloc: Global, values: &[(Text, Value)]) -> Result<String, AllocError> {
     let mut text = String::new(alloc);
-    for (x, value) in state.as_slice() {
+    for (x, value) in values {
         let name = String::from_utf8_lossy(alloc, x.as_bytes());
         let (name, value) = both(name, text_of(alloc, value))?;
         let word = format!(in alloc; "{name} = {value}")?;

@@ -1,9 +1,9 @@
-use Rattle.std.proofs.Common.{subst}
-use Rattle.pgo_module_read.specs.Refused.{IsRefused}
+-- What was read is the only module that the text spells, and where none was read it spells none.
+use Rattle.std.proofs.Common.{sym}
 use Rattle.pgo_log_text.proofs.bundle_reader.module_of.Goals as goal
 
 pub returns-in-Ok-clause-ok : goal.returns-in-Ok-clause-ok
-returns-in-Ok-clause-ok c = record { of_form = c.in-Ok.ensures.ok; text_is = c.in-Ok.ensures.text; only = c.in-Ok.ensures.one }
+returns-in-Ok-clause-ok c = record { spells = c.in-Ok.ensures.found; only = λ n h. sym (c.in-Ok.ensures.only n h) }
 
 pub returns-in-Err-Syntax-clause-refused : goal.returns-in-Err-Syntax-clause-refused
-returns-in-Err-Syntax-clause-refused c = subst (IsRefused c.args.text.now) c.in-Err-Syntax.field-0-is c.in-Err-Syntax.ensures.refused
+returns-in-Err-Syntax-clause-refused c = rw c.in-Err-Syntax.field-0-is at c.in-Err-Syntax.ensures.only

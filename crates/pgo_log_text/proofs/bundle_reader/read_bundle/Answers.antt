@@ -1,44 +1,46 @@
 use Rattle.std.specs.Borrow.{Bor}
-use Rattle.std.proofs.Common.{ℕ, List, Err, sym, subst, ap, ◌∙◌}
+use Rattle.std.proofs.Common.{ℕ, List, sym, ap, ◌∙◌}
 use Rattle.pgo_model.specs.LogView.{log_view}
 use Rattle.pgo_model.specs.ModuleView.{module_view}
-use Rattle.pgo_log_text.specs.Parsers.{ReadsAs}
-use Rattle.pgo_log_text.specs.Head.{module_part}
-use Rattle.pgo_log_text.specs.Lines.{log_and_end}
-use Rattle.pgo_log_text.specs.ReadBundle.{IsReadBundle, IsOnlyBundle}
-use Rattle.pgo_log_text.proofs.BundleRead.{bundle_read, only_read, head_refused, module_refused, log_refused}
+use Rattle.pgo_log_text.specs.Lines.{constants_part}
+use Rattle.pgo_log_text.proofs.BundleRead.{Head, bundle_read, only_read, constants_refused, part_refused, module_refused, log_refused}
 use Rattle.pgo_log_text.proofs.bundle_reader.read_bundle.Goals as goal
 
 pub returns-in-Err-clause-refused : goal.returns-in-Err-clause-refused
-returns-in-Err-clause-refused c =
-    head_refused {B = Bor (List ℕ)} (λ s. s.now) c.args.text.now _ c.module_part.new.cursor c.in-Err.stop c.new-cursor.ensures c.in-Err.ensures
+returns-in-Err-clause-refused c = constants_refused c.args.text.now _ c.constants_part.new.cursor c.in-Err.stop c.new-cursor.ensures c.in-Err.ensures
+
+pub returns-in-Err-module_part-clause-refused : goal.returns-in-Err-module_part-clause-refused
+returns-in-Err-module_part-clause-refused c =
+    let opened = ap constants_part (sym c.new-cursor.ensures) ∙ c.in-Ok.ensures in
+    part_refused {B = Bor (List ℕ)} (λ s. s.now) c.args.text.now c.constants_part.new.cursor c.module_part.new.cursor c.in-Ok.consts c.in-Err-module_part.stop opened c.in-Err-module_part.ensures
 
 pub returns-in-Err-module_of-clause-refused : goal.returns-in-Err-module_of-clause-refused
 returns-in-Err-module_of-clause-refused c =
-    let head = ap module_part (sym c.new-cursor.ensures) ∙ c.in-Ok.ensures in
-    module_refused c.args.text.now _ _ c.in-Err-module_of.stop head c.in-Err-module_of.ensures.refused
+    let opened = ap constants_part (sym c.new-cursor.ensures) ∙ c.in-Ok.ensures in
+    let head : Head c.args.text.now c.in-Ok.consts c.in-Ok-module_part.part.now c.module_part.new.cursor =
+    record { behind = c.constants_part.new.cursor; opened = opened; part = c.in-Ok-module_part.ensures } in
+    module_refused c.args.text.now c.in-Ok.consts c.in-Ok-module_part.part.now c.module_part.new.cursor c.in-Err-module_of.stop head c.in-Err-module_of.ensures.refused
 
-pub returns-in-Ok-log_and_end-clause-bundle : goal.returns-in-Ok-log_and_end-clause-bundle
-returns-in-Ok-log_and_end-clause-bundle c =
-    let m = module_view c.in-Ok-module_of.module in
-    let l = log_view c.in-Ok-log_and_end.log in
-    let head = ap module_part (sym c.new-cursor.ensures) ∙ c.in-Ok.ensures in
-    let log = ap (λ ns. log_and_end ns c.module_part.new.cursor) (sym c.as_slice.ensures) ∙ c.in-Ok-log_and_end.ensures in
-    subst (λ cs. IsReadBundle c.args.text.now m cs l) (sym c.new.ensures)
-    (bundle_read c.args.text.now c.in-Ok.part.now c.module_part.new.cursor m l c.log_and_end.new.cursor head c.in-Ok-module_of.ensures.ok log)
+pub returns-in-Ok-log_of-clause-bundle : goal.returns-in-Ok-log_of-clause-bundle
+returns-in-Ok-log_of-clause-bundle c =
+    let opened = ap constants_part (sym c.new-cursor.ensures) ∙ c.in-Ok.ensures in
+    let head : Head c.args.text.now c.in-Ok.consts c.in-Ok-module_part.part.now c.module_part.new.cursor =
+    record { behind = c.constants_part.new.cursor; opened = opened; part = c.in-Ok-module_part.ensures } in
+    bundle_read c.args.text.now c.in-Ok.consts c.in-Ok-module_part.part.now c.module_part.new.cursor (module_view c.in-Ok-module_of.module) (log_view c.in-Ok-log_of.log) c.log_of.new.cursor head
+    c.in-Ok-module_of.ensures.ok.spells c.in-Ok-log_of.ensures
 
-pub returns-in-Ok-log_and_end-clause-only : goal.returns-in-Ok-log_and_end-clause-only
-returns-in-Ok-log_and_end-clause-only c =
-    let m = module_view c.in-Ok-module_of.module in
-    let l = log_view c.in-Ok-log_and_end.log in
-    let head = ap module_part (sym c.new-cursor.ensures) ∙ c.in-Ok.ensures in
-    let log = ap (λ ns. log_and_end ns c.module_part.new.cursor) (sym c.as_slice.ensures) ∙ c.in-Ok-log_and_end.ensures in
-    subst (λ cs. IsOnlyBundle c.args.text.now m cs l) (sym c.new.ensures)
-    (only_read c.args.text.now c.in-Ok.part.now c.module_part.new.cursor m l c.log_and_end.new.cursor head c.in-Ok-module_of.ensures.ok log)
+pub returns-in-Ok-log_of-clause-only : goal.returns-in-Ok-log_of-clause-only
+returns-in-Ok-log_of-clause-only c =
+    let opened = ap constants_part (sym c.new-cursor.ensures) ∙ c.in-Ok.ensures in
+    let head : Head c.args.text.now c.in-Ok.consts c.in-Ok-module_part.part.now c.module_part.new.cursor =
+    record { behind = c.constants_part.new.cursor; opened = opened; part = c.in-Ok-module_part.ensures } in
+    only_read c.args.text.now c.in-Ok.consts c.in-Ok-module_part.part.now c.module_part.new.cursor (module_view c.in-Ok-module_of.module) (log_view c.in-Ok-log_of.log) c.log_of.new.cursor head
+    c.in-Ok-module_of.ensures.ok c.in-Ok-log_of.ensures
 
-pub returns-in-Err-log_and_end-clause-refused : goal.returns-in-Err-log_and_end-clause-refused
-returns-in-Err-log_and_end-clause-refused c =
-    let m = module_view c.in-Ok-module_of.module in
-    let head = ap module_part (sym c.new-cursor.ensures) ∙ c.in-Ok.ensures in
-    log_refused log_view c.args.text.now c.in-Ok.part.now c.module_part.new.cursor c.log_and_end.new.cursor m c.in-Err-log_and_end.stop head c.in-Ok-module_of.ensures.ok
-    (subst (λ ns. ReadsAs log_view (log_and_end ns c.module_part.new.cursor) (Err c.in-Err-log_and_end.stop) c.log_and_end.new.cursor) c.as_slice.ensures c.in-Err-log_and_end.ensures)
+pub returns-in-Err-log_of-clause-refused : goal.returns-in-Err-log_of-clause-refused
+returns-in-Err-log_of-clause-refused c =
+    let opened = ap constants_part (sym c.new-cursor.ensures) ∙ c.in-Ok.ensures in
+    let head : Head c.args.text.now c.in-Ok.consts c.in-Ok-module_part.part.now c.module_part.new.cursor =
+    record { behind = c.constants_part.new.cursor; opened = opened; part = c.in-Ok-module_part.ensures } in
+    log_refused log_view c.args.text.now c.in-Ok.consts c.in-Ok-module_part.part.now c.module_part.new.cursor c.log_of.new.cursor (module_view c.in-Ok-module_of.module) c.in-Err-log_of.stop head
+    c.in-Ok-module_of.ensures.ok c.in-Err-log_of.ensures

@@ -1,0 +1,55 @@
+// The head of a bundle: its constants, and the bytes of its module.
+ghost use Rattle.std.specs.Prelude.{[]};
+ghost use Rattle.pgo_base.specs.View.{named_data};
+ghost use Rattle.pgo_log_text.specs.Lines as spec;
+ghost use Rattle.pgo_log_text.specs.Parsers.{Reads, ReadsAs};
+
+use crate::cursor::Cursor;
+use crate::errors::LogStop;
+use crate::field::{last_number, last_value};
+use pgo_base::consts::Consts;
+use pgo_base::text::Text;
+use pgo_base::value::Value;
+use std::alloc::Global;
+
+/// A constant's line: `name = value`.
+#[tactic(auto, unfolding(crate::specs::Lines::constant_line))]
+fn constant_line(alloc: Global, cursor: &mut Cursor<'_>) -> Result<(Text, Value), LogStop>
+    ensures { ReadsAs named_data (spec.constant_line cursor.old) result cursor.new }
+{
+    let name = cursor.name(alloc)?;
+    cursor.expect(b" = ")?;
+    let value = last_value(alloc, cursor)?;
+    Ok((name, value))
+}
+
+/// So many constants.
+fn constants(alloc: Global, cursor: &mut Cursor<'_>, count: u32) -> Result<Consts, LogStop>
+    ensures { Reads (spec.constants count [] cursor.old) result cursor.new }
+{
+    let mut list = Vec::new(alloc);
+    for _turn in 0..count {
+        list.push(constant_line(alloc, cursor)?)?;
+    }
+    Ok(Consts::from_vec(list))
+}
+
+/// The version and the constants.
+#[tactic(auto, unfolding(crate::specs::Lines::constants_part))]
+pub fn constants_part(alloc: Global, cursor: &mut Cursor<'_>) -> Result<Consts, LogStop>
+    ensures { Reads (spec.constants_part cursor.old) result cursor.new }
+{
+    cursor.expect(b"pgo 1\nconsts ")?;
+    let count = last_number(cursor)?;
+    constants(alloc, cursor, count)
+}
+
+/// The bytes of the module.
+#[tactic(auto, unfolding(crate::specs::Lines::module_part))]
+pub fn module_part<'a>(cursor: &mut Cursor<'a>) -> Result<&'a [u8], LogStop>
+    ensures { ReadsAs (λ s. s.now) (spec.module_part cursor.old) result cursor.new }
+{
+    cursor.expect(b"module ")?;
+    let count = last_number(cursor)?;
+    cursor.take(count)
+}
