@@ -11,11 +11,13 @@ use Rattle.pgo_check.specs.declared.verdict.Verdict.{Verdict}
 use Rattle.pgo_log_text.specs.ReadBundle.{IsReadBundle, IsNoBundle}
 use Rattle.pgo_front.specs.declared.status.Status.{Status}
 use Rattle.pgo_front.specs.declared.status.Status.TheVariants as status
+use Rattle.pgo_front.specs.declared.target.Target.{Target}
+use Rattle.pgo_front.specs.declared.target.Target.TheVariants as targets
 use Rattle.pgo_front.specs.Constants.{AreConstants}
-use Rattle.pgo_front.specs.Turns.{AsksStep, AsksCheck}
+use Rattle.pgo_front.specs.Turns.{AsksStep, AsksCheck, command_of}
 use Rattle.pgo_front.specs.Spells.{Spells, most_bytes}
 use Rattle.pgo_front.specs.Verdicts.{most_bundle_bytes, IsRunVerdict, IsBadVerdict}
-use Rattle.pgo_front.specs.Answers.{AsksNothing, AsksSomething, AsksSomeStep, AsksSomeExpand, IsNotRun, IsRefused, Asked, WritesBundle, Checked, WritesVerdict, EndsWell, WritesPrefix, Stops, IsRefusal, OrNoMemory, IsToldToStep, IsToldToCheck}
+use Rattle.pgo_front.specs.Answers.{AsksNothing, AsksSomething, AsksSomeStep, AsksSomeTranslation, IsNotRun, IsRefused, Asked, WritesBundle, Checked, WritesVerdict, EndsWell, WritesPrefix, Stops, IsRefusal, OrNoMemory, IsToldToStep, IsToldToCheck}
 use Rattle.pgo_front.proofs.Judging.{run_is_not_bad, no_run_is_not_run}
 
 -- what an input told is what holds of its text
@@ -40,12 +42,23 @@ abbrev first_length : List (List ℕ) → ℕ
 first_length [] = 0
 first_length (w ∷ ws) = length w
 
--- words that ask for an expansion ask for nothing else
-pub expand_no_step : {words : List (List ℕ)} → AsksSomeExpand words → AsksSomeStep words → ⊥
-expand_no_step expand step = let n : 6 ≡ 4 = ap first_length (sym expand.1.words_are ∙ step.2.words_are) in omega (arith, n)
+-- the word for a translation is longer than those for the others
+long_command : (target : Target) → 5 < length (command_of target)
+long_command targets.Expansion = omega arith
+long_command targets.Module = omega arith
 
-pub expand_no_check : {words : List (List ℕ)} → AsksSomeExpand words → AsksCheck words → ⊥
-expand_no_check expand check = let n : 6 ≡ 5 = ap first_length (sym expand.1.words_are ∙ check) in omega (arith, n)
+-- words that ask for a translation ask for nothing else
+pub translation_no_step : {words : List (List ℕ)} → AsksSomeTranslation words → AsksSomeStep words → ⊥
+translation_no_step a step =
+    let n : length (command_of a.0) ≡ 4 = ap first_length (sym a.2.words_are ∙ step.2.words_are) in
+    let l = long_command a.0 in
+    omega (arith, n, l)
+
+pub translation_no_check : {words : List (List ℕ)} → AsksSomeTranslation words → AsksCheck words → ⊥
+translation_no_check a check =
+    let n : length (command_of a.0) ≡ 5 = ap first_length (sym a.2.words_are ∙ check) in
+    let l = long_command a.0 in
+    omega (arith, n, l)
 
 -- words that may ask for turns without constants ask for no constants
 no_constants : {words : List (List ℕ)} {ts us : List ℕ} {cs : List (Name × Data)} → AsksStep words ts [] → AsksStep words us cs → cs ≡ []
@@ -70,7 +83,7 @@ no_constants {words} {ts} {us} {cs} a b = none b.rest cs (nothing a.rest a.const
 pub not_nothing : {words : List (List ℕ)} → AsksSomething words → AsksNothing words → ⊥
 not_nothing (inl a) nothing = nothing.0 a.0 a.1 a.2
 not_nothing (inr (inl a)) nothing = nothing.1 a
-not_nothing (inr (inr a)) nothing = nothing.2 a.0 a.1
+not_nothing (inr (inr a)) nothing = nothing.2 a.0 a.1 a.2
 
 module _ (words : List (List ℕ)) (input : Option (List ℕ)) (before now : ℕ) (out_before out_now : ℕ) (old new : Option (List ℕ)) where
   -- what the statuses say of a call
@@ -124,22 +137,22 @@ module _ (words : List (List ℕ)) (input : Option (List ℕ)) (before now : ℕ
     no_check : {A : Type 0} → AsksCheck words → A
     no_check check = absurd (not_both (turns, consts, told.asks) check)
 
-    no_expand : {A : Type 0} → AsksSomeExpand words → A
-    no_expand expand = absurd (expand_no_step expand (turns, consts, told.asks))
+    no_translation : {A : Type 0} → AsksSomeTranslation words → A
+    no_translation a = absurd (translation_no_step a (turns, consts, told.asks))
 
     fine_asked : EndsWell words input old new → Run
     fine_asked (inl h) = ran_asked 0 h
     fine_asked (inr (inl h)) = no_check h.0
-    fine_asked (inr (inr h)) = no_expand h.0
+    fine_asked (inr (inr h)) = no_translation h.0
 
     fault_asked : WritesPrefix words input old new → Run
     fault_asked (inl h) = let g = at_told input text _ told.told h.1 in (g.0, g.1, g.2)
     fault_asked (inr (inl h)) = no_check h.0
-    fault_asked (inr (inr h)) = no_expand h.0
+    fault_asked (inr (inr h)) = no_translation h.0
 
     refused_text : Stops words input before now status.SpecRefused → IsRefused words text
     refused_text (inl h) = at_told input text (IsRefused words) told.told h.1
-    refused_text (inr h) = no_expand h.0
+    refused_text (inr h) = no_translation h.0
 
     -- what was run isn't refused
     not_refused : {n : ℕ} {written : List ℕ} → IsNotRun text consts → Asked words text n written → ⊥
@@ -149,7 +162,7 @@ module _ (words : List (List ℕ)) (input : Option (List ℕ)) (before now : ℕ
     long_text : Stops words input before now status.TooLong → most_bytes < length text
     long_text (inl h) = at_told input text (λ t. most_bytes < length t) told.told h.1
     long_text (inr (inl h)) = no_check h.0
-    long_text (inr (inr h)) = no_expand h.0
+    long_text (inr (inr h)) = no_translation h.0
 
     not_usage : AsksNothing words → ⊥
     not_usage nothing = nothing.0 turns consts told.asks
@@ -205,13 +218,13 @@ module _ (words : List (List ℕ)) (input : Option (List ℕ)) (before now : ℕ
     no_step : {A : Type 0} → AsksSomeStep words → A
     no_step step = absurd (not_both step told.asks)
 
-    not_expand : {A : Type 0} → AsksSomeExpand words → A
-    not_expand expand = absurd (expand_no_check expand told.asks)
+    not_translation : {A : Type 0} → AsksSomeTranslation words → A
+    not_translation a = absurd (translation_no_check a told.asks)
 
     -- words that ask for a check aren't refused for a specification
     not_refused_spec : {A : Type 0} → Stops words input before now status.SpecRefused → A
     not_refused_spec (inl h) = no_step h.0
-    not_refused_spec (inr h) = not_expand h.0
+    not_refused_spec (inr h) = not_translation h.0
 
     found : (Wanted : Verdict → Type 0) → WritesVerdict words input Wanted old new → (v : Verdict) × Wanted v × Checked text v
     found Wanted h = let g = at_told input text _ told.told h.1 in (g.0, g.1, g.2)
@@ -219,11 +232,11 @@ module _ (words : List (List ℕ)) (input : Option (List ℕ)) (before now : ℕ
     fine_found : EndsWell words input old new → (v : Verdict) × IsRunVerdict v × Checked text v
     fine_found (inl h) = no_step h.0
     fine_found (inr (inl h)) = found IsRunVerdict h
-    fine_found (inr (inr h)) = not_expand h.0
+    fine_found (inr (inr h)) = not_translation h.0
 
     fault_found : WritesPrefix words input old new → (v : Verdict) × Checked text v
     fault_found (inl h) = no_step h.0
-    fault_found (inr (inr h)) = not_expand h.0
+    fault_found (inr (inr h)) = not_translation h.0
     fault_found (inr (inl h)) = let g = at_told input text _ told.told h.1 in (g.0, g.1)
 
     refused_bundle : Stops words input before now status.BadBundle → (length text ≤ most_bundle_bytes) × IsNoBundle text
@@ -231,7 +244,7 @@ module _ (words : List (List ℕ)) (input : Option (List ℕ)) (before now : ℕ
 
     long_bundle : Stops words input before now status.TooLong → most_bundle_bytes < length text
     long_bundle (inl h) = no_step h.0
-    long_bundle (inr (inr h)) = not_expand h.0
+    long_bundle (inr (inr h)) = not_translation h.0
     long_bundle (inr (inl h)) = at_told input text (λ t. most_bundle_bytes < length t) told.told h.1
 
     asks_something : AsksNothing words → ⊥

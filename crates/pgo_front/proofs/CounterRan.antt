@@ -10,7 +10,8 @@ use Rattle.pgo_model.specs.ModuleText.{Line, flatten}
 use Rattle.pgo_model.specs.Machine.{Machine, last_state, finished_of}
 use Rattle.pgo_model.specs.MachineLaw.{run_turns_law}
 use Rattle.pgo_model.specs.SystemState.{IsSystemState}
-use Rattle.pgo_model.specs.Log.{Effect}
+use Rattle.pgo_model.specs.Log.{Effect, Log}
+use Rattle.pgo_model.specs.Module.{Module}
 use Rattle.pgo_counter.specs.Agrees.{Agrees}
 use Rattle.pgo_model.specs.IsRun.{IsRun}
 use Rattle.pgo_counter.specs.Translate.{module_of}
@@ -21,8 +22,7 @@ use Rattle.pgo_counter.specs.WellNamed.{IsWellNamed, most_statements, IsCounter}
 use Rattle.pgo_counter.specs.BoundSystem.{member_of}
 use Rattle.pgo_counter.specs.Counters.{spec_of, next_name, counter_bound, counter_system, counter_instance, counter_module}
 use Rattle.pgo_check.specs.declared.verdict.Verdict.TheVariants.{Run}
-use Rattle.pgo_log_text.specs.ReadBundle.{IsReadBundle}
-use Rattle.pgo_log_text.proofs.BundleRead.{one_bundle}
+use Rattle.pgo_log_text.specs.ReadBundle.{IsReadBundle, IsOnlyBundle}
 use Rattle.pgo_front.specs.ReadBack.{entry_read, log_of}
 use Rattle.pgo_front.specs.CounterRuns.{IsAt, settings, last_value}
 use Rattle.pgo_front.specs.Headline.{AllDone, Ran}
@@ -32,7 +32,7 @@ use Rattle.pgo_front.proofs.CounterAgrees.{agrees}
 use Rattle.pgo_front.proofs.CounterRun.{is_run}
 use Rattle.pgo_front.proofs.ReadBackLogs.{count_is, run_read}
 use Rattle.pgo_front.proofs.ReadBackVerdicts.{accepted}
-use Rattle.pgo_front.proofs.ReadBack.{is_read, is_short}
+use Rattle.pgo_front.proofs.ReadBack.{TextsSpell, is_read, is_short}
 use Rattle.pgo_front.proofs.CounterEnds.{next_done, none_left, status_is}
 
 -- the name of a string
@@ -95,13 +95,13 @@ module _ (c : Counter) (w : IsWellNamed c) (few : length c.body ≤ most_stateme
     )
 
 -- the lines of the bundle and the status of the accounts are what a run of the specification gives
-pub ran : (c : Counter) → IsCounter c → (turns values : List ℕ) → IsAt c (Core (counter_system c) settings turns) values
+pub ran : TextsSpell → ((text : List ℕ) (m : Module) (consts : List (Name × Data)) (l : Log) → IsReadBundle text m consts l → IsOnlyBundle text m consts l) → (c : Counter) → IsCounter c → (turns values : List ℕ) → IsAt c (Core (counter_system c) settings turns) values
     → (n : ℕ) → n ≡ (if nat_eq (length values) (length c.body) then 0 else 21)
     → (lines : List Line)
     → lines ≡ bundle_lines (counter_module c) [] (counter_system c) settings (finished_of (Core (counter_system c) settings turns))
     (status_of (counter_system c) settings (finished_of (Core (counter_system c) settings turns)))
     → Ran (spec_of c) turns n (flatten lines)
-ran c f turns values h n n_is lines lines_are =
+ran spelled one c f turns values h n n_is lines lines_are =
     let w : IsWellNamed c = f.named in
     let means : counter_module c ≡ module_of (spec_of c) = sym (module_is c w) in
     let either : (n ≡ 0) ⊎ (n ≡ 21) = either_status (nat_eq (length values) (length c.body)) n n_is in
@@ -115,7 +115,7 @@ ran c f turns values h n n_is lines lines_are =
     = subst (λ m. IsRun m [] (ids_of (counter_system c)) (counter_bound c).start (Core (counter_system c) settings turns).entries) means (is_run c w f.start f.id turns)
     in
     let read : IsReadBundle (flatten lines) (module_of (spec_of c)) [] (log_of (counter_system c) (Core (counter_system c) settings turns).entries)
-    = is_read c f turns values h n (flatten lines) either bytes
+    = is_read spelled c f turns values h n (flatten lines) either bytes
     in
     let read_run : IsRun (module_of (spec_of c)) [] (ids_of (counter_system c)) (counter_bound c).start (log_of (counter_system c) (Core (counter_system c) settings turns).entries).entries
     = run_read (module_of (spec_of c)) [] (ids_of (counter_system c)) (counter_bound c).start (Core (counter_system c) settings turns).entries run
@@ -128,7 +128,7 @@ ran c f turns values h n n_is lines lines_are =
       agrees = subst (λ m. Agrees m [] (counter_bound c)) means (agrees c w);
       run = run;
       is_read = read;
-      only = one_bundle (flatten lines) (module_of (spec_of c)) [] (log_of (counter_system c) (Core (counter_system c) settings turns).entries) read;
+      only = one (flatten lines) (module_of (spec_of c)) [] (log_of (counter_system c) (Core (counter_system c) settings turns).entries) read;
       read_run = read_run;
       accepted = λ v judged.
           accepted (flatten lines) (module_of (spec_of c)) [] (log_of (counter_system c) (Core (counter_system c) settings turns).entries) read read_run v judged
@@ -137,5 +137,5 @@ ran c f turns values h n n_is lines lines_are =
       joint = (run_turns_law (rules_of (counter_system c) settings) (Reaches (counter_system c)) (IsSystemState (counter_system c)) (fits c w f.start f.id) turns).1.joint;
       status_is = status;
       fine = zero_at_done c w f.few turns values h n n_is;
-      of_counter = λ d g e. record { short = is_short c f turns values h n (flatten lines) (at_most n either) bytes; either = either };
+      of_counter = λ d g e. record { short = is_short spelled c f turns values h n (flatten lines) (at_most n either) bytes; either = either };
     }

@@ -15,12 +15,14 @@ pub mod TurnLists
 pub mod ItemReads
 pub mod ListReads
 pub mod ConstantWords
+pub mod ConstantValues
 pub mod StepWords
 pub mod CoreLists
 pub mod CoreSteps
 pub mod CoreRuns
 pub mod ReadBackLogs
 pub mod ReadBackAccounts
+pub mod ReadBackModule
 pub mod ReadBackNames
 pub mod ReadBackText
 pub mod ReadBackEntries
@@ -31,7 +33,7 @@ pub mod CounterRan
 pub mod Judging
 pub mod Making
 pub mod Caused
-pub mod CausedExpand
-pub mod Expanding
+pub mod CausedTranslation
+pub mod Translating
 pub mod LinesWritten
 pub mod PiecesWritten

@@ -12,13 +12,18 @@ use Rattle.pgo_front.specs.declared.output.Output.{Output}
 use Rattle.pgo_front.specs.declared.ended.Ended.{Ended}
 use Rattle.pgo_front.specs.declared.status.Status.{Status}
 use Rattle.pgo_front.specs.declared.status.Status.TheVariants as status
-use Rattle.pgo_front.specs.Turns.{AsksStep, AsksCheck}
-use Rattle.pgo_front.specs.Asked.{ExpandsOnly}
+use Rattle.pgo_front.specs.Turns.{AsksStep, AsksCheck, AsksTranslation}
+use Rattle.pgo_front.specs.declared.target.Target.{Target}
+use Rattle.pgo_front.specs.Asked.{TranslatesOnly}
 use Rattle.pgo_front.specs.Spells.{most_bytes}
 use Rattle.pgo_front.specs.Statuses.{number_of}
 use Rattle.pgo_front.specs.Verdicts.{IsRunVerdict, IsBadVerdict, most_bundle_bytes}
-use Rattle.pgo_front.specs.Answers.{AsksSomeStep, IsNotRun, Asked, WritesBundle, WritesVerdict, EndsWell, WritesPrefix}
-use Rattle.pgo_front.specs.Makes.{IsStepStatus, IsVerdictStatus, MakesOf, MakesAsked, MakesExpansion, MakesJudged, MakesVerdict, StopsAt, StopsFor, StopsInput, StopsJudging, StopsCheck, bytes_of}
+use Rattle.pgo_accept.specs.Answers.{IsExpandable}
+use Rattle.pgo_accept.specs.Refusals.{RefusedWith}
+use Rattle.pgo_front.specs.Translations.{NotTranslated}
+use Rattle.pgo_front.specs.Answers.{AsksSomeStep, IsNotRun, Asked, RefusedBy, WritesBundle, WritesVerdict, EndsWell, WritesPrefix, Stops}
+use Rattle.pgo_front.specs.Makes.{IsStepStatus, IsVerdictStatus, MakesOf, MakesAsked, MakesTranslation, MakesJudged, MakesVerdict, StopsAt, StopsFor, StopsInput, StopsJudging, StopsCheck, StopsTranslation, HasLine, bytes_of}
+use Rattle.pgo_front.proofs.ConstantValues.{constants_are_values}
 
 -- a list without an item gives no constant
 pub none_there : (xs : List (Name × Value)) (consts : List (Name × Data)) → map named_data xs ≡ consts → true ≡ nat_eq (length xs) 0 → consts ≡ []
@@ -46,6 +51,30 @@ stops_check None before now text s told short (inl h) = inl (h.0, tt)
 stops_check (Some bs) before now text s told short (inl h) = inl (h.0, subst (λ bs. (length bs ≤ most_bundle_bytes) × IsNoBundle bs) told (short, h.1))
 stops_check input before now text s told short (inr e) = inr (inr (inr e))
 
+-- of words that ask for a translation
+pub translation_stopped : (words : List (List ℕ)) (input : Option (List ℕ)) (before now : ℕ) (target : Target) (consts : List (Name × Data)) (s : Status)
+    → TranslatesOnly words (Some (target, consts)) → StopsTranslation consts input before now s → Stops words input before now s
+translation_stopped words input before now target consts s asks (inl h) =
+    subst (Stops words input before now) (sym h.0) (inr ((target, consts, asks.0), refused input h.1))
+  where
+    refused : (o : Option (List ℕ)) → IfSome o (λ text. (length text ≤ most_bytes) × (IsExpandable text consts → ⊥)) → IfSome o (NotTranslated words)
+    refused None g = tt
+    refused (Some text) g = record { target = target; consts = consts; asks = asks.0; no_others = asks.1; short = g.0; refused = g.1 }
+translation_stopped words input before now target consts s asks (inr (inl h)) = subst (Stops words input before now) (sym h.0) (inr (inr (target, consts, asks.0)), h.1)
+translation_stopped words input before now target consts s asks (inr (inr (inl h))) =
+    subst (Stops words input before now) (sym h.0) (inr (inr ((target, consts, asks.0), h.1)))
+translation_stopped words input before now target consts s asks (inr (inr (inr e))) = subst (Stops words input before now) (sym e) tt
+
+-- the line of a refusal, of the words that asked for a translation
+pub translation_line : (words : List (List ℕ)) (input : Option (List ℕ)) (target : Target) (consts : List (Name × Data)) (s : Status) (line : Option (List ℕ))
+    → AsksTranslation target words consts → HasLine input (λ text l. RefusedWith text consts l) s line → HasLine input (RefusedBy words) s line
+translation_line words input target consts s None asks h = h
+translation_line words input target consts s (Some l) asks h = (h.0, refused input h.1)
+  where
+    refused : (o : Option (List ℕ)) → IfSome o (λ text. RefusedWith text consts l) → IfSome o (λ text. RefusedBy words text l)
+    refused None g = tt
+    refused (Some text) g = record { consts = consts; asks = inr (target, asks); refused = g }
+
 -- ---- what a command made
 
 -- of a text that gives something, of the input that it came from
@@ -71,16 +100,18 @@ pub check_asked : (words : List (List ℕ)) (input : Option (List ℕ)) (m : Out
 check_asked words None m asks either h = inr (inl (asks, either, tt))
 check_asked words (Some text) m asks either h = inr (inl (asks, either, (h.1.0, (h.0, h.1.1), h.1.2)))
 
-expand_asked : (words : List (List ℕ)) (input : Option (List ℕ)) (consts : List (Name × Data)) (m : Output) → ExpandsOnly words (Some consts) → m.status ≡ status.Fine
-    → IfSome input (λ text. (length text ≤ most_bytes) × MakesExpansion text consts m) → MakesAsked words input m
-expand_asked words None consts m asks fine h = inr (inr ((consts, asks.0), fine, tt))
-expand_asked words (Some text) consts m asks fine h =
-    inr (inr ((consts, asks.0), fine, record { consts = consts; asks = asks.0; no_others = asks.1; short = h.0; expands = h.1 }))
+translation_asked : (words : List (List ℕ)) (input : Option (List ℕ)) (target : Target) (consts : List (Name × Data)) (m : Output) → TranslatesOnly words (Some (target, consts))
+    → m.status ≡ status.Fine → IfSome input (λ text. (length text ≤ most_bytes) × MakesTranslation target text consts m) → MakesAsked words input m
+translation_asked words None target consts m asks fine h = inr (inr ((target, consts, asks.0), fine, tt))
+translation_asked words (Some text) target consts m asks fine h =
+    let values = constants_are_values asks.0.rest consts asks.0.constants.each in
+    inr (inr ((target, consts, asks.0), fine, record { target = target; consts = consts; asks = asks.0; no_others = asks.1; short = h.0; translates = h.1 values }))
 
-pub expand_made : (words : List (List ℕ)) (input : Option (List ℕ)) (consts : List (Name × Data)) (r : Result Output Ended) → ExpandsOnly words (Some consts)
-    → IfOk r (λ m. m.status ≡ status.Fine) → IfOk r (λ m. IfSome input (λ text. (length text ≤ most_bytes) × MakesExpansion text consts m)) → IfOk r (MakesAsked words input)
-expand_made words input consts (Ok m) asks fine h = expand_asked words input consts m asks fine h
-expand_made words input consts (Err e) asks fine h = tt
+pub translation_made : (words : List (List ℕ)) (input : Option (List ℕ)) (target : Target) (consts : List (Name × Data)) (r : Result Output Ended)
+    → TranslatesOnly words (Some (target, consts)) → IfOk r (λ m. m.status ≡ status.Fine)
+    → IfOk r (λ m. IfSome input (λ text. (length text ≤ most_bytes) × MakesTranslation target text consts m)) → IfOk r (MakesAsked words input)
+translation_made words input target consts (Ok m) asks fine h = translation_asked words input target consts m asks fine h
+translation_made words input target consts (Err e) asks fine h = tt
 
 pub step_made : (words : List (List ℕ)) (input : Option (List ℕ)) (turns : List ℕ) (consts : List (Name × Data)) (r : Result Output Ended) → AsksStep words turns consts
     → IfOk r IsStepStatus → IfOk r (λ m. IfSome input (λ text. (length text ≤ most_bytes) × MakesOf text turns consts m)) → IfOk r (MakesAsked words input)

@@ -5,12 +5,13 @@ use Rattle.pgo_base.specs.Lookup.{Name}
 use Rattle.pgo_model.specs.Machine.{Entry, nth}
 use Rattle.pgo_model.specs.Log.{Effect}
 use Rattle.pgo_model.specs.Core.{Core}
-use Rattle.pgo_model.specs.IsBundle.{count_limit, is_read_name, AreReadChanges, IsReadChange, IsReadEntry, AreReadEntries}
+use Rattle.pgo_model.specs.IsBundle.{count_limit, is_read_name}
 use Rattle.pgo_counter.specs.declared.counter.Sum.{Sum}
 use Rattle.pgo_counter.specs.declared.counter.Counter.{Counter}
 use Rattle.pgo_counter.specs.WellNamed.{IsCounter}
 use Rattle.pgo_counter.specs.Counters.{counter_system, label_name, next_name, sum_value}
 use Rattle.pgo_counter.specs.CounterNames.{Names, names, IsLabelOf, label_of_body}
+use Rattle.pgo_log_text.specs.IsBundle.{AreChanges, IsChange, IsEntry, AreEntries}
 use Rattle.pgo_front.specs.CounterRuns.{settings, IsAt, global_change, place_change, counter_changes, counter_entries}
 use Rattle.pgo_front.specs.ReadBack.{unowned, entry_read}
 use Rattle.pgo_front.proofs.CounterRun.{Recorded, recorded}
@@ -47,17 +48,17 @@ first_word c n = go c.body (λ b after e. label_of_body c [] after b e)
 
 -- ---- changes
 
-place_is_read : (c : Counter) (l : Name) → c.id ≤ 999999 → IsReadWord l → IsReadChange (unowned (place_change c l))
+place_is_read : (c : Counter) (l : Name) → c.id ≤ 999999 → IsReadWord l → IsChange (unowned (place_change c l))
 place_is_read c l id w = record { variable = pc_is_read.read; index = number_is_read c.id (omega (arith, id)); owner = refl; value = word_value l w }
 
-global_is_read : (c : Counter) (v : ℕ) → Names c → v < 2 ^ 63 → IsReadChange (unowned (global_change c v))
-global_is_read c v n h = record { variable = (name_is_read c.global n.global.plain).read; index = refl; owner = refl; value = number_is_read v h }
+global_is_read : (c : Counter) (v : ℕ) → Names c → v < 2 ^ 63 → IsChange (unowned (global_change c v))
+global_is_read c v n h = record { variable = (name_is_read c.global n.global.plain).read; index = tt; owner = refl; value = number_is_read v h }
 
 changes_are_read : (c : Counter) (x v : ℕ) (l : Name) → Names c → c.id ≤ 999999 → v < 2 ^ 63 → IsReadWord l
-    → AreReadChanges (map unowned (counter_changes c x v l)) × (length (map unowned (counter_changes c x v l)) < count_limit)
+    → AreChanges (map unowned (counter_changes c x v l)) × (length (map unowned (counter_changes c x v l)) < count_limit)
 changes_are_read c x v l n id h w = go (nat_eq x v)
   where
-    go : (b : Bool) → AreReadChanges (map unowned (if b then place_change c l ∷ [] else global_change c v ∷ place_change c l ∷ []))
+    go : (b : Bool) → AreChanges (map unowned (if b then place_change c l ∷ [] else global_change c v ∷ place_change c l ∷ []))
         × (length (map unowned (if b then place_change c l ∷ [] else global_change c v ∷ place_change c l ∷ [])) < count_limit)
     go true = ((place_is_read c l id w, tt), omega arith)
     go false = ((global_is_read c v n h, (place_is_read c l id w, tt)), omega arith)
@@ -68,7 +69,7 @@ changes_are_read c x v l n id h w = go (nat_eq x v)
 record IsReadEffect (f : Effect) : Type 0 where
   label : IsTrue (is_read_name f.label)
   next : IsTrue (is_read_name f.next)
-  changes : AreReadChanges (map unowned f.changes)
+  changes : AreChanges (map unowned f.changes)
   count : length (map unowned f.changes) < count_limit
 
 effect_is_read : (c : Counter) → IsCounter c → (e : Entry Effect) → Recorded c e → IsReadEffect e.change
@@ -78,20 +79,20 @@ effect_is_read c f e h =
     let changes = changes_are_read c h.x (sum_value h.x h.sum) (next_name c h.after) n f.id h.fits next in
     subst IsReadEffect (sym h.change) (record { label = (own_word c n h.before h.after h.sum h.body).read; next = next.read; changes = changes.0; count = changes.1 })
 
-entry_is_read : (c : Counter) → IsCounter c → (e : Entry Effect) → Recorded c e → e.attempt ≤ 1 + length c.body → IsReadEntry (entry_read e)
+entry_is_read : (c : Counter) → IsCounter c → (e : Entry Effect) → Recorded c e → e.attempt ≤ 1 + length c.body → IsEntry (entry_read e)
 entry_is_read c f e h a =
     let d = effect_is_read c f e h in
     let few = f.few in
     let instance = h.instance in
     record { instance = omega (arith, instance); attempt = omega (arith, a, few); label = d.label; next = d.next; count = d.count; changes = d.changes; prints = refl }
 
-all_are_read : (es : List (Entry Effect)) → ((p : ℕ) (e : Entry Effect) → nth es p ≡ Some e → IsReadEntry (entry_read e)) → AreReadEntries (map entry_read es)
+all_are_read : (es : List (Entry Effect)) → ((p : ℕ) (e : Entry Effect) → nth es p ≡ Some e → IsEntry (entry_read e)) → AreEntries (map entry_read es)
 all_are_read [] h = tt
 all_are_read (e ∷ es) h = (h 0 e refl, all_are_read es (λ p e found. h (suc p) e found))
 
 -- the entries of a run are read
 pub entries_are_read : (c : Counter) → IsCounter c → (turns values : List ℕ) → IsAt c (Core (counter_system c) settings turns) values
-    → AreReadEntries (map entry_read (Core (counter_system c) settings turns).entries)
+    → AreEntries (map entry_read (Core (counter_system c) settings turns).entries)
 entries_are_read c f turns values at =
     all_are_read (Core (counter_system c) settings turns).entries
     (λ p e found.

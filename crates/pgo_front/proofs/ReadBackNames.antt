@@ -2,12 +2,16 @@
 use Rattle.std.proofs.Common.{◌≡◌, ◌≤◌, ◌<◌, ◌^◌, ℕ, pos, Bool, true, false, ◌&&◌, ◌||◌, nat_eq, nat_le, if◌then◌else◌, List, [], ◌∷◌, ◌++◌, length, codes, refl, ap, ◌∙◌, arith, length-append}
 use Rattle.std.proofs.lemmas.Bool.{lt-ltb, le-leb, leb-true}
 use Rattle.std.proofs.lemmas.Bool.Decides.{nat_tests}
-use Rattle.pgo_base.specs.Data.{integer, string, function, pair, no_pairs}
+use Rattle.std.specs.List.Sorted.{IsStrictlySortedBy}
+use Rattle.pgo_base.specs.Data.{Data, integer, string, function, pair, no_pairs, graph, keys}
+use Rattle.pgo_base.specs.Sets.{IsSorted}
 use Rattle.pgo_base.specs.Lookup.{Name}
 use Rattle.pgo_model.specs.ValueText.{is_letter, is_digit, is_word_byte, all_word_bytes, has_letter, same_bytes, is_one_of, reserved_words, is_identifier}
 use Rattle.pgo_model.specs.Names.{same_bytes-is}
 use Rattle.pgo_model.specs.Written.{pc, done, written}
-use Rattle.pgo_model.specs.IsBundle.{is_string_byte, all_string_bytes, is_read_name, is_read_value}
+use Rattle.pgo_model.specs.IsBundle.{is_string_byte, all_string_bytes, is_read_name}
+use Rattle.pgo_value_text.proofs.Written as canonical
+use Rattle.pgo_log_text.specs.IsBundle.{IsCanonicalValue}
 use Rattle.pgo_counter.specs.WellNamed.{is_name, begins_with_letter, all_letters_or_digits}
 use Rattle.pgo_counter.specs.NameBytes.{and_both, not_true, name-letters, name-begins, underscores, written-some}
 
@@ -112,12 +116,19 @@ pc_is_read = record { bytes = refl; read = refl }
 
 -- ---- values
 
-pub number_is_read : (n : ℕ) → n < 2 ^ 63 → is_read_value (integer (pos n)) ≡ true
-number_is_read n h = lt-ltb n (2 ^ 63) h
+pub number_is_read : (n : ℕ) → n < 2 ^ 63 → IsCanonicalValue (integer (pos n))
+number_is_read n h = canonical.written (integer (pos n)) (record { value = lt-ltb n (2 ^ 63) h; shallow = omega arith; spellable = refl; small = refl })
 
-pub word_value : (x : Name) → IsReadWord x → is_read_value (string x) ≡ true
-word_value x w = string_bytes x w.bytes
+pub word_value : (x : Name) → IsReadWord x → IsCanonicalValue (string x)
+word_value x w = canonical.written (string x) (record { value = tt; shallow = omega arith; spellable = string_bytes x w.bytes; small = refl })
+
+-- a function of one pair is in order
+one_sorted : (k v : Data) → IsSorted (keys (graph (pair k v no_pairs)))
+unfolding IsStrictlySortedBy
+one_sorted k v = (tt, tt)
 
 -- the places of a counter's only instance
-pub place_is_read : (n : ℕ) (x : Name) → n < 2 ^ 63 → IsReadWord x → is_read_value (function (pair (integer (pos n)) (string x) no_pairs)) ≡ true
-place_is_read n x h w = ap (λ t. t && all_string_bytes x) (lt-ltb n (2 ^ 63) h) ∙ string_bytes x w.bytes
+pub place_is_read : (n : ℕ) (x : Name) → n < 2 ^ 63 → IsReadWord x → IsCanonicalValue (function (pair (integer (pos n)) (string x) no_pairs))
+place_is_read n x h w =
+    canonical.written (function (pair (integer (pos n)) (string x) no_pairs))
+    (record { value = ((lt-ltb n (2 ^ 63) h, tt, tt), one_sorted (integer (pos n)) (string x)); shallow = omega arith; spellable = ap (λ t. (true && t) && true) (string_bytes x w.bytes); small = refl })

@@ -45,7 +45,7 @@ rows_width (r ∷ rs) =
     let first = length-append (flatten r) (10 ∷ []) in
     length-append (line (flatten r)) (flatten (rows rs)) ∙ (λ i. (first ∙ ap (λ n. n + 1) (width_is r)) i + rows_width rs i)
 
-flat_append : (ls ms : List Line) → flatten (ls ++ ms) ≡ flatten ls ++ flatten ms
+pub flat_append : (ls ms : List Line) → flatten (ls ++ ms) ≡ flatten ls ++ flatten ms
 flat_append [] ms = refl
 flat_append (l ∷ ls) ms = ap (λ z. l ++ z) (flat_append ls ms) ∙ sym (append_assoc l (flatten ls) (flatten ms))
 

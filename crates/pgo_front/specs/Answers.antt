@@ -7,15 +7,16 @@ use Rattle.pgo_base.specs.Lookup.{Name}
 use Rattle.pgo_counter.specs.Spec.{Spec}
 use Rattle.pgo_accept.specs.Refusals.{RefusedWith}
 use Rattle.pgo_check.specs.declared.verdict.Verdict.{Verdict}
+use Rattle.pgo_front.specs.declared.target.Target.{Target}
 use Rattle.pgo_front.specs.declared.status.Status.{Status}
 use Rattle.pgo_front.specs.declared.status.Status.TheVariants as status
-use Rattle.pgo_front.specs.Turns.{AsksStep, AsksCheck, AsksExpand}
+use Rattle.pgo_front.specs.Turns.{AsksStep, AsksCheck, AsksTranslation}
 use Rattle.pgo_front.specs.Spells.{Spells, most_bytes}
 use Rattle.pgo_front.specs.Statuses.{line_of}
 use Rattle.pgo_front.specs.Headline.{Ran}
 use Rattle.pgo_log_text.specs.ReadBundle.{IsNoBundle}
 use Rattle.pgo_front.specs.Verdicts.{Judged, IsRunVerdict, verdict_line, most_bundle_bytes}
-use Rattle.pgo_front.specs.Expansions.{Expanded, NotExpanded}
+use Rattle.pgo_front.specs.Translations.{Translated, NotTranslated}
 
 -- ---- words
 
@@ -23,23 +24,23 @@ use Rattle.pgo_front.specs.Expansions.{Expanded, NotExpanded}
 abbrev pub AsksSomeStep : List (List ℕ) → Type 0
 AsksSomeStep words = (turns : List ℕ) × (consts : List (Name × Data)) × AsksStep words turns consts
 
--- the words ask for an expansion, with some constants
-abbrev pub AsksSomeExpand : List (List ℕ) → Type 0
-AsksSomeExpand words = (consts : List (Name × Data)) × AsksExpand words consts
+-- the words ask for a translation, with some constants
+abbrev pub AsksSomeTranslation : List (List ℕ) → Type 0
+AsksSomeTranslation words = (target : Target) × (consts : List (Name × Data)) × AsksTranslation target words consts
 
 -- the words ask for something that there is
 abbrev pub AsksSomething : List (List ℕ) → Type 0
-AsksSomething words = AsksSomeStep words ⊎ (AsksCheck words ⊎ AsksSomeExpand words)
+AsksSomething words = AsksSomeStep words ⊎ (AsksCheck words ⊎ AsksSomeTranslation words)
 
 -- the words ask for nothing that there is
 abbrev pub AsksNothing : List (List ℕ) → Type 0
 AsksNothing words =
     ((turns : List ℕ) (consts : List (Name × Data)) → AsksStep words turns consts → ⊥) × (AsksCheck words → ⊥)
-    × ((consts : List (Name × Data)) → AsksExpand words consts → ⊥)
+    × ((target : Target) (consts : List (Name × Data)) → AsksTranslation target words consts → ⊥)
 
 -- the words ask for a command on a specification, with these constants
 abbrev pub AsksWith : List (List ℕ) → List (Name × Data) → Type 0
-AsksWith words consts = ((turns : List ℕ) × AsksStep words turns consts) ⊎ AsksExpand words consts
+AsksWith words consts = ((turns : List ℕ) × AsksStep words turns consts) ⊎ ((target : Target) × AsksTranslation target words consts)
 
 -- the line that refuses the text with the constants that the words ask for
 pub record RefusedBy (words : List (List ℕ)) (text line : List ℕ) : Type 0 where
@@ -101,41 +102,40 @@ abbrev pub WritesVerdictPrefix : List (List ℕ) → (input old new : Option (Li
 WritesVerdictPrefix words input old new =
     AsksCheck words × IfSome input (λ text. (v : Verdict) × Checked text v × GrowsByPrefix old new (verdict_line v))
 
--- ---- the command `expand`
+-- ---- the commands `expand` and `compile`
 
--- the words ask for an expansion, and where the input told its text, the output has grown by the text of its expansion
-abbrev pub WritesExpansion : List (List ℕ) → (input old new : Option (List ℕ)) → Type 0
-WritesExpansion words input old new =
-    AsksSomeExpand words × IfSome input (λ text. (written : List ℕ) × Expanded words text written × Grows old new written)
+-- the words ask for a translation, and where the input told its text, the output has grown by its translation
+abbrev pub WritesTranslation : List (List ℕ) → (input old new : Option (List ℕ)) → Type 0
+WritesTranslation words input old new =
+    AsksSomeTranslation words × IfSome input (λ text. (written : List ℕ) × Translated words text written × Grows old new written)
 
--- the words ask for an expansion, and where the input told its text, the output has grown by a prefix of the text of its
--- expansion
-abbrev pub WritesExpansionPrefix : List (List ℕ) → (input old new : Option (List ℕ)) → Type 0
-WritesExpansionPrefix words input old new =
-    AsksSomeExpand words × IfSome input (λ text. (written : List ℕ) × Expanded words text written × GrowsByPrefix old new written)
+-- the words ask for a translation, and where the input told its text, the output has grown by a prefix of its translation
+abbrev pub WritesTranslationPrefix : List (List ℕ) → (input old new : Option (List ℕ)) → Type 0
+WritesTranslationPrefix words input old new =
+    AsksSomeTranslation words × IfSome input (λ text. (written : List ℕ) × Translated words text written × GrowsByPrefix old new written)
 
 -- ---- statuses
 
--- the run ended with every instance at Done, or the log is a run, or the specification is expanded
+-- the run ended with every instance at Done, or the log is a run, or the specification is translated
 abbrev pub EndsWell : List (List ℕ) → (input old new : Option (List ℕ)) → Type 0
-EndsWell words input old new = WritesBundle words input 0 old new ⊎ (WritesVerdict words input IsRunVerdict old new ⊎ WritesExpansion words input old new)
+EndsWell words input old new = WritesBundle words input 0 old new ⊎ (WritesVerdict words input IsRunVerdict old new ⊎ WritesTranslation words input old new)
 
--- a prefix of the bundle of a run, of the line of a verdict, or of the text of an expansion, came to the output
+-- a prefix of the bundle of a run, of the line of a verdict, or of a translation, came to the output
 abbrev pub WritesPrefix : List (List ℕ) → (input old new : Option (List ℕ)) → Type 0
 WritesPrefix words input old new =
-    WritesBundlePrefix words input old new ⊎ (WritesVerdictPrefix words input old new ⊎ WritesExpansionPrefix words input old new)
+    WritesBundlePrefix words input old new ⊎ (WritesVerdictPrefix words input old new ⊎ WritesTranslationPrefix words input old new)
 
 -- why a command that wrote nothing stopped
 abbrev pub Stops : List (List ℕ) → (input : Option (List ℕ)) → (faults_before faults_now : ℕ) → Status → Type 0
 Stops words input before now status.Usage = AsksNothing words
 Stops words input before now status.SpecRefused =
-    (AsksSomeStep words × IfSome input (IsRefused words)) ⊎ (AsksSomeExpand words × IfSome input (NotExpanded words))
+    (AsksSomeStep words × IfSome input (IsRefused words)) ⊎ (AsksSomeTranslation words × IfSome input (NotTranslated words))
 Stops words input before now status.BadBundle = AsksCheck words × IfSome input (λ text. (length text ≤ most_bundle_bytes) × IsNoBundle text)
 Stops words input before now status.ReadFault = AsksSomething words × Rose before now
 Stops words input before now status.TooLong =
     (AsksSomeStep words × IfSome input (λ text. most_bytes < length text))
     ⊎ ((AsksCheck words × IfSome input (λ text. most_bundle_bytes < length text))
-    ⊎ (AsksSomeExpand words × IfSome input (λ text. most_bytes < length text)))
+    ⊎ (AsksSomeTranslation words × IfSome input (λ text. most_bytes < length text)))
 Stops words input before now status.NoMemory = Unit {0}
 Stops words input before now status.Fine = ⊥
 Stops words input before now status.WriteFault = ⊥
@@ -194,7 +194,7 @@ pub record IsToldToCheck (words : List (List ℕ)) (input : Option (List ℕ)) (
   pub asks : AsksCheck words
   pub told : input ≡ Some text
 
--- the words ask for an expansion with these constants, and the input tells this text
-pub record IsToldToExpand (words : List (List ℕ)) (input : Option (List ℕ)) (consts : List (Name × Data)) (text : List ℕ) : Type 0 where
-  pub asks : AsksExpand words consts
+-- the words ask for this translation with these constants, and the input tells this text
+pub record IsToldToTranslate (target : Target) (words : List (List ℕ)) (input : Option (List ℕ)) (consts : List (Name × Data)) (text : List ℕ) : Type 0 where
+  pub asks : AsksTranslation target words consts
   pub told : input ≡ Some text

@@ -2,8 +2,9 @@
 use Rattle.std.specs.Prelude.{◌≡◌, ◌≤◌, ◌+◌, ◌++◌, ℕ, Bool, true, false, List, length, Option, Some, None}
 use Rattle.pgo_base.specs.Data.{Data}
 use Rattle.pgo_base.specs.Lookup.{Name}
+use Rattle.pgo_front.specs.declared.target.Target.{Target}
 use Rattle.pgo_front.specs.Constants.{Constants}
-use Rattle.pgo_front.specs.Turns.{Item, TurnList, AsksStep, AsksExpand, most_turns}
+use Rattle.pgo_front.specs.Turns.{Item, TurnList, AsksStep, AsksTranslation, most_turns}
 
 -- an item's turns stand behind the old ones, where they are few enough; no other turns would do
 abbrev pub AddsItem : List ℕ → List ℕ → Bool → List ℕ → Type 0
@@ -33,10 +34,11 @@ abbrev pub AsksOnly : List (List ℕ) → Option (List ℕ × List (Name × Data
 AsksOnly words None = (ts : List ℕ) (cs : List (Name × Data)) → AsksStep words ts cs → ⊥
 AsksOnly words (Some p) = AsksStep words p.0 p.1 × ((ts : List ℕ) (cs : List (Name × Data)) → AsksStep words ts cs → (ts ≡ p.0) × (cs ≡ p.1))
 
--- the words ask for an expansion with these constants, and with no others
-abbrev pub ExpandsOnly : List (List ℕ) → Option (List (Name × Data)) → Type 0
-ExpandsOnly words None = (cs : List (Name × Data)) → AsksExpand words cs → ⊥
-ExpandsOnly words (Some cs) = AsksExpand words cs × ((ds : List (Name × Data)) → AsksExpand words ds → ds ≡ cs)
+-- the words ask for this translation with these constants, and for no other
+abbrev pub TranslatesOnly : List (List ℕ) → Option (Target × List (Name × Data)) → Type 0
+TranslatesOnly words None = (target : Target) (cs : List (Name × Data)) → AsksTranslation target words cs → ⊥
+TranslatesOnly words (Some p) =
+    AsksTranslation p.0 words p.1 × ((target : Target) (cs : List (Name × Data)) → AsksTranslation target words cs → (target ≡ p.0) × (cs ≡ p.1))
 
 -- what is read so far, and what is left, are the text's turns together
 pub record ReadsOn (bs read rest : List ℕ) : Type 0 where

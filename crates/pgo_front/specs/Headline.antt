@@ -51,7 +51,7 @@ pub record Ran (spec : Spec) (turns : List ℕ) (status : ℕ) (written : List �
   pub run : IsRun (module_of spec) [] (ids_of (system_of bound)) bound.start (Core (system_of bound) settings turns).entries
   -- the bytes are a bundle of the form that `check` reads, of this module and of the log of these entries
   pub is_read : IsReadBundle written (module_of spec) [] (log_of (system_of bound) (Core (system_of bound) settings turns).entries)
-  -- of what is read today they are the bundle of no other module, constants and log
+  -- they are the bundle of no other module, constants and log
   pub only : IsOnlyBundle written (module_of spec) [] (log_of (system_of bound) (Core (system_of bound) settings turns).entries)
   -- and that log is a run of the module as well
   pub read_run : IsRun (module_of spec) [] (ids_of (system_of bound)) bound.start (log_of (system_of bound) (Core (system_of bound) settings turns).entries).entries

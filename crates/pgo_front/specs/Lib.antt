@@ -10,6 +10,6 @@ pub mod Spells
 pub mod ReadBack
 pub mod Headline
 pub mod Verdicts
-pub mod Expansions
+pub mod Translations
 pub mod Answers
 pub mod Makes

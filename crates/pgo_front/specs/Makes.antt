@@ -5,6 +5,7 @@ use Rattle.pgo_base.specs.Data.{Data}
 use Rattle.pgo_base.specs.Lookup.{Name}
 use Rattle.pgo_counter.specs.Spec.{Spec}
 use Rattle.pgo_model.specs.ModuleText.{flatten}
+use Rattle.pgo_model.specs.State.{AllValues}
 use Rattle.pgo_check.specs.declared.verdict.Verdict.{Verdict}
 use Rattle.pgo_check.specs.declared.verdict.Verdict.TheVariants.{Run, Bad}
 use Rattle.pgo_front.specs.declared.output.Output.{Output}
@@ -13,26 +14,27 @@ use Rattle.pgo_front.specs.declared.output.Written.TheVariants as written
 use Rattle.pgo_front.specs.declared.status.Status.{Status}
 use Rattle.pgo_front.specs.declared.status.Status.TheVariants as status
 use Rattle.pgo_front.specs.declared.words.Request.{Request}
-use Rattle.pgo_front.specs.declared.words.Request.TheVariants.{Step, Check, Expand}
+use Rattle.pgo_front.specs.declared.words.Request.TheVariants.{Step, Check, Translate}
+use Rattle.pgo_front.specs.declared.target.Target.{Target}
 use Rattle.pgo_front.specs.Turns.{AsksStep, AsksCheck}
-use Rattle.pgo_front.specs.Asked.{ExpandsOnly}
+use Rattle.pgo_front.specs.Asked.{TranslatesOnly}
 use Rattle.pgo_front.specs.Spells.{Spells, most_bytes}
 use Rattle.pgo_front.specs.Statuses.{number_of}
 use Rattle.pgo_front.specs.Headline.{Ran}
 use Rattle.pgo_log_text.specs.ReadBundle.{IsNoBundle}
 use Rattle.pgo_front.specs.Verdicts.{Judged, verdict_line, most_bundle_bytes}
-use Rattle.pgo_front.specs.Expansions.{ExpandsTo, Expanded}
+use Rattle.pgo_front.specs.Translations.{TranslatesTo, Translated}
 use Rattle.pgo_accept.specs.Answers.{IsExpandable}
 use Rattle.pgo_accept.specs.Refusals.{rejection_line}
 use Rattle.pgo_accept.specs.declared.errors.Rejection.{Rejection}
-use Rattle.pgo_front.specs.Answers.{Asked, AsksSomeStep, AsksSomeExpand, AsksNothing, IsNotRun, Checked}
+use Rattle.pgo_front.specs.Answers.{Asked, AsksSomeStep, AsksSomeTranslation, AsksNothing, IsNotRun, Checked}
 
 -- what the words ask for
 abbrev pub AsksFor : List (List ℕ) → Option Request → Type 0
 AsksFor words None = AsksNothing words
 AsksFor words (Some (Step turns consts)) = AsksStep words turns consts
 AsksFor words (Some Check) = AsksCheck words
-AsksFor words (Some (Expand consts)) = ExpandsOnly words (Some consts)
+AsksFor words (Some (Translate target consts)) = TranslatesOnly words (Some (target, consts))
 
 -- the bytes of what is written
 abbrev pub bytes_of : Written → List ℕ
@@ -106,18 +108,18 @@ StopsCheck input before now s =
     ((s ≡ status.BadBundle) × IfSome input (λ text. (length text ≤ most_bundle_bytes) × IsNoBundle text))
     ⊎ StopsReading most_bundle_bytes input before now s
 
--- ---- the command `expand`
+-- ---- the commands `expand` and `compile`
 
--- this is the text of the expansion of the specification that the text spells
-abbrev pub MakesExpansion : (text : List ℕ) → List (Name × Data) → Output → Type 0
-MakesExpansion text consts m = ExpandsTo text consts (bytes_of m.written)
+-- this is the translation of the specification that the text spells, where the constants' values are values
+abbrev pub MakesTranslation : Target → (text : List ℕ) → List (Name × Data) → Output → Type 0
+MakesTranslation target text consts m = AllValues consts → TranslatesTo target text consts (bytes_of m.written)
 
-abbrev pub StopsExpanding : (text : List ℕ) → List (Name × Data) → Status → Type 0
-StopsExpanding text consts s = StopsFor (IsExpandable text consts → ⊥) s
+abbrev pub StopsTranslating : (text : List ℕ) → List (Name × Data) → Status → Type 0
+StopsTranslating text consts s = StopsFor (IsExpandable text consts → ⊥) s
 
--- why an expansion of this input stopped
-abbrev pub StopsExpand : List (Name × Data) → (input : Option (List ℕ)) → (faults_before faults_now : ℕ) → Status → Type 0
-StopsExpand consts input before now s = StopsInput (λ text. IsExpandable text consts → ⊥) input before now s
+-- why a translation of this input stopped
+abbrev pub StopsTranslation : List (Name × Data) → (input : Option (List ℕ)) → (faults_before faults_now : ℕ) → Status → Type 0
+StopsTranslation consts input before now s = StopsInput (λ text. IsExpandable text consts → ⊥) input before now s
 
 -- the command ended with the line of this refusal, or there was no memory
 abbrev pub IsRejected : Rejection → Status → Option (List ℕ) → Type 0
@@ -135,9 +137,9 @@ abbrev pub MakesOfCheck : List (List ℕ) → (input : Option (List ℕ)) → Ou
 MakesOfCheck words input m =
     AsksCheck words × IsVerdictStatus m × IfSome input (λ text. (v : Verdict) × Checked text v × MakesVerdict v m)
 
-abbrev pub MakesOfExpand : List (List ℕ) → (input : Option (List ℕ)) → Output → Type 0
-MakesOfExpand words input m =
-    AsksSomeExpand words × (m.status ≡ status.Fine) × IfSome input (λ text. Expanded words text (bytes_of m.written))
+abbrev pub MakesOfTranslation : List (List ℕ) → (input : Option (List ℕ)) → Output → Type 0
+MakesOfTranslation words input m =
+    AsksSomeTranslation words × (m.status ≡ status.Fine) × IfSome input (λ text. Translated words text (bytes_of m.written))
 
 abbrev pub MakesAsked : List (List ℕ) → (input : Option (List ℕ)) → Output → Type 0
-MakesAsked words input m = MakesOfStep words input m ⊎ (MakesOfCheck words input m ⊎ MakesOfExpand words input m)
+MakesAsked words input m = MakesOfStep words input m ⊎ (MakesOfCheck words input m ⊎ MakesOfTranslation words input m)

@@ -1,7 +1,9 @@
--- The words of a command: `step --turns LIST` and constants, `check`, or `expand` and constants.
+-- The words of a command: `step --turns LIST` and constants, `check`, or `expand` or `compile` and constants.
 use Rattle.std.specs.Prelude.{◌≡◌, ◌≤◌, ◌<◌, ◌^◌, ℕ, List, [], ◌∷◌, ◌++◌, length, replicate, codes, decimal}
 use Rattle.pgo_base.specs.Data.{Data}
 use Rattle.pgo_base.specs.Lookup.{Name}
+use Rattle.pgo_front.specs.declared.target.Target.{Target}
+use Rattle.pgo_front.specs.declared.target.Target.TheVariants as targets
 use Rattle.pgo_front.specs.Constants.{Constants}
 
 -- `k`, or `k*n` for n turns of k; digits without sign or leading zeros
@@ -30,8 +32,13 @@ pub record AsksStep (words : List (List ℕ)) (turns : List ℕ) (consts : List 
 abbrev pub AsksCheck : List (List ℕ) → Type 0
 AsksCheck words = words ≡ codes "check" ∷ []
 
--- the words ask for the expansion of a specification, with these values of constants
-pub record AsksExpand (words : List (List ℕ)) (consts : List (Name × Data)) : Type 0 where
+-- the word that asks for a translation of a specification
+abbrev pub command_of : Target → List ℕ
+command_of targets.Expansion = codes "expand"
+command_of targets.Module = codes "compile"
+
+-- the words ask for this translation of a specification, with these values of constants
+pub record AsksTranslation (target : Target) (words : List (List ℕ)) (consts : List (Name × Data)) : Type 0 where
   pub rest : List (List ℕ)
-  pub words_are : words ≡ codes "expand" ∷ rest
+  pub words_are : words ≡ command_of target ∷ rest
   pub constants : Constants rest consts

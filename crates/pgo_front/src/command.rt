@@ -10,19 +10,20 @@ ghost use Rattle.pgo_model.specs.ModuleText.{flatten};
 ghost use Rattle.pgo_model.specs.Log.{Log};
 ghost use Rattle.pgo_model.specs.IsRun.{IsRun};
 ghost use Rattle.pgo_log_text.specs.ReadBundle.{IsReadBundle, IsNoBundle};
+ghost use Rattle.pgo_front.specs.declared.target.Target.{Target};
 ghost use Rattle.pgo_front.specs.Spells.{Spells, most_bytes};
 ghost use Rattle.pgo_front.specs.Statuses.{line_of, IsSilent};
 ghost use Rattle.pgo_front.specs.Verdicts.{most_bundle_bytes, IsBadVerdict};
-ghost use Rattle.pgo_front.specs.Answers.{AsksNothing, IsNotRun, RefusedBy, EndsWell, WritesBundle, WritesVerdict, WritesPrefix, Stops, IsRefusal, ReadsAll, IsAtEnd, OrNoMemory, SaysLine, SaysRefusal, IsToldToStep, IsToldToCheck, IsToldToExpand};
+ghost use Rattle.pgo_front.specs.Answers.{AsksNothing, IsNotRun, RefusedBy, EndsWell, WritesBundle, WritesVerdict, WritesPrefix, Stops, IsRefusal, ReadsAll, IsAtEnd, OrNoMemory, SaysLine, SaysRefusal, IsToldToStep, IsToldToCheck, IsToldToTranslate};
 ghost use Rattle.pgo_front.specs.Makes.{MakesAsked, HasLine, bytes_of};
 ghost use Rattle.pgo_accept.specs.Answers.{IsExpandable};
 
 use crate::check::make_check;
 use crate::ended::Ended;
-use crate::expand::make_expand;
 use crate::output::{Output, Written};
 use crate::status::Status;
 use crate::step::make_step;
+use crate::translate::make_translation;
 use crate::words::{Request, read_words};
 use pgo_base::word::Word;
 use pgo_io::errors::Failed;
@@ -34,10 +35,10 @@ use std::alloc::Global;
 
 /// Runs the command that the words ask for: `step --turns LIST` and then constants, `NAME=value` each, with a specification
 /// as its input and the bundle of its run as its output; or `check`, with a bundle as its input and the verdict on its log
-/// as its output, one line, `run steps` or `bad at why`; or `expand` and then constants, with a specification as its input
-/// and the text of its expansion as its output.
+/// as its output, one line, `run steps` or `bad at why`; or `expand` or `compile` and then constants, with a specification as
+/// its input and its translation as its output: the text of its expansion, or that of its module.
 ///
-/// The words come first, then the input is read to its end, then the text is read, then the run, the check or the expansion
+/// The words come first, then the input is read to its end, then the text is read, then the run, the check or the translation
 /// is made, and only then is the output written, line by line. A refusal puts its one line on `err`, whose faults change no status. The
 /// statuses are those of `Status`. This project's choice.
 pub fn pgo<S: Source, O: Sink, E: Sink>(
@@ -77,13 +78,13 @@ pub fn pgo<S: Source, O: Sink, E: Sink>(
         ¬ Rose (S.faults input.old) (S.faults input.new) → ¬ Rose (O.faults out.old) (O.faults out.new) →
         length text ≤ most_bundle_bytes → IsReadBundle text m consts l → ¬ IsRun m consts l.ids l.start l.entries → OrNoMemory result Status.NotARun }
 
-    ensures expands { (text : List ℕ) (consts : List (Name × Data)) → IsToldToExpand words.now (S.left input.old) consts text →
+    ensures translates { (target : Target) (text : List ℕ) (consts : List (Name × Data)) → IsToldToTranslate target words.now (S.left input.old) consts text →
         ¬ Rose (S.faults input.old) (S.faults input.new) → ¬ Rose (O.faults out.old) (O.faults out.new) →
         length text ≤ most_bytes → IsExpandable text consts → OrNoMemory result Status.Fine }
-    ensures not_expanded { (text : List ℕ) (consts : List (Name × Data)) → IsToldToExpand words.now (S.left input.old) consts text →
+    ensures not_translated { (target : Target) (text : List ℕ) (consts : List (Name × Data)) → IsToldToTranslate target words.now (S.left input.old) consts text →
         ¬ Rose (S.faults input.old) (S.faults input.new) →
         length text ≤ most_bytes → ¬ IsExpandable text consts → OrNoMemory result Status.SpecRefused }
-    ensures too_long_to_expand { (text : List ℕ) (consts : List (Name × Data)) → IsToldToExpand words.now (S.left input.old) consts text →
+    ensures too_long_to_translate { (target : Target) (text : List ℕ) (consts : List (Name × Data)) → IsToldToTranslate target words.now (S.left input.old) consts text →
         ¬ Rose (S.faults input.old) (S.faults input.new) → most_bytes < length text → OrNoMemory result Status.TooLong }
 
     // A failure of the input or the output is never passed over.
@@ -222,7 +223,9 @@ fn make<S: Source>(alloc: Global, words: &[Word], input: &mut S) -> Result<Outpu
             Ok(output) => Ok(output),
             Err(status) => Err(Ended::as_status(status)),
         },
-        Ok(Some(Request::Expand(consts))) => make_expand(alloc, &consts, input),
+        Ok(Some(Request::Translate(target, consts))) => make_translation(
+            alloc, target, &consts, input,
+        ),
         Ok(None) => Err(Ended::as_status(Status::Usage)),
         Err(_) => Err(Ended::as_status(Status::NoMemory)),
     }

@@ -6,12 +6,13 @@ mod check;
 mod command;
 mod constants;
 mod ended;
-mod expand;
 mod input;
 mod instance;
 mod output;
 mod status;
 mod step;
+mod target;
+mod translate;
 mod words;
 
 pub use command::pgo;

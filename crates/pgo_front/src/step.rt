@@ -20,6 +20,8 @@ use pgo_base::consts::Consts;
 use pgo_counter::counter::Counter;
 use pgo_counter_read::reader::{ReadStop, read_counter};
 use pgo_io::source::Source;
+use pgo_log_text::bundle_reader::one_bundle;
+use pgo_module_text::laws::canonical_modules_are_spelled;
 use std::alloc::{AllocError, Global};
 
 /// The most bytes of a specification.
@@ -84,6 +86,8 @@ fn make_run(alloc: Global, counter: &Counter, turns: &[u32]) -> Result<Output, A
     ensures ran { IfOk result (λ m. Ran (spec_of counter.now) turns.now (number_of m.status) (bytes_of m.written)) }
     ensures either { IfOk result IsStepStatus }
 {
+    canonical_modules_are_spelled();
+    one_bundle();
     let values = run_turns(alloc, counter, turns)?;
     let lines = bundle(alloc, counter, values.as_slice())?;
     let status = if is_done(counter, values.as_slice()) {

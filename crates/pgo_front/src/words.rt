@@ -1,12 +1,14 @@
 // The words of a command.
-ghost use Rattle.std.specs.Prelude.{◌≡◌, ◌↔◌, ◌<◌, ◌≤◌, ◌^◌, ◌+◌, ◌++◌, ℕ, List, Some, None, IfSome, IfOk, MatchOption, IsTrue, decimal, length, replicate};
-ghost use Rattle.pgo_front.specs.Turns.{Item, TurnList, AsksStep, AsksCheck, most_turns};
+ghost use Rattle.std.specs.Prelude.{◌≡◌, ◌↔◌, ◌<◌, ◌≤◌, ◌^◌, ◌+◌, ◌++◌, ℕ, List, Some, None, IfSome, IsSome, IfOk, MatchOption, IsTrue, decimal, length, replicate};
+ghost use Rattle.pgo_front.specs.Turns.{Item, TurnList, AsksStep, AsksCheck, command_of, most_turns};
+ghost use Rattle.pgo_front.specs.declared.target.Target.{Target as Translation};
 ghost use Rattle.pgo_front.specs.Cuts.{Cuts};
 ghost use Rattle.pgo_front.specs.Items.{ReadsItem, ReadsSingle, ReadsRepeated, turns_of};
-ghost use Rattle.pgo_front.specs.Asked.{SpelledOnly, SpellsRest, AsksOnly, AddsItem, ExpandsOnly};
+ghost use Rattle.pgo_front.specs.Asked.{SpelledOnly, SpellsRest, AsksOnly, AddsItem, TranslatesOnly};
 ghost use Rattle.pgo_front.specs.Makes.{AsksFor};
 
 use crate::constants::read_constants;
+use crate::target::Target;
 use itoa::Buffer;
 use pgo_base::consts::Consts;
 use pgo_base::word::Word;
@@ -136,8 +138,8 @@ pub enum Request {
     Step(Turns, Consts),
     /// The check of a bundle.
     Check,
-    /// The expansion of a specification, with these values of constants.
-    Expand(Consts),
+    /// This translation of a specification, with these values of constants.
+    Translate(Target, Consts),
 }
 
 /// What the words ask for; none where they ask for nothing that there is.
@@ -149,23 +151,41 @@ pub fn read_words(alloc: Global, words: &[Word]) -> Result<Option<Request>, Allo
     }
     match read_step(alloc, words)? {
         Some((turns, consts)) => Ok(Some(Request::Step(turns, consts))),
-        None => match read_expand(alloc, words)? {
-            Some(consts) => Ok(Some(Request::Expand(consts))),
+        None => match read_translation(alloc, words)? {
+            Some((target, consts)) => Ok(Some(Request::Translate(target, consts))),
             None => Ok(None),
         },
     }
 }
 
-/// The constants that the words `expand` and then `NAME=value` each ask for; none where the words are others.
-fn read_expand(alloc: Global, words: &[Word]) -> Result<Option<Consts>, AllocError>
-    ensures { IfOk result (λ o. ExpandsOnly words.now o) }
+/// What the word `expand` or `compile` translates to; none where it is another.
+fn read_target(command: &str) -> Option<Target>
+    ensures some { IfSome result (λ target. command.now ≡ command_of target) }
+    ensures none { (target : Translation) → command.now ≡ command_of target → IsSome result }
+{
+    if command == "expand" {
+        Some(Target::Expansion)
+    } else if command == "compile" {
+        Some(Target::Module)
+    } else {
+        None
+    }
+}
+
+/// The translation and the constants that the words `expand` or `compile` and then `NAME=value` each ask for; none where the
+/// words are others.
+fn read_translation(alloc: Global, words: &[Word]) -> Result<Option<(Target, Consts)>, AllocError>
+    ensures { IfOk result (λ o. TranslatesOnly words.now o) }
 {
     match words {
         [command, constants @ ..] => {
-            if command.as_str() != "expand" {
+            let Some(target) = read_target(command.as_str()) else {
                 return Ok(None);
+            };
+            match read_constants(alloc, constants)? {
+                Some(consts) => Ok(Some((target, consts))),
+                None => Ok(None),
             }
-            read_constants(alloc, constants)
         }
         _ => Ok(None),
     }

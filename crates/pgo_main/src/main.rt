@@ -12,7 +12,8 @@ ghost use Rattle.pgo_model.specs.Module.{Module};
 ghost use Rattle.pgo_counter.specs.Spec.{Spec};
 ghost use Rattle.pgo_log_text.specs.ReadBundle.{IsReadBundle, IsNoBundle};
 ghost use Rattle.pgo_front.specs.Statuses.{number_of, IsSilent};
-ghost use Rattle.pgo_front.specs.Answers.{AsksNothing, IsNotRun, EndsWell, WritesBundle, WritesVerdict, WritesPrefix, Stops, IsRefusal, ReadsAll, IsAtEnd, OrNoMemory, SaysLine, SaysRefusal, IsToldToStep, IsToldToCheck, IsToldToExpand};
+ghost use Rattle.pgo_front.specs.Answers.{AsksNothing, IsNotRun, EndsWell, WritesBundle, WritesVerdict, WritesPrefix, Stops, IsRefusal, ReadsAll, IsAtEnd, OrNoMemory, SaysLine, SaysRefusal, IsToldToStep, IsToldToCheck, IsToldToTranslate};
+ghost use Rattle.pgo_front.specs.declared.target.Target.{Target};
 ghost use Rattle.pgo_front.specs.Spells.{Spells, most_bytes};
 ghost use Rattle.pgo_front.specs.Verdicts.{most_bundle_bytes, IsBadVerdict};
 ghost use Rattle.pgo_accept.specs.Answers.{IsExpandable};
@@ -83,13 +84,13 @@ fn run<S: Source, O: Sink, E: Sink>(
     ensures is_no_run { (text : List ℕ) (m : Module) (consts : List (Name × Data)) (l : Log) → IsToldToCheck (words_of arguments) (S.left input.old) text →
         ¬ Rose (S.faults input.old) (S.faults input.new) → ¬ Rose (O.faults out.old) (O.faults out.new) →
         length text ≤ most_bundle_bytes → IsReadBundle text m consts l → ¬ IsRun m consts l.ids l.start l.entries → OrNoMemory result Status.NotARun }
-    ensures expands { (text : List ℕ) (consts : List (Name × Data)) → IsToldToExpand (words_of arguments) (S.left input.old) consts text →
+    ensures translates { (target : Target) (text : List ℕ) (consts : List (Name × Data)) → IsToldToTranslate target (words_of arguments) (S.left input.old) consts text →
         ¬ Rose (S.faults input.old) (S.faults input.new) → ¬ Rose (O.faults out.old) (O.faults out.new) →
         length text ≤ most_bytes → IsExpandable text consts → OrNoMemory result Status.Fine }
-    ensures not_expanded { (text : List ℕ) (consts : List (Name × Data)) → IsToldToExpand (words_of arguments) (S.left input.old) consts text →
+    ensures not_translated { (target : Target) (text : List ℕ) (consts : List (Name × Data)) → IsToldToTranslate target (words_of arguments) (S.left input.old) consts text →
         ¬ Rose (S.faults input.old) (S.faults input.new) →
         length text ≤ most_bytes → ¬ IsExpandable text consts → OrNoMemory result Status.SpecRefused }
-    ensures too_long_to_expand { (text : List ℕ) (consts : List (Name × Data)) → IsToldToExpand (words_of arguments) (S.left input.old) consts text →
+    ensures too_long_to_translate { (target : Target) (text : List ℕ) (consts : List (Name × Data)) → IsToldToTranslate target (words_of arguments) (S.left input.old) consts text →
         ¬ Rose (S.faults input.old) (S.faults input.new) → most_bytes < length text → OrNoMemory result Status.TooLong }
 
     // A failure of the input or the output is never passed over.

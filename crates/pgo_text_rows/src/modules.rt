@@ -1,24 +1,34 @@
 // Texts of modules, read or refused.
 //
 // A text that is read is answered with the module's name, how many constants and definitions it has, its variables, the
-// operators of its first state, and its processes with their actions.
+// operators of its first state, and its processes with their actions; with `the same`, where the module is written as the text that stands
+// before it.
 use crate::answer::Answer;
 use crate::operators::operators;
 use crate::texts::Asked;
 use pgo_base::module::{Module, WrittenProcess};
 use pgo_base::text::Text;
-use pgo_module_read::errors::TextStop;
-use pgo_module_read::module_reader::read_module;
+use pgo_lexer::bytes::{first, skip};
+use pgo_module_read::read::read_module;
+use pgo_module_text::write::write_module;
 use std::alloc::{AllocError, Global};
 
 pub fn answer(asked: &Asked<'_>) -> Result<Answer, AllocError> {
     let alloc = asked.alloc;
-    match read_module(alloc, asked.text) {
-        Ok(m) => Ok(Answer::Read(contents(alloc, &m)?)),
-        Err(TextStop::Syntax { offset }) => {
-            Ok(Answer::Refused(format!(in alloc; "syntax at {offset}")?))
+    match read_module(alloc, skip(asked.text, asked.start)) {
+        Ok(m) => Ok(Answer::Read(described(asked, &m)?)),
+        Err(stop) => Answer::refused(alloc, stop, 0),
+    }
+}
+
+/// `the same`, where the module is written as what stands before the text, else what it declares.
+fn described(asked: &Asked<'_>, m: &Module) -> Result<String, AllocError> {
+    match write_module(asked.alloc, m) {
+        Ok(text) if text.as_bytes() == first(asked.text, asked.start) => {
+            String::from_str(asked.alloc, "the same")
         }
-        Err(TextStop::NoMemory) => Err(AllocError),
+        Ok(_) => contents(asked.alloc, m),
+        Err(_) => Err(AllocError),
     }
 }
 

@@ -8,11 +8,12 @@ use Rattle.pgo_model.specs.Log.{Log}
 use Rattle.pgo_model.specs.Module.{Module}
 use Rattle.pgo_counter.specs.Spec.{Spec}
 use Rattle.pgo_log_text.specs.ReadBundle.{IsReadBundle, IsNoBundle}
-use Rattle.pgo_front.specs.Answers.{AsksNothing, IsNotRun, OrNoMemory, Stops, IsRefusal, EndsWell, WritesPrefix, SaysRefusal, IsToldToStep, IsToldToCheck, IsToldToExpand}
+use Rattle.pgo_front.specs.Answers.{AsksNothing, IsNotRun, OrNoMemory, Stops, IsRefusal, EndsWell, WritesPrefix, SaysRefusal, IsToldToStep, IsToldToCheck, IsToldToTranslate}
 use Rattle.pgo_front.specs.Spells.{Spells, most_bytes}
 use Rattle.pgo_front.specs.Verdicts.{most_bundle_bytes}
 use Rattle.pgo_accept.specs.Answers.{IsExpandable}
 use Rattle.pgo_front.specs.declared.status.Status.TheVariants as status
+use Rattle.pgo_front.specs.declared.target.Target.{Target}
 use Rattle.pgo_main.proofs.run.Goals as goal
 
 pub returns-in-Ok-clause-stopped : goal.returns-in-Ok-clause-stopped
@@ -90,20 +91,20 @@ returns-in-Ok-clause-is_no_run g c =
     (λ ws. (text : List ℕ) (m : Module) (consts : List (Name × Data)) (l : Log) → IsToldToCheck ws (g.S.Source.left c.args.input.now) text → (Rose (g.S.Source.faults c.args.input.now) (g.S.Source.faults c.pgo.new.input) → ⊥) → (Rose (g.O.Sink.faults c.args.out.now) (g.O.Sink.faults c.pgo.new.out) → ⊥) → length text ≤ most_bundle_bytes → IsReadBundle text m consts l → (IsRun m consts l.ids l.start l.entries → ⊥) → OrNoMemory c.pgo.result status.NotARun)
     (c.as_slice.ensures.value ∙ c.in-Ok.ensures.words) c.pgo.ensures.is_no_run
 
-pub returns-in-Ok-clause-expands : goal.returns-in-Ok-clause-expands
-returns-in-Ok-clause-expands g c =
+pub returns-in-Ok-clause-translates : goal.returns-in-Ok-clause-translates
+returns-in-Ok-clause-translates g c =
     subst
-    (λ ws. (text : List ℕ) (consts : List (Name × Data)) → IsToldToExpand ws (g.S.Source.left c.args.input.now) consts text → (Rose (g.S.Source.faults c.args.input.now) (g.S.Source.faults c.pgo.new.input) → ⊥) → (Rose (g.O.Sink.faults c.args.out.now) (g.O.Sink.faults c.pgo.new.out) → ⊥) → length text ≤ most_bytes → IsExpandable text consts → OrNoMemory c.pgo.result status.Fine)
-    (c.as_slice.ensures.value ∙ c.in-Ok.ensures.words) c.pgo.ensures.expands
+    (λ ws. (target : Target) (text : List ℕ) (consts : List (Name × Data)) → IsToldToTranslate target ws (g.S.Source.left c.args.input.now) consts text → (Rose (g.S.Source.faults c.args.input.now) (g.S.Source.faults c.pgo.new.input) → ⊥) → (Rose (g.O.Sink.faults c.args.out.now) (g.O.Sink.faults c.pgo.new.out) → ⊥) → length text ≤ most_bytes → IsExpandable text consts → OrNoMemory c.pgo.result status.Fine)
+    (c.as_slice.ensures.value ∙ c.in-Ok.ensures.words) c.pgo.ensures.translates
 
-pub returns-in-Ok-clause-not_expanded : goal.returns-in-Ok-clause-not_expanded
-returns-in-Ok-clause-not_expanded g c =
+pub returns-in-Ok-clause-not_translated : goal.returns-in-Ok-clause-not_translated
+returns-in-Ok-clause-not_translated g c =
     subst
-    (λ ws. (text : List ℕ) (consts : List (Name × Data)) → IsToldToExpand ws (g.S.Source.left c.args.input.now) consts text → (Rose (g.S.Source.faults c.args.input.now) (g.S.Source.faults c.pgo.new.input) → ⊥) → length text ≤ most_bytes → (IsExpandable text consts → ⊥) → OrNoMemory c.pgo.result status.SpecRefused)
-    (c.as_slice.ensures.value ∙ c.in-Ok.ensures.words) c.pgo.ensures.not_expanded
+    (λ ws. (target : Target) (text : List ℕ) (consts : List (Name × Data)) → IsToldToTranslate target ws (g.S.Source.left c.args.input.now) consts text → (Rose (g.S.Source.faults c.args.input.now) (g.S.Source.faults c.pgo.new.input) → ⊥) → length text ≤ most_bytes → (IsExpandable text consts → ⊥) → OrNoMemory c.pgo.result status.SpecRefused)
+    (c.as_slice.ensures.value ∙ c.in-Ok.ensures.words) c.pgo.ensures.not_translated
 
-pub returns-in-Ok-clause-too_long_to_expand : goal.returns-in-Ok-clause-too_long_to_expand
-returns-in-Ok-clause-too_long_to_expand g c =
+pub returns-in-Ok-clause-too_long_to_translate : goal.returns-in-Ok-clause-too_long_to_translate
+returns-in-Ok-clause-too_long_to_translate g c =
     subst
-    (λ ws. (text : List ℕ) (consts : List (Name × Data)) → IsToldToExpand ws (g.S.Source.left c.args.input.now) consts text → (Rose (g.S.Source.faults c.args.input.now) (g.S.Source.faults c.pgo.new.input) → ⊥) → most_bytes < length text → OrNoMemory c.pgo.result status.TooLong)
-    (c.as_slice.ensures.value ∙ c.in-Ok.ensures.words) c.pgo.ensures.too_long_to_expand
+    (λ ws. (target : Target) (text : List ℕ) (consts : List (Name × Data)) → IsToldToTranslate target ws (g.S.Source.left c.args.input.now) consts text → (Rose (g.S.Source.faults c.args.input.now) (g.S.Source.faults c.pgo.new.input) → ⊥) → most_bytes < length text → OrNoMemory c.pgo.result status.TooLong)
+    (c.as_slice.ensures.value ∙ c.in-Ok.ensures.words) c.pgo.ensures.too_long_to_translate

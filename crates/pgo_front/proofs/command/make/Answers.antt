@@ -1,7 +1,8 @@
 use Rattle.std.proofs.Common.{Some, sym, subst, ap, ◌∙◌}
+use Rattle.std.proofs.lemmas.Result.{IfErr-weaker}
 use Rattle.pgo_front.specs.Turns.{AsksStep}
 use Rattle.pgo_front.specs.Makes.{AsksFor}
-use Rattle.pgo_front.proofs.Making.{step_made, check_asked, expand_made}
+use Rattle.pgo_front.proofs.Making.{step_made, check_asked, translation_made, translation_stopped, translation_line}
 use Rattle.pgo_front.proofs.command.make.Goals as goal
 
 pub returns-in-Ok-Some-Step-clause-ok : goal.returns-in-Ok-Some-Step-clause-ok
@@ -19,14 +20,31 @@ returns-in-Ok-clause-ok g c =
     check_asked words (g.S.Source.left c.args.input.now) c.in-Ok.output
     (subst (AsksFor words) (check.field-0-is ∙ ap Some check.field-0-0-is) check.ensures) c.in-Ok.ensures.either c.in-Ok.ensures.ok
 
-pub returns-in-Ok-Some-Expand-clause-ok : goal.returns-in-Ok-Some-Expand-clause-ok
-returns-in-Ok-Some-Expand-clause-ok g c =
+pub returns-in-Ok-Some-Translate-clause-ok : goal.returns-in-Ok-Some-Translate-clause-ok
+returns-in-Ok-Some-Translate-clause-ok g c =
     let words = c.args.words.now in
-    let expand = c.in-Ok-Some-Expand in
-    let asks = subst (AsksFor words) (expand.field-0-is ∙ ap Some expand.field-0-0-is) expand.ensures in
-    expand_made words (g.S.Source.left c.args.input.now) expand.consts c.make_expand.result asks c.make_expand.ensures.fine c.make_expand.ensures.ok
+    let asked = c.in-Ok-Some-Translate in
+    let asks = subst (AsksFor words) (asked.field-0-is ∙ ap Some asked.field-0-0-is) asked.ensures in
+    translation_made words (g.S.Source.left c.args.input.now) asked.target asked.consts c.make_translation.result asks c.make_translation.ensures.fine c.make_translation.ensures.ok
 
-pub returns-in-Ok-Some-Expand-clause-unread : goal.returns-in-Ok-Some-Expand-clause-unread
-returns-in-Ok-Some-Expand-clause-unread g c nothing =
-    let expand = c.in-Ok-Some-Expand in
-    let asks = subst (AsksFor c.args.words.now) (expand.field-0-is ∙ ap Some expand.field-0-0-is) expand.ensures in absurd (nothing.2 expand.consts asks.0)
+pub returns-in-Ok-Some-Translate-clause-err : goal.returns-in-Ok-Some-Translate-clause-err
+returns-in-Ok-Some-Translate-clause-err g c =
+    let words = c.args.words.now in
+    let asked = c.in-Ok-Some-Translate in
+    let asks = subst (AsksFor words) (asked.field-0-is ∙ ap Some asked.field-0-0-is) asked.ensures in
+    IfErr-weaker c.make_translation.result _ _
+    (λ e h. translation_stopped words (g.S.Source.left c.args.input.now) _ _ asked.target asked.consts e.status asks h) c.make_translation.ensures.err
+
+pub returns-in-Ok-Some-Translate-clause-line : goal.returns-in-Ok-Some-Translate-clause-line
+returns-in-Ok-Some-Translate-clause-line g c =
+    let words = c.args.words.now in
+    let asked = c.in-Ok-Some-Translate in
+    let asks = subst (AsksFor words) (asked.field-0-is ∙ ap Some asked.field-0-0-is) asked.ensures in
+    IfErr-weaker c.make_translation.result _ _
+    (λ e h. translation_line words (g.S.Source.left c.args.input.now) asked.target asked.consts e.status e.line asks.0 h) c.make_translation.ensures.line
+
+pub returns-in-Ok-Some-Translate-clause-unread : goal.returns-in-Ok-Some-Translate-clause-unread
+returns-in-Ok-Some-Translate-clause-unread g c nothing =
+    let asked = c.in-Ok-Some-Translate in
+    let asks = subst (AsksFor c.args.words.now) (asked.field-0-is ∙ ap Some asked.field-0-0-is) asked.ensures in
+    absurd (nothing.2 asked.target asked.consts asks.0)

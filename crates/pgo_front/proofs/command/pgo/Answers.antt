@@ -1,6 +1,6 @@
 use Rattle.std.proofs.Common.{[], refl}
 use Rattle.pgo_front.proofs.Caused.{usage_comes, too_long_comes, refused_comes, run_comes, too_long_bundle_comes, no_bundle_comes, is_run_comes, is_no_run_comes}
-use Rattle.pgo_front.proofs.CausedExpand.{too_long_to_expand_comes, not_expanded_comes, expands_comes}
+use Rattle.pgo_front.proofs.CausedTranslation.{too_long_to_translate_comes, not_translated_comes, translates_comes}
 use Rattle.pgo_front.proofs.command.pgo.Goals as goal
 
 pub returns-clause-usage : goal.returns-clause-usage
@@ -52,21 +52,21 @@ returns-clause-is_no_run g c text m consts l told read wrote short bundle none =
     is_no_run_comes c.args.words.now (g.S.Source.left c.args.input.now) _ _ _ _ _ _ text told read m consts l bundle wrote short c.run-ended.result.status
     (record { fine = e.fine; spent = e.spent; not_a_run = e.not_a_run; stopped = e.stopped; write_fault = e.write_fault; prefix = e.prefix }) none
 
-pub returns-clause-expands : goal.returns-clause-expands
-returns-clause-expands g c text consts told read wrote short expandable =
+pub returns-clause-translates : goal.returns-clause-translates
+returns-clause-translates g c target text consts told read wrote short expandable =
     let e = c.run-ended.ensures in
-    expands_comes c.args.words.now (g.S.Source.left c.args.input.now) _ _ _ _ _ _ text consts told read c.run-ended.result.status
+    translates_comes c.args.words.now (g.S.Source.left c.args.input.now) _ _ _ _ _ _ target text consts told read c.run-ended.result.status
     (record { fine = e.fine; spent = e.spent; not_a_run = e.not_a_run; stopped = e.stopped; write_fault = e.write_fault; prefix = e.prefix })
     wrote short expandable
 
-pub returns-clause-not_expanded : goal.returns-clause-not_expanded
-returns-clause-not_expanded g c text consts told read =
+pub returns-clause-not_translated : goal.returns-clause-not_translated
+returns-clause-not_translated g c target text consts told read =
     let e = c.run-ended.ensures in
-    not_expanded_comes c.args.words.now (g.S.Source.left c.args.input.now) _ _ _ _ _ _ text consts told read c.run-ended.result.status
+    not_translated_comes c.args.words.now (g.S.Source.left c.args.input.now) _ _ _ _ _ _ target text consts told read c.run-ended.result.status
     (record { fine = e.fine; spent = e.spent; not_a_run = e.not_a_run; stopped = e.stopped; write_fault = e.write_fault; prefix = e.prefix })
 
-pub returns-clause-too_long_to_expand : goal.returns-clause-too_long_to_expand
-returns-clause-too_long_to_expand g c text consts told read =
+pub returns-clause-too_long_to_translate : goal.returns-clause-too_long_to_translate
+returns-clause-too_long_to_translate g c target text consts told read =
     let e = c.run-ended.ensures in
-    too_long_to_expand_comes c.args.words.now (g.S.Source.left c.args.input.now) _ _ _ _ _ _ text consts told read c.run-ended.result.status
+    too_long_to_translate_comes c.args.words.now (g.S.Source.left c.args.input.now) _ _ _ _ _ _ target text consts told read c.run-ended.result.status
     (record { fine = e.fine; spent = e.spent; not_a_run = e.not_a_run; stopped = e.stopped; write_fault = e.write_fault; prefix = e.prefix })

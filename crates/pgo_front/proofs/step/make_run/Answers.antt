@@ -17,7 +17,7 @@ returns-clause-ran c =
     = test_is c.is_done.result _ (length counter.body) c.is_done.ensures
     ∙ ap (λ vs. nat_eq (length vs) (length counter.body)) (c.as_slice-2.ensures ∙ sym c.as_slice.ensures)
     in
-    ran counter c.requires c.args.turns.now values at (number_of c.if-is_done.status)
+    ran c.canonical_modules_are_spelled.ensures c.one_bundle.ensures counter c.requires c.args.turns.now values at (number_of c.if-is_done.status)
     (elim c.if-is_done.branch [
       | then-is_done w ↦ ap number_of w.status-is ∙ ap (λ b. if b then 0 else 21) (sym w.if-is_done.true ∙ at_end)
       | else-is_done w ↦ ap number_of w.status-is ∙ ap (λ b. if b then 0 else 21) (sym w.if-is_done.false ∙ at_end)
