@@ -1,0 +1,9 @@
+pub mod Components
+pub mod Applied
+pub mod LayoutChanges
+pub mod Patched
+pub mod MadeEntries
+pub mod EntryComponents
+pub mod Differences
+pub mod BoundLayout
+pub mod Journals

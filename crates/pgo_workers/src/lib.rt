@@ -1,0 +1,2 @@
+// Definitions of boards, workers and their turns.
+#![tactic(auto)]
