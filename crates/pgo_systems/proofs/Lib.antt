@@ -1,0 +1,24 @@
+mod Rows
+pub mod Fitting
+pub mod Lists
+pub mod Operators
+pub mod Trees
+pub mod Definitions
+pub mod SectionCode
+pub mod Blocks
+pub mod States
+pub mod Jumping
+pub mod Places
+pub mod Functions
+pub mod Changing
+pub mod Parts
+pub mod Patches
+pub mod Untouched
+pub mod Unbound
+pub mod Fitted
+pub mod Run
+pub mod Starts
+pub mod Targets
+pub mod Owned
+pub mod Hoisting
+pub mod StatementCode

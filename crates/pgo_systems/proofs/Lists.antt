@@ -1,0 +1,184 @@
+-- What stands among members that are put in order, and what the building of values tests.
+use Rattle.std.proofs.Common.{◌≡◌, ◌⊎◌, ℕ, suc, ◌<◌, ℤ, pos, Bool, true, false, List, [], ◌∷◌, length, map, Option, Some, None, refl, sym, ap, ◌∙◌, subst, inl, inr, arith}
+use Rattle.std.proofs.lemmas.Bool.Decides.{nat_tests}
+use Rattle.std.specs.Prelude.{if◌then◌else◌, nat_lt, cond}
+use Rattle.std.specs.List.{AllByRecursion}
+use Rattle.std.specs.List.Sorted.{IsStrictlySortedBy}
+use Rattle.std.specs.Ordering.{int_cmp}
+use Rattle.std.specs.declared.cmp.Ordering.TheVariants.{Less, Equal, Greater}
+use Rattle.pgo_base.specs.Data.{Data, boolean, integer, string, model, set, function, Items, members, keys}
+use Rattle.pgo_base.specs.Order.{data_cmp}
+use Rattle.pgo_base.specs.Pairs.{pairs_in_order}
+use Rattle.pgo_base.specs.Sets.{in_order, IsSorted, IsIn, same_sorted, sorted-in_order, in-in_order, in_order-in}
+use Rattle.pgo_base.specs.Size.{depth}
+use Rattle.pgo_model.specs.Operators.{each, both, built, most_depth, most_members, members_of, on_integers, choices, spread, put, sublists, where_few, sequence_at}
+use Rattle.pgo_bound.specs.Among.{IsAmong, among_append, from_map, some_is}
+use Rattle.pgo_bound.specs.Keyed.{keys_ordered}
+
+pub none_is : {A : Type 0} (a : A) → None ≡ Some a → ⊥
+none_is a h = cc
+
+-- ---- what is built
+
+pub built_is : (n : ℕ) (v w : Data) → built n v ≡ Some w → v ≡ w
+built_is n v w h = go (nat_lt most_depth (depth v)) (nat_lt most_members n) h
+  where
+    go : (b c : Bool) → (if b then None else (if c then None else Some v)) ≡ Some w → v ≡ w
+    go true c e = absurd (cc)
+    go false true e = absurd (cc)
+    go false false e = some_is v w e
+
+-- what is built has few members
+pub built_few : (n : ℕ) (v w : Data) → built n v ≡ Some w → nat_lt most_members n ≡ false
+built_few n v w h = go (nat_lt most_depth (depth v)) (nat_lt most_members n) h
+  where
+    go : (b c : Bool) → (if b then None else (if c then None else Some v)) ≡ Some w → c ≡ false
+    go true c e = absurd (cc)
+    go false true e = absurd (cc)
+    go false false e = refl
+
+pub made_of : (n : ℕ) (make : Unit {0} → Option Data) (v : Data) → where_few n make ≡ Some v → make tt ≡ Some v
+made_of n make v h = go (nat_lt most_members n) h
+  where
+    go : (b : Bool) → (elim b as (λ b. Option Data) [ true ↦ None | false ↦ make tt ]) ≡ Some v → make tt ≡ Some v
+    go true k = absurd (cc)
+    go false k = k
+
+-- ---- parts of what has a value
+
+pub both_parts : {A B C : Type 0} (f : A → B → Option C) (a : Option A) (b : Option B) (c : C) → both f a b ≡ Some c → (x : A) × ((y : B) × (a ≡ Some x) × (b ≡ Some y) × (f x y ≡ Some c))
+both_parts f None b c h = absurd (cc)
+both_parts f (Some x) None c h = absurd (cc)
+both_parts f (Some x) (Some y) c h = (x, (y, refl, refl, h))
+
+pub is_set : (x : Data) (ms : List Data) → members_of x ≡ Some ms → (xs : Items) × (x ≡ set xs) × (members xs ≡ ms)
+is_set (set xs) ms h = (xs, refl, some_is (members xs) ms h)
+is_set (boolean b) ms h = absurd (cc)
+is_set (integer b) ms h = absurd (cc)
+is_set (string b) ms h = absurd (cc)
+is_set (model b) ms h = absurd (cc)
+is_set (function b) ms h = absurd (cc)
+
+second_integer : (f : ℤ → ℤ → Option Data) (y : ℤ) (b c : Data) → on_integers f (integer y) b ≡ Some c → (z : ℤ) × (b ≡ integer z)
+second_integer f y (integer z) c h = (z, refl)
+second_integer f y (boolean b) c h = absurd (none_is c h)
+second_integer f y (string b) c h = absurd (none_is c h)
+second_integer f y (model b) c h = absurd (none_is c h)
+second_integer f y (set b) c h = absurd (none_is c h)
+second_integer f y (function b) c h = absurd (none_is c h)
+
+pub two_integers : (f : ℤ → ℤ → Option Data) (a b c : Data) → on_integers f a b ≡ Some c → (y z : ℤ) × (a ≡ integer y) × (b ≡ integer z)
+two_integers f (integer y) b c h = let r = second_integer f y b c h in (y, r.0, refl, r.1)
+two_integers f (boolean a) b c h = absurd (none_is c h)
+two_integers f (string a) b c h = absurd (none_is c h)
+two_integers f (model a) b c h = absurd (none_is c h)
+two_integers f (set a) b c h = absurd (none_is c h)
+two_integers f (function a) b c h = absurd (none_is c h)
+
+-- ---- each
+
+pub each_step : {A B : Type 0} (f : A → Option B) (a : A) (as' : List A) (ys : List B) → each f (a ∷ as') ≡ Some ys → (b : B) × ((bs : List B) × (f a ≡ Some b) × (each f as' ≡ Some bs) × (ys ≡ b ∷ bs))
+each_step {B = B} f a as' ys h = go (f a) (each f as') refl refl h
+  where
+    go : (o : Option B) (p : Option (List B)) → f a ≡ o → each f as' ≡ p → both (λ b bs. Some (b ∷ bs)) o p ≡ Some ys → (b : B) × ((bs : List B) × (f a ≡ Some b) × (each f as' ≡ Some bs) × (ys ≡ b ∷ bs))
+    go None p e g k = absurd (cc)
+    go (Some b) None e g k = absurd (cc)
+    go (Some b) (Some bs) e g k = (b, (bs, e, g, sym (some_is (b ∷ bs) ys k)))
+
+pub each_from : {A B : Type 0} (f : A → Option B) (xs : List A) (ys : List B) → each f xs ≡ Some ys → (y : B) → IsAmong y ys → (x : A) × IsAmong x xs × (f x ≡ Some y)
+each_from f [] ys h y m = absurd (subst (IsAmong y) (sym (some_is [] ys h)) m)
+each_from {A = A} f (a ∷ xs) ys h y m = let r = each_step f a xs ys h in go r.0 r.1.0 r.1.1 (subst (IsAmong y) r.1.3 m) (each_from f xs r.1.0 r.1.2 y)
+  where
+    go : (b : _) (bs : List _) → f a ≡ Some b → (y ≡ b) ⊎ IsAmong y bs → (IsAmong y bs → (x : A) × IsAmong x xs × (f x ≡ Some y)) → (x : A) × IsAmong x (a ∷ xs) × (f x ≡ Some y)
+    go b bs e (inl q) r = (a, inl refl, e ∙ ap Some (sym q))
+    go b bs e (inr q) r = let z = r q in (z.0, inr z.1, z.2)
+
+-- ---- members in order
+
+pub among_in : (q : Data) (xs : List Data) → IsAmong q xs → IsIn q xs
+among_in q [] h = h
+among_in q (x ∷ xs) (inl e) = inl e
+among_in q (x ∷ xs) (inr h) = inr (among_in q xs h)
+
+pub in_among : (q : Data) (xs : List Data) → IsIn q xs → IsAmong q xs
+in_among q [] h = h
+in_among q (x ∷ xs) (inl e) = inl e
+in_among q (x ∷ xs) (inr h) = inr (in_among q xs h)
+
+pub of_ordered : (v : Data) (fs : List Data) → IsAmong v (in_order fs) → IsAmong v fs
+of_ordered v fs m = in_among v fs (in-in_order v fs (among_in v (in_order fs) m))
+
+pub ordered_is : (xs : List Data) → IsSorted xs → in_order xs ≡ xs
+ordered_is xs s = same_sorted (in_order xs) xs (sorted-in_order xs) s (λ z i. in-in_order z xs i) (λ z i. in_order-in z xs i)
+
+pub length_keys : (ps : List (Data × Data)) → length (keys ps) ≡ length ps
+length_keys [] = refl
+length_keys (p ∷ ps) = ap suc (length_keys ps)
+
+-- pairs in order are as many as their keys in order
+pub length_ordered : (ps : List (Data × Data)) → length (pairs_in_order ps) ≡ length (in_order (keys ps))
+length_ordered ps = sym (length_keys (pairs_in_order ps)) ∙ ap length (keys_ordered ps)
+
+-- ---- lists of members
+
+sublists_in : (n : Data) (q : Data) (k ms : List Data) → (q ≡ n) ⊎ IsAmong q k → (IsAmong q k → IsAmong q ms) → (q ≡ n) ⊎ IsAmong q ms
+sublists_in n q k ms (inl e) r = inl e
+sublists_in n q k ms (inr i) r = inr (r i)
+
+pub sublist_in : (l ms : List Data) → IsAmong l (sublists ms) → (q : Data) → IsAmong q l → IsAmong q ms
+sublist_in l [] (inl e) q m = subst (IsAmong q) e m
+sublist_in l [] (inr h) q m = absurd h
+sublist_in l (n ∷ ms) h q m = go (among_append l (map (λ xs. n ∷ xs) (sublists ms)) (sublists ms) h) (λ k i r. sublist_in k ms i q r)
+  where
+    go : IsAmong l (map (λ xs. n ∷ xs) (sublists ms)) ⊎ IsAmong l (sublists ms) → ((k : List Data) → IsAmong k (sublists ms) → IsAmong q k → IsAmong q ms) → IsAmong q (n ∷ ms)
+    go (inl g) r = let o = from_map (λ xs. n ∷ xs) l (sublists ms) g in sublists_in n q o.0 ms (subst (IsAmong q) o.2 m) (r o.0 o.1)
+    go (inr g) r = inr (r l g m)
+
+-- one member from each
+abbrev pub InChoices : List (List Data) → List Data → Type 0
+InChoices [] [] = Unit {0}
+InChoices [] (v ∷ vs) = ⊥
+InChoices (ms ∷ mss) [] = ⊥
+InChoices (ms ∷ mss) (v ∷ vs) = IsAmong v ms × InChoices mss vs
+
+put_in : (m : Data) (z : List Data) (cs : List (List Data)) → IsAmong z (put m cs) → (c : List Data) × IsAmong c cs × (z ≡ m ∷ c)
+put_in m z [] h = absurd h
+put_in m z (d ∷ cs) (inl e) = (d, inl refl, e)
+put_in m z (d ∷ cs) (inr h) = let r = put_in m z cs h in (r.0, inr r.1, r.2)
+
+spread_in : (z : List Data) (ms : List Data) (cs : List (List Data)) → IsAmong z (spread ms cs) → (m : Data) × ((c : List Data) × IsAmong m ms × IsAmong c cs × (z ≡ m ∷ c))
+spread_in z [] cs h = absurd h
+spread_in z (n ∷ ms) cs h = go (among_append z (put n cs) (spread ms cs) h) (spread_in z ms cs)
+  where
+    go : IsAmong z (put n cs) ⊎ IsAmong z (spread ms cs) → (IsAmong z (spread ms cs) → (m : Data) × ((c : List Data) × IsAmong m ms × IsAmong c cs × (z ≡ m ∷ c))) → (m : Data) × ((c : List Data) × IsAmong m (n ∷ ms) × IsAmong c cs × (z ≡ m ∷ c))
+    go (inl g) r = let p = put_in n z cs g in (n, (p.0, inl refl, p.1, p.2))
+    go (inr g) r = let q = r g in (q.0, (q.1.0, inr q.1.1, q.1.2, q.1.3))
+
+pub choices_in : (mss : List (List Data)) (vs : List Data) → IsAmong vs (choices mss) → InChoices mss vs
+choices_in [] vs (inl e) = subst (InChoices []) (sym e) tt
+choices_in [] vs (inr h) = absurd h
+choices_in (ms ∷ mss) vs h =
+    let r = spread_in vs ms (choices mss) h in
+    subst (InChoices (ms ∷ mss)) (sym r.1.3) (r.1.1, choices_in mss r.1.0 r.1.2)
+
+-- ---- the keys of sequences
+
+number_less : (m n : ℕ) → m < n → int_cmp (pos m) (pos n) ≡ Less
+number_less m n h = let less : nat_lt m n ≡ true = grind (arith, nat_tests) in ap (λ b. cond b Less (cond (nat_lt n m) Greater Equal)) less
+
+below_later : (m n : ℕ) (xs : List Data) → m < n → AllByRecursion (λ k. data_cmp (integer (pos m)) k ≡ Less) (keys (sequence_at n xs))
+below_later m n [] h = tt
+below_later m n (x ∷ xs) h = (number_less m n h, below_later m (suc n) xs (omega arith))
+
+pub sequence_sorted : (n : ℕ) (xs : List Data) → IsSorted (keys (sequence_at n xs))
+unfolding IsStrictlySortedBy
+sequence_sorted n [] = tt
+sequence_sorted n (x ∷ xs) = (below_later n (suc n) xs (omega arith), sequence_sorted (suc n) xs)
+
+pub sequence_length : (n : ℕ) (xs : List Data) → length (sequence_at n xs) ≡ length xs
+sequence_length n [] = refl
+sequence_length n (x ∷ xs) = ap suc (sequence_length (suc n) xs)
+
+-- a sequence has as many keys in order as elements
+pub sequence_keys : (xs : List Data) → length (in_order (keys (sequence_at 1 xs))) ≡ length xs
+sequence_keys xs = ap length (ordered_is (keys (sequence_at 1 xs)) (sequence_sorted 1 xs)) ∙ length_keys (sequence_at 1 xs) ∙ sequence_length 1 xs

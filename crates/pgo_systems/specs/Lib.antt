@@ -1,0 +1,5 @@
+pub mod Counted
+pub mod Literals
+pub mod Premises
+pub mod Gotos
+pub mod StatementLiterals
