@@ -1,0 +1,25 @@
+pub mod FreeValues
+pub mod Blocks
+pub mod Frames
+pub mod Parts
+pub mod Related
+pub mod Evaluated
+pub mod Yields
+pub mod Mapped
+pub mod Follows
+pub mod Ending
+pub mod Jumps
+pub mod SectionTrees
+pub mod Bindings
+pub mod GoodStates
+pub mod Programs
+pub mod Leads
+pub mod Reached
+pub mod Within
+pub mod Extensional
+pub mod Patches
+pub mod Taken
+pub mod Runs
+pub mod SectionForms
+mod TreeRows
+pub mod NoYields

@@ -1,0 +1,242 @@
+-- A section's code as the tree of its accesses: what it reads and writes of resources, one after the other, whatever it finds there.
+-- Between two accesses it needs nothing of the state but the instance's own components, so the tree has no state in it.
+-- Source: this project's choice.
+use Rattle.std.specs.Prelude.{ℕ, zero, suc, Bool, true, false, ◌&&◌, if◌then◌else◌, nat_eq, nat_le, List, [], ◌∷◌, ◌++◌, length, replicate, get_or, Option, Some, None, option_and_then}
+use Rattle.pgo_base.specs.Data.{Data, string}
+use Rattle.pgo_base.specs.Lookup.{Name, Names, Vars, same_name, find}
+use Rattle.pgo_base.specs.Size.{depth}
+use Rattle.pgo_base.specs.Tree.{Tree}
+use Rattle.pgo_model.specs.Choice.{pick}
+use Rattle.pgo_model.specs.Core.{number_among}
+use Rattle.pgo_model.specs.Occurrences.{first_occurrences}
+use Rattle.pgo_model.specs.Operators.{members_of, truth_of}
+use Rattle.pgo_model.specs.Options.{on}
+use Rattle.pgo_model.specs.Outcome.{Blocked, NoValue, AssertFails}
+use Rattle.pgo_model.specs.System.{Words, Resource}
+use Rattle.pgo_model.specs.Val.{Meaning, val}
+use Rattle.pgo_model.specs.Written.{pc, self_name}
+use Rattle.pgo_sections.specs.BoundValues.{bindable, value_under}
+use Rattle.pgo_sections.specs.Code.{Place, Whole, Own, Code, Empty, Skip, Let, Pick, Become, Set, Await, Assert, Print, If, Either, Seq, Goto, Yield, Read, Write, Codes, no_codes, more_codes}
+use Rattle.pgo_sections.specs.Context.{index_value}
+use Rattle.pgo_sections.specs.Exec.{MacroEnd, Gives, Stops, count}
+use Rattle.pgo_sections.specs.FreeNames.{free_names}
+use Rattle.pgo_sections.specs.Macros.{block_read, block_write}
+use Rattle.pgo_sections.specs.SectionRun.{ChoiceMade}
+use Rattle.pgo_workers.specs.Walk as walks
+use Rattle.pgo_workers.specs.Walk.{Walk, Stop, Touch, Goes, Sticks}
+use Rattle.pgo_workers.specs.Operations.{part_of, read_put, write_put}
+
+-- an attempt: the instance's identifier, what the names of its variables stand for, the definitions, which globals are bound by
+-- element, the resources, the instance's own components at the start, and the words of choice
+pub record Attempt : Type 0 where
+  pub id : Data
+  pub places : List (Name × Place)
+  pub defs : List Meaning
+  pub by_element : Name → Bool
+  pub resources : List Resource
+  pub own : walks.Own
+  pub words : Words
+
+-- how far it is: the own components that were assigned, the newest first; the resources that are too deep for a state now; how many
+-- words are used; and what was printed
+pub record Progress : Type 0 where
+  pub changes : Vars
+  pub deep : List ℕ
+  pub used : ℕ
+  pub prints : List Data
+
+abbrev pub begun : Progress
+begun = record { changes = []; deep = []; used = 0; prints = [] }
+
+abbrev pub printing : Data → Progress → Progress
+printing v p = record p { prints = p.prints ++ v ∷ [] }
+
+abbrev pub using_word : Progress → Progress
+using_word p = record p { used = suc p.used }
+
+abbrev pub without : ℕ → List ℕ → List ℕ
+without r [] = []
+without r (q ∷ qs) = if nat_eq q r then without r qs else q ∷ without r qs
+
+-- whether the resource is too deep for a state
+abbrev pub marked : Bool → ℕ → List ℕ → List ℕ
+marked true r deep = r ∷ without r deep
+marked false r deep = without r deep
+
+-- The greatest depth of a value of a state, and of one that can stand in a set by itself. An element is one level below its global.
+abbrev pub state_limit : Bool → ℕ
+state_limit true = 255
+state_limit false = 256
+
+abbrev pub set_limit : Bool → ℕ
+set_limit true = 2046
+set_limit false = 2047
+
+abbrev pub is_too_deep : Bool → Data → Bool
+is_too_deep is_element v = if nat_le (depth v) (state_limit is_element) then false else true
+
+abbrev pub can_stand : Bool → Data → Bool
+can_stand is_element v = nat_le (depth v) (set_limit is_element)
+
+-- resource r has become v
+abbrev pub becoming : Bool → ℕ → Data → Progress → Progress
+becoming is_element r v p = record p { deep = marked (is_too_deep is_element v) r p.deep }
+
+-- choices, so many as words are used, of which no more is asked
+abbrev pub choices : ℕ → List ChoiceMade
+choices n = replicate n (record { ways = 0; taken = 0 })
+
+-- ---- how it ends
+
+abbrev pub no_value : Walk
+no_value = Stop (Sticks NoValue)
+
+-- the own components where the section ends at this written label
+abbrev pub own_next : Name → Vars → walks.Own → walks.Own
+own_next l ch [] = []
+own_next l ch (p ∷ o) = (p.0, if same_name p.0 pc then string l else on p.1 (find p.0 ch) (λ v. v)) ∷ own_next l ch o
+
+abbrev pub none_deep : List ℕ → Bool
+none_deep [] = true
+none_deep (r ∷ rs) = false
+
+-- an own component is one level below its variable
+abbrev pub all_shallow : walks.Own → Bool
+all_shallow [] = true
+all_shallow (p ∷ o) = nat_le (depth p.1) (state_limit true) && all_shallow o
+
+-- the section ends at this written label, where no value is too deep for a state
+abbrev pub ended : Attempt → Name → Progress → Walk
+ended a l p = let o = own_next l p.changes a.own in if none_deep p.deep && all_shallow o then Stop (Goes o p.prints) else no_value
+
+-- ---- expressions
+
+-- what comes with a value
+abbrev pub with_value : {A : Type 0} → Option A → (A → Walk) → Walk
+with_value None f = no_value
+with_value (Some v) f = f v
+
+abbrev pub if_true : Option Bool → Walk → Walk → Walk
+if_true (Some true) a b = a
+if_true (Some false) a b = b
+if_true None a b = no_value
+
+-- each variable by its name, with its value now: what was read of the unmapped parameters, and what the instance's own are
+abbrev pub view : Attempt → (seen : Vars) → Vars → List (Name × Place) → Names
+view a seen ch [] = (self_name, Some a.id) ∷ []
+view a seen ch (q ∷ qs) =
+    (q.0, elim q.1 as (λ o. Option Data) [ Whole g ↦ find q.0 seen | Own y ↦ on (find y a.own) (find y ch) (λ v. Some v) ]) ∷ view a seen ch qs
+
+abbrev pub value_of : Attempt → Tree → Names → (seen : Vars) → Vars → Option Data
+value_of a e env seen ch = val e (record { names = env ++ view a seen ch a.places; part = None; now = []; next = None; defs = a.defs })
+
+-- the resource that is a global as a whole is accessed
+abbrev pub with_whole : Attempt → Name → (ℕ → Walk) → Walk
+with_whole a g f = with_value (number_among a.resources (g, None)) f
+
+-- the names that stand for a global as a whole are read, each once, and then what f makes of their values
+abbrev pub reads_then : Attempt → List Name → (seen : Vars) → (Vars → Walk) → Walk
+reads_then a [] seen f = f seen
+reads_then a (x ∷ xs) seen f =
+    elim (find x a.places) as (λ o. Walk) [
+      | None ↦ reads_then a xs seen f
+      | Some (Whole g) ↦ with_whole a g (λ r. Touch r (λ v. v) (λ v. reads_then a xs ((x, v) ∷ seen) f))
+      | Some (Own y) ↦ reads_then a xs seen f
+    ]
+
+-- the unmapped parameters of an expression are read, and then it is evaluated
+abbrev pub evaluating : Attempt → Tree → Names → Progress → (Option Data → Walk) → Walk
+evaluating a e env p f = reads_then a (first_occurrences (free_names [] e)) [] (λ seen. f (value_of a e env seen p.changes))
+
+-- ---- choices
+
+abbrev pub with_member : Attempt → List Data → Progress → (Data → Progress → Walk) → Walk
+with_member a [] p f = Stop (Sticks Blocked)
+with_member a (m ∷ ms) p f = f (get_or (m ∷ ms) (pick (a.words p.used) (length (m ∷ ms))) m) (using_word p)
+
+-- ---- assignments
+
+abbrev pub putting : Attempt → Place → Data → Progress → (Progress → Walk) → Walk
+putting a (Whole g) v p f = with_whole a g (λ r. Touch r (λ old. v) (λ old. f (becoming false r v p)))
+putting a (Own y) v p f = f (record p { changes = (y, v) ∷ p.changes })
+
+-- ---- mapped parameters
+
+-- the resource of a global that is bound by element is its element; of another one, where there is an index, the macro works on a
+-- part of the whole
+abbrev pub accessing : Attempt → Name → Option Data → (ℕ → Option Data → Walk) → Walk
+accessing a g j f =
+    if a.by_element g
+    then on no_value j (λ i. with_value (number_among a.resources (g, Some i)) (λ r. f r None))
+    else with_whole a g (λ r. f r j)
+
+abbrev pub read_here : Attempt → Code → Option Data → ℕ → Data → MacroEnd (Data × Data)
+read_here a block at used v = on (Stops NoValue (choices used)) (part_of at v) (λ old. read_put at v (block_read block a.defs a.id old a.words (choices used)))
+
+-- o is the value that is written, where there is one
+abbrev pub write_here : Attempt → Code → Option Data → (o : Option Data) → ℕ → Data → MacroEnd Data
+write_here a block at o used v =
+    on (Stops NoValue (choices used)) (part_of at v) (λ old.
+    on (Stops NoValue (choices used)) o (λ x. write_put at v (block_write block a.defs a.id old x a.words (choices used))))
+
+-- what the content becomes, and is as it was where the block stops
+abbrev pub left_by_read : Data → MacroEnd (Data × Data) → Data
+left_by_read v (Gives r cs) = r.1
+left_by_read v (Stops kind cs) = v
+
+abbrev pub left_by_write : Data → MacroEnd Data → Data
+left_by_write v (Gives w cs) = w
+left_by_write v (Stops kind cs) = v
+
+-- resource r has become v behind so many words
+abbrev pub behind_block : Bool → ℕ → Data → List ChoiceMade → Progress → (Progress → Walk) → Walk
+behind_block is_element r v cs p f = if can_stand is_element v then f (becoming is_element r v (record p { used = length cs })) else no_value
+
+abbrev pub behind_read : Bool → ℕ → Progress → MacroEnd (Data × Data) → (Data → Progress → Walk) → Walk
+behind_read is_element r p (Gives x cs) f = behind_block is_element r x.1 cs p (f x.0)
+behind_read is_element r p (Stops kind cs) f = Stop (Sticks kind)
+
+abbrev pub behind_write : Bool → ℕ → Progress → MacroEnd Data → (Progress → Walk) → Walk
+behind_write is_element r p (Gives w cs) f = behind_block is_element r w cs p f
+behind_write is_element r p (Stops kind cs) f = Stop (Sticks kind)
+
+abbrev pub reading : Attempt → Name → Option Data → Code → Progress → (Data → Progress → Walk) → Walk
+reading a g j block p f =
+    accessing a g j (λ r at.
+    Touch r (λ v. left_by_read v (read_here a block at p.used v)) (λ v. behind_read (a.by_element g) r p (read_here a block at p.used v) f))
+
+abbrev pub writing : Attempt → Name → Option Data → Code → Option Data → Progress → (Progress → Walk) → Walk
+writing a g j block o p f =
+    accessing a g j (λ r at.
+    Touch r (λ v. left_by_write v (write_here a block at o p.used v)) (λ v. behind_write (a.by_element g) r p (write_here a block at o p.used v) f))
+
+-- ---- code, and then what f makes of how far it is
+
+abbrev mutual
+  pub accesses : Attempt → Code → Names → Progress → (Progress → Walk) → Walk
+  accesses a Empty env p f = f p
+  accesses a Skip env p f = f p
+  accesses a (Let b w e c) env p f = evaluating a e env p (λ o. with_value (bindable o) (λ v. accesses a c ((w, Some v) ∷ env) p f))
+  accesses a (Pick b w e c) env p f =
+      evaluating a e env p (λ o. with_value (option_and_then members_of o) (λ ms. with_member a ms p (λ v q. accesses a c ((w, Some v) ∷ env) q f)))
+  accesses a (Become s w) env p f = with_value (value_under w env) (λ v. putting a s v p f)
+  accesses a (Set b s e) env p f = evaluating a e env p (λ o. with_value (bindable o) (λ v. putting a s v p f))
+  accesses a (Await e) env p f = evaluating a e env p (λ o. if_true (truth_of o) (f p) (Stop (Sticks Blocked)))
+  accesses a (Assert e) env p f = evaluating a e env p (λ o. if_true (truth_of o) (f p) (Stop (Sticks AssertFails)))
+  accesses a (Print e) env p f = evaluating a e env p (λ o. with_value o (λ v. f (printing v p)))
+  accesses a (If e c d) env p f = evaluating a e env p (λ o. if_true (truth_of o) (accesses a c env p f) (accesses a d env p f))
+  accesses a (Either cs) env p f = accesses_of_arm a cs (pick (a.words p.used) (count cs)) env (using_word p) f
+  accesses a (Seq c d) env p f = accesses a c env p (λ q. accesses a d env q f)
+  accesses a (Goto l) env p f = ended a l p
+  accesses a (Yield e) env p f = no_value
+  accesses a (Read w g i block c) env p f = with_value (index_value i env) (λ j. reading a g j block p (λ v q. accesses a c ((w, Some v) ∷ env) q f))
+  accesses a (Write g i w block) env p f = with_value (index_value i env) (λ j. writing a g j block (value_under w env) p f)
+
+  pub accesses_of_arm : Attempt → Codes → ℕ → Names → Progress → (Progress → Walk) → Walk
+  accesses_of_arm a no_codes i env p f = no_value
+  accesses_of_arm a (more_codes c cs) zero env p f = accesses a c env p f
+  accesses_of_arm a (more_codes c cs) (suc i) env p f = accesses_of_arm a cs i env p f
+
+-- a section from its start; code that doesn't end at a label has no end
+abbrev pub accesses_of : Attempt → Code → Walk
+accesses_of a c = accesses a c [] begun (λ p. no_value)
