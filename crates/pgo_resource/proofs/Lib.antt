@@ -1,0 +1,3 @@
+pub mod PlainPlaces
+pub mod PlainSteps
+pub mod WordAt
