@@ -1,0 +1,4 @@
+pub mod Sound
+pub mod Replaced
+pub mod Places
+pub mod Reached
