@@ -1,0 +1,5 @@
+// Contents in memory.
+#![tactic(auto)]
+
+pub mod cell;
+mod part;

@@ -1,0 +1,87 @@
+-- Where no parameter is mapped nothing is hoisted out of an expression.
+use Rattle.std.proofs.Common.{◌≡◌, ℕ, Bool, true, false, List, [], ◌∷◌, Option, Some, None, refl, ap}
+use Rattle.std.specs.Prelude.{if◌then◌else◌}
+use Rattle.pgo_base.specs.Lookup.{Name}
+use Rattle.pgo_base.specs.Tree.{Tree, name, primed, number, text, truth, at, word, unary, binary, product, cond_of, case_of, case_other, let_in, quantified, choose, tuple, set_of, filter_of, image, fun_of, fun_set, record_of, record_set, except, index, field, call, unchanged, Trees, no_trees, more_trees, NamedTrees, no_named, more_named, TreePairs, no_arms, more_arms, BoundTrees, no_bound, more_bound, PathTrees, no_paths, more_paths}
+use Rattle.pgo_model.specs.Options.{on}
+use Rattle.pgo_sections.specs.Access.{Mapped, pure, then_hoist, read_whole, read_element, index_tree, if_whole, if_element, name_alone, mapped_under, element_of, hoisted, hoisted_all, hoisted_arms, hoisted_fields, hoisted_let, hoisted_bound, hoisted_paths, after, evaluated}
+use Rattle.pgo_sections.specs.Among.{is_among}
+use Rattle.pgo_sections.specs.Bound.{names_of, names_bound, below}
+use Rattle.pgo_sections.specs.Code.{Code}
+
+abbrev no_mapped : Bool → Option Mapped
+no_mapped b = if b then None else None
+
+nothing_mapped : (under : List Name) (x : Name) → mapped_under [] under x ≡ None
+nothing_mapped under x = go (is_among x under)
+  where
+    go : (b : Bool) → no_mapped b ≡ None
+    go true = refl
+    go false = refl
+
+no_element : (under : List Name) (f : Tree) → element_of [] under f ≡ None
+no_element under f = go (name_alone f)
+  where
+    go : (o : Option Name) → on None o (λ x. if_element (mapped_under [] under x)) ≡ None
+    go None = refl
+    go (Some x) = λ i. if_element (nothing_mapped under x i)
+
+mutual
+  pub plain : (under : List Name) (t : Tree) (k : ℕ) → hoisted [] under t k ≡ pure k t
+  plain under (name x) k = λ i. on (pure k (name x)) (if_whole (nothing_mapped under x i)) (λ m. read_whole m k)
+  plain under (primed x) k = refl
+  plain under (number z) k = refl
+  plain under (text s) k = refl
+  plain under (truth b) k = refl
+  plain under at k = refl
+  plain under (word w) k = refl
+  plain under (unary o a) k = λ i. then_hoist (plain under a k i) (λ a' k1. pure k1 (unary o a'))
+  plain under (binary o a b) k = λ i. then_hoist (plain under a k i) (λ a' k1. then_hoist (plain under b k1 i) (λ b' k2. pure k2 (binary o a' b')))
+  plain under (product ts) k = λ i. then_hoist (plain_all under ts k i) (λ us k1. pure k1 (product us))
+  plain under (cond_of p a b) k = λ i. then_hoist (plain under p k i) (λ p' k1. then_hoist (plain under a k1 i) (λ a' k2. then_hoist (plain under b k2 i) (λ b' k3. pure k3 (cond_of p' a' b'))))
+  plain under (case_of gs) k = λ i. then_hoist (plain_arms under gs k i) (λ gs' k1. pure k1 (case_of gs'))
+  plain under (case_other gs e) k = λ i. then_hoist (plain_arms under gs k i) (λ gs' k1. then_hoist (plain under e k1 i) (λ e' k2. pure k2 (case_other gs' e')))
+  plain under (let_in ds e) k = λ i. then_hoist (plain_let under ds k i) (λ ds' k1. then_hoist (plain (below (names_of ds) under) e k1 i) (λ e' k2. pure k2 (let_in ds' e')))
+  plain under (quantified q bs p) k = λ i. then_hoist (plain_bound under bs k i) (λ bs' k1. then_hoist (plain (below (names_bound bs) under) p k1 i) (λ p' k2. pure k2 (quantified q bs' p')))
+  plain under (choose x r p) k = λ i. then_hoist (plain under r k i) (λ r' k1. then_hoist (plain (x ∷ under) p k1 i) (λ p' k2. pure k2 (choose x r' p')))
+  plain under (tuple ts) k = λ i. then_hoist (plain_all under ts k i) (λ us k1. pure k1 (tuple us))
+  plain under (set_of ts) k = λ i. then_hoist (plain_all under ts k i) (λ us k1. pure k1 (set_of us))
+  plain under (filter_of x r p) k = λ i. then_hoist (plain under r k i) (λ r' k1. then_hoist (plain (x ∷ under) p k1 i) (λ p' k2. pure k2 (filter_of x r' p')))
+  plain under (image e x r) k = λ i. then_hoist (plain (x ∷ under) e k i) (λ e' k1. then_hoist (plain under r k1 i) (λ r' k2. pure k2 (image e' x r')))
+  plain under (fun_of bs e) k = λ i. then_hoist (plain_bound under bs k i) (λ bs' k1. then_hoist (plain (below (names_bound bs) under) e k1 i) (λ e' k2. pure k2 (fun_of bs' e')))
+  plain under (fun_set a b) k = λ i. then_hoist (plain under a k i) (λ a' k1. then_hoist (plain under b k1 i) (λ b' k2. pure k2 (fun_set a' b')))
+  plain under (record_of ds) k = λ i. then_hoist (plain_fields under ds k i) (λ ds' k1. pure k1 (record_of ds'))
+  plain under (record_set ds) k = λ i. then_hoist (plain_fields under ds k i) (λ ds' k1. pure k1 (record_set ds'))
+  plain under (except f us) k = λ i. then_hoist (plain under f k i) (λ f' k1. then_hoist (plain_paths under us k1 i) (λ us' k2. pure k2 (except f' us')))
+  plain under (index f ts) k = λ i. then_hoist (plain under f k i) (λ f' k1. then_hoist (plain_all under ts k1 i) (λ us k2. on (pure k2 (index f' us)) (no_element under f i) (λ m. read_element m (index_tree us) k2)))
+  plain under (field r x) k = λ i. then_hoist (plain under r k i) (λ r' k1. pure k1 (field r' x))
+  plain under (call x ts) k = λ i. then_hoist (plain_all under ts k i) (λ us k1. pure k1 (call x us))
+  plain under (unchanged xs) k = refl
+
+  pub plain_all : (under : List Name) (t : Trees) (k : ℕ) → hoisted_all [] under t k ≡ pure k t
+  plain_all under no_trees k = refl
+  plain_all under (more_trees t ts) k = λ i. then_hoist (plain under t k i) (λ t' k1. then_hoist (plain_all under ts k1 i) (λ us k2. pure k2 (more_trees t' us)))
+
+  pub plain_arms : (under : List Name) (t : TreePairs) (k : ℕ) → hoisted_arms [] under t k ≡ pure k t
+  plain_arms under no_arms k = refl
+  plain_arms under (more_arms g e gs) k = λ i. then_hoist (plain under g k i) (λ g' k1. then_hoist (plain under e k1 i) (λ e' k2. then_hoist (plain_arms under gs k2 i) (λ gs' k3. pure k3 (more_arms g' e' gs'))))
+
+  pub plain_fields : (under : List Name) (t : NamedTrees) (k : ℕ) → hoisted_fields [] under t k ≡ pure k t
+  plain_fields under no_named k = refl
+  plain_fields under (more_named x t ts) k = λ i. then_hoist (plain under t k i) (λ t' k1. then_hoist (plain_fields under ts k1 i) (λ us k2. pure k2 (more_named x t' us)))
+
+  pub plain_let : (under : List Name) (t : NamedTrees) (k : ℕ) → hoisted_let [] under t k ≡ pure k t
+  plain_let under no_named k = refl
+  plain_let under (more_named x t ts) k = λ i. then_hoist (plain under t k i) (λ t' k1. then_hoist (plain_let (x ∷ under) ts k1 i) (λ us k2. pure k2 (more_named x t' us)))
+
+  pub plain_bound : (under : List Name) (t : BoundTrees) (k : ℕ) → hoisted_bound [] under t k ≡ pure k t
+  plain_bound under no_bound k = refl
+  plain_bound under (more_bound xs r bs) k = λ i. then_hoist (plain under r k i) (λ r' k1. then_hoist (plain_bound under bs k1 i) (λ bs' k2. pure k2 (more_bound xs r' bs')))
+
+  pub plain_paths : (under : List Name) (t : PathTrees) (k : ℕ) → hoisted_paths [] under t k ≡ pure k t
+  plain_paths under no_paths k = refl
+  plain_paths under (more_paths ps e us) k = λ i. then_hoist (plain_all under ps k i) (λ ps' k1. then_hoist (plain under e k1 i) (λ e' k2. then_hoist (plain_paths under us k2 i) (λ us' k3. pure k3 (more_paths ps' e' us'))))
+
+-- an expression is evaluated as it stands
+pub evaluated_plain : (e : Tree) (k : ℕ) (f : Tree → ℕ → Code) → evaluated [] e k f ≡ f e k
+evaluated_plain e k f = ap (λ p. after p.reads (f p.rest p.used)) (plain [] e k)
