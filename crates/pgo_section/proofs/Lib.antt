@@ -1,0 +1,11 @@
+pub mod Folds
+pub mod Boards
+pub mod Values
+pub mod Counting
+pub mod Events
+pub mod Gives
+pub mod Ends
+pub mod Keeping
+pub mod Begins
+pub mod Listed
+pub mod Opens

@@ -1,0 +1,4 @@
+use Rattle.pgo_section.proofs.worker.Worker.turn.Goals as goal
+
+pub returns-in-Some-clause-stays : goal.returns-in-Some-clause-stays
+returns-in-Some-clause-stays g c = g.met.B.Board.stays_same c.args.board.now

@@ -1,0 +1,4 @@
+pub mod Folds
+pub mod Programs
+pub mod Sight
+pub mod Turns
