@@ -35,7 +35,7 @@ StopsSo stops.NoValue E = E (λ cs. Stops outcome.NoValue cs)
 StopsSo stops.AssertFails E = E (λ cs. Stops outcome.AssertFails cs)
 StopsSo stops.NoMemory E = Unit {0}
 
--- the words are the same, and so many more are used
+-- the words are the same
 abbrev pub Goes : Picks → Picks → Type 0
 Goes p q = words_of q ≡ words_of p
 

@@ -29,7 +29,7 @@ pub record Same {C : Type 0} (w v : Worker C) : Type 0 where
   pub records_room : vec_capacity v.records ≡ vec_capacity w.records
   pub taken_room : vec_capacity v.taken ≡ vec_capacity w.taken
 
--- it is an instance's, has room for what it records and takes, and the listed pre-commits have numbers of 32 bits
+-- it is an instance's, has room for what it records and takes, and the listed pre-commits have numbers below the last value of 64 bits
 pub record Fits {C : Type 0} (y : System) (w : Worker C) : Type 0 where
   pub instance : w.number < length y.members
   pub records : w.settings.attempts ≤ vec_capacity w.records
