@@ -1,0 +1,35 @@
+// The sections of all instances.
+
+use crate::instruction::Instruction;
+use pgo_base::text::Text;
+use pgo_syntax::bound::Bound;
+
+/// The section of a label: its written name, and its instructions.
+#[derive(Drop)]
+pub struct Section<'a> {
+    pub label: Text,
+    pub instructions: Vec<Instruction<'a>>,
+}
+
+/// What a name in an archetype stands for: a variable of the instance, by its written name; or a global as a whole, where there is
+/// none.
+#[derive(Drop)]
+pub struct Variable {
+    pub name: Text,
+    pub own: Option<Text>,
+}
+
+/// What an instance runs: what the names of its unmapped parameters, value parameters and locals stand for, in their order, and the
+/// section of each label, in the order of the text.
+#[derive(Drop)]
+pub struct Code<'a> {
+    pub variables: Vec<Variable>,
+    pub sections: Vec<Section<'a>>,
+}
+
+/// The sections of all instances of a bound specification, by their numbers.
+#[derive(Drop)]
+pub struct Program<'a> {
+    pub bound: &'a Bound,
+    pub codes: Vec<Code<'a>>,
+}

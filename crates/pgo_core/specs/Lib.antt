@@ -1,0 +1,10 @@
+pub mod AllViews
+pub mod LeavesLaws
+pub mod Claims
+pub mod ClaimLaws
+pub mod ExclusiveRows
+pub mod ExclusiveBoards
+pub mod Cores
+pub mod Instances
+pub mod NoPlaces
+pub mod Rounds

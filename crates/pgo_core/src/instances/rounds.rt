@@ -1,0 +1,72 @@
+// Rounds, until all instances have ended.
+ghost use Rattle.std.specs.Prelude.{◌≡◌, ◌≤◌, ◌<◌, ℕ, List, vec_len, IfOk};
+ghost use Rattle.pgo_core.specs.Cores.{AllEnded, GoesOn, HadEnded};
+
+use super::{Core, has_turned};
+use pgo_resource::resource::Resource;
+use pgo_resource::sections::Sections;
+use std::alloc::{AllocError, Global};
+
+impl<S: Sections + Drop, R: Resource> Core<S, R> {
+    ghost use Rattle.pgo_core.specs.Instances.{Safe, IsSame, StandsAt, MadeFrom, MadeRound, ComesToEnd, workers_in};
+
+    /// Whether instance k hasn't ended.
+    fn goes_on(&self, k: usize) -> bool
+        requires { k < vec_len self.now.workers }
+        ensures { GoesOn k (workers_in self.now) result }
+    {
+        self.workers[k].end().is_none()
+    }
+
+    /// One turn of instance k, where it hasn't ended: how many turns were made.
+    fn turn_if(&mut self, alloc: Global, k: usize) -> Result<usize, AllocError>
+        requires there { k < vec_len self.old.workers }
+        requires safe { Safe self.old }
+        ensures safe { Safe self.new }
+        ensures same { IsSame self.old self.new }
+        ensures one { IfOk result (λ n. n ≤ 1) }
+        ensures stands { IfOk result (λ n. (before : List ℕ) → StandsAt before self.old → MadeFrom before k 1 n self.new) }
+        ensures ended { IfOk result (λ n. n ≡ 0 → HadEnded k (workers_in self.old) (workers_in self.new)) }
+    {
+        if !self.goes_on(k) {
+            return Ok(0);
+        }
+        let turn = self.turn(alloc, k as u32);
+        if has_turned(turn) {
+            Ok(1)
+        } else {
+            Err(AllocError)
+        }
+    }
+
+    /// One turn to each instance that hasn't ended, in order: how many turns were made.
+    fn round(&mut self, alloc: Global) -> Result<usize, AllocError>
+        requires safe { Safe self.old }
+        ensures safe { Safe self.new }
+        ensures same { IsSame self.old self.new }
+        ensures stands { IfOk result (λ n. (before : List ℕ) → StandsAt before self.old → MadeRound before n self.new) }
+        ensures ended { IfOk result (λ n. n ≡ 0 → AllEnded (workers_in self.new)) }
+    {
+        let mut made = 0;
+        for k in 0..self.workers.len() {
+            made += self.turn_if(alloc, k)?;
+        }
+        Ok(made)
+    }
+
+    /// Rounds, in each of which every instance that hasn't ended makes one turn, in order, until all have ended. It stops
+    /// where memory is wanting, and after 2^64 - 1 rounds.
+    pub fn rounds(&mut self, alloc: Global) -> Result<(), AllocError>
+        requires safe { Safe self.old }
+        ensures safe { Safe self.new }
+        ensures same { IsSame self.old self.new }
+        ensures stands { IfOk result (λ _. (before : List ℕ) → StandsAt before self.old → ComesToEnd before self.new) }
+    {
+        for _ in 0..u64::MAX {
+            if self.round(alloc)? == 0 {
+                return Ok(());
+            }
+        }
+        Err(AllocError)
+    }
+}

@@ -1,0 +1,8 @@
+// The core: all instances of a bound specification on one thread, over one board.
+#![tactic(auto)]
+
+mod accounts;
+pub mod claims;
+pub mod exclusive_board;
+pub mod instances;
+mod no_places;

@@ -1,0 +1,9 @@
+pub mod Lowered
+pub mod Attempts
+pub mod Gathered
+pub mod Globals
+pub mod Slots
+pub mod Made
+pub mod Heads
+pub mod Work
+pub mod Agree

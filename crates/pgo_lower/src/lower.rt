@@ -1,0 +1,127 @@
+// The sections of all instances of a bound specification.
+ghost use Rattle.std.specs.Prelude.{◌≡◌, map, IfOk};
+ghost use Rattle.pgo_meaning.specs.LabelSections.{AreUnlabelled};
+ghost use Rattle.pgo_effects.specs.SettingView.{setting_view};
+ghost use Rattle.pgo_lower.specs.Agree.{AreLowered, IsLowered, bare_section, lowered_section};
+ghost use Rattle.pgo_lower.specs.Globals.{tables_in, targets_in};
+ghost use Rattle.pgo_meaning.specs.Sections.{sections_of};
+ghost use Rattle.pgo_lower.specs.Slots.{slot_views, tables_of};
+ghost use Rattle.pgo_section_list.specs.Sections.{section_view as section_code};
+
+use crate::globals::Globals;
+use crate::names::Names;
+use crate::slots::{Slot, slots_of, variables};
+use crate::turns::instructions;
+use pgo_base::results::both;
+use pgo_code::program::{Code, Program, Section};
+use pgo_effects::setting::Setting;
+use pgo_section_list::sections::{Section as Listed, sections};
+use pgo_syntax::bound::{Bound, Instance};
+use std::alloc::{AllocError, Global};
+
+/// How many tasks there may be for one program.
+const MOST_TASKS: u64 = 67_108_864;
+
+/// The section of a label.
+fn section<'a>(
+    alloc: Global,
+    names: &Names<'_, 'a>,
+    listed: Listed<'a>,
+    left: &mut u64,
+) -> Result<Section<'a>, AllocError>
+    ensures { IfOk result (λ s. bare_section s ≡ lowered_section (tables_of names.now) (section_code (setting_view names.now.setting) listed.entry)) }
+{
+    let Listed { label, todos, end } = listed;
+    let made = instructions(alloc, names, todos, end, left);
+    let (label, instructions) = both(Ok(label), made)?;
+    Ok(Section {
+        label,
+        instructions,
+    })
+}
+
+/// The sections of these labels.
+fn all_sections<'a>(
+    alloc: Global,
+    names: &Names<'_, 'a>,
+    listed: Vec<Listed<'a>>,
+    left: &mut u64,
+) -> Result<Vec<Section<'a>>, AllocError>
+    ensures { IfOk result (λ v. map bare_section v.items ≡ map (lowered_section (tables_of names.now)) (map (section_code (setting_view names.now.setting)) listed.entry.items)) }
+{
+    let mut list = Vec::new(alloc);
+    for one in listed {
+        list.push(section(alloc, names, one, left)?)?;
+    }
+    Ok(list)
+}
+
+/// The sections of an instance, of which the names stand for these.
+fn sections_with<'a>(
+    alloc: Global,
+    globals: &Globals<'a>,
+    i: &'a Instance,
+    slots: &[Slot],
+    left: &mut u64,
+) -> Result<Vec<Section<'a>>, AllocError>
+    requires unlabelled { AreUnlabelled globals.now.bound.now.spec.macros }
+    requires slots { slot_views slots.now ≡ targets_in globals.now.bound.now i.now }
+    ensures { IfOk result (λ v. map bare_section v.items ≡ map (lowered_section (tables_in globals.now.bound.now i.entry.now)) (sections_of globals.now.bound.now.spec.macros i.entry.now.process i.entry.now.archetype i.entry.now.bindings)) }
+{
+    let setting = Setting::Process {
+        name: &i.process,
+        archetype: &i.archetype,
+        bindings: i.bindings.as_slice(),
+    };
+    let names = Names {
+        setting,
+        slots,
+        globals,
+    };
+    let listed = sections(
+        alloc,
+        globals.bound.spec.macros.as_slice(),
+        &i.process,
+        &i.archetype,
+        i.bindings.as_slice(),
+    )?;
+    all_sections(alloc, &names, listed, left)
+}
+
+/// What an instance runs.
+fn code<'a>(
+    alloc: Global,
+    globals: &Globals<'a>,
+    i: &'a Instance,
+    left: &mut u64,
+) -> Result<Code<'a>, AllocError>
+    requires { AreUnlabelled globals.now.bound.now.spec.macros }
+    ensures { IfOk result (λ c. IsLowered globals.now.bound.now i.entry.now c) }
+{
+    let slots = slots_of(alloc, globals, i)?;
+    let sections = sections_with(alloc, globals, i, slots.as_slice(), left);
+    let (variables, sections) = both(variables(alloc, slots.as_slice()), sections)?;
+    Ok(Code {
+        variables,
+        sections,
+    })
+}
+
+/// The sections of all instances as instructions.
+///
+/// Err where there is no memory, and where a program would take more than 2^26 tasks: two for each level of code (a statement, where a
+/// macro's body stands in the place of its call; the rest of a row; further branches of an `if`), two more for an `if`, one more for
+/// each arm of an `either`, and one for each section; again in each section that has it, of each instance. (This project's choice.)
+pub fn lower<'a>(alloc: Global, bound: &'a Bound) -> Result<Program<'a>, AllocError>
+    requires { AreUnlabelled bound.now.spec.macros }
+    ensures bound { IfOk result (λ p. p.bound ≡ bound.entry) }
+    ensures codes { IfOk result (λ p. AreLowered bound.entry.now bound.entry.now.instances p.codes.items) }
+{
+    let globals = Globals::new(alloc, bound)?;
+    let mut left = MOST_TASKS;
+    let mut codes = Vec::new(alloc);
+    for i in bound.instances.as_slice() {
+        codes.push(code(alloc, &globals, i, &mut left)?)?;
+    }
+    Ok(Program { bound, codes })
+}

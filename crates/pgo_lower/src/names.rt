@@ -1,0 +1,12 @@
+// What the names of an instance are.
+use crate::globals::Globals;
+use crate::slots::Slot;
+use pgo_effects::setting::Setting;
+
+/// Whose statements they are, what the names of parameters and locals stand for, and what globals are.
+#[derive(Clone, Copy)]
+pub struct Names<'t, 'a> {
+    pub setting: Setting<'a>,
+    pub slots: &'t [Slot],
+    pub globals: &'t Globals<'a>,
+}

@@ -1,0 +1,131 @@
+-- What a content's answers say of an access.
+use Rattle.std.proofs.Common.{◌≡◌, ℕ, List, Option, Some, None, Result, Ok, Err, ap, sym, ◌∙◌, length}
+use Rattle.std.proofs.lemmas.List.{length-replicate}
+use Rattle.pgo_base.specs.Data.{Data}
+use Rattle.pgo_base.specs.Lookup.{Name}
+use Rattle.pgo_base.specs.declared.module.Defined.{Defined}
+use Rattle.pgo_base.specs.declared.value.Value.{Value}
+use Rattle.pgo_model.specs.Options.{on}
+use Rattle.pgo_model.specs.System.{Words}
+use Rattle.pgo_syntax.specs.declared.bound.Mapping.{Mapping}
+use Rattle.pgo_syntax.specs.declared.bound.Mapping.TheVariants.{Identity}
+use Rattle.pgo_sections.specs.BoundValues.{bindable, value_under}
+use Rattle.pgo_sections.specs.Context.{index_value}
+use Rattle.pgo_sections.specs.Exec.{MacroEnd, Gives, Stops}
+use Rattle.pgo_sections.specs.SectionRun.{ChoiceMade}
+use Rattle.pgo_meaning.proofs.MacroUse.{identity_writes}
+use Rattle.pgo_workers.specs.Operations.{read_of, write_of, write_put, Ends}
+use Rattle.pgo_workers.specs.View.{Shown}
+use Rattle.pgo_workers.specs.Walk.{Touch}
+use Rattle.pgo_resource.specs.Answers.{Read as IsRead, Written}
+use Rattle.pgo_resource.specs.Picked.{words_of, used_of}
+use Rattle.pgo_resource.specs.declared.picks.Picks.{Picks}
+use Rattle.pgo_resource.specs.declared.resource.OpStop.{OpStop}
+use Rattle.pgo_resource.specs.declared.resource.OpStop.TheVariants as stops
+use Rattle.pgo_accesses.specs.Accesses.{Attempt, Progress, choices, no_value, left_by_read, left_by_write, behind_read, behind_write, read_here, write_here}
+use Rattle.pgo_code.specs.Steps.{Content, Step, Read, Write}
+use Rattle.pgo_places.specs.declared.flow.Flow.{Flow}
+use Rattle.pgo_places.specs.Flows.{flow_walk, resource_at, part_index}
+use Rattle.pgo_places.specs.Performs.{Performs, IsTold, ReadAnswers, WriteAnswers}
+use Rattle.pgo_places.specs.Stands.{Fixed, Stand, binding, going, onward, with_words, resume}
+use Rattle.pgo_places.proofs.Standing.{read_is, write_is}
+
+abbrev given_of : {A : Type 0} → A → MacroEnd A → A
+given_of x (Gives y cs) = y
+given_of x (Stops kind cs) = x
+
+abbrev made_in : {A : Type 0} → MacroEnd A → List ChoiceMade
+made_in (Gives y cs) = cs
+made_in (Stops kind cs) = cs
+
+-- a write with no macro makes the content the value, and uses no word
+pub identity_written : (ds : List Defined) (id x d : Data) (w : Words) (used used' : ℕ) (new : Data) → bindable (Some x) ≡ Some x
+    → Ends (write_of Identity ds id None x w d) used used' (Gives new) → (new ≡ x) × (used' ≡ used)
+identity_written ds id x d w used used' new b h =
+    let e = h (choices used) (length-replicate used _) in
+    let same : Gives x (choices used) ≡ Gives new e.0 = sym (ap (write_put None d) (identity_writes ds id d x w (choices used) b)) ∙ e.2 in
+    (ap (given_of new) (sym same), sym e.1 ∙ ap (λ m. length (made_in m)) (sym same) ∙ length-replicate used _)
+
+pub read_answers : (m : Mapping) (ds : List Defined) (id : Data) (at : Option Data) (old new : Shown) (p q : Picks) (ans : Result Value OpStop) (pr : Progress)
+    → IsRead m ds id at old new p q ans → IsTold ans
+    → (new.current ≡ left_by_read old.current (read_of m ds id at (words_of p) old.current (choices (used_of p))))
+    × ReadAnswers ans new.current (record pr { used = used_of q }) pr (read_of m ds id at (words_of p) old.current (choices (used_of p)))
+    × (words_of q ≡ words_of p)
+read_answers m ds id at old new p q (Ok v) pr h t =
+    let e = h.2 (choices (used_of p)) (length-replicate (used_of p) _) in
+    (sym (ap (left_by_read old.current) e.2), (e.0, e.2, ap (λ u. record pr { used = u }) e.1), h.1)
+read_answers m ds id at old new p q (Err stops.Blocked) pr h t =
+    let e = h.2 (choices (used_of p)) (length-replicate (used_of p) _) in (ap (λ z. z.current) h.0 ∙ sym (ap (left_by_read old.current) e.2), (e.0, e.2), h.1)
+read_answers m ds id at old new p q (Err stops.NoValue) pr h t =
+    let e = h.2 (choices (used_of p)) (length-replicate (used_of p) _) in (ap (λ z. z.current) h.0 ∙ sym (ap (left_by_read old.current) e.2), (e.0, e.2), h.1)
+read_answers m ds id at old new p q (Err stops.AssertFails) pr h t =
+    let e = h.2 (choices (used_of p)) (length-replicate (used_of p) _) in (ap (λ z. z.current) h.0 ∙ sym (ap (left_by_read old.current) e.2), (e.0, e.2), h.1)
+read_answers m ds id at old new p q (Err stops.NoMemory) pr h t = absurd t
+
+pub write_answers : (m : Mapping) (ds : List Defined) (id : Data) (at : Option Data) (x : Data) (old new : Shown) (p q : Picks) (ans : Result (Unit {0}) OpStop) (pr : Progress)
+    → Written m ds id at x old new p q ans → IsTold ans
+    → (new.current ≡ left_by_write old.current (write_of m ds id at x (words_of p) old.current (choices (used_of p))))
+    × WriteAnswers ans new.current (record pr { used = used_of q }) pr (write_of m ds id at x (words_of p) old.current (choices (used_of p)))
+    × (words_of q ≡ words_of p)
+write_answers m ds id at x old new p q (Ok v) pr h t =
+    let e = h.2 (choices (used_of p)) (length-replicate (used_of p) _) in
+    (sym (ap (left_by_write old.current) e.2), (e.0, e.2, ap (λ u. record pr { used = u }) e.1), h.1)
+write_answers m ds id at x old new p q (Err stops.Blocked) pr h t =
+    let e = h.2 (choices (used_of p)) (length-replicate (used_of p) _) in (ap (λ z. z.current) h.0 ∙ sym (ap (left_by_write old.current) e.2), (e.0, e.2), h.1)
+write_answers m ds id at x old new p q (Err stops.NoValue) pr h t =
+    let e = h.2 (choices (used_of p)) (length-replicate (used_of p) _) in (ap (λ z. z.current) h.0 ∙ sym (ap (left_by_write old.current) e.2), (e.0, e.2), h.1)
+write_answers m ds id at x old new p q (Err stops.AssertFails) pr h t =
+    let e = h.2 (choices (used_of p)) (length-replicate (used_of p) _) in (ap (λ z. z.current) h.0 ∙ sym (ap (left_by_write old.current) e.2), (e.0, e.2), h.1)
+write_answers m ds id at x old new p q (Err stops.NoMemory) pr h t = absurd t
+
+-- nothing but what it is now may be another
+pub read_keeps : (m : Mapping) (ds : List Defined) (id : Data) (at : Option Data) (old new : Shown) (p q : Picks) (ans : Result Value OpStop)
+    → IsRead m ds id at old new p q ans → new ≡ record old { current = new.current }
+read_keeps m ds id at old new p q (Ok v) h = h.0
+read_keeps m ds id at old new p q (Err e) h = h.0 ∙ ap (λ (v : Data). record old { current = v }) (ap (λ z. z.current) (sym h.0))
+
+pub write_keeps : (m : Mapping) (ds : List Defined) (id : Data) (at : Option Data) (x : Data) (old new : Shown) (p q : Picks) (ans : Result (Unit {0}) OpStop)
+    → Written m ds id at x old new p q ans → new ≡ record old { current = new.current }
+write_keeps m ds id at x old new p q (Ok v) h = h.0
+write_keeps m ds id at x old new p q (Err e) h = h.0 ∙ ap (λ (v : Data). record old { current = v }) (ap (λ z. z.current) (sym h.0))
+
+-- a mapped parameter is read; behind that the stand has these words and is so far
+pub performs_read : (a : Attempt) (k : Fixed) (w : Name) (c : Content) (i : Option Name) (s : Stand) (d : Words) (p : Progress) (j : Option Data) (r : ℕ) (f : Flow) (t : Stand) (old new : Data)
+    → index_value i s.env ≡ Some j → resource_at a c j ≡ Some r → d ≡ s.words
+    → new ≡ left_by_read old (read_here (with_words s.words a) c.reads (part_index c j) s.progress.used old)
+    → ((n : ℕ) (is : List Step) → behind_read c.is_element r s.progress (read_here (with_words s.words a) c.reads (part_index c j) s.progress.used old)
+    (λ x q. resume a k n is (binding w x (going q (onward (record s { words = d; progress = p }))))) ≡ flow_walk a k n (Read w c i) is f t)
+    → Performs a k (Read w c i) s f t old new
+performs_read a k w c i s d p j r f t old new e g ws left h = λ n is. (
+  r,
+  λ v. left_by_read v (read_here (with_words s.words a) c.reads (part_index c j) s.progress.used v),
+  λ v. behind_read c.is_element r s.progress (read_here (with_words s.words a) c.reads (part_index c j) s.progress.used v) (λ x q. resume a k n is (binding w x (going q (onward s)))),
+  read_is a k w c i s j e n is
+      ∙ ap (λ o. on no_value o (λ r.
+      Touch r (λ v. left_by_read v (read_here (with_words s.words a) c.reads (part_index c j) s.progress.used v))
+      (λ v. behind_read c.is_element r s.progress (read_here (with_words s.words a) c.reads (part_index c j) s.progress.used v) (λ x q. resume a k n is (binding w x (going q (onward s))))))) g,
+  left,
+  ap (λ (y : Words). behind_read c.is_element r s.progress (read_here (with_words s.words a) c.reads (part_index c j) s.progress.used old)
+      (λ x q. resume a k n is (binding w x (going q (onward (record s { words = y; progress = p })))))) (sym ws)
+      ∙ h n is,
+)
+
+pub performs_write : (a : Attempt) (k : Fixed) (c : Content) (i : Option Name) (w : Name) (s : Stand) (d : Words) (p : Progress) (j : Option Data) (r : ℕ) (f : Flow) (t : Stand) (old new : Data)
+    → index_value i s.env ≡ Some j → resource_at a c j ≡ Some r → d ≡ s.words
+    → new ≡ left_by_write old (write_here (with_words s.words a) c.writes (part_index c j) (value_under w s.env) s.progress.used old)
+    → ((n : ℕ) (is : List Step) → behind_write c.is_element r s.progress (write_here (with_words s.words a) c.writes (part_index c j) (value_under w s.env) s.progress.used old)
+    (λ q. resume a k n is (going q (onward (record s { words = d; progress = p })))) ≡ flow_walk a k n (Write c i w) is f t)
+    → Performs a k (Write c i w) s f t old new
+performs_write a k c i w s d p j r f t old new e g ws left h = λ n is. (
+  r,
+  λ v. left_by_write v (write_here (with_words s.words a) c.writes (part_index c j) (value_under w s.env) s.progress.used v),
+  λ v. behind_write c.is_element r s.progress (write_here (with_words s.words a) c.writes (part_index c j) (value_under w s.env) s.progress.used v) (λ q. resume a k n is (going q (onward s))),
+  write_is a k c i w s j e n is
+      ∙ ap (λ o. on no_value o (λ r.
+      Touch r (λ v. left_by_write v (write_here (with_words s.words a) c.writes (part_index c j) (value_under w s.env) s.progress.used v))
+      (λ v. behind_write c.is_element r s.progress (write_here (with_words s.words a) c.writes (part_index c j) (value_under w s.env) s.progress.used v) (λ q. resume a k n is (going q (onward s)))))) g,
+  left,
+  ap (λ (y : Words). behind_write c.is_element r s.progress (write_here (with_words s.words a) c.writes (part_index c j) (value_under w s.env) s.progress.used old)
+      (λ q. resume a k n is (going q (onward (record s { words = y; progress = p }))))) (sym ws)
+      ∙ h n is,
+)

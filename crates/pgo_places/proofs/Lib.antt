@@ -1,0 +1,13 @@
+mod Contents
+pub mod Evaluations
+mod FirstReads
+mod Identifiers
+mod Moves
+mod Names
+mod Picks
+mod PlaceLaws
+mod Puts
+mod LabelSections
+pub mod Standing
+pub mod Starts
+mod Updates

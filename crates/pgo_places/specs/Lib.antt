@@ -1,0 +1,9 @@
+pub mod Flows
+pub mod Inside
+pub mod Meant
+pub mod Performs
+pub mod Picked
+pub mod PlaceView
+pub mod PlaceWalk
+pub mod Stands
+pub mod Trees

@@ -1,0 +1,212 @@
+// The sections of a program.
+ghost use Rattle.std.specs.Prelude.{◌≡◌, ◌<◌, ◌∷◌, suc, drop, length, option_map, Some, None, OnOk, IfOk};
+ghost use Rattle.pgo_base.specs.View.{data_of};
+ghost use Rattle.pgo_model.specs.LogView.{component_view};
+ghost use Rattle.pgo_model.specs.Machine.{nth};
+ghost use Rattle.pgo_bound.specs.Sound.{index_in};
+ghost use Rattle.pgo_code.specs.See.{step_of};
+ghost use Rattle.pgo_meaning.specs.System.{resource_of, system_of};
+ghost use Rattle.pgo_resource.specs.Nexts.{LeadsOn};
+ghost use Rattle.pgo_workers.specs.Walk.{Stop, Goes};
+ghost use Rattle.pgo_workers.specs.Worlds.{component_of, layout_of};
+ghost use Rattle.pgo_places.specs.PlaceView.{stand_view};
+ghost use Rattle.pgo_places.specs.PlaceWalk.{walk_in, steps_at};
+ghost use Rattle.pgo_places.specs.Stands.{labelled};
+
+use crate::evaluated::Frame;
+use crate::perform::perform;
+use crate::place::{Finish, Place, at, instructions, moved, next_event};
+use crate::stand::Stand;
+use crate::start::first_place;
+use crate::variables::put_own;
+use pgo_base::log::{Component, Owner, Values};
+use pgo_base::scope::State;
+use pgo_base::text::Text;
+use pgo_base::value::Value;
+use pgo_code::instruction::Instruction;
+use pgo_code::program::Program;
+use pgo_resource::resource::Resource;
+use pgo_resource::sections::{NextEvent, Sections};
+use pgo_syntax::bound;
+use std::alloc::{AllocError, Global};
+
+/// What a section that has ended leaves of the own components, and what it printed.
+fn end_of(alloc: Global, program: &Program<'_>, place: Place) -> Result<(State, Values), AllocError>
+    ensures { IfOk result (λ e. walk_in program.now place ≡ Stop (Goes e.0 e.1)) }
+{
+    let mut place = place;
+    next_event(alloc, program, &mut place)?;
+    let Place { stopped, stand, .. } = place;
+    let Some(Finish::Ended(label)) = stopped else {
+        return Err(AllocError);
+    };
+    left_by(alloc, label, stand)
+}
+
+/// What is left where a section ends at a written label.
+fn left_by(alloc: Global, label: Text, stand: Stand) -> Result<(State, Values), AllocError>
+    ensures own { IfOk result (λ e. e.0 ≡ labelled label (stand_view stand).own) }
+    ensures prints { IfOk result (λ e. e.1 ≡ (stand_view stand).progress.prints) }
+{
+    let Stand { own, prints, .. } = stand;
+    let mut own = own;
+    let pc = Text::from_slice(alloc, b"pc")?;
+    put_own(alloc, &mut own, &pc, &Value::Str(label))?;
+    Ok((State::from_vec(own), Values::from_vec(prints)))
+}
+
+/// An index once more, if there is one.
+fn index_of(alloc: Global, resource: &bound::Resource) -> Result<Option<Value>, AllocError>
+    ensures { IfOk result (λ o. option_map data_of o ≡ index_in resource.now) }
+{
+    match &resource.index {
+        Some(v) => Ok(Some(v.copy(alloc)?)),
+        None => Ok(None),
+    }
+}
+
+/// The component of a resource with this number.
+fn component(
+    alloc: Global,
+    number: u32,
+    resource: &bound::Resource,
+) -> Result<Component, AllocError>
+    ensures { IfOk result (λ c. component_view c ≡ component_of number (Some (resource_of resource.now))) }
+{
+    let variable = resource.global.copy(alloc)?;
+    let index = index_of(alloc, resource)?;
+    Ok(Component {
+        variable,
+        index,
+        owner: Owner::OfResource(number),
+    })
+}
+
+/// Does the access that comes next on a content, where the place stands at one.
+fn operated<R: Resource>(
+    alloc: Global,
+    program: &Program<'_>,
+    place: &mut Place,
+    content: &mut R,
+) -> Result<(), AllocError>
+    ensures on { OnOk result (LeadsOn (walk_in program.now place.old) (walk_in program.now place.new) (R.shows content.old).current (R.shows content.new).current) }
+    ensures content { R.shows content.new ≡ record (R.shows content.old) { current = (R.shows content.new).current } }
+{
+    next_event(alloc, program, place)?;
+    let Some(list) = instructions(&program.codes, place.instance, place.section) else {
+        return Err(AllocError);
+    };
+    if place.stopped.is_some() {
+        return Err(AllocError);
+    }
+    if place.left == 0 {
+        return Err(AllocError);
+    }
+    if place.position >= list.len() {
+        return Err(AllocError);
+    }
+    operate_at(
+        alloc,
+        program,
+        place,
+        &list[place.position],
+        list.len(),
+        content,
+    )
+}
+
+/// Does the access of one of the instructions, of so many.
+fn operate_at<R: Resource>(
+    alloc: Global,
+    program: &Program<'_>,
+    place: &mut Place,
+    instruction: &Instruction<'_>,
+    count: usize,
+    content: &mut R,
+) -> Result<(), AllocError>
+    requires within { place.old.position < count }
+    requires more { 0 < place.old.left }
+    requires runs { place.old.stopped ≡ None }
+    requires count { length (steps_at program.now place.old) ≡ count }
+    requires here { drop place.old.position (steps_at program.now place.old) ≡ step_of instruction.now ∷ drop (suc place.old.position) (steps_at program.now place.old) }
+    ensures on { OnOk result (LeadsOn (walk_in program.now place.old) (walk_in program.now place.new) (R.shows content.old).current (R.shows content.new).current) }
+    ensures content { R.shows content.new ≡ record (R.shows content.old) { current = (R.shows content.new).current } }
+{
+    let frame = Frame {
+        bound: program.bound,
+        fixed: &place.fixed,
+    };
+    let flow = perform(alloc, frame, instruction, &mut place.stand, content)?;
+    moved(alloc, place, instruction, count, flow)?;
+    Ok(())
+}
+
+/// The identifier of an instance.
+fn id_in<'x>(bound: &'x bound::Bound, instance: u32) -> &'x Value
+    requires { instance < length (layout_of (system_of bound.now)).ids }
+    ensures { nth (layout_of (system_of bound.entry.now)).ids instance ≡ Some (data_of result.now) }
+{
+    &bound.instances.as_slice()[instance as usize].id
+}
+
+/// A program whose sections are run.
+#[derive(Drop)]
+pub struct Runnable<'a> {
+    pub program: Program<'a>,
+}
+
+impl<'a> Sections for Runnable<'a> {
+    type Place = Place;
+
+    ghost use Rattle.pgo_meaning.specs.System.{system_of};
+    ghost use Rattle.pgo_places.specs.Inside.{tree_inside};
+    ghost use Rattle.pgo_places.specs.PlaceWalk.{walk_in};
+    ghost use Rattle.pgo_places.specs.Trees.{tree_in};
+
+    ghost system = { λ p. system_of p.program.bound.now };
+
+    ghost tree = { λ p. tree_in p.program };
+
+    ghost walk = { λ p. walk_in p.program };
+
+    fn begin(
+        &self,
+        alloc: Global,
+        seed: u64,
+        instance: u32,
+        attempt: u32,
+        own: &State,
+    ) -> Result<Place, AllocError> {
+        first_place(alloc, &self.program, seed, instance, attempt, own)
+    }
+
+    fn next(&self, alloc: Global, place: &mut Place) -> Result<NextEvent, AllocError> {
+        next_event(alloc, &self.program, place)
+    }
+
+    fn operate<R: Resource>(
+        &self,
+        alloc: Global,
+        place: &mut Place,
+        content: &mut R,
+    ) -> Result<(), AllocError> {
+        operated(alloc, &self.program, place, content)
+    }
+
+    fn end(&self, alloc: Global, place: Place) -> Result<(State, Values), AllocError> {
+        end_of(alloc, &self.program, place)
+    }
+
+    fn component(&self, alloc: Global, r: u32) -> Result<Component, AllocError> {
+        match at(self.program.bound.resources.as_slice(), r as usize) {
+            Some(resource) => component(alloc, r, resource),
+            None => Err(AllocError),
+        }
+    }
+
+    fn id(&self, instance: u32) -> &Value {
+        id_in(self.program.bound, instance)
+    }
+
+    ghost inside = { λ p. tree_inside p.program };
+}

@@ -1,0 +1,134 @@
+// One instruction that stands at no access.
+ghost use Rattle.std.specs.Prelude.{◌≡◌, [], map, IfOk};
+ghost use Rattle.pgo_base.specs.Lookup.{Name};
+ghost use Rattle.pgo_base.specs.View.{named_data};
+ghost use Rattle.pgo_accesses.specs.Accesses.{Attempt, all_shallow};
+ghost use Rattle.pgo_code.specs.Steps.{Assign, Choose, End};
+ghost use Rattle.pgo_code.specs.See.{step_of, target_view};
+ghost use Rattle.pgo_places.specs.Flows.{LeadsTo, evaluation_in, left_of};
+ghost use Rattle.pgo_places.specs.PlaceView.{stand_view, fixed_view, attempt_view};
+ghost use Rattle.pgo_places.specs.Stands.{Fixed, labelled};
+
+use crate::access::evaluation;
+use crate::behind::behind;
+use crate::evaluated::{Frame, value_of};
+use crate::flow::Flow;
+use crate::stand::{Stand, under};
+use pgo_base::depth::is_deeper;
+use pgo_base::text::Text;
+use pgo_base::value::Value;
+use pgo_code::instruction::{Instruction, Target};
+use pgo_syntax::records::NoteKind;
+use std::alloc::{AllocError, Global};
+
+/// Whether each own component can stand in a state, where `pc` is a label.
+pub fn all_fit(alloc: Global, own: &[(Text, Value)]) -> Result<bool, AllocError>
+    ensures { IfOk result (λ b. (l : Name) → all_shallow (labelled l (map named_data own.now)) ≡ b) }
+{
+    let pc = Text::from_slice(alloc, b"pc")?;
+    for component in own {
+        if !component.0.is(&pc) && is_deeper(&component.1, 255) {
+            return Ok(false);
+        }
+    }
+    Ok(true)
+}
+
+/// The section's end, where no value is too deep for a state.
+fn ended(alloc: Global, stand: &Stand) -> Result<Flow, AllocError>
+    ensures { IfOk result (λ f. (a : Attempt) (k : Fixed) (l : Name) → LeadsTo a k (End l) (stand_view stand.now) f (stand_view stand.now)) }
+{
+    if !stand.deep.is_empty() {
+        return Ok(Flow::Noted(NoteKind::NoValue));
+    }
+    if all_fit(alloc, &stand.own)? {
+        Ok(Flow::Ended)
+    } else {
+        Ok(Flow::Noted(NoteKind::NoValue))
+    }
+}
+
+/// As many instructions are passed over as the picked arm says.
+fn chosen(arms: &[usize], stand: &mut Stand) -> Result<Flow, AllocError>
+    ensures { IfOk result (λ f. (a : Attempt) (k : Fixed) → LeadsTo a k (Choose arms.now) (stand_view stand.old) f (stand_view stand.new)) }
+{
+    stand.onward();
+    let count = arms.len();
+    if count == 0 {
+        stand.pick(1)?;
+        return Ok(Flow::Over(0));
+    }
+    if count > u32::MAX as usize {
+        return Err(AllocError);
+    }
+    let i = stand.pick(count as u32)?;
+    Ok(Flow::Over(arms[i as usize]))
+}
+
+/// The own component becomes what the name stands for. A resource is written elsewhere.
+fn assign(
+    alloc: Global,
+    frame: Frame<'_>,
+    target: &Target,
+    name: &Text,
+    stand: &mut Stand,
+) -> Result<Flow, AllocError>
+    ensures { IfOk result (λ f. (a : Attempt) → LeadsTo a (fixed_view frame.entry.fixed.now) (Assign (target_view target.now) name.now) (stand_view stand.old) f (stand_view stand.new)) }
+{
+    let Target::Own(own) = target else {
+        return Err(AllocError);
+    };
+    let value = match under(&stand.env, name) {
+        Some(v) => v.copy(alloc)?,
+        None => return Ok(Flow::Noted(NoteKind::NoValue)),
+    };
+    stand.onward();
+    stand.assign(alloc, frame.fixed, own, &value)?;
+    Ok(Flow::On)
+}
+
+/// One instruction that evaluates nothing and stands at no access.
+fn plain(
+    alloc: Global,
+    frame: Frame<'_>,
+    instruction: &Instruction<'_>,
+    stand: &mut Stand,
+) -> Result<Flow, AllocError>
+    ensures { IfOk result (λ f. LeadsTo (attempt_view frame.entry.bound.now frame.entry.fixed.now) (fixed_view frame.entry.fixed.now) (step_of instruction.now) (stand_view stand.old) f (stand_view stand.new)) }
+{
+    match instruction {
+        Instruction::Unbind => {
+            stand.onward();
+            stand.unbind();
+            Ok(Flow::On)
+        }
+        Instruction::Assign { target, name } => assign(alloc, frame, target, name, stand),
+        Instruction::Choose(arms) => chosen(arms, stand),
+        Instruction::Jump(over) => {
+            stand.onward();
+            Ok(Flow::Over(*over))
+        }
+        Instruction::End(_) => ended(alloc, stand),
+        Instruction::Fail => Ok(Flow::Noted(NoteKind::NoValue)),
+        _ => Err(AllocError),
+    }
+}
+
+/// One instruction whose reads are done. Where it stands at an access there is no answer but want of memory.
+pub fn run(
+    alloc: Global,
+    frame: Frame<'_>,
+    instruction: &Instruction<'_>,
+    stand: &mut Stand,
+) -> Result<Flow, AllocError>
+    requires { left_of (evaluation_in (step_of instruction.now) (stand_view stand.old).value) (stand_view stand.old) ≡ [] }
+    ensures { IfOk result (λ f. LeadsTo (attempt_view frame.entry.bound.now frame.entry.fixed.now) (fixed_view frame.entry.fixed.now) (step_of instruction.now) (stand_view stand.old) f (stand_view stand.new)) }
+{
+    match evaluation(instruction, &stand.value) {
+        Some(e) => {
+            let value = value_of(alloc, frame, &e.expression, stand)?;
+            behind(alloc, frame, instruction, value, stand)
+        }
+        None => plain(alloc, frame, instruction, stand),
+    }
+}

@@ -1,0 +1,240 @@
+// The first place of an attempt.
+ghost use Rattle.std.specs.Prelude.{◌≡◌, suc, length, map, reverse, option_map, option_and_then, Some, None, IfOk};
+ghost use Rattle.pgo_base.specs.BindingsView.{named_view};
+ghost use Rattle.pgo_model.specs.Machine.{nth};
+ghost use Rattle.pgo_base.specs.Lookup.{find};
+ghost use Rattle.pgo_base.specs.View.{data_of};
+ghost use Rattle.pgo_model.specs.Written.{pc};
+ghost use Rattle.pgo_code.specs.See.{section_view};
+ghost use Rattle.pgo_code.specs.declared.program.Program.{Program as ProgramView};
+ghost use Rattle.pgo_model.specs.Options.{on};
+ghost use Rattle.pgo_resource.specs.Picked.{words_of, used_of};
+ghost use Rattle.pgo_accesses.specs.Accesses.{no_value};
+ghost use Rattle.pgo_places.specs.PlaceView.{stand_view, fixed_view};
+ghost use Rattle.pgo_places.specs.PlaceWalk.{count_of, instructions_in, walk_in};
+ghost use Rattle.pgo_places.specs.Stands.{limited, resume};
+ghost use Rattle.pgo_places.specs.Trees.{attempt_with, fixed_of, start_of, steps_named, variable_of, tree_in};
+
+use crate::place::{Finish, Place, at, instructions};
+use crate::stand::{Fixed, Stand};
+use pgo_base::bindings::NamedValue;
+use pgo_base::results::both;
+use pgo_base::scope::State;
+use pgo_base::text::Text;
+use pgo_base::value::Value;
+use pgo_code::program::{Code, Program, Section, Variable};
+use pgo_resource::picks::Picks;
+use pgo_syntax::records::NoteKind;
+use std::alloc::{AllocError, Global};
+
+/// The number of the first section of a label, from 0.
+fn section_named(sections: &[Section<'_>], label: &Text) -> Option<usize>
+    ensures { option_and_then (λ j. option_map (λ s. (section_view s).1) (nth sections.now j)) result ≡ find label.now (map section_view sections.now) }
+{
+    for (i, s) in sections.iter().enumerate() {
+        if label.is(&s.label) {
+            return Some(i);
+        }
+    }
+    None
+}
+
+/// The number of the section at which the own components are, in the code of their instance.
+fn section_at(alloc: Global, code: &Code<'_>, own: &State) -> Result<Option<usize>, AllocError>
+    ensures { IfOk result (λ o. option_and_then (λ j. option_map (λ s. (section_view s).1) (nth code.now.sections.items j)) o ≡ steps_named (find pc own.now) code.now) }
+{
+    let pc = Text::from_slice(alloc, b"pc")?;
+    match own.find(&pc) {
+        Some(Value::Str(label)) => Ok(section_named(&code.sections, label)),
+        _ => Ok(None),
+    }
+}
+
+/// The owner once more, if there is one.
+fn owner_of(alloc: Global, variable: &Variable) -> Result<Option<Text>, AllocError>
+    ensures { IfOk result (λ o. o ≡ variable.now.own) }
+{
+    match &variable.own {
+        Some(own) => Ok(Some(own.copy(alloc)?)),
+        None => Ok(None),
+    }
+}
+
+/// The owners of variables, the last one first.
+fn owners_of(alloc: Global, variables: &[Variable]) -> Result<Vec<Option<Text>>, AllocError>
+    ensures { IfOk result (λ os. os.items ≡ reverse (map (λ v. v.own) variables.now)) }
+{
+    let mut owners = Vec::new(alloc);
+    let mut left = variables;
+    while let Some((last, before)) = left.split_last() {
+        owners.push(owner_of(alloc, last)?)?;
+        left = before;
+    }
+    Ok(owners)
+}
+
+/// The value that an own component has.
+fn value_in(alloc: Global, own: &State, name: &Text) -> Result<Option<Value>, AllocError>
+    ensures { IfOk result (λ o. option_map data_of o ≡ find name.now own.now) }
+{
+    match own.find(name) {
+        Some(v) => Ok(Some(v.copy(alloc)?)),
+        None => Ok(None),
+    }
+}
+
+/// A variable with what it has at the start.
+fn start_value(alloc: Global, variable: &Variable, own: &State) -> Result<NamedValue, AllocError>
+    ensures { IfOk result (λ n. named_view n ≡ variable_of own.now variable.now) }
+{
+    let name = variable.name.copy(alloc)?;
+    let value = match &variable.own {
+        Some(y) => value_in(alloc, own, y)?,
+        None => None,
+    };
+    Ok(NamedValue { name, value })
+}
+
+/// The variables with what they have at the start, the last one first.
+fn start_values(
+    alloc: Global,
+    variables: &[Variable],
+    own: &State,
+) -> Result<Vec<NamedValue>, AllocError>
+    ensures { IfOk result (λ ns. map named_view ns.items ≡ reverse (map (variable_of own.now) variables.now)) }
+{
+    let mut values = Vec::new(alloc);
+    let mut left = variables;
+    while let Some((last, before)) = left.split_last() {
+        values.push(start_value(alloc, last, own)?)?;
+        left = before;
+    }
+    Ok(values)
+}
+
+/// What an attempt's names are.
+fn fixed(alloc: Global, code: &Code<'_>, id: &Value) -> Result<Fixed, AllocError>
+    ensures names { IfOk result (λ x. fixed_view x ≡ fixed_of code.now) }
+    ensures id { IfOk result (λ x. data_of x.id ≡ data_of id.now) }
+{
+    let identity = Text::from_slice(alloc, b"self")?;
+    let id = id.copy(alloc)?;
+    let owners = owners_of(alloc, &code.variables)?;
+    Ok(Fixed {
+        identity,
+        id,
+        owners,
+    })
+}
+
+/// Where an attempt stands first.
+fn stand(alloc: Global, code: &Code<'_>, own: &State, picks: Picks) -> Result<Stand, AllocError>
+    requires { used_of picks ≡ 0 }
+    ensures { IfOk result (λ s. stand_view s ≡ start_of code.now own.now (words_of picks)) }
+{
+    let variables = start_values(alloc, &code.variables, own)?;
+    let own = own.copy(alloc)?.into_vec();
+    Ok(Stand {
+        done: 0,
+        value: None,
+        env: Vec::new(alloc),
+        variables,
+        own,
+        deep: Vec::new(alloc),
+        picks,
+        prints: Vec::new(alloc),
+    })
+}
+
+/// A place at which there is no value.
+fn nowhere(alloc: Global, picks: Picks) -> Place
+    ensures { (p : ProgramView) → walk_in p result ≡ no_value }
+{
+    Place {
+        instance: 0,
+        section: 0,
+        position: 0,
+        left: 0,
+        stopped: Some(Finish::Noted(NoteKind::NoValue)),
+        fixed: Fixed {
+            identity: Text::new(alloc),
+            id: Value::Bool(false),
+            owners: Vec::new(alloc),
+        },
+        stand: Stand {
+            done: 0,
+            value: None,
+            env: Vec::new(alloc),
+            variables: Vec::new(alloc),
+            own: Vec::new(alloc),
+            deep: Vec::new(alloc),
+            picks,
+            prints: Vec::new(alloc),
+        },
+    }
+}
+
+/// How many instructions a section has.
+fn count_in(program: &Program<'_>, instance: usize, section: usize) -> usize
+    ensures { result ≡ length (instructions_in program.now.codes.items instance section) }
+{
+    match instructions(&program.codes, instance, section) {
+        Some(list) => list.len(),
+        None => 0,
+    }
+}
+
+/// The first place in the section at which the own components are.
+fn first_in(
+    alloc: Global,
+    program: &Program<'_>,
+    code: &Code<'_>,
+    id: &Value,
+    instance: usize,
+    own: &State,
+    picks: Picks,
+) -> Result<Place, AllocError>
+    requires code { nth program.now.codes.items instance ≡ Some code.now }
+    requires fresh { used_of picks ≡ 0 }
+    ensures { IfOk result (λ p. walk_in program.now p ≡ limited (count_of program.now.bound.now) (on no_value (steps_named (find pc own.now) code.now) (λ xs. resume (attempt_with program.now.bound.now (data_of id.now)) (fixed_of code.now) (suc (length xs)) xs (start_of code.now own.now (words_of picks))))) }
+{
+    let Some(section) = section_at(alloc, code, own)? else {
+        return Ok(nowhere(alloc, picks));
+    };
+    let count = count_in(program, instance, section);
+    if count == usize::MAX {
+        return Err(AllocError);
+    }
+    let (fixed, stand) = both(fixed(alloc, code, id), stand(alloc, code, own, picks))?;
+    Ok(Place {
+        instance,
+        section,
+        position: 0,
+        left: count + 1,
+        stopped: None,
+        fixed,
+        stand,
+    })
+}
+
+/// The first place of an attempt.
+pub fn first_place(
+    alloc: Global,
+    program: &Program<'_>,
+    seed: u64,
+    instance: u32,
+    attempt: u32,
+    own: &State,
+) -> Result<Place, AllocError>
+    ensures { IfOk result (λ p. walk_in program.now p ≡ tree_in program.now seed instance attempt own.now) }
+{
+    let picks = Picks::of_seed(seed, instance, attempt);
+    let k = instance as usize;
+    let Some(code) = at(&program.codes, k) else {
+        return Ok(nowhere(alloc, picks));
+    };
+    let Some(i) = at(program.bound.instances.as_slice(), k) else {
+        return Ok(nowhere(alloc, picks));
+    };
+    first_in(alloc, program, code, &i.id, k, own, picks)
+}

@@ -1,0 +1,2 @@
+mod CellsAtStart
+mod OwnRows

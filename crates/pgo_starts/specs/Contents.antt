@@ -1,0 +1,11 @@
+-- The content of a resource as a run starts.
+use Rattle.pgo_base.specs.Lookup.{Vars}
+use Rattle.std.specs.Prelude.{Some}
+use Rattle.pgo_cells.specs.CellView.{start_of}
+use Rattle.pgo_model.specs.Log.{content}
+use Rattle.pgo_model.specs.System.{Resource}
+use Rattle.pgo_workers.specs.View.{Shown}
+use Rattle.pgo_workers.specs.Worlds.{component_of, or_nothing}
+
+abbrev pub cell_of : Vars → Resource → Shown
+cell_of s r = start_of (or_nothing (content (component_of r.number (Some r)) s))
