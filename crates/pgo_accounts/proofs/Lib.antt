@@ -1,0 +1,15 @@
+pub mod Words
+pub mod Steps
+pub mod Entries
+pub mod Tokens
+pub mod ExpressionLiterals
+pub mod StatementLiterals
+pub mod MacroStatements
+pub mod TextGives
+pub mod Labels
+pub mod Premises
+pub mod ValueTexts
+pub mod Following
+pub mod FineMachine
+pub mod FineStatus
+pub mod FinePlaces

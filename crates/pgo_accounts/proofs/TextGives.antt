@@ -1,0 +1,233 @@
+-- Of a specification that a text spells, the literals are integers of 64 bits, and macros have neither `goto`s nor `while`s.
+use Rattle.std.proofs.Common.{◌≡◌, ◌≤◌, ◌^◌, ℕ, Bool, List, [], ◌∷◌, ◌++◌, Option, Some, refl, subst, arith, pos}
+use Rattle.std.proofs.lemmas.Bool.{lt-ltb}
+use Rattle.std.specs.List.{AllByRecursion}
+use Rattle.pgo_lexer.specs.Layout.{Marked, Bullets, Marks}
+use Rattle.pgo_lexer.specs.Layout as mark
+use Rattle.pgo_lexer.specs.Lexemes.{IsPiece}
+use Rattle.pgo_lexer.specs.Lexemes as piece
+use Rattle.pgo_lexer.specs.declared.symbol.Junction.{Junction}
+use Rattle.pgo_lexer.specs.declared.symbol.Symbol.{Symbol}
+use Rattle.pgo_lexer.specs.declared.symbol.Symbol.TheVariants as symbol
+use Rattle.pgo_lexer.specs.declared.token.Lexeme.{Lexeme}
+use Rattle.pgo_lexer.specs.declared.token.Token.{Token}
+use Rattle.pgo_lexer.specs.declared.token.Token.TheVariants as t
+use Rattle.pgo_spec_text.specs.SpecText.{Cut}
+use Rattle.pgo_spec_text.specs.SpecText as text
+use Rattle.pgo_mpcal_read.specs.Spells.{IsHeader, IsPart, declarations_of, SpellsTokens}
+use Rattle.pgo_mpcal_read.specs.Spells as spells
+use Rattle.pgo_mpcal_read.specs.Texts.{SpellsSpec}
+use Rattle.pgo_mpcal_read.specs.Units.{IsDefinition, IsDeclaration, IsDeclarations, IsVariables, IsMacro, IsMappingMacro, IsLocals, IsArchetype, IsArgument, IsProcess, IsDefine, IsUnit, AreUnits, may_stand_in_macro, all_are}
+use Rattle.pgo_mpcal_read.specs.Units as unit
+use Rattle.pgo_mpcal_read.specs.declared.header.Header.{Header}
+use Rattle.pgo_mpcal_read.specs.declared.units.Units.{Units}
+use Rattle.pgo_syntax.specs.Statement.{labeled}
+use Rattle.pgo_syntax.specs.declared.archetype.Archetype.{Archetype}
+use Rattle.pgo_syntax.specs.declared.declaration.Declaration.{Declaration}
+use Rattle.pgo_syntax.specs.declared.declaration.Definition.{Definition}
+use Rattle.pgo_syntax.specs.declared.macros.Macro.{Macro}
+use Rattle.pgo_syntax.specs.declared.macros.MappingMacro.{MappingMacro}
+use Rattle.pgo_syntax.specs.declared.process.Argument.{Argument}
+use Rattle.pgo_syntax.specs.declared.process.Process.{Process}
+use Rattle.pgo_syntax.specs.declared.spec.Spec.{Spec}
+use Rattle.pgo_bound.specs.Values as values
+use Rattle.pgo_systems.specs.Literals.{LiteralsFit, InitialFits, OriginFits, ArgumentFits}
+use Rattle.pgo_systems.specs.StatementLiterals.{LabeledFit}
+use Rattle.pgo_accounts.specs.Texts.{BlocksFit, NeverJumps, AllLiteralsFit}
+use Rattle.pgo_accounts.proofs.Tokens.{IsSmall}
+use Rattle.pgo_accounts.proofs.StatementLiterals.{AreSmall, cut, expression, origin_fits, all_in_brackets, all_in_row, body_fits}
+use Rattle.pgo_accounts.proofs.MacroStatements as macros
+use Rattle.pgo_accounts.proofs.MacroStatements.{AllMay, all_may, body_quiet}
+
+-- ---- tokens
+
+joined : (xs ys : List Lexeme) → AreSmall xs → AreSmall ys → AreSmall (xs ++ ys)
+joined [] ys h g = g
+joined (x ∷ xs) ys h g = (h.0, joined xs ys h.1 g)
+
+of_symbol : (v : Symbol) (k : Token) → Some (t.Symbol v) ≡ Some k → IsSmall k
+of_symbol v k e = subst IsSmall (got e) tt
+  where
+    got : Some (t.Symbol v) ≡ Some k → t.Symbol v ≡ k
+    got e = cc
+
+-- a number of a text is at most 2^63 - 1
+piece_small : {front rest : List ℕ} (k : Token) {o : Option Token} → IsPiece front rest o → o ≡ Some k → IsSmall k
+piece_small k (piece.blank b) e = absurd (cc)
+piece_small k (piece.line r) e = absurd (cc)
+piece_small k (piece.comment c) e = absurd (cc)
+piece_small k (piece.number {b = b} {bs = bs} r a l) e = of_number k (piece.value (b ∷ bs)) l e
+  where
+    got : (n k : Token) → Some n ≡ Some k → n ≡ k
+    got n k e = cc
+
+    of_number : (k : Token) (n : ℕ) → n ≤ piece.largest → Some (t.Number (pos n)) ≡ Some k → IsSmall k
+    of_number k n l e = subst IsSmall (got (t.Number (pos n)) k e) (lt-ltb n (2 ^ 63) (omega (arith, l)))
+piece_small k (piece.word {symbol = v} r f) e = of_symbol v k e
+piece_small k (piece.name {bs = bs} r is l) e = subst IsSmall (let q : t.Name bs ≡ k = cc in q) tt
+piece_small k (piece.underscore s) e = of_symbol symbol.Underscore k e
+piece_small k (piece.string {string = x} q) e = subst IsSmall (let q : t.Text x ≡ k = cc in q) tt
+piece_small k (piece.slashed {symbol = v} r f) e = of_symbol v k e
+piece_small k (piece.dollar {symbol = v} r f) e = of_symbol v k e
+piece_small k (piece.sign {symbol = v} s) e = of_symbol v k e
+
+cut_small : {P : List ℕ → Type 0} {before part rest : List ℕ} {ls : List Lexeme} → Cut P before part rest ls → AreSmall ls
+cut_small text.end = tt
+cut_small (text.pass p d a r) = cut_small r
+cut_small (text.token p {token = k} d r) = (piece_small k d refl, cut_small r)
+
+mutual
+  marked_small : {s : Bool} {b : ℕ} {p q : Bool} {rs ms : List Lexeme} → Marked s b p rs ms q → AreSmall rs → AreSmall ms
+  marked_small mark.done h = tt
+  marked_small (mark.plain l r d) h = (h.0, marked_small d h.1)
+  marked_small (mark.separator l k d) h = (h.0, marked_small d h.1)
+  marked_small (mark.bracket z {xs = xs} {ms = ms} {ns = ns} l k d m c e) h =
+      let q = cut xs _ h.1 in (h.0, joined ms (z ∷ ns) (marked_small d q.0) (q.1.0, marked_small e q.1.1))
+  marked_small (mark.list {xs = xs} {ys = ys} {ls = ls} {ms = ms} {ns = ns} l k d bs past e) h =
+      let q = cut xs _ h.1 in
+      let r = cut ys _ q.1 in
+      (tt, joined ls _ (marked_small d q.0) (joined ms _ (bullets_small bs r.0) (tt, marked_small e r.1)))
+
+  bullets_small : {op : Junction} {c : ℕ} {p q : Bool} {ys ms : List Lexeme} → Bullets op c p ys ms q → AreSmall ys → AreSmall ms
+  bullets_small mark.none h = tt
+  bullets_small (mark.next {xs = xs} {ms = ms} k e d bs) h =
+      let q = cut xs _ h.1 in (tt, joined ms _ (marked_small d q.0) (bullets_small bs q.1))
+
+-- ---- definitions and declarations
+
+abbrev DefinitionFits : Definition → Type 0
+DefinitionFits d = LiteralsFit d.body
+
+abbrev DeclarationFits : Declaration → Type 0
+DeclarationFits d = InitialFits d.initial
+
+definition_of : (xs : List Lexeme) (d : Definition) → IsDefinition xs d → AreSmall xs → DefinitionFits d
+definition_of xs d (unit.without_params i) h = expression i h.1.1
+definition_of xs d (unit.with_params c e {xs = ys} n i) h = let q = cut ys _ h.1.1 in expression i q.1.1.1
+
+declaration_of : (xs : List Lexeme) (d : Declaration) → IsDeclaration xs d → AreSmall xs → DeclarationFits d
+declaration_of xs d unit.without_value h = tt
+declaration_of xs d (unit.with_value {ts = ys} {o = o} i) h = origin_fits ys o i h.1
+
+declarations_fit : (xs : List Lexeme) (ds : List Declaration) → IsDeclarations xs ds → AreSmall xs → AllByRecursion DeclarationFits ds
+declarations_fit xs ds (unit.last_declaration {xs = ys} {d = d} i e) h = (declaration_of ys d i (cut ys _ h).0, tt)
+declarations_fit xs ds (unit.declaration {xs = us} {ys = ys} {zs = zs} {d = d} {ds = es} i p r) h =
+    let q = cut us _ h in (declaration_of us d i q.0, declarations_fit ys es r (cut zs ys q.1).1)
+
+variables_of : (xs : List Lexeme) (ds : List Declaration) → IsVariables xs ds → AreSmall xs → AllByRecursion DeclarationFits ds
+variables_of xs ds (unit.variables {xs = ys} i) h = declarations_fit ys ds i h.1
+
+locals_of : (xs : List Lexeme) (ds : List Declaration) → IsLocals xs ds → AreSmall xs → AllByRecursion DeclarationFits ds
+locals_of xs ds unit.no_locals h = tt
+locals_of xs ds (unit.locals {xs = ys} i) h = variables_of ys ds i h
+
+-- ---- units
+
+abbrev MacroFits : Macro → Type 0
+MacroFits m = LabeledFit (labeled m.body)
+
+macro_of : (xs : List Lexeme) (m : Macro) → IsMacro xs m → AreSmall xs → MacroFits m
+macro_of xs m (unit.macro_of {xs = ys} {ys = zs} i r) h = body_fits r (cut ys zs h.1.1).1
+
+macro_quiet : (xs : List Lexeme) (m : Macro) → IsMacro xs m → AllMay xs → NeverJumps m
+macro_quiet xs m (unit.macro_of {xs = ys} {ys = zs} i r) h = body_quiet r (macros.cut ys zs h.1.1).1
+
+mapping_of : (xs : List Lexeme) (m : MappingMacro) → IsMappingMacro xs m → AreSmall xs → BlocksFit m
+mapping_of xs m (unit.mapping_macro_of w c {xs = ys} {ys = zs} r s) h =
+    let q = cut ys _ h.1.1.1.1.1 in (body_fits r q.0, body_fits s (cut zs _ q.1.1).0)
+
+abbrev ArchetypeFits : Archetype → Type 0
+ArchetypeFits a = AllByRecursion DeclarationFits a.locals × LabeledFit (labeled a.body)
+
+archetype_of : (xs : List Lexeme) (a : Archetype) → IsArchetype xs a → AreSmall xs → ArchetypeFits a
+archetype_of xs a (unit.archetype_of {xs = us} {ys = ys} {zs = zs} {ds = ds} i l r) h =
+    let q = cut us _ h.1.1 in
+    let w = cut ys zs q.1 in
+    (locals_of ys ds l w.0, body_fits r w.1)
+
+argument_of : (xs : List Lexeme) (a : Argument) → IsArgument xs a → AreSmall xs → ArgumentFits a
+argument_of xs a (unit.value_argument d) h = expression d h
+argument_of xs a (unit.ref_argument e) h = tt
+
+abbrev ProcessFits : Process → Type 0
+ProcessFits p = OriginFits p.ids × AllByRecursion ArgumentFits p.arguments
+
+process_of : (xs : List Lexeme) (p : Process) → IsProcess xs p → AreSmall xs → ProcessFits p
+process_of xs q (unit.instance_of p a n b d i m {fs = fs} {os = os} {vs = vs} {o = o} {as' = as'} f g r cs z) h =
+    let front = cut fs _ h in
+    let ids = cut os _ front.1.1.1.1 in
+    let given = cut vs _ ids.1.1.1.1.1 in
+    (origin_fits os o g ids.0, all_in_brackets IsArgument ArgumentFits argument_of vs as' r given.0)
+
+define_of : (xs : List Lexeme) (ds : List Definition) → IsDefine xs ds → AreSmall xs → AllByRecursion DefinitionFits ds
+define_of xs ds (unit.definitions c {xs = ys} r) h = all_in_row IsDefinition DefinitionFits definition_of ys ds r (cut ys _ h.1.1).0
+
+record UnitsFit (u : Units) : Type 0 where
+  pub define : AllByRecursion DefinitionFits (values.define_of u.define)
+  pub macros : AllByRecursion MacroFits u.macros
+  pub quiet : AllByRecursion NeverJumps u.macros
+  pub mappings : AllByRecursion BlocksFit u.mappings
+  pub archetypes : AllByRecursion ArchetypeFits u.archetypes
+  pub globals : AllByRecursion DeclarationFits (declarations_of u.globals)
+  pub processes : AllByRecursion ProcessFits u.processes
+
+one_more : {A : Type 0} (P : A → Type 0) (xs : List A) (x : A) → AllByRecursion P xs → P x → AllByRecursion P (xs ++ x ∷ [])
+one_more P [] x h g = (g, tt)
+one_more P (y ∷ xs) x h g = (h.0, one_more P xs x h.1 g)
+
+unit_of : (b a : Units) (xs : List Lexeme) → IsUnit b xs a → AreSmall xs → UnitsFit b → UnitsFit a
+unit_of b a xs (unit.define {xs = ys} {ds = ds} n d p) h g = record { define = define_of ys ds d h; macros = g.macros; quiet = g.quiet; mappings = g.mappings; archetypes = g.archetypes; globals = g.globals; processes = g.processes }
+unit_of b a xs (unit.macro_definition {xs = ys} {m = m} d p l) h g = record { define = g.define; macros = one_more MacroFits b.macros m g.macros (macro_of ys m d h); quiet = one_more NeverJumps b.macros m g.quiet (macro_quiet ys m d (all_may ys p)); mappings = g.mappings; archetypes = g.archetypes; globals = g.globals; processes = g.processes }
+unit_of b a xs (unit.mapping {xs = ys} {m = m} d l k) h g = record { define = g.define; macros = g.macros; quiet = g.quiet; mappings = one_more BlocksFit b.mappings m g.mappings (mapping_of ys m d h); archetypes = g.archetypes; globals = g.globals; processes = g.processes }
+unit_of b a xs (unit.archetype {xs = ys} {a = r} d p l) h g = record { define = g.define; macros = g.macros; quiet = g.quiet; mappings = g.mappings; archetypes = one_more ArchetypeFits b.archetypes r g.archetypes (archetype_of ys r d h); globals = g.globals; processes = g.processes }
+unit_of b a xs (unit.globals {xs = ys} {ds = ds} n d p) h g = record { define = g.define; macros = g.macros; quiet = g.quiet; mappings = g.mappings; archetypes = g.archetypes; globals = variables_of ys ds d h; processes = g.processes }
+unit_of b a xs (unit.process {xs = ys} {q = q} d p) h g = record { define = g.define; macros = g.macros; quiet = g.quiet; mappings = g.mappings; archetypes = g.archetypes; globals = g.globals; processes = one_more ProcessFits b.processes q g.processes (process_of ys q d h) }
+
+units_of : {xs : List Lexeme} {a : Units} → AreUnits xs a → AreSmall xs → UnitsFit a
+units_of unit.no_unit h = record { define = tt; macros = tt; quiet = tt; mappings = tt; archetypes = tt; globals = tt; processes = tt }
+units_of (unit.unit {xs = xs} {ys = ys} {a = a} {b = b} r u) h = let q = cut xs ys h in unit_of b a ys u q.1 (units_of r q.0)
+
+header_of : {xs : List Lexeme} {h : Header} → IsHeader xs h → AreSmall xs → AllByRecursion DefinitionFits h.definitions
+header_of (spells.title p n d e x) h = tt
+header_of (spells.part {xs = xs} {ys = ys} {a = a} {h = b} r d) h = let q = cut xs ys h in part_of d (header_of r q.0) q.1
+  where
+    part_of : {b a : Header} {ys : List Lexeme} → IsPart b ys a → AllByRecursion DefinitionFits b.definitions → AreSmall ys → AllByRecursion DefinitionFits a.definitions
+    part_of (spells.constants w i) g k = g
+    part_of {b = b} {ys = ys} (spells.definition {d = d} i) g k = one_more DefinitionFits b.definitions d g (definition_of ys d i k)
+
+all_first : {A : Type 0} (P Q : A → Type 0) (xs : List A) → AllByRecursion (λ x. P x × Q x) xs → AllByRecursion P xs
+all_first P Q [] h = tt
+all_first P Q (x ∷ xs) h = (h.0.0, all_first P Q xs h.1)
+
+all_second : {A : Type 0} (P Q : A → Type 0) (xs : List A) → AllByRecursion (λ x. P x × Q x) xs → AllByRecursion Q xs
+all_second P Q [] h = tt
+all_second P Q (x ∷ xs) h = (h.0.1, all_second P Q xs h.1)
+
+pub record TextGives (s : Spec) : Type 0 where
+  pub literals : AllLiteralsFit s
+  pub macros : AllByRecursion NeverJumps s.macros
+
+tokens_give : (hs as' : List Lexeme) (s : Spec) → SpellsTokens hs as' s → AreSmall hs → AreSmall as' → TextGives s
+tokens_give hs as' s (spells.spec c {xs = xs} {h = h} {us = us} head plain units shallow some) f g =
+    let u = units_of units (cut xs _ g.1.1).0 in
+    record {
+      literals = record {
+        start = record {
+          definitions = header_of head f;
+          define = u.define;
+          globals = u.globals;
+          locals = all_first (λ a. AllByRecursion DeclarationFits a.locals) (λ a. LabeledFit (labeled a.body)) us.archetypes u.archetypes;
+          identifiers = all_first (λ p. OriginFits p.ids) (λ p. AllByRecursion ArgumentFits p.arguments) us.processes u.processes;
+          arguments = all_second (λ p. OriginFits p.ids) (λ p. AllByRecursion ArgumentFits p.arguments) us.processes u.processes;
+        };
+        archetypes = all_second (λ a. AllByRecursion DeclarationFits a.locals) (λ a. LabeledFit (labeled a.body)) us.archetypes u.archetypes;
+        macros = u.macros;
+        mappings = u.mappings;
+      };
+      macros = u.quiet;
+    }
+
+pub text_gives : (bytes : List ℕ) (s : Spec) → SpellsSpec bytes s → TextGives s
+text_gives bytes s d =
+    let l = d.layout in
+    tokens_give d.header d.algorithm s d.spells (marked_small l.is_header.marks.1 (cut_small l.is_header.cut)) (marked_small l.is_algorithm.marks.1 (cut_small l.is_algorithm.cut))

@@ -1,0 +1,4 @@
+pub mod Fields
+pub mod IsFinished
+pub mod Lines
+pub mod Status

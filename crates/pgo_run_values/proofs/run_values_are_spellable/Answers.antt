@@ -1,0 +1,22 @@
+use Rattle.pgo_bound.specs.BoundOf.{bound_of}
+use Rattle.pgo_run_values.proofs.Along.{all_spellable, ids_spellable, start_all}
+use Rattle.pgo_run_values.proofs.TextGives.{text_gives}
+use Rattle.pgo_run_values.proofs.Writable.{all_counted}
+use Rattle.pgo_run_values.proofs.run_values_are_spellable.Goals as goal
+
+pub returns-clause-literals : goal.returns-clause-literals
+returns-clause-literals c text s spells = text_gives text s spells
+
+pub returns-clause-ids : goal.returns-clause-ids
+returns-clause-ids c text s consts k i spells passes spelled at_k =
+    ids_spellable s consts (c.texts_are_accepted.ensures.of_text text s spells) (text_gives text s spells) spelled (c.texts_keep_states.ensures.kept text s consts spells passes (all_counted consts spelled)) k i at_k
+
+pub returns-clause-start : goal.returns-clause-start
+returns-clause-start c text s consts spells passes spelled =
+    start_all s consts (c.texts_are_accepted.ensures.of_text text s spells) (text_gives text s spells) spelled (c.texts_keep_states.ensures.kept text s consts spells passes (all_counted consts spelled))
+
+pub returns-clause-states : goal.returns-clause-states
+returns-clause-states c text s consts settings turns n spells passes spelled le =
+    let b = bound_of s consts in
+    let keeps = c.texts_keep_states.ensures.kept text s consts spells passes (all_counted consts spelled) in
+    all_spellable s consts (c.texts_are_accepted.ensures.of_text text s spells) (text_gives text s spells) spelled keeps settings turns (c.bound_accounts.ensures.entries b settings turns keeps) (c.bound_accounts.ensures.good b settings turns keeps) n le

@@ -1,0 +1,4 @@
+pub mod Spellable
+pub mod WrittenLiterals
+pub mod WrittenStatements
+pub mod WrittenTexts
