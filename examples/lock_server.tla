@@ -1,9 +1,9 @@
 \* A server that gives one lock to one client after another. Messages go through mailboxes of bounded length.
 \*
-\*     ./pgo step --turns 0 NumClients=4 BUFFER_SIZE=3 < examples/lock_server.tla
+\*     ./pgo run NumClients=4 BUFFER_SIZE=3 < examples/lock_server.tla
 \*
-\* Today pgo reads it, judges its names, its labels and what it is bound to, and refuses none of it. It doesn't run it: it
-\* answers `pgo: not built`, with status 11. What stands above the line of MODULE is passed over.
+\* runs it in rounds: five entries, and then each instance makes its attempts without a further one; status 21. What stands
+\* above the line of MODULE is passed over.
 
 ---- MODULE LockServer ----
 EXTENDS Naturals, Sequences, TLC

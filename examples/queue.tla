@@ -1,10 +1,9 @@
 \* A sender and a receiver, with a channel of bounded length between them. A mapping macro says what it is to read from the
 \* channel and to write to it, another one what it is to read how many messages are left in it.
 \*
-\*     ./pgo step --turns 0 CAPACITY=1 < examples/queue.tla
+\*     ./pgo run CAPACITY=1 < examples/queue.tla
 \*
-\* Today pgo reads it, judges its names, its labels and what it is bound to, and refuses none of it. It doesn't run it: it
-\* answers `pgo: not built`, with status 11. What stands above the line of MODULE is passed over.
+\* runs it in rounds. What stands above the line of MODULE is passed over.
 
 ---- MODULE Queue ----
 EXTENDS Integers, Sequences

@@ -18,22 +18,21 @@ use Rattle.pgo_expand.specs.Limits as limits
 use Rattle.pgo_expand.specs.Limits.{expand_refusal}
 use Rattle.pgo_expand.specs.declared.errors.ExpandStop.{ExpandStop}
 use Rattle.pgo_expand.specs.declared.errors.ExpandStop.TheVariants as expand
-use Rattle.pgo_pluscal.specs.declared.pluscal.PlusCal.{PlusCal}
 use Rattle.pgo_accept.specs.declared.errors.Rejection.{Rejection}
 use Rattle.pgo_accept.specs.Answers.{Judges, PassesRules, NothingRefuses, Expands, OfText, GivesExpansion, IsExpandable}
 use Rattle.pgo_accept.specs.Answers as answers
-use Rattle.pgo_accept.specs.Refusals.{or_line, scope_line, label_line, bind_line, expand_line, rejection_line, not_built, syntax_line, spec_line, RefusedWith}
+use Rattle.pgo_accept.specs.Refusals.{or_line, scope_line, label_line, bind_line, expand_line, rejection_line, spec_line, RefusedWith}
 use Rattle.pgo_accept.specs.Refusals as refusals
 
 no_line : {l : List ℕ} → None ≡ Some l → ⊥
 no_line e = absurd (cc)
 
 -- a refusal with a line gives that line
-given : {E : Type 0} (line : E → Option (List ℕ)) (o : Option E) (e : E) (other l : List ℕ) → o ≡ Some e → line e ≡ Some l → or_line line o other ≡ l
-given line o e other l h k = ap (λ x. or_line line x other) h ∙ ap (λ x. elim x as (λ o. List ℕ) [ None ↦ other | Some m ↦ m ]) k
+given : {E : Type 0} (line : E → Option (List ℕ)) (o : Option E) (e : E) (other : Option (List ℕ)) (l : List ℕ) → o ≡ Some e → line e ≡ Some l → or_line line o other ≡ Some l
+given line o e other l h k = ap (λ x. or_line line x other) h ∙ ap (λ x. elim x as (λ o. Option (List ℕ)) [ None ↦ other | Some m ↦ Some m ]) k
 
 -- nothing is refused
-passed : {E : Type 0} (line : E → Option (List ℕ)) (o : Option E) (other : List ℕ) → o ≡ None → or_line line o other ≡ other
+passed : {E : Type 0} (line : E → Option (List ℕ)) (o : Option E) (other : Option (List ℕ)) → o ≡ None → or_line line o other ≡ other
 passed line o other h = ap (λ x. or_line line x other) h
 
 scope_some : (o : Option ScopeError) (e : ScopeError) (l : List ℕ) → named.Answers o (Err e) → scope_line e ≡ Some l → o ≡ Some e
@@ -74,38 +73,38 @@ not_passed h g = absurd (cc)
 -- ---- the line of a specification, over any four answers of the rules
 
 -- the line of the first refusal of names, labels, binding and limits
-abbrev line_by : Option ScopeError → Option LabelError → Option BindError → Option ExpandStop → List ℕ
-line_by o p q r = or_line scope_line o (or_line label_line p (or_line bind_line q (or_line expand_line r not_built)))
+abbrev line_by : Option ScopeError → Option LabelError → Option BindError → Option ExpandStop → Option (List ℕ)
+line_by o p q r = or_line scope_line o (or_line label_line p (or_line bind_line q (or_line expand_line r None)))
 
 passed_names : (o : Option ScopeError) (p : Option LabelError) (q : Option BindError) (r : Option ExpandStop) → o ≡ None
-    → line_by o p q r ≡ or_line label_line p (or_line bind_line q (or_line expand_line r not_built))
-passed_names o p q r a = passed scope_line o (or_line label_line p (or_line bind_line q (or_line expand_line r not_built))) a
+    → line_by o p q r ≡ or_line label_line p (or_line bind_line q (or_line expand_line r None))
+passed_names o p q r a = passed scope_line o (or_line label_line p (or_line bind_line q (or_line expand_line r None))) a
 
 passed_labels : (o : Option ScopeError) (p : Option LabelError) (q : Option BindError) (r : Option ExpandStop) → o ≡ None → p ≡ None
-    → line_by o p q r ≡ or_line bind_line q (or_line expand_line r not_built)
-passed_labels o p q r a b = passed_names o p q r a ∙ passed label_line p (or_line bind_line q (or_line expand_line r not_built)) b
+    → line_by o p q r ≡ or_line bind_line q (or_line expand_line r None)
+passed_labels o p q r a b = passed_names o p q r a ∙ passed label_line p (or_line bind_line q (or_line expand_line r None)) b
 
 passed_binding : (o : Option ScopeError) (p : Option LabelError) (q : Option BindError) (r : Option ExpandStop) → o ≡ None → p ≡ None → q ≡ None
-    → line_by o p q r ≡ or_line expand_line r not_built
-passed_binding o p q r a b c = passed_labels o p q r a b ∙ passed bind_line q (or_line expand_line r not_built) c
+    → line_by o p q r ≡ or_line expand_line r None
+passed_binding o p q r a b c = passed_labels o p q r a b ∙ passed bind_line q (or_line expand_line r None) c
 
 -- the line of a refusal of a specification
-rejected_line : (s : Spec) (consts : List (Name × Data)) (e : Rejection) (l : List ℕ) → Judges s consts (Err e) → rejection_line e ≡ Some l → spec_line s consts ≡ l
+rejected_line : (s : Spec) (consts : List (Name × Data)) (e : Rejection) (l : List ℕ) → Judges s consts (Err e) → rejection_line e ≡ Some l → spec_line s consts ≡ Some l
 rejected_line s consts e l (answers.names f h) k =
-    given scope_line (scope_refusal s) f (or_line label_line (label_refusal s) (or_line bind_line (bind_refusal s consts) (or_line expand_line (expand_refusal s) not_built))) l
+    given scope_line (scope_refusal s) f (or_line label_line (label_refusal s) (or_line bind_line (bind_refusal s consts) (or_line expand_line (expand_refusal s) None))) l
     (scope_some (scope_refusal s) f l h k) k
 rejected_line s consts e l (answers.labels f a h) k =
     passed_names (scope_refusal s) (label_refusal s) (bind_refusal s consts) (expand_refusal s) a
-    ∙ given label_line (label_refusal s) f (or_line bind_line (bind_refusal s consts) (or_line expand_line (expand_refusal s) not_built)) l (label_some (label_refusal s) f l h k) k
+    ∙ given label_line (label_refusal s) f (or_line bind_line (bind_refusal s consts) (or_line expand_line (expand_refusal s) None)) l (label_some (label_refusal s) f l h k) k
 rejected_line s consts e l (answers.binding f a b h) k =
     passed_labels (scope_refusal s) (label_refusal s) (bind_refusal s consts) (expand_refusal s) a b
-    ∙ given bind_line (bind_refusal s consts) f (or_line expand_line (expand_refusal s) not_built) l (bind_some (bind_refusal s consts) f l h k) k
+    ∙ given bind_line (bind_refusal s consts) f (or_line expand_line (expand_refusal s) None) l (bind_some (bind_refusal s consts) f l h k) k
 
-stopped_line : (s : Spec) (consts : List (Name × Data)) (e : Rejection) (l : List ℕ) → Expands s consts (Err e) → rejection_line e ≡ Some l → spec_line s consts ≡ l
+stopped_line : (s : Spec) (consts : List (Name × Data)) (e : Rejection) (l : List ℕ) → Expands s consts (Err e) → rejection_line e ≡ Some l → spec_line s consts ≡ Some l
 stopped_line s consts e l (answers.judged f j) k = rejected_line s consts e l j k
 stopped_line s consts e l (answers.limited f a h) k =
     passed_binding (scope_refusal s) (label_refusal s) (bind_refusal s consts) (expand_refusal s) a.0 a.1 a.2
-    ∙ given expand_line (expand_refusal s) f not_built l (expand_some (expand_refusal s) f l h k) k
+    ∙ given expand_line (expand_refusal s) f None l (expand_some (expand_refusal s) f l h k) k
 
 -- a specification that is refused isn't let pass
 rejected_not_passed : (s : Spec) (consts : List (Name × Data)) (e : Rejection) (l : List ℕ) → Judges s consts (Err e) → rejection_line e ≡ Some l → NothingRefuses s consts → ⊥
@@ -122,17 +121,10 @@ stopped_not_passed s consts e l (answers.limited f a h) k n = not_passed (expand
 some_line : {k l : List ℕ} → Some k ≡ Some l → k ≡ l
 some_line e = cc
 
-pub accepted : (text : List ℕ) (consts : List (Name × Data)) (p : PlusCal) (l : List ℕ) → GivesExpansion text consts (Ok p) → l ≡ not_built → RefusedWith text consts l
-accepted text consts p l (answers.spelled s r sp only (answers.expanded q n m)) e =
-    subst (RefusedWith text consts)
-    (passed_binding (scope_refusal s) (label_refusal s) (bind_refusal s consts) (expand_refusal s) n.names n.labels n.binding
-    ∙ passed expand_line (expand_refusal s) not_built n.limits ∙ sym e)
-    (refusals.spelled s sp)
-
 pub refused : (text : List ℕ) (consts : List (Name × Data)) (e : Rejection) (l : List ℕ) → GivesExpansion text consts (Err e) → rejection_line e ≡ Some l
     → RefusedWith text consts l
 refused text consts e l (answers.syntax offset h) k = subst (RefusedWith text consts) (some_line k) (refusals.syntax offset h)
-refused text consts e l (answers.spelled s r sp only j) k = subst (RefusedWith text consts) (stopped_line s consts e l j k) (refusals.spelled s sp)
+refused text consts e l (answers.spelled s r sp only j) k = refusals.spelled s l sp (stopped_line s consts e l j k)
 refused text consts e l answers.no_memory k = absurd (no_line k)
 
 -- a text that is refused with a line has no expansion

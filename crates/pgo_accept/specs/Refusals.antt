@@ -1,5 +1,5 @@
--- Why a specification's text isn't run, and the line that says so.
-use Rattle.std.specs.Prelude.{ℕ, List, ◌++◌, codes, decimal, Option, Some, None}
+-- Why a specification's text is refused, and the line that says so.
+use Rattle.std.specs.Prelude.{◌≡◌, ℕ, List, ◌++◌, codes, decimal, Option, Some, None}
 use Rattle.pgo_base.specs.Data.{Data}
 use Rattle.pgo_base.specs.Lookup.{Name}
 use Rattle.pgo_base.specs.View.{data_of}
@@ -38,9 +38,6 @@ name_and_number words name n = words ++ name ++ codes " " ++ decimal n ++ codes 
 
 abbrev pub syntax_line : ℕ → List ℕ
 syntax_line offset = one_number (codes "pgo: syntax at ") offset
-
-abbrev pub not_built : List ℕ
-not_built = codes "pgo: not built\n"
 
 -- the line of a refusal; want of memory has none
 abbrev pub scope_line : ScopeError → Option (List ℕ)
@@ -92,28 +89,28 @@ rejection_line rejections.NoMemory = None
 
 -- ---- what is refused
 
--- the line of a refusal, and the other line where nothing is refused
-abbrev pub or_line : {E : Type 0} → (E → Option (List ℕ)) → Option E → List ℕ → List ℕ
+-- the line of a refusal; what comes behind it where nothing is refused
+abbrev pub or_line : {E : Type 0} → (E → Option (List ℕ)) → Option E → Option (List ℕ) → Option (List ℕ)
 or_line line None other = other
-or_line line (Some e) other = elim (line e) as (λ o. List ℕ) [ None ↦ other | Some l ↦ l ]
+or_line line (Some e) other = elim (line e) as (λ o. Option (List ℕ)) [ None ↦ other | Some l ↦ Some l ]
 
 -- the line of a specification with these constants: that of the first refusal of scope, labels, bind and the limits of its
--- expansion, and where nothing refuses it, that it isn't built
-abbrev pub expanded_line : Spec → List ℕ
-expanded_line s = or_line expand_line (expand_refusal s) not_built
+-- expansion; none where nothing refuses it
+abbrev pub expanded_line : Spec → Option (List ℕ)
+expanded_line s = or_line expand_line (expand_refusal s) None
 
-abbrev pub bound_line : Spec → List (Name × Data) → List ℕ
+abbrev pub bound_line : Spec → List (Name × Data) → Option (List ℕ)
 bound_line s consts = or_line bind_line (bind_refusal s consts) (expanded_line s)
 
-abbrev pub labeled_line : Spec → List (Name × Data) → List ℕ
+abbrev pub labeled_line : Spec → List (Name × Data) → Option (List ℕ)
 labeled_line s consts = or_line label_line (label_refusal s) (bound_line s consts)
 
-abbrev pub spec_line : Spec → List (Name × Data) → List ℕ
+abbrev pub spec_line : Spec → List (Name × Data) → Option (List ℕ)
 spec_line s consts = or_line scope_line (scope_refusal s) (labeled_line s consts)
 
 -- the line that a text with these constants is refused with
 pub data RefusedWith (text : List ℕ) (consts : List (Name × Data)) : List ℕ → Type 0 where
   -- it spells no specification
   syntax : (offset : ℕ) → ((s : Spec) → SpellsSpec text s → ⊥) → RefusedWith text consts (syntax_line offset)
-  -- it spells this one
-  spelled : (s : Spec) → SpellsSpec text s → RefusedWith text consts (spec_line s consts)
+  -- it spells this one, which has this line
+  spelled : (s : Spec) (line : List ℕ) → SpellsSpec text s → spec_line s consts ≡ Some line → RefusedWith text consts line

@@ -1,26 +1,23 @@
-// What a specification's text is bound to with constants and its expansion, or the first refusal, as an error and as a line.
+// What a specification's text is bound to with constants and its expansion, or the first refusal.
 ghost use Rattle.std.specs.Prelude.{◌≡◌, None, Ok, Err, IfOk, IfErr};
 ghost use Rattle.pgo_bound.specs.Declares.{Declares};
 ghost use Rattle.pgo_bound.specs.Sound.{Sound};
 ghost use Rattle.pgo_labels.specs.Refusal.{label_refusal};
 ghost use Rattle.pgo_scope.specs.Refusal.{scope_refusal};
 ghost use Rattle.pgo_accept.specs.Answers.{Answers, Expands, GivesExpansion, Judges, OfText, PassesRules};
-ghost use Rattle.pgo_accept.specs.Refusals.{RefusedWith};
 
 use crate::errors::Rejection;
-use crate::lines::{not_built_line, rejection_line};
 use pgo_base::consts::Consts;
 use pgo_bind::bind::bind;
 use pgo_expand::expand::expand;
 use pgo_labels::labels;
 use pgo_lexer::errors::TextStop;
-use pgo_module_write::line::Line;
 use pgo_mpcal_read::reader::read_spec;
 use pgo_pluscal::pluscal::PlusCal;
 use pgo_scope::scope::scope;
 use pgo_syntax::bound::Bound;
 use pgo_syntax::spec::Spec;
-use std::alloc::{AllocError, Global};
+use std::alloc::Global;
 
 /// What a specification whose names and labels are not refused is bound to.
 fn bound(alloc: Global, system: &Spec, consts: &Consts) -> Result<Bound, Rejection>
@@ -128,20 +125,5 @@ pub fn expansion(alloc: Global, text: &[u8], consts: &Consts) -> Result<PlusCal,
     match read(alloc, text) {
         Ok(system) => expanded(alloc, &system, consts),
         Err(rejection) => Err(rejection),
-    }
-}
-
-/// The line, with its newline, that says why a text isn't run with these constants: `pgo: syntax at` and an offset in bytes
-/// where it spells no specification; the first refusal of the rules of names, of labels and of binding and of the limits of
-/// its expansion, in this order, as `pgo: <scope|labels|bind|expand> <number> <Name> <fields>`; and `pgo: not built` where
-/// nothing refuses it.
-///
-/// This project's choice.
-pub fn refusal_line(alloc: Global, text: &[u8], consts: &Consts) -> Result<Line, AllocError>
-    ensures { IfOk result (RefusedWith text.now consts.now) }
-{
-    match expansion(alloc, text, consts) {
-        Ok(_expanded) => not_built_line(alloc),
-        Err(rejection) => rejection_line(alloc, &rejection),
     }
 }

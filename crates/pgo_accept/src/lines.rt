@@ -7,8 +7,8 @@ use pgo_base::text::Text;
 use pgo_bind::errors::BindError;
 use pgo_expand::errors::ExpandStop;
 use pgo_labels::errors::LabelError;
-use pgo_module_write::line::Line;
-use pgo_module_write::line::Piece::{Bytes, Name, Number};
+use pgo_lines::line::Line;
+use pgo_lines::line::Piece::{Bytes, Name, Number};
 use pgo_scope::errors::ScopeError;
 use pgo_value_text::write::write_value;
 use std::alloc::{AllocError, Global};
@@ -67,13 +67,6 @@ fn one_number(alloc: Global, words: &[u8], number: u64) -> Result<Line, AllocErr
     ensures { IfOk result (λ l. l ≡ spec.one_number words.now number) }
 {
     Line::of(alloc, &[Bytes(words), Number(number), Bytes(b"\n")])
-}
-
-/// The line of a text that is not built.
-pub fn not_built_line(alloc: Global) -> Result<Line, AllocError>
-    ensures { IfOk result (λ l. l ≡ spec.not_built) }
-{
-    Line::of(alloc, &[Bytes(b"pgo: not built\n")])
 }
 
 /// The line of a refusal of names; want of memory has none.

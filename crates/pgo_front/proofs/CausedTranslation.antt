@@ -11,8 +11,8 @@ use Rattle.pgo_front.specs.declared.target.Target.TheVariants as targets
 use Rattle.pgo_front.specs.Turns.{AsksCheck}
 use Rattle.pgo_front.specs.Spells.{most_bytes}
 use Rattle.pgo_front.specs.Translations.{TranslatesTo, Translated, NotTranslated}
-use Rattle.pgo_front.specs.Answers.{AsksNothing, AsksSomeStep, EndsWell, WritesPrefix, Stops, OrNoMemory, IsToldToTranslate}
-use Rattle.pgo_front.proofs.Caused.{Says, at_told, not_short, translation_no_step, translation_no_check}
+use Rattle.pgo_front.specs.Answers.{AsksNothing, AsksSomeExecution, EndsWell, WritesPrefix, Stops, OrNoMemory, IsToldToTranslate}
+use Rattle.pgo_front.proofs.Caused.{Says, at_told, not_short, translation_no_execution, translation_no_check}
 
 -- what is translated can be expanded
 expandable : (target : Target) (text : List ℕ) (consts : List (Name × Data)) (written : List ℕ) → TranslatesTo target text consts written → IsExpandable text consts
@@ -20,8 +20,8 @@ expandable targets.Expansion text consts written x = (x.spec, x.spells, x.passes
 expandable targets.Module text consts written x = (x.spec, x.spells, x.passes)
 
 module _ (words : List (List ℕ)) (input : Option (List ℕ)) (before now : ℕ) (out_before out_now : ℕ) (old new : Option (List ℕ)) (target : Target) (text : List ℕ) (consts : List (Name × Data)) (told : IsToldToTranslate target words input consts text) (read : Rose before now → ⊥) where
-  no_step : {A : Type 0} → AsksSomeStep words → A
-  no_step step = absurd (translation_no_step (target, consts, told.asks) step)
+  no_run : {A : Type 0} → AsksSomeExecution words → A
+  no_run run = absurd (translation_no_execution (target, consts, told.asks) run)
 
   no_check : {A : Type 0} → AsksCheck words → A
   no_check check = absurd (translation_no_check (target, consts, told.asks) check)
@@ -33,21 +33,21 @@ module _ (words : List (List ℕ)) (input : Option (List ℕ)) (before now : ℕ
   Made = (written : List ℕ) × Translated words text written
 
   fine_made : EndsWell words input old new → Made
-  fine_made (inl h) = no_step h.0
+  fine_made (inl h) = no_run h.0
   fine_made (inr (inl h)) = no_check h.0
   fine_made (inr (inr h)) = let g = at_told input text _ told.told h.1 in (g.0, g.1)
 
   fault_made : WritesPrefix words input old new → Made
-  fault_made (inl h) = no_step h.0
+  fault_made (inl h) = no_run h.0
   fault_made (inr (inl h)) = no_check h.0
   fault_made (inr (inr h)) = let g = at_told input text _ told.told h.1 in (g.0, g.1)
 
   refused_text : Stops words input before now status.SpecRefused → NotTranslated words text
-  refused_text (inl h) = no_step h.0
+  refused_text (inl h) = no_run h.0
   refused_text (inr h) = at_told input text (NotTranslated words) told.told h.1
 
   long_text : Stops words input before now status.TooLong → most_bytes < length text
-  long_text (inl h) = no_step h.0
+  long_text (inl h) = no_run h.0
   long_text (inr (inl h)) = no_check h.0
   long_text (inr (inr h)) = at_told input text (λ t. most_bytes < length t) told.told h.1
 
@@ -67,7 +67,9 @@ module _ (words : List (List ℕ)) (input : Option (List ℕ)) (before now : ℕ
   too_long_to_translate_comes status.ReadFault h long = absurd (read (h.stopped tt).1)
   too_long_to_translate_comes status.WriteFault h long = absurd (not_short long (fault_made (h.prefix refl)).1.short)
   too_long_to_translate_comes status.TooLong h long = inl refl
-  too_long_to_translate_comes status.Spent h long = no_step (h.spent refl).0
+  too_long_to_translate_comes status.Stopped h long = no_run (h.halted refl).0
+  too_long_to_translate_comes status.Spent h long = no_run (h.spent refl).0
+  too_long_to_translate_comes status.Full h long = no_run (h.full refl).0
   too_long_to_translate_comes status.NotARun h long = no_check (h.not_a_run refl).0
   too_long_to_translate_comes status.BadBundle h long = no_check (h.stopped tt).0
   too_long_to_translate_comes status.NoMemory h long = inr refl
@@ -81,7 +83,9 @@ module _ (words : List (List ℕ)) (input : Option (List ℕ)) (before now : ℕ
   not_translated_comes status.ReadFault h short none = absurd (read (h.stopped tt).1)
   not_translated_comes status.WriteFault h short none = absurd (none (was_expandable (fault_made (h.prefix refl))))
   not_translated_comes status.TooLong h short none = absurd (not_short (long_text (h.stopped tt)) short)
-  not_translated_comes status.Spent h short none = no_step (h.spent refl).0
+  not_translated_comes status.Stopped h short none = no_run (h.halted refl).0
+  not_translated_comes status.Spent h short none = no_run (h.spent refl).0
+  not_translated_comes status.Full h short none = no_run (h.full refl).0
   not_translated_comes status.NotARun h short none = no_check (h.not_a_run refl).0
   not_translated_comes status.BadBundle h short none = no_check (h.stopped tt).0
   not_translated_comes status.NoMemory h short none = inr refl
@@ -95,7 +99,9 @@ module _ (words : List (List ℕ)) (input : Option (List ℕ)) (before now : ℕ
   translates_comes status.ReadFault h wrote short x = absurd (read (h.stopped tt).1)
   translates_comes status.WriteFault h wrote short x = absurd (wrote (h.write_fault refl))
   translates_comes status.TooLong h wrote short x = absurd (not_short (long_text (h.stopped tt)) short)
-  translates_comes status.Spent h wrote short x = no_step (h.spent refl).0
+  translates_comes status.Stopped h wrote short x = no_run (h.halted refl).0
+  translates_comes status.Spent h wrote short x = no_run (h.spent refl).0
+  translates_comes status.Full h wrote short x = no_run (h.full refl).0
   translates_comes status.NotARun h wrote short x = no_check (h.not_a_run refl).0
   translates_comes status.BadBundle h wrote short x = no_check (h.stopped tt).0
   translates_comes status.NoMemory h wrote short x = inr refl

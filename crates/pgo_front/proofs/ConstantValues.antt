@@ -14,9 +14,12 @@ use Rattle.pgo_base.proofs.Keyed.{sorted_pairs_in_order}
 use Rattle.pgo_model.specs.Operators.{fits_i64, sequence_at, most_members}
 use Rattle.pgo_model.specs.State.{AllValues}
 use Rattle.pgo_model.specs.Value.{IsValue, AreValues, ArePairs}
-use Rattle.pgo_value_text.specs.IsValueText.{most_depth, Spaced, spaced, Joined, joined, Followed, none, next, Parted, parted, Listed, nothing, listed, Field, field, Form, truth, number, negative, string_in_quotes, name, set_text, tuple_text, record_text, function_text, Spells, is_small, are_small, all_small}
+use Rattle.pgo_log_text.specs.IsBundle.{IsCanonicalValue, AreCanonical}
+use Rattle.pgo_value_text.specs.IsValueText.{IsValueText, most_depth, Spaced, spaced, Joined, joined, Followed, none, next, Parted, parted, Listed, nothing, listed, Field, field, Form, truth, number, negative, string_in_quotes, name, set_text, tuple_text, record_text, function_text, Spells, is_small, are_small, all_small}
 use Rattle.pgo_value_text.proofs.Numbered.{length-sequence_at, sorted_sequence}
+use Rattle.pgo_execute.specs.Schedules.{Schedule, Turns, Rounds}
 use Rattle.pgo_front.specs.Constants.{AreConstants}
+use Rattle.pgo_front.specs.Turns.{AsksExecution}
 
 -- where it is small it is a value
 abbrev Sound : Data → Type 0
@@ -135,3 +138,15 @@ pub constants_are_values : (ws : List (List ℕ)) (cs : List (Name × Data)) →
 constants_are_values ws [] h = tt
 constants_are_values [] (c ∷ cs) h = absurd h
 constants_are_values (w ∷ ws) (c ∷ cs) h = (text_sound most_depth h.0.text c.1 h.0.value.spelled h.0.value.small, constants_are_values ws cs h.1)
+
+-- and texts spell them
+pub constants_are_canonical : ((text : List ℕ) (v : Data) → IsValueText text v → IsCanonicalValue v) → (ws : List (List ℕ)) (cs : List (Name × Data)) → AreConstants ws cs → AreCanonical cs
+constants_are_canonical read ws [] h = tt
+constants_are_canonical read [] (c ∷ cs) h = absurd h
+constants_are_canonical read (w ∷ ws) (c ∷ cs) h = (read h.0.text c.1 h.0.value, constants_are_canonical read ws cs h.1)
+
+-- those of a run
+pub run_constants : ((text : List ℕ) (v : Data) → IsValueText text v → IsCanonicalValue v) → (words : List (List ℕ)) (schedule : Schedule) (consts : List (Name × Data))
+    → AsksExecution words schedule consts → AreCanonical consts
+run_constants read words (Turns ts) consts a = constants_are_canonical read a.rest consts a.constants.each
+run_constants read words Rounds consts a = constants_are_canonical read a.rest consts a.constants.each

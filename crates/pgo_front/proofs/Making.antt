@@ -1,10 +1,8 @@
 -- What a command made, and what came to the output of it.
-use Rattle.std.proofs.Common.{◌≡◌, ◌≤◌, ◌⊎◌, inl, inr, ℕ, nat_eq, true, List, [], ◌∷◌, length, map, Option, Some, None, IfSome, Result, Ok, Err, IfOk, sym, ◌∙◌, ap, subst, arith}
+use Rattle.std.proofs.Common.{◌≡◌, ◌≤◌, inl, inr, ℕ, List, length, Option, Some, None, IfSome, Result, Ok, Err, IfOk, IfErr, refl, sym, ◌∙◌, ap, subst, arith}
 use Rattle.pgo_io.specs.Sink.{Grows, GrowsByPrefix}
 use Rattle.pgo_base.specs.Data.{Data}
 use Rattle.pgo_base.specs.Lookup.{Name}
-use Rattle.pgo_base.specs.View.{named_data}
-use Rattle.pgo_base.specs.declared.value.Value.{Value}
 use Rattle.pgo_check.specs.declared.verdict.Verdict.{Verdict}
 use Rattle.pgo_check.specs.declared.verdict.Verdict.TheVariants.{Run, Bad}
 use Rattle.pgo_log_text.specs.ReadBundle.{IsNoBundle}
@@ -12,31 +10,21 @@ use Rattle.pgo_front.specs.declared.output.Output.{Output}
 use Rattle.pgo_front.specs.declared.ended.Ended.{Ended}
 use Rattle.pgo_front.specs.declared.status.Status.{Status}
 use Rattle.pgo_front.specs.declared.status.Status.TheVariants as status
-use Rattle.pgo_front.specs.Turns.{AsksStep, AsksCheck, AsksTranslation}
+use Rattle.pgo_execute.specs.Schedules.{Schedule}
+use Rattle.pgo_front.specs.Turns.{AsksExecution, AsksCheck, AsksTranslation}
 use Rattle.pgo_front.specs.declared.target.Target.{Target}
-use Rattle.pgo_front.specs.Asked.{TranslatesOnly}
+use Rattle.pgo_front.specs.Asked.{ExecutesOnly, TranslatesOnly}
 use Rattle.pgo_front.specs.Spells.{most_bytes}
-use Rattle.pgo_front.specs.Statuses.{number_of}
+use Rattle.pgo_front.specs.Statuses.{number_of, line_of, IsSilent}
 use Rattle.pgo_front.specs.Verdicts.{IsRunVerdict, IsBadVerdict, most_bundle_bytes}
 use Rattle.pgo_accept.specs.Answers.{IsExpandable}
 use Rattle.pgo_accept.specs.Refusals.{RefusedWith}
 use Rattle.pgo_front.specs.Translations.{NotTranslated}
-use Rattle.pgo_front.specs.Answers.{AsksSomeStep, IsNotRun, Asked, RefusedBy, WritesBundle, WritesVerdict, EndsWell, WritesPrefix, Stops}
-use Rattle.pgo_front.specs.Makes.{IsStepStatus, IsVerdictStatus, MakesOf, MakesAsked, MakesTranslation, MakesJudged, MakesVerdict, StopsAt, StopsFor, StopsInput, StopsJudging, StopsCheck, StopsTranslation, HasLine, bytes_of}
+use Rattle.pgo_front.specs.Answers.{AsksSomeExecution, Asked, IsRefused, RefusedBy, WritesBundle, WritesVerdict, EndsWell, WritesPrefix, Stops, IsRefusal, SaysRefusal, SaysBundleLine}
+use Rattle.pgo_front.specs.Makes.{IsRunEnd, IsVerdictStatus, MakesRun, MakesAsked, MakesTranslation, MakesJudged, MakesVerdict, StopsFor, StopsInput, StopsJudging, StopsCheck, StopsSpecInput, HasLine, NamesLine, HasBundleLine, IsNoBundleEnd, HasOwnLine, bytes_of}
 use Rattle.pgo_front.proofs.ConstantValues.{constants_are_values}
 
--- a list without an item gives no constant
-pub none_there : (xs : List (Name × Value)) (consts : List (Name × Data)) → map named_data xs ≡ consts → true ≡ nat_eq (length xs) 0 → consts ≡ []
-none_there [] consts e h = sym e
-none_there (x ∷ xs) consts e h = absurd (grind (arith, h))
-
 -- ---- why a command stopped
-
--- a refusal of a text that isn't run
-pub refused_at : (text : List ℕ) (consts : List (Name × Data)) (s : Status) → IsNotRun text consts → (s ≡ status.SpecRefused) ⊎ (s ≡ status.NoMemory)
-    → StopsAt text consts s
-refused_at text consts s h (inl e) = inl (e, h)
-refused_at text consts s h (inr e) = inr e
 
 -- of a text that is refused for a cause, of the input that it came from
 pub stops_input : (Cause : List ℕ → Type 0) (input : Option (List ℕ)) (before now : ℕ) (text : List ℕ) (s : Status)
@@ -53,7 +41,7 @@ stops_check input before now text s told short (inr e) = inr (inr (inr e))
 
 -- of words that ask for a translation
 pub translation_stopped : (words : List (List ℕ)) (input : Option (List ℕ)) (before now : ℕ) (target : Target) (consts : List (Name × Data)) (s : Status)
-    → TranslatesOnly words (Some (target, consts)) → StopsTranslation consts input before now s → Stops words input before now s
+    → TranslatesOnly words (Some (target, consts)) → StopsSpecInput consts input before now s → Stops words input before now s
 translation_stopped words input before now target consts s asks (inl h) =
     subst (Stops words input before now) (sym h.0) (inr ((target, consts, asks.0), refused input h.1))
   where
@@ -65,6 +53,20 @@ translation_stopped words input before now target consts s asks (inr (inr (inl h
     subst (Stops words input before now) (sym h.0) (inr (inr ((target, consts, asks.0), h.1)))
 translation_stopped words input before now target consts s asks (inr (inr (inr e))) = subst (Stops words input before now) (sym e) tt
 
+-- of words that ask for a run
+pub execution_stopped : (words : List (List ℕ)) (input : Option (List ℕ)) (before now : ℕ) (schedule : Schedule) (consts : List (Name × Data)) (s : Status)
+    → ExecutesOnly words (Some (schedule, consts)) → StopsSpecInput consts input before now s → Stops words input before now s
+execution_stopped words input before now schedule consts s asks (inl h) =
+    subst (Stops words input before now) (sym h.0) (inl ((schedule, consts, asks.0), refused input h.1))
+  where
+    refused : (o : Option (List ℕ)) → IfSome o (λ text. (length text ≤ most_bytes) × (IsExpandable text consts → ⊥)) → IfSome o (IsRefused words)
+    refused None g = tt
+    refused (Some text) g = record { schedule = schedule; consts = consts; asks = asks.0; no_others = asks.1; short = g.0; refused = g.1 }
+execution_stopped words input before now schedule consts s asks (inr (inl h)) = subst (Stops words input before now) (sym h.0) (inl (schedule, consts, asks.0), h.1)
+execution_stopped words input before now schedule consts s asks (inr (inr (inl h))) =
+    subst (Stops words input before now) (sym h.0) (inl ((schedule, consts, asks.0), h.1))
+execution_stopped words input before now schedule consts s asks (inr (inr (inr e))) = subst (Stops words input before now) (sym e) tt
+
 -- the line of a refusal, of the words that asked for a translation
 pub translation_line : (words : List (List ℕ)) (input : Option (List ℕ)) (target : Target) (consts : List (Name × Data)) (s : Status) (line : Option (List ℕ))
     → AsksTranslation target words consts → HasLine input (λ text l. RefusedWith text consts l) s line → HasLine input (RefusedBy words) s line
@@ -74,6 +76,16 @@ translation_line words input target consts s (Some l) asks h = (h.0, refused inp
     refused : (o : Option (List ℕ)) → IfSome o (λ text. RefusedWith text consts l) → IfSome o (λ text. RefusedBy words text l)
     refused None g = tt
     refused (Some text) g = record { consts = consts; asks = inr (target, asks); refused = g }
+
+-- and of the words that asked for a run
+pub execution_line : (words : List (List ℕ)) (input : Option (List ℕ)) (schedule : Schedule) (consts : List (Name × Data)) (s : Status) (line : Option (List ℕ))
+    → AsksExecution words schedule consts → HasLine input (λ text l. RefusedWith text consts l) s line → HasLine input (RefusedBy words) s line
+execution_line words input schedule consts s None asks h = h
+execution_line words input schedule consts s (Some l) asks h = (h.0, refused input h.1)
+  where
+    refused : (o : Option (List ℕ)) → IfSome o (λ text. RefusedWith text consts l) → IfSome o (λ text. RefusedBy words text l)
+    refused None g = tt
+    refused (Some text) g = record { consts = consts; asks = inl (schedule, asks); refused = g }
 
 -- ---- what a command made
 
@@ -89,11 +101,11 @@ makes_check None text m told short h = tt
 makes_check (Some bs) text m told short h = subst (λ bs. (length bs ≤ most_bundle_bytes) × MakesJudged bs m) told (short, h)
 
 -- of the words that asked for it
-pub step_asked : (words : List (List ℕ)) (input : Option (List ℕ)) (turns : List ℕ) (consts : List (Name × Data)) (m : Output) → AsksStep words turns consts → IsStepStatus m
-    → IfSome input (λ text. (length text ≤ most_bytes) × MakesOf text turns consts m) → MakesAsked words input m
-step_asked words None turns consts m asks either h = inl ((turns, consts, asks), either, tt)
-step_asked words (Some text) turns consts m asks either h =
-    inl ((turns, consts, asks), either, record { turns = turns; spec = h.1.1; asks = subst (AsksStep words turns) h.1.0 asks; short = h.0; spells = h.1.2; ran = h.1.3 })
+execution_asked : (words : List (List ℕ)) (input : Option (List ℕ)) (schedule : Schedule) (consts : List (Name × Data)) (m : Output) → ExecutesOnly words (Some (schedule, consts))
+    → IsRunEnd m.status → IfSome input (λ text. (length text ≤ most_bytes) × MakesRun schedule text consts m) → MakesAsked words input m
+execution_asked words None schedule consts m asks either h = inl ((schedule, consts, asks.0), either, tt)
+execution_asked words (Some text) schedule consts m asks either h =
+    inl ((schedule, consts, asks.0), either, record { schedule = schedule; consts = consts; asks = asks.0; no_others = asks.1; short = h.0; runs = h.1 })
 
 pub check_asked : (words : List (List ℕ)) (input : Option (List ℕ)) (m : Output) → AsksCheck words → IsVerdictStatus m
     → IfSome input (λ text. (length text ≤ most_bundle_bytes) × MakesJudged text m) → MakesAsked words input m
@@ -113,21 +125,20 @@ pub translation_made : (words : List (List ℕ)) (input : Option (List ℕ)) (ta
 translation_made words input target consts (Ok m) asks fine h = translation_asked words input target consts m asks fine h
 translation_made words input target consts (Err e) asks fine h = tt
 
-pub step_made : (words : List (List ℕ)) (input : Option (List ℕ)) (turns : List ℕ) (consts : List (Name × Data)) (r : Result Output Ended) → AsksStep words turns consts
-    → IfOk r IsStepStatus → IfOk r (λ m. IfSome input (λ text. (length text ≤ most_bytes) × MakesOf text turns consts m)) → IfOk r (MakesAsked words input)
-step_made words input turns consts (Ok m) asks either h = step_asked words input turns consts m asks either h
-step_made words input turns consts (Err e) asks either h = tt
+pub execution_made : (words : List (List ℕ)) (input : Option (List ℕ)) (schedule : Schedule) (consts : List (Name × Data)) (r : Result Output Ended)
+    → ExecutesOnly words (Some (schedule, consts)) → IfOk r (λ m. IsRunEnd m.status)
+    → IfOk r (λ m. IfSome input (λ text. (length text ≤ most_bytes) × MakesRun schedule text consts m)) → IfOk r (MakesAsked words input)
+execution_made words input schedule consts (Ok m) asks either h = execution_asked words input schedule consts m asks either h
+execution_made words input schedule consts (Err e) asks either h = tt
 
 -- ---- what came to the output
 
-not_fine : (m : Output) → m.status ≡ status.Spent → m.status ≡ status.Fine → ⊥
-not_fine m e f = let g : 21 ≡ 0 = ap number_of (sym e ∙ f) in omega (arith, g)
-
-not_no_run : (m : Output) → m.status ≡ status.Spent → m.status ≡ status.NotARun → ⊥
-not_no_run m e f = let g : 21 ≡ 30 = ap number_of (sym e ∙ f) in omega (arith, g)
+-- a status has one number
+numbered : {s a b : Status} → s ≡ a → s ≡ b → number_of a ≡ number_of b
+numbered e f = ap number_of (sym e ∙ f)
 
 fine_no_run : (m : Output) → m.status ≡ status.Fine → m.status ≡ status.NotARun → ⊥
-fine_no_run m e f = let g : 0 ≡ 30 = ap number_of (sym e ∙ f) in omega (arith, g)
+fine_no_run m e f = let g : 0 ≡ 30 = numbered e f in omega (arith, g)
 
 -- a verdict with status 0 is that of a run, and with status 30 that of none
 is_run_verdict : (v : Verdict) (m : Output) → MakesVerdict v m → m.status ≡ status.Fine → IsRunVerdict v
@@ -148,7 +159,7 @@ into_fault words (Some text) old new m (inr (inl h)) g = inr (inl (h.0, (h.2.0, 
 into_fault words None old new m (inr (inr h)) g = inr (inr (h.0, tt))
 into_fault words (Some text) old new m (inr (inr h)) g = inr (inr (h.0, (bytes_of m.written, h.2, g)))
 
-ran_with : (words : List (List ℕ)) (input old new : Option (List ℕ)) (m : Output) (s : Status) → m.status ≡ s → AsksSomeStep words
+ran_with : (words : List (List ℕ)) (input old new : Option (List ℕ)) (m : Output) (s : Status) → m.status ≡ s → AsksSomeExecution words
     → IfSome input (λ text. Asked words text (number_of m.status) (bytes_of m.written)) → Grows old new (bytes_of m.written) → WritesBundle words input (number_of s) old new
 ran_with words None old new m s e asks h g = (asks, tt)
 ran_with words (Some text) old new m s e asks h g = (asks, (bytes_of m.written, subst (λ n. Asked words text n (bytes_of m.written)) (ap number_of e) h, g))
@@ -163,23 +174,38 @@ fine_to words (Some text) old new m e (inr (inl h)) g =
 fine_to words None old new m e (inr (inr h)) g = inr (inr (h.0, tt))
 fine_to words (Some text) old new m e (inr (inr h)) g = inr (inr (h.0, (bytes_of m.written, h.2, g)))
 
-pub spent_to : (words : List (List ℕ)) (input old new : Option (List ℕ)) (m : Output) → m.status ≡ status.Spent
-    → MakesAsked words input m → Grows old new (bytes_of m.written) → WritesBundle words input 21 old new
-spent_to words input old new m e (inl h) g = ran_with words input old new m status.Spent e h.0 h.2 g
-spent_to words input old new m e (inr (inr h)) g = absurd (not_fine m e h.1)
-spent_to words input old new m e (inr (inl h)) g = absurd (neither h.1)
+-- with a status that is a run's alone
+bundle_to : (words : List (List ℕ)) (input old new : Option (List ℕ)) (m : Output) (s : Status) → m.status ≡ s → (number_of s ≡ 0 → ⊥) → (number_of s ≡ 30 → ⊥)
+    → MakesAsked words input m → Grows old new (bytes_of m.written) → WritesBundle words input (number_of s) old new
+bundle_to words input old new m s e no_fine no_log (inl h) g = ran_with words input old new m s e h.0 h.2 g
+bundle_to words input old new m s e no_fine no_log (inr (inr h)) g = absurd (no_fine (numbered e h.1))
+bundle_to words input old new m s e no_fine no_log (inr (inl h)) g = absurd (neither h.1)
   where
     neither : IsVerdictStatus m → ⊥
-    neither (inl f) = not_fine m e f
-    neither (inr f) = not_no_run m e f
+    neither (inl f) = no_fine (numbered e f)
+    neither (inr f) = no_log (numbered e f)
+
+pub halted_to : (words : List (List ℕ)) (input old new : Option (List ℕ)) (m : Output) → m.status ≡ status.Stopped
+    → MakesAsked words input m → Grows old new (bytes_of m.written) → WritesBundle words input 20 old new
+halted_to words input old new m e h g = bundle_to words input old new m status.Stopped e (λ n. omega (arith, n)) (λ n. omega (arith, n)) h g
+
+pub spent_to : (words : List (List ℕ)) (input old new : Option (List ℕ)) (m : Output) → m.status ≡ status.Spent
+    → MakesAsked words input m → Grows old new (bytes_of m.written) → WritesBundle words input 21 old new
+spent_to words input old new m e h g = bundle_to words input old new m status.Spent e (λ n. omega (arith, n)) (λ n. omega (arith, n)) h g
+
+pub full_to : (words : List (List ℕ)) (input old new : Option (List ℕ)) (m : Output) → m.status ≡ status.Full
+    → MakesAsked words input m → Grows old new (bytes_of m.written) → WritesBundle words input 23 old new
+full_to words input old new m e h g = bundle_to words input old new m status.Full e (λ n. omega (arith, n)) (λ n. omega (arith, n)) h g
 
 pub not_a_run_to : (words : List (List ℕ)) (input old new : Option (List ℕ)) (m : Output) → m.status ≡ status.NotARun
     → MakesAsked words input m → Grows old new (bytes_of m.written) → WritesVerdict words input IsBadVerdict old new
-not_a_run_to words input old new m e (inl h) g = absurd (neither h.1)
+not_a_run_to words input old new m e (inl h) g = absurd (none h.1)
   where
-    neither : IsStepStatus m → ⊥
-    neither (inl f) = fine_no_run m f e
-    neither (inr f) = not_no_run m f e
+    none : IsRunEnd m.status → ⊥
+    none (inl f) = fine_no_run m f e
+    none (inr (inl f)) = let n : 20 ≡ 30 = numbered f e in omega (arith, n)
+    none (inr (inr (inl f))) = let n : 21 ≡ 30 = numbered f e in omega (arith, n)
+    none (inr (inr (inr f))) = let n : 23 ≡ 30 = numbered f e in omega (arith, n)
 not_a_run_to words input old new m e (inr (inr h)) g = absurd (fine_no_run m h.1 e)
 not_a_run_to words None old new m e (inr (inl h)) g = (h.0, tt)
 not_a_run_to words (Some text) old new m e (inr (inl h)) g =
@@ -189,3 +215,132 @@ not_a_run_to words (Some text) old new m e (inr (inl h)) g =
 pub verdict_status : (v : Verdict) (m : Output) → MakesVerdict v m → IsVerdictStatus m
 verdict_status (Run n) m h = inl h.status_is
 verdict_status (Bad n w) m h = inr h.status_is
+
+-- ---- the lines of ends
+
+-- no end of a command on a specification is that of a text that is no bundle
+no_bundle : (consts : List (Name × Data)) (input : Option (List ℕ)) (before now : ℕ) (s : Status) → StopsSpecInput consts input before now s → s ≡ status.BadBundle → ⊥
+no_bundle consts input before now s (inl h) e = let n : 11 ≡ 31 = numbered h.0 e in omega (arith, n)
+no_bundle consts input before now s (inr (inl h)) e = let n : 12 ≡ 31 = numbered h.0 e in omega (arith, n)
+no_bundle consts input before now s (inr (inr (inl h))) e = let n : 14 ≡ 31 = numbered h.0 e in omega (arith, n)
+no_bundle consts input before now s (inr (inr (inr h))) e = let n : 40 ≡ 31 = numbered h e in omega (arith, n)
+
+-- and no end of a check is that of a refused specification
+no_specification : (input : Option (List ℕ)) (before now : ℕ) (s : Status) → StopsCheck input before now s → s ≡ status.SpecRefused → ⊥
+no_specification input before now s (inl h) e = let n : 31 ≡ 11 = numbered h.0 e in omega (arith, n)
+no_specification input before now s (inr (inl h)) e = let n : 12 ≡ 11 = numbered h.0 e in omega (arith, n)
+no_specification input before now s (inr (inr (inl h))) e = let n : 14 ≡ 11 = numbered h.0 e in omega (arith, n)
+no_specification input before now s (inr (inr (inr h))) e = let n : 40 ≡ 11 = numbered h e in omega (arith, n)
+
+pub spec_lines : (consts : List (Name × Data)) (input : Option (List ℕ)) (before now : ℕ) (R Q : (text line : List ℕ) → Type 0) (r : Result Output Ended)
+    → ((e : Ended) → HasLine input R e.status e.line → HasLine input Q e.status e.line) → IfErr r (λ e. StopsSpecInput consts input before now e.status)
+    → IfErr r (λ e. HasLine input R e.status e.line) → IfErr r (λ e. HasOwnLine input Q e.status e.line)
+spec_lines consts input before now R Q (Ok m) f stops lines = tt
+spec_lines consts input before now R Q (Err e) f stops lines = inl (f e lines, no_bundle consts input before now e.status stops)
+
+pub check_lines : (input : Option (List ℕ)) (before now : ℕ) (Q : (text line : List ℕ) → Type 0) (r : Result Output Ended)
+    → IfErr r (λ e. StopsCheck input before now e.status) → IfErr r (λ e. HasBundleLine e.status e.line) → IfErr r (λ e. HasOwnLine input Q e.status e.line)
+check_lines input before now Q (Ok m) stops lines = tt
+check_lines input before now Q (Err e) stops lines = go lines
+  where
+    go : HasBundleLine e.status e.line → HasOwnLine input Q e.status e.line
+    go (inl h) = inr h
+    go (inr h) = inl (subst (HasLine input Q e.status) (sym h.1) (no_specification input before now e.status stops), h.0)
+
+-- an end of another number has no line
+no_line : (input : Option (List ℕ)) (Q : (text line : List ℕ) → Type 0) (s : Status) (line : Option (List ℕ)) (n : ℕ) → number_of s ≡ n → (n ≡ 11 → ⊥) → (n ≡ 31 → ⊥) → line ≡ None
+    → HasOwnLine input Q s line
+no_line input Q s line n is a b none = inl (subst (HasLine input Q s) (sym none) (λ e. a (sym is ∙ ap number_of e)), λ e. b (sym is ∙ ap number_of e))
+
+-- what was made has none
+pub made_line : (words : List (List ℕ)) (input : Option (List ℕ)) (Q : (text line : List ℕ) → Type 0) (s : Status) (line : Option (List ℕ)) (m : Output) → s ≡ m.status → line ≡ None
+    → MakesAsked words input m → HasOwnLine input Q s line
+made_line words input Q s line m e none h = made h
+  where
+    ran : IsRunEnd m.status → HasOwnLine input Q s line
+    ran (inl f) = no_line input Q s line 0 (ap number_of (e ∙ f)) (λ n. omega (arith, n)) (λ n. omega (arith, n)) none
+    ran (inr (inl f)) = no_line input Q s line 20 (ap number_of (e ∙ f)) (λ n. omega (arith, n)) (λ n. omega (arith, n)) none
+    ran (inr (inr (inl f))) = no_line input Q s line 21 (ap number_of (e ∙ f)) (λ n. omega (arith, n)) (λ n. omega (arith, n)) none
+    ran (inr (inr (inr f))) = no_line input Q s line 23 (ap number_of (e ∙ f)) (λ n. omega (arith, n)) (λ n. omega (arith, n)) none
+
+    judged : IsVerdictStatus m → HasOwnLine input Q s line
+    judged (inl f) = no_line input Q s line 0 (ap number_of (e ∙ f)) (λ n. omega (arith, n)) (λ n. omega (arith, n)) none
+    judged (inr f) = no_line input Q s line 30 (ap number_of (e ∙ f)) (λ n. omega (arith, n)) (λ n. omega (arith, n)) none
+
+    made : MakesAsked words input m → HasOwnLine input Q s line
+    made (inl h) = ran h.1
+    made (inr (inl h)) = judged h.1
+    made (inr (inr h)) = no_line input Q s line 0 (ap number_of (e ∙ h.1)) (λ n. omega (arith, n)) (λ n. omega (arith, n)) none
+
+-- nor has a failed output, or an end without its text
+pub other_line : (input : Option (List ℕ)) (Q : (text line : List ℕ) → Type 0) (s t : Status) (line : Option (List ℕ)) → s ≡ t → (number_of t ≡ 11 → ⊥) → (number_of t ≡ 31 → ⊥) → line ≡ None
+    → HasOwnLine input Q s line
+other_line input Q s t line e a b none = no_line input Q s line (number_of t) (ap number_of e) a b none
+
+-- ---- the command `check`
+
+-- of a text that is no bundle
+pub judging_stopped : (text : List ℕ) (s : Status) (line : Option (List ℕ)) → IsNoBundle text → IsNoBundleEnd s line → StopsJudging text s
+judging_stopped text s line none (inl h) = inl (h.0, none)
+judging_stopped text s line none (inr h) = inr h.0
+
+pub end_line : (s : Status) (line : Option (List ℕ)) → IsNoBundleEnd s line → HasBundleLine s line
+end_line s line (inl h) = inl h
+end_line s line (inr h) = inr (λ e. let n : 40 ≡ 31 = numbered h.0 e in omega (arith, n), h.1)
+
+pub verdict_line_none : (r : Result Output Ended) → IfErr r (λ e. e.status ≡ status.NoMemory) → IfErr r (λ e. e.line ≡ None) → IfErr r (λ e. HasBundleLine e.status e.line)
+verdict_line_none (Ok m) stopped none = tt
+verdict_line_none (Err e) stopped none = inr (λ b. let n : 40 ≡ 31 = numbered stopped b in omega (arith, n), none)
+
+pub check_made : (words : List (List ℕ)) (input : Option (List ℕ)) (r : Result Output Ended) → AsksCheck words → IfOk r IsVerdictStatus
+    → IfOk r (λ m. IfSome input (λ text. (length text ≤ most_bundle_bytes) × MakesJudged text m)) → IfOk r (MakesAsked words input)
+check_made words input (Ok m) asks either h = check_asked words input m asks either h
+check_made words input (Err e) asks either h = tt
+
+pub check_stopped : (words : List (List ℕ)) (input : Option (List ℕ)) (before now : ℕ) (s : Status) → AsksCheck words → StopsCheck input before now s → Stops words input before now s
+check_stopped words input before now s asks (inl h) = subst (Stops words input before now) (sym h.0) (asks, h.1)
+check_stopped words input before now s asks (inr (inl h)) = subst (Stops words input before now) (sym h.0) (inr (inl asks), h.1)
+check_stopped words input before now s asks (inr (inr (inl h))) = subst (Stops words input before now) (sym h.0) (inr (inl (asks, h.1)))
+check_stopped words input before now s asks (inr (inr (inr e))) = subst (Stops words input before now) (sym e) tt
+
+pub check_refuses : (input : Option (List ℕ)) (before now : ℕ) (s : Status) → StopsCheck input before now s → IsRefusal s
+check_refuses input before now s (inl h) = subst IsRefusal (sym h.0) tt
+check_refuses input before now s (inr (inl h)) = subst IsRefusal (sym h.0) tt
+check_refuses input before now s (inr (inr (inl h))) = subst IsRefusal (sym h.0) tt
+check_refuses input before now s (inr (inr (inr e))) = subst IsRefusal (sym e) tt
+
+-- ---- what came to the error output
+
+-- the line of a refused specification
+pub said_refusal : (words : List (List ℕ)) (input old new : Option (List ℕ)) (s : Status) (line : Option (List ℕ)) (Quiet : Type 0) → HasOwnLine input (RefusedBy words) s line
+    → (line_of s ≡ None → Quiet → IfSome line (λ l. Grows old new l)) → s ≡ status.SpecRefused → Quiet → SaysRefusal words input old new
+said_refusal words input old new s None Quiet (inl h) said e quiet = absurd (h.0 e)
+said_refusal words input old new s (Some l) Quiet (inl h) said e quiet = (l, said (ap line_of e) quiet, h.0.1)
+said_refusal words input old new s line Quiet (inr h) said e quiet = absurd (let n : 31 ≡ 11 = numbered h.0 e in omega (arith, n))
+
+-- and of a text that is no bundle
+pub said_bundle : (input old new : Option (List ℕ)) (Q : (text line : List ℕ) → Type 0) (s : Status) (line : Option (List ℕ)) (Quiet : Type 0) → HasOwnLine input Q s line
+    → (line_of s ≡ None → Quiet → IfSome line (λ l. Grows old new l)) → s ≡ status.BadBundle → Quiet → SaysBundleLine old new
+said_bundle input old new Q s line Quiet (inl h) said e quiet = absurd (h.1 e)
+said_bundle input old new Q s None Quiet (inr h) said e quiet = absurd h.1
+said_bundle input old new Q s (Some l) Quiet (inr h) said e quiet = (h.1.0, subst (Grows old new) h.1.1 (said (ap line_of e) quiet))
+
+-- where the command did its work there is none
+pub silent_status : (s : Status) → IsSilent s → line_of s ≡ None
+silent_status status.Fine h = refl
+silent_status status.Stopped h = refl
+silent_status status.Spent h = refl
+silent_status status.Full h = refl
+silent_status status.NotARun h = refl
+silent_status status.Usage h = absurd h
+silent_status status.SpecRefused h = absurd h
+silent_status status.BadBundle h = absurd h
+silent_status status.ReadFault h = absurd h
+silent_status status.WriteFault h = absurd h
+silent_status status.TooLong h = absurd h
+silent_status status.NoMemory h = absurd h
+
+pub silent_line : (input : Option (List ℕ)) (Q : (text line : List ℕ) → Type 0) (s : Status) (line : Option (List ℕ)) → IsSilent s → HasOwnLine input Q s line → line ≡ None
+silent_line input Q s None quiet h = refl
+silent_line input Q s (Some l) quiet (inl h) = absurd (subst IsSilent h.0.0 quiet)
+silent_line input Q s (Some l) quiet (inr h) = absurd (subst IsSilent h.0 quiet)

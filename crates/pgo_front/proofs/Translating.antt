@@ -25,7 +25,7 @@ use Rattle.pgo_front.specs.declared.status.Status.TheVariants as status
 use Rattle.pgo_front.specs.declared.target.Target.{Target}
 use Rattle.pgo_front.specs.declared.target.Target.TheVariants as targets
 use Rattle.pgo_front.specs.Translations.{TranslatesTo, IsTextOf, IsModuleText}
-use Rattle.pgo_front.specs.Makes.{IsRejected, StopsTranslating, HasLine}
+use Rattle.pgo_front.specs.Makes.{IsRejected, StopsSpec, HasLine}
 
 -- the module of an expansion agrees with what its specification is bound to
 abbrev pub ModulesAgree : Type 0
@@ -60,10 +60,10 @@ translates_to agree back targets.Module text consts p bytes (answers.spelled s r
     }
 
 -- a refusal with its line
-pub stops_translating : (text : List ℕ) (consts : List (Name × Data)) (e : Rejection) (s : Status) (o : Option (List ℕ)) → GivesExpansion text consts (Err e) → IsRejected e s o
-    → StopsTranslating text consts s
-stops_translating text consts e s None g h = inr h
-stops_translating text consts e s (Some l) g h = inl (h.0, not_expandable text consts e l g h.1)
+pub stops_refused : (text : List ℕ) (consts : List (Name × Data)) (e : Rejection) (s : Status) (o : Option (List ℕ)) → GivesExpansion text consts (Err e) → IsRejected e s o
+    → StopsSpec text consts s
+stops_refused text consts e s None g h = inr h
+stops_refused text consts e s (Some l) g h = inl (h.0, not_expandable text consts e l g h.1)
 
 pub refused_line : (text : List ℕ) (consts : List (Name × Data)) (e : Rejection) (s : Status) (o : Option (List ℕ)) → GivesExpansion text consts (Err e) → IsRejected e s o
     → HasLine (Some text) (λ t l. RefusedWith t consts l) s o

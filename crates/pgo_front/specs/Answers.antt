@@ -4,25 +4,26 @@ use Rattle.pgo_io.specs.Faults.{Rose}
 use Rattle.pgo_io.specs.Sink.{Grows, GrowsByPrefix}
 use Rattle.pgo_base.specs.Data.{Data}
 use Rattle.pgo_base.specs.Lookup.{Name}
-use Rattle.pgo_counter.specs.Spec.{Spec}
+use Rattle.pgo_accept.specs.Answers.{IsExpandable}
 use Rattle.pgo_accept.specs.Refusals.{RefusedWith}
 use Rattle.pgo_check.specs.declared.verdict.Verdict.{Verdict}
 use Rattle.pgo_front.specs.declared.target.Target.{Target}
 use Rattle.pgo_front.specs.declared.status.Status.{Status}
 use Rattle.pgo_front.specs.declared.status.Status.TheVariants as status
-use Rattle.pgo_front.specs.Turns.{AsksStep, AsksCheck, AsksTranslation}
-use Rattle.pgo_front.specs.Spells.{Spells, most_bytes}
+use Rattle.pgo_execute.specs.Schedules.{Schedule}
+use Rattle.pgo_front.specs.Turns.{AsksExecution, AsksCheck, AsksTranslation}
+use Rattle.pgo_front.specs.Spells.{most_bytes}
 use Rattle.pgo_front.specs.Statuses.{line_of}
-use Rattle.pgo_front.specs.Headline.{Ran}
+use Rattle.pgo_front.specs.Headline.{Runs}
 use Rattle.pgo_log_text.specs.ReadBundle.{IsNoBundle}
-use Rattle.pgo_front.specs.Verdicts.{Judged, IsRunVerdict, verdict_line, most_bundle_bytes}
+use Rattle.pgo_front.specs.Verdicts.{Judged, IsRunVerdict, verdict_line, bundle_line, most_bundle_bytes}
 use Rattle.pgo_front.specs.Translations.{Translated, NotTranslated}
 
 -- ---- words
 
--- the words ask for the turns of some list, with some constants
-abbrev pub AsksSomeStep : List (List ℕ) → Type 0
-AsksSomeStep words = (turns : List ℕ) × (consts : List (Name × Data)) × AsksStep words turns consts
+-- the words ask for a run under some schedule, with some constants
+abbrev pub AsksSomeExecution : List (List ℕ) → Type 0
+AsksSomeExecution words = (schedule : Schedule) × (consts : List (Name × Data)) × AsksExecution words schedule consts
 
 -- the words ask for a translation, with some constants
 abbrev pub AsksSomeTranslation : List (List ℕ) → Type 0
@@ -30,17 +31,17 @@ AsksSomeTranslation words = (target : Target) × (consts : List (Name × Data)) 
 
 -- the words ask for something that there is
 abbrev pub AsksSomething : List (List ℕ) → Type 0
-AsksSomething words = AsksSomeStep words ⊎ (AsksCheck words ⊎ AsksSomeTranslation words)
+AsksSomething words = AsksSomeExecution words ⊎ (AsksCheck words ⊎ AsksSomeTranslation words)
 
 -- the words ask for nothing that there is
 abbrev pub AsksNothing : List (List ℕ) → Type 0
 AsksNothing words =
-    ((turns : List ℕ) (consts : List (Name × Data)) → AsksStep words turns consts → ⊥) × (AsksCheck words → ⊥)
+    ((schedule : Schedule) (consts : List (Name × Data)) → AsksExecution words schedule consts → ⊥) × (AsksCheck words → ⊥)
     × ((target : Target) (consts : List (Name × Data)) → AsksTranslation target words consts → ⊥)
 
 -- the words ask for a command on a specification, with these constants
 abbrev pub AsksWith : List (List ℕ) → List (Name × Data) → Type 0
-AsksWith words consts = ((turns : List ℕ) × AsksStep words turns consts) ⊎ ((target : Target) × AsksTranslation target words consts)
+AsksWith words consts = ((schedule : Schedule) × AsksExecution words schedule consts) ⊎ ((target : Target) × AsksTranslation target words consts)
 
 -- the line that refuses the text with the constants that the words ask for
 pub record RefusedBy (words : List (List ℕ)) (text line : List ℕ) : Type 0 where
@@ -48,42 +49,35 @@ pub record RefusedBy (words : List (List ℕ)) (text line : List ℕ) : Type 0 w
   pub asks : AsksWith words consts
   pub refused : RefusedWith text consts line
 
--- ---- the command `step`
+-- ---- the commands `step` and `run`
 
--- the text spells no specification of the counter form
-abbrev pub SpellsNothing : List ℕ → Type 0
-SpellsNothing text = (spec : Spec) → Spells text spec → ⊥
-
--- the text isn't run with these constants: it isn't of the counter form, or there are constants
-abbrev pub IsNotRun : (text : List ℕ) (consts : List (Name × Data)) → Type 0
-IsNotRun text consts = SpellsNothing text ⊎ (consts ≡ [] → ⊥)
-
--- the same of the constants that the words ask for
-pub record IsRefused (words : List (List ℕ)) (text : List ℕ) : Type 0 where
-  pub turns : List ℕ
-  pub consts : List (Name × Data)
-  pub asks : AsksStep words turns consts
-  pub short : length text ≤ most_bytes
-  pub not_run : IsNotRun text consts
-
--- the words ask for turns and no constants, the text spells a specification, and its run under them gives these bytes and
--- this status
+-- the words ask for a run under some schedule with some constants and for no other, the text is short enough, and its run
+-- gives these bytes and this status
 pub record Asked (words : List (List ℕ)) (text : List ℕ) (number : ℕ) (written : List ℕ) : Type 0 where
-  pub turns : List ℕ
-  pub spec : Spec
-  pub asks : AsksStep words turns []
+  pub schedule : Schedule
+  pub consts : List (Name × Data)
+  pub asks : AsksExecution words schedule consts
+  pub no_others : (other : Schedule) (others : List (Name × Data)) → AsksExecution words other others → (other ≡ schedule) × (others ≡ consts)
   pub short : length text ≤ most_bytes
-  pub spells : Spells text spec
-  pub ran : Ran spec turns number written
+  pub runs : Runs text consts schedule number written
 
--- the words ask for turns, and where the input told its text, the output has grown by the bundle of its run
+-- the same words, and the text has no run with these constants: it spells no specification, or one that is refused
+pub record IsRefused (words : List (List ℕ)) (text : List ℕ) : Type 0 where
+  pub schedule : Schedule
+  pub consts : List (Name × Data)
+  pub asks : AsksExecution words schedule consts
+  pub no_others : (other : Schedule) (others : List (Name × Data)) → AsksExecution words other others → (other ≡ schedule) × (others ≡ consts)
+  pub short : length text ≤ most_bytes
+  pub refused : IsExpandable text consts → ⊥
+
+-- the words ask for a run, and where the input told its text, the output has grown by the bundle of its run
 abbrev pub WritesBundle : List (List ℕ) → (input : Option (List ℕ)) → ℕ → (old new : Option (List ℕ)) → Type 0
-WritesBundle words input n old new = AsksSomeStep words × IfSome input (λ text. (written : List ℕ) × Asked words text n written × Grows old new written)
+WritesBundle words input n old new = AsksSomeExecution words × IfSome input (λ text. (written : List ℕ) × Asked words text n written × Grows old new written)
 
--- the words ask for turns, and where the input told its text, the output has grown by a prefix of that bundle
+-- the words ask for a run, and where the input told its text, the output has grown by a prefix of that bundle
 abbrev pub WritesBundlePrefix : List (List ℕ) → (input old new : Option (List ℕ)) → Type 0
 WritesBundlePrefix words input old new =
-    AsksSomeStep words × IfSome input (λ text. (n : ℕ) × (written : List ℕ) × Asked words text n written × GrowsByPrefix old new written)
+    AsksSomeExecution words × IfSome input (λ text. (n : ℕ) × (written : List ℕ) × Asked words text n written × GrowsByPrefix old new written)
 
 -- ---- the command `check`
 
@@ -129,23 +123,27 @@ WritesPrefix words input old new =
 abbrev pub Stops : List (List ℕ) → (input : Option (List ℕ)) → (faults_before faults_now : ℕ) → Status → Type 0
 Stops words input before now status.Usage = AsksNothing words
 Stops words input before now status.SpecRefused =
-    (AsksSomeStep words × IfSome input (IsRefused words)) ⊎ (AsksSomeTranslation words × IfSome input (NotTranslated words))
+    (AsksSomeExecution words × IfSome input (IsRefused words)) ⊎ (AsksSomeTranslation words × IfSome input (NotTranslated words))
 Stops words input before now status.BadBundle = AsksCheck words × IfSome input (λ text. (length text ≤ most_bundle_bytes) × IsNoBundle text)
 Stops words input before now status.ReadFault = AsksSomething words × Rose before now
 Stops words input before now status.TooLong =
-    (AsksSomeStep words × IfSome input (λ text. most_bytes < length text))
+    (AsksSomeExecution words × IfSome input (λ text. most_bytes < length text))
     ⊎ ((AsksCheck words × IfSome input (λ text. most_bundle_bytes < length text))
     ⊎ (AsksSomeTranslation words × IfSome input (λ text. most_bytes < length text)))
 Stops words input before now status.NoMemory = Unit {0}
 Stops words input before now status.Fine = ⊥
 Stops words input before now status.WriteFault = ⊥
+Stops words input before now status.Stopped = ⊥
 Stops words input before now status.Spent = ⊥
+Stops words input before now status.Full = ⊥
 Stops words input before now status.NotARun = ⊥
 
 -- a status that leaves the output as it was
 abbrev pub IsRefusal : Status → Type 0
 IsRefusal status.Fine = ⊥
+IsRefusal status.Stopped = ⊥
 IsRefusal status.Spent = ⊥
+IsRefusal status.Full = ⊥
 IsRefusal status.NotARun = ⊥
 IsRefusal status.WriteFault = ⊥
 IsRefusal status.Usage = Unit {0}
@@ -158,7 +156,9 @@ IsRefusal status.NoMemory = Unit {0}
 -- a status that comes after the input was read to its end
 abbrev pub ReadsAll : Status → Type 0
 ReadsAll status.Fine = Unit {0}
+ReadsAll status.Stopped = Unit {0}
 ReadsAll status.Spent = Unit {0}
+ReadsAll status.Full = Unit {0}
 ReadsAll status.NotARun = Unit {0}
 ReadsAll status.WriteFault = Unit {0}
 ReadsAll status.SpecRefused = Unit {0}
@@ -176,6 +176,10 @@ IsAtEnd old new = IfSome old (λ _. new ≡ Some [])
 abbrev pub OrNoMemory : Status → Status → Type 0
 OrNoMemory s expected = (s ≡ expected) ⊎ (s ≡ status.NoMemory)
 
+-- the status of a run, or want of memory, which is free
+abbrev pub IsRunOrNoMemory : Status → Type 0
+IsRunOrNoMemory s = (s ≡ status.Fine) ⊎ ((s ≡ status.Stopped) ⊎ ((s ≡ status.Spent) ⊎ OrNoMemory s status.Full))
+
 -- the error output has grown by the line of the status, where it has one
 abbrev pub SaysLine : Status → (old new : Option (List ℕ)) → Type 0
 SaysLine s old new = IfSome (line_of s) (λ l. Grows old new l)
@@ -184,9 +188,13 @@ SaysLine s old new = IfSome (line_of s) (λ l. Grows old new l)
 abbrev pub SaysRefusal : List (List ℕ) → (input old new : Option (List ℕ)) → Type 0
 SaysRefusal words input old new = (line : List ℕ) × Grows old new line × IfSome input (λ text. RefusedBy words text line)
 
--- the words ask for these turns and constants, and the input tells this text
-pub record IsToldToStep (words : List (List ℕ)) (input : Option (List ℕ)) (turns : List ℕ) (consts : List (Name × Data)) (text : List ℕ) : Type 0 where
-  pub asks : AsksStep words turns consts
+-- the error output has grown by a line that names a line of a text that is no bundle
+abbrev pub SaysBundleLine : (old new : Option (List ℕ)) → Type 0
+SaysBundleLine old new = (n : ℕ) × Grows old new (bundle_line n)
+
+-- the words ask for a run under this schedule with these constants, and the input tells this text
+pub record IsToldToExecute (schedule : Schedule) (words : List (List ℕ)) (input : Option (List ℕ)) (consts : List (Name × Data)) (text : List ℕ) : Type 0 where
+  pub asks : AsksExecution words schedule consts
   pub told : input ≡ Some text
 
 -- the words ask for a check, and the input tells this text

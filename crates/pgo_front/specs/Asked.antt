@@ -1,10 +1,11 @@
--- That a list of turns is the only one that a text, or the words, ask for.
+-- That a list of turns, a schedule or a translation is the only one that a text, or the words, ask for.
 use Rattle.std.specs.Prelude.{◌≡◌, ◌≤◌, ◌+◌, ◌++◌, ℕ, Bool, true, false, List, length, Option, Some, None}
 use Rattle.pgo_base.specs.Data.{Data}
 use Rattle.pgo_base.specs.Lookup.{Name}
 use Rattle.pgo_front.specs.declared.target.Target.{Target}
 use Rattle.pgo_front.specs.Constants.{Constants}
-use Rattle.pgo_front.specs.Turns.{Item, TurnList, AsksStep, AsksTranslation, most_turns}
+use Rattle.pgo_execute.specs.Schedules.{Schedule}
+use Rattle.pgo_front.specs.Turns.{Item, TurnList, AsksStep, AsksRun, AsksExecution, AsksTranslation, most_turns}
 
 -- an item's turns stand behind the old ones, where they are few enough; no other turns would do
 abbrev pub AddsItem : List ℕ → List ℕ → Bool → List ℕ → Type 0
@@ -33,6 +34,17 @@ SpellsRest list words (Some p) = Rest list words p.0 p.1 × ((ts : List ℕ) (cs
 abbrev pub AsksOnly : List (List ℕ) → Option (List ℕ × List (Name × Data)) → Type 0
 AsksOnly words None = (ts : List ℕ) (cs : List (Name × Data)) → AsksStep words ts cs → ⊥
 AsksOnly words (Some p) = AsksStep words p.0 p.1 × ((ts : List ℕ) (cs : List (Name × Data)) → AsksStep words ts cs → (ts ≡ p.0) × (cs ≡ p.1))
+
+-- the words ask for rounds with these constants, and with no others
+abbrev pub RunsOnly : List (List ℕ) → Option (List (Name × Data)) → Type 0
+RunsOnly words None = (cs : List (Name × Data)) → AsksRun words cs → ⊥
+RunsOnly words (Some consts) = AsksRun words consts × ((cs : List (Name × Data)) → AsksRun words cs → cs ≡ consts)
+
+-- the words ask for a run under this schedule with these constants, and for no other
+abbrev pub ExecutesOnly : List (List ℕ) → Option (Schedule × List (Name × Data)) → Type 0
+ExecutesOnly words None = (schedule : Schedule) (cs : List (Name × Data)) → AsksExecution words schedule cs → ⊥
+ExecutesOnly words (Some p) =
+    AsksExecution words p.0 p.1 × ((schedule : Schedule) (cs : List (Name × Data)) → AsksExecution words schedule cs → (schedule ≡ p.0) × (cs ≡ p.1))
 
 -- the words ask for this translation with these constants, and for no other
 abbrev pub TranslatesOnly : List (List ℕ) → Option (Target × List (Name × Data)) → Type 0

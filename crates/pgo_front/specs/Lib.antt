@@ -1,13 +1,11 @@
-pub mod CounterRuns
 pub mod Constants
 pub mod Turns
 pub mod Asked
 pub mod Items
 pub mod Cuts
-pub mod CoreAt
 pub mod Statuses
+pub mod RunSettings
 pub mod Spells
-pub mod ReadBack
 pub mod Headline
 pub mod Verdicts
 pub mod Translations

@@ -1,9 +1,8 @@
--- What the parts of a command make of a text and of a counter.
-use Rattle.std.specs.Prelude.{◌≡◌, ◌≤◌, ◌<◌, ◌⊎◌, ℕ, List, [], length, Option, Some, None, IfSome}
+-- What the parts of a command make of a text.
+use Rattle.std.specs.Prelude.{◌≡◌, ◌≤◌, ◌<◌, ◌⊎◌, ℕ, List, length, Option, Some, None, IfSome}
 use Rattle.pgo_io.specs.Faults.{Rose}
 use Rattle.pgo_base.specs.Data.{Data}
 use Rattle.pgo_base.specs.Lookup.{Name}
-use Rattle.pgo_counter.specs.Spec.{Spec}
 use Rattle.pgo_model.specs.ModuleText.{flatten}
 use Rattle.pgo_model.specs.State.{AllValues}
 use Rattle.pgo_check.specs.declared.verdict.Verdict.{Verdict}
@@ -14,25 +13,26 @@ use Rattle.pgo_front.specs.declared.output.Written.TheVariants as written
 use Rattle.pgo_front.specs.declared.status.Status.{Status}
 use Rattle.pgo_front.specs.declared.status.Status.TheVariants as status
 use Rattle.pgo_front.specs.declared.words.Request.{Request}
-use Rattle.pgo_front.specs.declared.words.Request.TheVariants.{Step, Check, Translate}
+use Rattle.pgo_front.specs.declared.words.Request.TheVariants.{Execute, Check, Translate}
 use Rattle.pgo_front.specs.declared.target.Target.{Target}
-use Rattle.pgo_front.specs.Turns.{AsksStep, AsksCheck}
-use Rattle.pgo_front.specs.Asked.{TranslatesOnly}
-use Rattle.pgo_front.specs.Spells.{Spells, most_bytes}
+use Rattle.pgo_execute.specs.Schedules.{Schedule, schedule_view}
+use Rattle.pgo_front.specs.Turns.{AsksCheck}
+use Rattle.pgo_front.specs.Asked.{ExecutesOnly, TranslatesOnly}
+use Rattle.pgo_front.specs.Spells.{most_bytes}
 use Rattle.pgo_front.specs.Statuses.{number_of}
-use Rattle.pgo_front.specs.Headline.{Ran}
+use Rattle.pgo_front.specs.Headline.{Runs}
 use Rattle.pgo_log_text.specs.ReadBundle.{IsNoBundle}
-use Rattle.pgo_front.specs.Verdicts.{Judged, verdict_line, most_bundle_bytes}
+use Rattle.pgo_front.specs.Verdicts.{Judged, verdict_line, bundle_line, most_bundle_bytes}
 use Rattle.pgo_front.specs.Translations.{TranslatesTo, Translated}
 use Rattle.pgo_accept.specs.Answers.{IsExpandable}
 use Rattle.pgo_accept.specs.Refusals.{rejection_line}
 use Rattle.pgo_accept.specs.declared.errors.Rejection.{Rejection}
-use Rattle.pgo_front.specs.Answers.{Asked, AsksSomeStep, AsksSomeTranslation, AsksNothing, IsNotRun, Checked}
+use Rattle.pgo_front.specs.Answers.{Asked, AsksSomeExecution, AsksSomeTranslation, AsksNothing, Checked}
 
 -- what the words ask for
 abbrev pub AsksFor : List (List ℕ) → Option Request → Type 0
 AsksFor words None = AsksNothing words
-AsksFor words (Some (Step turns consts)) = AsksStep words turns consts
+AsksFor words (Some (Execute schedule consts)) = ExecutesOnly words (Some (schedule_view schedule, consts))
 AsksFor words (Some Check) = AsksCheck words
 AsksFor words (Some (Translate target consts)) = TranslatesOnly words (Some (target, consts))
 
@@ -47,22 +47,22 @@ StopsReading limit input before now s =
     ((s ≡ status.ReadFault) × Rose before now)
     ⊎ (((s ≡ status.TooLong) × IfSome input (λ text. limit < length text)) ⊎ (s ≡ status.NoMemory))
 
--- ---- the command `step`
+-- ---- the commands `step` and `run`
 
 -- the command ran
-abbrev pub IsStepStatus : Output → Type 0
-IsStepStatus m = (m.status ≡ status.Fine) ⊎ (m.status ≡ status.Spent)
+abbrev pub IsRunEnd : Status → Type 0
+IsRunEnd s = (s ≡ status.Fine) ⊎ ((s ≡ status.Stopped) ⊎ ((s ≡ status.Spent) ⊎ (s ≡ status.Full)))
 
--- there are no constants, the text spells a specification, and this is what its run under the turns gives
-abbrev pub MakesOf : (text turns : List ℕ) → List (Name × Data) → Output → Type 0
-MakesOf text turns consts m = (consts ≡ []) × (spec : Spec) × Spells text spec × Ran spec turns (number_of m.status) (bytes_of m.written)
+-- this is what the run of the text with these constants under this schedule gives
+abbrev pub MakesRun : Schedule → (text : List ℕ) → List (Name × Data) → Output → Type 0
+MakesRun schedule text consts m = Runs text consts schedule (number_of m.status) (bytes_of m.written)
 
 -- a text is refused for this cause, or there was no memory
 abbrev pub StopsFor : Type 0 → Status → Type 0
 StopsFor Cause s = ((s ≡ status.SpecRefused) × Cause) ⊎ (s ≡ status.NoMemory)
 
-abbrev pub StopsAt : (text : List ℕ) → List (Name × Data) → Status → Type 0
-StopsAt text consts s = StopsFor (IsNotRun text consts) s
+abbrev pub StopsSpec : (text : List ℕ) → List (Name × Data) → Status → Type 0
+StopsSpec text consts s = StopsFor (IsExpandable text consts → ⊥) s
 
 -- why a command on a specification stopped at this input, whose text is refused for this cause
 abbrev pub StopsInput : (Cause : List ℕ → Type 0) → (input : Option (List ℕ)) → (faults_before faults_now : ℕ) → Status → Type 0
@@ -70,9 +70,9 @@ StopsInput Cause input before now s =
     ((s ≡ status.SpecRefused) × IfSome input (λ text. (length text ≤ most_bytes) × Cause text))
     ⊎ StopsReading most_bytes input before now s
 
--- why a step of this input stopped
-abbrev pub StopsStep : List (Name × Data) → (input : Option (List ℕ)) → (faults_before faults_now : ℕ) → Status → Type 0
-StopsStep consts input before now s = StopsInput (λ text. IsNotRun text consts) input before now s
+-- why a command on the specification of this input, with these constants, stopped
+abbrev pub StopsSpecInput : List (Name × Data) → (input : Option (List ℕ)) → (faults_before faults_now : ℕ) → Status → Type 0
+StopsSpecInput consts input before now s = StopsInput (λ text. IsExpandable text consts → ⊥) input before now s
 
 -- a line comes with a refused specification alone, and says of its text what R says
 abbrev pub HasLine : (input : Option (List ℕ)) → (R : (text line : List ℕ) → Type 0) → Status → Option (List ℕ) → Type 0
@@ -108,18 +108,24 @@ StopsCheck input before now s =
     ((s ≡ status.BadBundle) × IfSome input (λ text. (length text ≤ most_bundle_bytes) × IsNoBundle text))
     ⊎ StopsReading most_bundle_bytes input before now s
 
+-- a line that names a line of a text that is no bundle
+abbrev pub NamesLine : Option (List ℕ) → Type 0
+NamesLine None = ⊥
+NamesLine (Some l) = (n : ℕ) × (l ≡ bundle_line n)
+
+-- such a line comes with a text that is no bundle, and no line without one
+abbrev pub HasBundleLine : Status → Option (List ℕ) → Type 0
+HasBundleLine s line = ((s ≡ status.BadBundle) × NamesLine line) ⊎ ((s ≡ status.BadBundle → ⊥) × (line ≡ None))
+
+-- the text is no bundle, and its line says so; or there was no memory
+abbrev pub IsNoBundleEnd : Status → Option (List ℕ) → Type 0
+IsNoBundleEnd s line = ((s ≡ status.BadBundle) × NamesLine line) ⊎ ((s ≡ status.NoMemory) × (line ≡ None))
+
 -- ---- the commands `expand` and `compile`
 
 -- this is the translation of the specification that the text spells, where the constants' values are values
 abbrev pub MakesTranslation : Target → (text : List ℕ) → List (Name × Data) → Output → Type 0
 MakesTranslation target text consts m = AllValues consts → TranslatesTo target text consts (bytes_of m.written)
-
-abbrev pub StopsTranslating : (text : List ℕ) → List (Name × Data) → Status → Type 0
-StopsTranslating text consts s = StopsFor (IsExpandable text consts → ⊥) s
-
--- why a translation of this input stopped
-abbrev pub StopsTranslation : List (Name × Data) → (input : Option (List ℕ)) → (faults_before faults_now : ℕ) → Status → Type 0
-StopsTranslation consts input before now s = StopsInput (λ text. IsExpandable text consts → ⊥) input before now s
 
 -- the command ended with the line of this refusal, or there was no memory
 abbrev pub IsRejected : Rejection → Status → Option (List ℕ) → Type 0
@@ -128,10 +134,14 @@ IsRejected e s (Some l) = (s ≡ status.SpecRefused) × (rejection_line e ≡ So
 
 -- ---- all of them
 
+-- the line of the end of a command: that of a refused specification, or of a text that is no bundle; no other end has one
+abbrev pub HasOwnLine : (input : Option (List ℕ)) → (R : (text line : List ℕ) → Type 0) → Status → Option (List ℕ) → Type 0
+HasOwnLine input R s line = (HasLine input R s line × (s ≡ status.BadBundle → ⊥)) ⊎ ((s ≡ status.BadBundle) × NamesLine line)
+
 -- what a command made of its words and its input
-abbrev pub MakesOfStep : List (List ℕ) → (input : Option (List ℕ)) → Output → Type 0
-MakesOfStep words input m =
-    AsksSomeStep words × IsStepStatus m × IfSome input (λ text. Asked words text (number_of m.status) (bytes_of m.written))
+abbrev pub MakesOfRun : List (List ℕ) → (input : Option (List ℕ)) → Output → Type 0
+MakesOfRun words input m =
+    AsksSomeExecution words × IsRunEnd m.status × IfSome input (λ text. Asked words text (number_of m.status) (bytes_of m.written))
 
 abbrev pub MakesOfCheck : List (List ℕ) → (input : Option (List ℕ)) → Output → Type 0
 MakesOfCheck words input m =
@@ -142,4 +152,4 @@ MakesOfTranslation words input m =
     AsksSomeTranslation words × (m.status ≡ status.Fine) × IfSome input (λ text. Translated words text (bytes_of m.written))
 
 abbrev pub MakesAsked : List (List ℕ) → (input : Option (List ℕ)) → Output → Type 0
-MakesAsked words input m = MakesOfStep words input m ⊎ (MakesOfCheck words input m ⊎ MakesOfTranslation words input m)
+MakesAsked words input m = MakesOfRun words input m ⊎ (MakesOfCheck words input m ⊎ MakesOfTranslation words input m)

@@ -1,7 +1,9 @@
--- The words of a command: `step --turns LIST` and constants, `check`, or `expand` or `compile` and constants.
+-- The words of a command: `step --turns LIST` and constants, `run` and constants, `check`, or `expand` or `compile` and
+-- constants.
 use Rattle.std.specs.Prelude.{◌≡◌, ◌≤◌, ◌<◌, ◌^◌, ℕ, List, [], ◌∷◌, ◌++◌, length, replicate, codes, decimal}
 use Rattle.pgo_base.specs.Data.{Data}
 use Rattle.pgo_base.specs.Lookup.{Name}
+use Rattle.pgo_execute.specs.Schedules.{Schedule, Turns, Rounds}
 use Rattle.pgo_front.specs.declared.target.Target.{Target}
 use Rattle.pgo_front.specs.declared.target.Target.TheVariants as targets
 use Rattle.pgo_front.specs.Constants.{Constants}
@@ -27,6 +29,17 @@ pub record AsksStep (words : List (List ℕ)) (turns : List ℕ) (consts : List 
   pub spells : TurnList list turns
   pub few : length turns ≤ most_turns
   pub constants : Constants rest consts
+
+-- the words ask for rounds, with these values of constants
+pub record AsksRun (words : List (List ℕ)) (consts : List (Name × Data)) : Type 0 where
+  pub rest : List (List ℕ)
+  pub words_are : words ≡ codes "run" ∷ rest
+  pub constants : Constants rest consts
+
+-- the words ask for a run under this schedule, with these values of constants
+abbrev pub AsksExecution : List (List ℕ) → Schedule → List (Name × Data) → Type 0
+AsksExecution words (Turns turns) consts = AsksStep words turns consts
+AsksExecution words Rounds consts = AsksRun words consts
 
 -- the words ask for the check of a bundle
 abbrev pub AsksCheck : List (List ℕ) → Type 0

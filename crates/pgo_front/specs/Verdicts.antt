@@ -25,6 +25,10 @@ abbrev pub verdict_line : Verdict → List ℕ
 verdict_line (Run n) = line (codes "run " ++ decimal n)
 verdict_line (Bad n w) = line (codes "bad " ++ decimal n ++ codes " " ++ why_text w)
 
+-- `pgo: bundle at line n`, where a text is no bundle
+abbrev pub bundle_line : ℕ → List ℕ
+bundle_line n = codes "pgo: bundle at line " ++ (decimal n ++ codes "\n")
+
 abbrev pub IsRunVerdict : Verdict → Type 0
 IsRunVerdict (Run n) = Unit {0}
 IsRunVerdict (Bad n w) = ⊥

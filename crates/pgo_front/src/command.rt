@@ -4,25 +4,25 @@ ghost use Rattle.pgo_io.specs.Faults.{Rose};
 ghost use Rattle.pgo_io.specs.Sink.{Grows, GrowsByPrefix};
 ghost use Rattle.pgo_base.specs.Data.{Data};
 ghost use Rattle.pgo_base.specs.Lookup.{Name};
-ghost use Rattle.pgo_counter.specs.Spec.{Spec};
 ghost use Rattle.pgo_model.specs.Module.{Module};
 ghost use Rattle.pgo_model.specs.ModuleText.{flatten};
 ghost use Rattle.pgo_model.specs.Log.{Log};
 ghost use Rattle.pgo_model.specs.IsRun.{IsRun};
 ghost use Rattle.pgo_log_text.specs.ReadBundle.{IsReadBundle, IsNoBundle};
+ghost use Rattle.pgo_execute.specs.Schedules.{Schedule};
 ghost use Rattle.pgo_front.specs.declared.target.Target.{Target};
-ghost use Rattle.pgo_front.specs.Spells.{Spells, most_bytes};
+ghost use Rattle.pgo_front.specs.Spells.{most_bytes};
 ghost use Rattle.pgo_front.specs.Statuses.{line_of, IsSilent};
 ghost use Rattle.pgo_front.specs.Verdicts.{most_bundle_bytes, IsBadVerdict};
-ghost use Rattle.pgo_front.specs.Answers.{AsksNothing, IsNotRun, RefusedBy, EndsWell, WritesBundle, WritesVerdict, WritesPrefix, Stops, IsRefusal, ReadsAll, IsAtEnd, OrNoMemory, SaysLine, SaysRefusal, IsToldToStep, IsToldToCheck, IsToldToTranslate};
-ghost use Rattle.pgo_front.specs.Makes.{MakesAsked, HasLine, bytes_of};
+ghost use Rattle.pgo_front.specs.Answers.{AsksNothing, RefusedBy, EndsWell, WritesBundle, WritesVerdict, WritesPrefix, Stops, IsRefusal, ReadsAll, IsAtEnd, OrNoMemory, IsRunOrNoMemory, SaysLine, SaysRefusal, SaysBundleLine, IsToldToExecute, IsToldToCheck, IsToldToTranslate};
+ghost use Rattle.pgo_front.specs.Makes.{MakesAsked, HasOwnLine, bytes_of};
 ghost use Rattle.pgo_accept.specs.Answers.{IsExpandable};
 
 use crate::check::make_check;
 use crate::ended::Ended;
+use crate::execution::make_execution;
 use crate::output::{Output, Written};
 use crate::status::Status;
-use crate::step::make_step;
 use crate::translate::make_translation;
 use crate::words::{Request, read_words};
 use pgo_base::word::Word;
@@ -30,13 +30,15 @@ use pgo_io::errors::Failed;
 use pgo_io::sink::Sink;
 use pgo_io::source::Source;
 use pgo_io::write_all::write_all;
-use pgo_module_write::line::Lines;
+use pgo_lines::line::Lines;
+use pgo_written_runs::read_values_are_canonical;
 use std::alloc::Global;
 
-/// Runs the command that the words ask for: `step --turns LIST` and then constants, `NAME=value` each, with a specification
-/// as its input and the bundle of its run as its output; or `check`, with a bundle as its input and the verdict on its log
-/// as its output, one line, `run steps` or `bad at why`; or `expand` or `compile` and then constants, with a specification as
-/// its input and its translation as its output: the text of its expansion, or that of its module.
+/// Runs the command that the words ask for: `step --turns LIST` or `run` and then constants, `NAME=value` each, with a
+/// specification as its input and the bundle of its run as its output, under these turns or in rounds until all instances have
+/// ended; or `check`, with a bundle as its input and the verdict on its log as its output, one line, `run steps` or
+/// `bad at why`; or `expand` or `compile` and then constants, with a specification as its input and its translation as its
+/// output: the text of its expansion, or that of its module.
 ///
 /// The words come first, then the input is read to its end, then the text is read, then the run, the check or the translation
 /// is made, and only then is the output written, line by line. A refusal puts its one line on `err`, whose faults change no status. The
@@ -50,7 +52,9 @@ pub fn pgo<S: Source, O: Sink, E: Sink>(
 ) -> Status
     // Each status has its cause.
     ensures fine { result ≡ Status.Fine → EndsWell words.now (S.left input.old) (O.held out.old) (O.held out.new) }
+    ensures halted { result ≡ Status.Stopped → WritesBundle words.now (S.left input.old) 20 (O.held out.old) (O.held out.new) }
     ensures spent { result ≡ Status.Spent → WritesBundle words.now (S.left input.old) 21 (O.held out.old) (O.held out.new) }
+    ensures full { result ≡ Status.Full → WritesBundle words.now (S.left input.old) 23 (O.held out.old) (O.held out.new) }
     ensures not_a_run { result ≡ Status.NotARun → WritesVerdict words.now (S.left input.old) IsBadVerdict (O.held out.old) (O.held out.new) }
     ensures stopped { IsRefusal result → Stops words.now (S.left input.old) (S.faults input.old) (S.faults input.new) result }
     ensures write_fault { result ≡ Status.WriteFault → Rose (O.faults out.old) (O.faults out.new) }
@@ -58,14 +62,14 @@ pub fn pgo<S: Source, O: Sink, E: Sink>(
 
     // Each cause has its status, or there is no memory.
     ensures usage { AsksNothing words.now → OrNoMemory result Status.Usage }
-    ensures too_long { (turns text : List ℕ) (consts : List (Name × Data)) → IsToldToStep words.now (S.left input.old) turns consts text → ¬ Rose (S.faults input.old) (S.faults input.new) →
-        most_bytes < length text → OrNoMemory result Status.TooLong }
-    ensures refused { (turns text : List ℕ) (consts : List (Name × Data)) → IsToldToStep words.now (S.left input.old) turns consts text →
+    ensures too_long { (schedule : Schedule) (text : List ℕ) (consts : List (Name × Data)) → IsToldToExecute schedule words.now (S.left input.old) consts text →
+        ¬ Rose (S.faults input.old) (S.faults input.new) → most_bytes < length text → OrNoMemory result Status.TooLong }
+    ensures refused { (schedule : Schedule) (text : List ℕ) (consts : List (Name × Data)) → IsToldToExecute schedule words.now (S.left input.old) consts text →
         ¬ Rose (S.faults input.old) (S.faults input.new) →
-        length text ≤ most_bytes → IsNotRun text consts → OrNoMemory result Status.SpecRefused }
-    ensures runs { (turns text : List ℕ) (spec : Spec) → IsToldToStep words.now (S.left input.old) turns [] text →
+        length text ≤ most_bytes → ¬ IsExpandable text consts → OrNoMemory result Status.SpecRefused }
+    ensures runs { (schedule : Schedule) (text : List ℕ) (consts : List (Name × Data)) → IsToldToExecute schedule words.now (S.left input.old) consts text →
         ¬ Rose (S.faults input.old) (S.faults input.new) → ¬ Rose (O.faults out.old) (O.faults out.new) →
-        length text ≤ most_bytes → Spells text spec → (result ≡ Status.Fine) ⊎ OrNoMemory result Status.Spent }
+        length text ≤ most_bytes → IsExpandable text consts → IsRunOrNoMemory result }
 
     ensures no_bundle { (text : List ℕ) → IsToldToCheck words.now (S.left input.old) text → ¬ Rose (S.faults input.old) (S.faults input.new) →
         length text ≤ most_bundle_bytes → IsNoBundle text → OrNoMemory result Status.BadBundle }
@@ -98,6 +102,7 @@ pub fn pgo<S: Source, O: Sink, E: Sink>(
     ensures says { ¬ Rose (E.faults err.old) (E.faults err.new) → SaysLine result (E.held err.old) (E.held err.new) }
     ensures says_refusal { result ≡ Status.SpecRefused → ¬ Rose (E.faults err.old) (E.faults err.new) →
         SaysRefusal words.now (S.left input.old) (E.held err.old) (E.held err.new) }
+    ensures says_bundle { result ≡ Status.BadBundle → ¬ Rose (E.faults err.old) (E.faults err.new) → SaysBundleLine (E.held err.old) (E.held err.new) }
     ensures silent { IsSilent result → err.new ≡ err.old }
 {
     let ended = run(alloc, words, input, out);
@@ -127,10 +132,12 @@ fn say<E: Sink>(err: &mut E, ended: &Ended)
 /// The command, without its line on the error output.
 fn run<S: Source, O: Sink>(alloc: Global, words: &[Word], input: &mut S, out: &mut O) -> Ended
     ensures fine { result.status ≡ Status.Fine → EndsWell words.now (S.left input.old) (O.held out.old) (O.held out.new) }
+    ensures halted { result.status ≡ Status.Stopped → WritesBundle words.now (S.left input.old) 20 (O.held out.old) (O.held out.new) }
     ensures spent { result.status ≡ Status.Spent → WritesBundle words.now (S.left input.old) 21 (O.held out.old) (O.held out.new) }
+    ensures full { result.status ≡ Status.Full → WritesBundle words.now (S.left input.old) 23 (O.held out.old) (O.held out.new) }
     ensures not_a_run { result.status ≡ Status.NotARun → WritesVerdict words.now (S.left input.old) IsBadVerdict (O.held out.old) (O.held out.new) }
     ensures stopped { IsRefusal result.status → Stops words.now (S.left input.old) (S.faults input.old) (S.faults input.new) result.status }
-    ensures line { HasLine (S.left input.old) (RefusedBy words.now) result.status result.line }
+    ensures line { HasOwnLine (S.left input.old) (RefusedBy words.now) result.status result.line }
     ensures write_fault { result.status ≡ Status.WriteFault → Rose (O.faults out.old) (O.faults out.new) }
     ensures prefix { result.status ≡ Status.WriteFault → WritesPrefix words.now (S.left input.old) (O.held out.old) (O.held out.new) }
     ensures read_failed { (result.status ≡ Status.ReadFault) ⊎ (S.faults input.new ≡ S.faults input.old) }
@@ -207,7 +214,7 @@ fn write_text<O: Sink>(out: &mut O, text: &[u8]) -> Result<(), Failed>
 fn make<S: Source>(alloc: Global, words: &[Word], input: &mut S) -> Result<Output, Ended>
     ensures ok { IfOk result (MakesAsked words.now (S.left input.old)) }
     ensures err { IfErr result (λ e. Stops words.now (S.left input.old) (S.faults input.old) (S.faults input.new) e.status) }
-    ensures line { IfErr result (λ e. HasLine (S.left input.old) (RefusedBy words.now) e.status e.line) }
+    ensures line { IfErr result (λ e. HasOwnLine (S.left input.old) (RefusedBy words.now) e.status e.line) }
     ensures refusal { IfErr result (λ e. IsRefusal e.status) }
     ensures unread { AsksNothing words.now → input.new ≡ input.old }
     ensures ended { OnOk result (IsAtEnd (S.left input.old) (S.left input.new)) }
@@ -216,13 +223,11 @@ fn make<S: Source>(alloc: Global, words: &[Word], input: &mut S) -> Result<Outpu
     ensures ended_refused { IfErr result (λ e. ReadsAll e.status → IsAtEnd (S.left input.old) (S.left input.new)) }
 {
     match read_words(alloc, words) {
-        Ok(Some(Request::Step(turns, consts))) => {
-            make_step(alloc, turns.as_slice(), &consts, input)
+        Ok(Some(Request::Execute(schedule, consts))) => {
+            read_values_are_canonical();
+            make_execution(alloc, &schedule, &consts, input)
         }
-        Ok(Some(Request::Check)) => match make_check(alloc, input) {
-            Ok(output) => Ok(output),
-            Err(status) => Err(Ended::as_status(status)),
-        },
+        Ok(Some(Request::Check)) => make_check(alloc, input),
         Ok(Some(Request::Translate(target, consts))) => make_translation(
             alloc, target, &consts, input,
         ),

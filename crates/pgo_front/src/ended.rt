@@ -1,8 +1,14 @@
 // How a command ended.
-ghost use Rattle.std.specs.Prelude.{◌≡◌, None, Some};
+ghost use Rattle.std.specs.Prelude.{◌≡◌, None, Some, IfOk};
+ghost use Rattle.pgo_front.specs.Makes.{IsRejected, IsNoBundleEnd};
+ghost use Rattle.pgo_front.specs.Verdicts.{bundle_line as line_at};
 
 use crate::status::Status;
-use pgo_module_write::line::Line;
+use pgo_accept::errors::Rejection;
+use pgo_accept::lines::rejection_line;
+use pgo_lines::line::Line;
+use pgo_lines::line::Piece::{Bytes, Number};
+use std::alloc::{AllocError, Global};
 
 /// The status of a command, and the line of the error output where the status has none of its own.
 #[derive(Drop)]
@@ -30,4 +36,41 @@ impl Ended {
             line: Some(line),
         }
     }
+
+    /// A specification was refused so; or there was no memory.
+    pub fn as_rejected(alloc: Global, rejection: &Rejection) -> Ended
+        ensures { IsRejected rejection.now result.status result.line }
+    {
+        match rejection_line(alloc, rejection) {
+            Ok(line) => Ended::with_line(line),
+            Err(_) => Ended::as_status(Status::NoMemory),
+        }
+    }
+
+    /// A text is no bundle, from this line on; or there was no memory.
+    pub fn as_no_bundle(alloc: Global, line: usize) -> Ended
+        ensures { IsNoBundleEnd result.status result.line }
+    {
+        match bundle_line(alloc, line) {
+            Ok(line) => Ended {
+                status: Status::BadBundle,
+                line: Some(line),
+            },
+            Err(_) => Ended::as_status(Status::NoMemory),
+        }
+    }
+}
+
+/// `pgo: bundle at line n`.
+fn bundle_line(alloc: Global, number: usize) -> Result<Line, AllocError>
+    ensures { IfOk result (λ l. l ≡ line_at number) }
+{
+    Line::of(
+        alloc,
+        &[
+            Bytes(b"pgo: bundle at line "),
+            Number(number as u64),
+            Bytes(b"\n"),
+        ],
+    )
 }

@@ -1,7 +1,7 @@
 // What a command writes when it has done its work.
 use crate::status::Status;
 use pgo_base::text::Text;
-use pgo_module_write::line::Lines;
+use pgo_lines::line::Lines;
 
 /// What a command writes, each line in one piece.
 #[derive(Drop)]

@@ -9,7 +9,7 @@ pub enum Status {
     Fine,
     /// The words ask for nothing that there is.
     Usage,
-    /// The text spells no specification, or one that is refused, or isn't built yet where it is to be run.
+    /// The text spells no specification, or one that is refused.
     SpecRefused,
     /// The input failed.
     ReadFault,
@@ -17,18 +17,22 @@ pub enum Status {
     WriteFault,
     /// A specification has more than 1,048,576 bytes, or a bundle more than 268,435,456.
     TooLong,
-    /// Some instance isn't at Done.
+    /// Some instance came to a value that there isn't, or to an assertion that fails.
+    Stopped,
+    /// Some instance isn't at Done, and none came to what stops it.
     Spent,
+    /// Some instance's last attempt was refused because the journal was full.
+    Full,
     /// The bundle's log is no run of its module.
     NotARun,
-    /// The text is no bundle that is read today.
+    /// The text is no bundle.
     BadBundle,
     /// There was no memory.
     NoMemory,
 }
 
 impl Status {
-    /// The exit status: 0, 10, 11, 12, 13, 14, 21, 30, 31 or 40.
+    /// The exit status: 0, 10, 11, 12, 13, 14, 20, 21, 23, 30, 31 or 40.
     pub fn number(self) -> u8
         ensures { result ≡ number_of self }
     {
@@ -39,22 +43,29 @@ impl Status {
             Status::ReadFault => 12,
             Status::WriteFault => 13,
             Status::TooLong => 14,
+            Status::Stopped => 20,
             Status::Spent => 21,
+            Status::Full => 23,
             Status::NotARun => 30,
             Status::BadBundle => 31,
             Status::NoMemory => 40,
         }
     }
 
-    /// The line that a refusal puts on the error output; none where the command did its work, and none where a specification
-    /// is refused, whose line says what refused it.
+    /// The line that a refusal puts on the error output; none where the command did its work, none where a specification is
+    /// refused, whose line says what refused it, and none where a text is no bundle, whose line names a line of it.
     pub fn line(self) -> Option<&'static [u8]>
         ensures { option_map (λ l. l.now) result ≡ line_of self }
     {
         match self {
-            Status::Fine | Status::Spent | Status::NotARun | Status::SpecRefused => None,
+            Status::Fine
+            | Status::Stopped
+            | Status::Spent
+            | Status::Full
+            | Status::NotARun
+            | Status::SpecRefused
+            | Status::BadBundle => None,
             Status::Usage => Some(b"pgo: usage\n"),
-            Status::BadBundle => Some(b"pgo: not built\n"),
             Status::ReadFault => Some(b"pgo: read fault\n"),
             Status::WriteFault => Some(b"pgo: write fault\n"),
             Status::TooLong => Some(b"pgo: too long\n"),

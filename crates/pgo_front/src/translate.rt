@@ -5,19 +5,16 @@ ghost use Rattle.pgo_expr_read.specs.Texts.{most_tokens};
 ghost use Rattle.pgo_pluscal.specs.Text.{pluscal_text};
 ghost use Rattle.pgo_translate.specs.ModuleOf.{module_with};
 ghost use Rattle.pgo_front.specs.Answers.{IsAtEnd, ReadsAll};
-ghost use Rattle.pgo_front.specs.Makes.{HasLine, IsRejected, MakesTranslation, StopsTranslating, StopsTranslation, bytes_of};
+ghost use Rattle.pgo_front.specs.Makes.{HasLine, MakesTranslation, StopsSpec, StopsSpecInput, bytes_of};
 ghost use Rattle.pgo_front.specs.Spells.{most_bytes};
 ghost use Rattle.pgo_front.specs.Translations.{IsModuleText, IsTextOf};
 
 use crate::ended::Ended;
-use crate::input::read_input;
+use crate::input::{MOST_BYTES, read_input};
 use crate::output::{Output, Written};
 use crate::status::Status;
-use crate::step::MOST_BYTES;
 use crate::target::Target;
 use pgo_accept::accept::expansion;
-use pgo_accept::errors::Rejection;
-use pgo_accept::lines::rejection_line;
 use pgo_agrees::modules_agree;
 use pgo_base::consts::Consts;
 use pgo_base::text::Text;
@@ -42,7 +39,7 @@ pub fn make_translation<S: Source>(
 ) -> Result<Output, Ended>
     ensures ok { IfOk result (λ m. IfSome (S.left input.old) (λ text. (length text ≤ most_bytes) × MakesTranslation target text consts.now m)) }
     ensures fine { IfOk result (λ m. m.status ≡ Status.Fine) }
-    ensures err { IfErr result (λ e. StopsTranslation consts.now (S.left input.old) (S.faults input.old) (S.faults input.new) e.status) }
+    ensures err { IfErr result (λ e. StopsSpecInput consts.now (S.left input.old) (S.faults input.old) (S.faults input.new) e.status) }
     ensures line { IfErr result (λ e. HasLine (S.left input.old) (λ text l. RefusedWith text consts.now l) e.status e.line) }
     ensures ended { OnOk result (IsAtEnd (S.left input.old) (S.left input.new)) }
     ensures steady { OnOk result (S.faults input.new ≡ S.faults input.old) }
@@ -64,14 +61,14 @@ fn translate_text(
 ) -> Result<Output, Ended>
     ensures ok { IfOk result (MakesTranslation target text.now consts.now) }
     ensures fine { IfOk result (λ m. m.status ≡ Status.Fine) }
-    ensures err { IfErr result (λ e. StopsTranslating text.now consts.now e.status) }
+    ensures err { IfErr result (λ e. StopsSpec text.now consts.now e.status) }
     ensures line { IfErr result (λ e. HasLine (Some text.now) (λ t l. RefusedWith t consts.now l) e.status e.line) }
 {
     modules_agree();
     modules_are_read_back();
     match expansion(alloc, text, consts) {
         Ok(expanded) => output_of(alloc, target, &expanded),
-        Err(rejection) => Err(rejected(alloc, &rejection)),
+        Err(rejection) => Err(Ended::as_rejected(alloc, &rejection)),
     }
 }
 
@@ -114,14 +111,4 @@ fn module_text(alloc: Global, expanded: &PlusCal) -> Result<Text, NoMemory>
     let made = translate(alloc, expanded)?;
     let text = write_module(alloc, &made)?;
     within_tokens(text)
-}
-
-/// How the command ends where the text is refused so.
-fn rejected(alloc: Global, rejection: &Rejection) -> Ended
-    ensures { IsRejected rejection.now result.status result.line }
-{
-    match rejection_line(alloc, rejection) {
-        Ok(line) => Ended::with_line(line),
-        Err(_) => Ended::as_status(Status::NoMemory),
-    }
 }

@@ -1,10 +1,12 @@
 // The words of a command.
-ghost use Rattle.std.specs.Prelude.{◌≡◌, ◌↔◌, ◌<◌, ◌≤◌, ◌^◌, ◌+◌, ◌++◌, ℕ, List, Some, None, IfSome, IsSome, IfOk, MatchOption, IsTrue, decimal, length, replicate};
-ghost use Rattle.pgo_front.specs.Turns.{Item, TurnList, AsksStep, AsksCheck, command_of, most_turns};
+ghost use Rattle.std.specs.Prelude.{option_map, ◌≡◌, ◌↔◌, ◌<◌, ◌≤◌, ◌^◌, ◌+◌, ◌++◌, ℕ, List, Some, None, IfSome, IsSome, IfOk, MatchOption, IsTrue, decimal, length, replicate};
+ghost use Rattle.pgo_execute.specs.Schedules as schedules;
+ghost use Rattle.pgo_execute.specs.Schedules.{schedule_view};
+ghost use Rattle.pgo_front.specs.Turns.{Item, TurnList, AsksCheck, command_of, most_turns};
 ghost use Rattle.pgo_front.specs.declared.target.Target.{Target as Translation};
 ghost use Rattle.pgo_front.specs.Cuts.{Cuts};
 ghost use Rattle.pgo_front.specs.Items.{ReadsItem, ReadsSingle, ReadsRepeated, turns_of};
-ghost use Rattle.pgo_front.specs.Asked.{SpelledOnly, SpellsRest, AsksOnly, AddsItem, TranslatesOnly};
+ghost use Rattle.pgo_front.specs.Asked.{SpelledOnly, SpellsRest, AsksOnly, RunsOnly, ExecutesOnly, AddsItem, TranslatesOnly};
 ghost use Rattle.pgo_front.specs.Makes.{AsksFor};
 
 use crate::constants::read_constants;
@@ -12,6 +14,7 @@ use crate::target::Target;
 use itoa::Buffer;
 use pgo_base::consts::Consts;
 use pgo_base::word::Word;
+use pgo_execute::schedule::Schedule;
 use std::alloc::{AllocError, Global};
 use std::marker::Model;
 
@@ -134,8 +137,8 @@ fn read_list(alloc: Global, text: &str) -> Result<Option<Turns>, AllocError>
 /// What the words of a command ask for.
 #[derive(Drop)]
 pub enum Request {
-    /// A run under these turns, with these values of constants.
-    Step(Turns, Consts),
+    /// A run under this schedule, with these values of constants.
+    Execute(Schedule, Consts),
     /// The check of a bundle.
     Check,
     /// This translation of a specification, with these values of constants.
@@ -149,8 +152,8 @@ pub fn read_words(alloc: Global, words: &[Word]) -> Result<Option<Request>, Allo
     if is_check(words) {
         return Ok(Some(Request::Check));
     }
-    match read_step(alloc, words)? {
-        Some((turns, consts)) => Ok(Some(Request::Step(turns, consts))),
+    match read_execution(alloc, words)? {
+        Some((schedule, consts)) => Ok(Some(Request::Execute(schedule, consts))),
         None => match read_translation(alloc, words)? {
             Some((target, consts)) => Ok(Some(Request::Translate(target, consts))),
             None => Ok(None),
@@ -198,6 +201,35 @@ fn is_check(words: &[Word]) -> bool
     words.len() == 1 && words[0].as_str() == "check"
 }
 
+/// The schedule and the constants that the words `step --turns LIST`, or `run`, and then `NAME=value` each ask for; none where
+/// the words are others.
+fn read_execution(alloc: Global, words: &[Word]) -> Result<Option<(Schedule, Consts)>, AllocError>
+    ensures { IfOk result (λ o. ExecutesOnly words.now (option_map (λ p. (schedule_view p.0, p.1)) o)) }
+{
+    match read_step(alloc, words)? {
+        Some((turns, consts)) => Ok(Some((turns.into_schedule(), consts))),
+        None => match read_run(alloc, words)? {
+            Some(consts) => Ok(Some((Schedule::Rounds, consts))),
+            None => Ok(None),
+        },
+    }
+}
+
+/// The constants that the words `run` and then `NAME=value` each ask for; none where the words are others.
+fn read_run(alloc: Global, words: &[Word]) -> Result<Option<Consts>, AllocError>
+    ensures { IfOk result (λ o. RunsOnly words.now o) }
+{
+    match words {
+        [command, constants @ ..] => {
+            if command.as_str() != "run" {
+                return Ok(None);
+            }
+            read_constants(alloc, constants)
+        }
+        _ => Ok(None),
+    }
+}
+
 /// The turns and the constants that the words `step --turns LIST` and then `NAME=value` each ask for; none where the words
 /// are others.
 fn read_step(alloc: Global, words: &[Word]) -> Result<Option<(Turns, Consts)>, AllocError>
@@ -238,7 +270,7 @@ pub struct Turns {
 }
 
 impl Model for Turns {
-    ghost use Rattle.std.specs.Prelude.{List, ℕ};
+    ghost use Rattle.std.specs.Prelude.{option_map, List, ℕ};
 
     ghost Value = { List ℕ };
 
@@ -246,10 +278,10 @@ impl Model for Turns {
 }
 
 impl Turns {
-    /// The turns as a slice.
-    pub fn as_slice(&self) -> &[u32]
-        ensures { result.now ≡ self.now }
+    /// The schedule of these turns.
+    fn into_schedule(self) -> Schedule
+        ensures { schedule_view result ≡ schedules.Turns self }
     {
-        self.list.as_slice()
+        Schedule::Turns(self.list)
     }
 }

@@ -7,11 +7,13 @@ use Rattle.pgo_model.specs.ModuleText.{flatten}
 use Rattle.pgo_model.specs.Log.{Log}
 use Rattle.pgo_model.specs.Bundle.{value_line}
 use Rattle.pgo_module_spells.specs.Spells.{SpellsModule}
+use Rattle.pgo_log_text.specs.declared.errors.LineStop.{LineStop}
+use Rattle.pgo_log_text.specs.declared.errors.LineStop.TheVariants as parts
 use Rattle.pgo_log_text.specs.declared.errors.LogStop.{LogStop}
 use Rattle.pgo_log_text.specs.declared.errors.LogStop.TheVariants.{BadLog, NoMemory}
 use Rattle.pgo_log_text.specs.Parsers.{ReadsAs, Reads}
 use Rattle.pgo_log_text.specs.Lines.{constants_part, module_part, log_of}
-use Rattle.pgo_log_text.specs.ReadBundle.{IsReadBundle, IsOnlyBundle, IsNoBundle, IsRefused, SpellsOnly, SpellsNone, HasNoModule}
+use Rattle.pgo_log_text.specs.ReadBundle.{IsReadBundle, IsOnlyBundle, IsNoBundle, IsRefused, IsStopped, stop_of, SpellsOnly, SpellsNone, HasNoModule}
 use Rattle.pgo_log_text.proofs.BytesSteps.{some_pair}
 use Rattle.pgo_log_text.proofs.LinesConstants.{head_opened, opened_some, opened_finds, module_some, module_finds, log_of_some, log_of_finds}
 
@@ -129,24 +131,32 @@ none_without_log text cs x r m head spelled e n ds k b =
 
 -- ---- why a text is refused
 
-constants_refused_there : (text new : List ℕ) (stop : LogStop) → Reads {A = Vars} (constants_part text) (Err stop) new → IsRefused text stop
-constants_refused_there text new BadLog h = none_without_constants text h
-constants_refused_there text new NoMemory h = tt
+-- a stop with its line
+pub with_line : (text : List ℕ) (stop : LineStop) (s : LogStop) → stop_of s ≡ stop → IsStopped text stop → IsRefused text s
+with_line text stop s e h = go s (subst (λ p. IsStopped text p) (sym e) h)
+  where
+    go : (s : LogStop) → IsStopped text (stop_of s) → IsRefused text s
+    go (BadLog l) h = h
+    go NoMemory h = tt
 
-pub constants_refused : (text here new : List ℕ) (stop : LogStop) → here ≡ text → Reads {A = Vars} (constants_part here) (Err stop) new → IsRefused text stop
+constants_refused_there : (text new : List ℕ) (stop : LineStop) → Reads {A = Vars} (constants_part text) (Err stop) new → IsStopped text stop
+constants_refused_there text new parts.BadLine h = none_without_constants text h
+constants_refused_there text new parts.NoMemory h = tt
+
+pub constants_refused : (text here new : List ℕ) (stop : LineStop) → here ≡ text → Reads {A = Vars} (constants_part here) (Err stop) new → IsStopped text stop
 constants_refused text here new stop e h = constants_refused_there text new stop (subst (λ t. Reads {A = Vars} (constants_part t) (Err stop) new) e h)
 
-pub part_refused : {B : Type 0} (see : B → List ℕ) (text behind new : List ℕ) (cs : Vars) (stop : LogStop) → constants_part text ≡ Some (cs, behind) → ReadsAs see (module_part behind) (Err stop) new
-    → IsRefused text stop
-part_refused see text behind new cs BadLog e h = none_without_part text behind cs e h
-part_refused see text behind new cs NoMemory e h = tt
+pub part_refused : {B : Type 0} (see : B → List ℕ) (text behind new : List ℕ) (cs : Vars) (stop : LineStop) → constants_part text ≡ Some (cs, behind) → ReadsAs see (module_part behind) (Err stop) new
+    → IsStopped text stop
+part_refused see text behind new cs parts.BadLine e h = none_without_part text behind cs e h
+part_refused see text behind new cs parts.NoMemory e h = tt
 
 pub module_refused : (text : List ℕ) (cs : Vars) (x r : List ℕ) (stop : LogStop) → Head text cs x r → HasNoModule x stop → IsRefused text stop
-module_refused text cs x r BadLog head h = none_without_module text cs x r head h
+module_refused text cs x r (BadLog l) head h = none_without_module text cs x r head h
 module_refused text cs x r NoMemory head h = tt
 
-pub log_refused : {B : Type 0} (see : B → Log) (text : List ℕ) (cs : Vars) (x r new : List ℕ) (m : Module) (stop : LogStop) → Head text cs x r → SpellsOnly x m
+pub log_refused : {B : Type 0} (see : B → Log) (text : List ℕ) (cs : Vars) (x r new : List ℕ) (m : Module) (stop : LineStop) → Head text cs x r → SpellsOnly x m
     → ReadsAs see (log_of cs m.constants m.variables r) (Err stop) new
-    → IsRefused text stop
-log_refused see text cs x r new m BadLog head spelled h = none_without_log text cs x r m head spelled h
-log_refused see text cs x r new m NoMemory head spelled h = tt
+    → IsStopped text stop
+log_refused see text cs x r new m parts.BadLine head spelled h = none_without_log text cs x r m head spelled h
+log_refused see text cs x r new m parts.NoMemory head spelled h = tt

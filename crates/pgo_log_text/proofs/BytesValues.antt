@@ -8,8 +8,8 @@ use Rattle.pgo_value_text.specs.IsValueText.{IsValueText}
 use Rattle.pgo_value_text.specs.Reading.{whole}
 use Rattle.pgo_value_text.proofs.Complete.{whole_some, whole_finds}
 use Rattle.pgo_value_text.proofs.WordBytes.{same_is}
-use Rattle.pgo_log_text.specs.declared.errors.LogStop.{LogStop}
-use Rattle.pgo_log_text.specs.declared.errors.LogStop.TheVariants.{BadLog, NoMemory}
+use Rattle.pgo_log_text.specs.declared.errors.LineStop.{LineStop}
+use Rattle.pgo_log_text.specs.declared.errors.LineStop.TheVariants.{BadLine, NoMemory}
 use Rattle.pgo_log_text.specs.declared.value.Place.TheVariants.{Outside}
 use Rattle.pgo_log_text.specs.IsBundle.{IsCanonicalValue}
 use Rattle.pgo_log_text.specs.Parsers.{MakesAs, ReadsAs}
@@ -66,17 +66,17 @@ none_spelled bs h = go (whole bs) refl
     go None w = ap (if_canonical bs) w
     go (Some d) w = absurd (h d (whole_some bs d w))
 
-pub made_of : {A : Type 0} (see : A → Data) (bs : List ℕ) (v : Data) (r : Result A LogStop) → IsValueText bs v → MakesAs see (if_canonical bs (Some v)) r → MakesAs see (canonical bs) r
+pub made_of : {A : Type 0} (see : A → Data) (bs : List ℕ) (v : Data) (r : Result A LineStop) → IsValueText bs v → MakesAs see (if_canonical bs (Some v)) r → MakesAs see (canonical bs) r
 unfolding canonical
 made_of see bs v r h m = subst (λ o. MakesAs see (if_canonical bs o) r) (sym (whole_finds bs v h)) m
 
-pub given : {A B : Type 0} (see : A → B) (o : Option B) (i : List ℕ) (r : Result A LogStop) → MakesAs see o r → ReadsAs see (give o i) r i
+pub given : {A B : Type 0} (see : A → B) (o : Option B) (i : List ℕ) (r : Result A LineStop) → MakesAs see o r → ReadsAs see (give o i) r i
 given see o i (Ok a) e = ap (λ o. give o i) e
-given see o i (Err BadLog) e = ap (λ o. give o i) e
+given see o i (Err BadLine) e = ap (λ o. give o i) e
 given see o i (Err NoMemory) e = tt
 
 -- a value is read from the bytes up to its end
-pub value_given : {A : Type 0} (see : A → Data) (bs part rest : List ℕ) (r : Result A LogStop) → part ≡ value_front bs → rest ≡ value_behind bs → MakesAs see (canonical part) r → ReadsAs see (value bs) r rest
+pub value_given : {A : Type 0} (see : A → Data) (bs part rest : List ℕ) (r : Result A LineStop) → part ≡ value_front bs → rest ≡ value_behind bs → MakesAs see (canonical part) r → ReadsAs see (value bs) r rest
 unfolding value
 value_given see bs part rest r e f m =
     subst (λ k. ReadsAs see (give (canonical (value_front bs)) k) r rest) f (subst (λ t. ReadsAs see (give (canonical t) rest) r rest) e (given see (canonical part) rest r m))

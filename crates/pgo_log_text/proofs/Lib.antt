@@ -10,9 +10,11 @@ pub mod LinesStart
 pub mod LinesChanges
 pub mod LinesParts
 pub mod LinesEntries
+pub mod LinesAttempts
 pub mod LinesAccounts
 pub mod LinesLog
 pub mod Names
 pub mod LinesConstants
 pub mod LinesBundle
 pub mod BundleRead
+pub mod WrittenRuns

@@ -1,20 +1,19 @@
 -- The accounts of a log.
-use Rattle.std.proofs.Common.{◌≡◌, ◌<◌, ◌≤◌, ◌^◌, ◌+◌, ℕ, zero, suc, true, false, List, [], ◌∷◌, ◌++◌, length, map, decimal, Option, Some, None, refl, sym, ap, subst, ◌∙◌, append_assoc, arith}
+use Rattle.std.proofs.Common.{◌≡◌, ◌<◌, ◌≤◌, ◌^◌, ◌+◌, ℕ, suc, true, false, List, [], ◌∷◌, ◌++◌, length, map, decimal, Option, Some, None, refl, sym, ap, subst, ◌∙◌, append_assoc, arith}
 use Rattle.std.specs.Prelude.{codes}
 use Rattle.pgo_base.specs.Data.{Data}
 use Rattle.pgo_model.specs.ValueText.{value_text}
-use Rattle.pgo_model.specs.ModuleText.{Line, line, flatten}
-use Rattle.pgo_model.specs.Machine.{Step}
+use Rattle.pgo_model.specs.ModuleText.{line, flatten}
 use Rattle.pgo_model.specs.Core.{End, Done, Stopped, JournalFull, Spent}
-use Rattle.pgo_model.specs.Bundle.{fields, end_text, record_lines}
-use Rattle.pgo_model.specs.IsBundle.{Account, read_accounts_lines, AreCounts}
-use Rattle.pgo_log_text.specs.IsBundle.{IsAccount, AreAccounts}
+use Rattle.pgo_model.specs.Bundle.{fields, end_text}
+use Rattle.pgo_log_text.specs.IsBundle.{attempt_lines, Account, account_lines, read_accounts_lines, IsAccount, AreAccounts}
 use Rattle.pgo_log_text.specs.Bytes.{begins}
-use Rattle.pgo_log_text.specs.Lines.{end_word, record_line, records, account, accounts}
+use Rattle.pgo_log_text.specs.Lines.{end_word, account, accounts}
 use Rattle.pgo_log_text.proofs.BytesSteps.{if_some, bind_then, then_at, some_pair}
 use Rattle.pgo_log_text.proofs.Bytes.{expect_some}
-use Rattle.pgo_log_text.proofs.LinesFields.{this_number_some, this_number_finds, this_field_some, this_field_finds, number_field_some, number_field_finds, last_number_some, last_number_finds, last_value_some, last_value_finds}
+use Rattle.pgo_log_text.proofs.LinesFields.{this_field_some, this_field_finds, number_field_some, number_field_finds, last_value_some, last_value_finds}
 use Rattle.pgo_log_text.proofs.LinesEntries.{flatten_append}
+use Rattle.pgo_log_text.proofs.LinesAttempts.{attempts_some, attempts_finds}
 use Rattle.pgo_log_text.proofs.LinesParts.{texts, Each, PartText, parts_some, parts_finds}
 
 -- ---- how an instance ended
@@ -37,66 +36,7 @@ end_word_finds (Some JournalFull) r = refl
 end_word_finds (Some Spent) r = refl
 end_word_finds None r = refl
 
--- ---- records
-
-record_nest : (a n f r : List ℕ) → (line (fields (a ∷ codes "step" ∷ n ∷ [])) ++ f) ++ r ≡ a ++ (codes " step " ++ (n ++ 10 ∷ (f ++ r)))
-record_nest a n f r = simp append_assoc
-
-record_some : (a : ℕ) (bs : List ℕ) (n : ℕ) (r : List ℕ) → record_line a bs ≡ Some (n, r) → (bs ≡ decimal a ++ (codes " step " ++ (decimal n ++ 10 ∷ r))) × (n < 2 ^ 32)
-unfolding record_line
-record_some a bs n r e =
-    let G : Type 0 = (bs ≡ decimal a ++ (codes " step " ++ (decimal n ++ 10 ∷ r))) × (n < 2 ^ 32) in
-    bind_then _ _ _ G e (λ t i x e. bind_then _ _ _ G e (λ u j y e.
-    let number = this_number_some a bs t i x in
-    let last = last_number_some j n r e in
-    (number.0 ∙ ap (λ z. decimal a ++ z) (expect_some (codes " step ") i u j y ∙ ap (λ z. codes " step " ++ z) last.0), last.1)))
-
-record_finds : (a n : ℕ) (r : List ℕ) → a < 2 ^ 32 → n < 2 ^ 32 → record_line a (decimal a ++ (codes " step " ++ (decimal n ++ 10 ∷ r))) ≡ Some (n, r)
-unfolding record_line
-record_finds a n r h k =
-    then_at _ _ _ tt (codes " step " ++ (decimal n ++ 10 ∷ r)) (this_number_finds a (codes " step " ++ (decimal n ++ 10 ∷ r)) h refl) (last_number_finds n r k)
-
--- the numbers of entries that were read
-record RecordsText (left a : ℕ) (bs r : List ℕ) : Type 0 where
-  steps : List ℕ
-  text_is : bs ≡ flatten (record_lines [] a (map Step steps)) ++ r
-  count : length steps ≡ left
-  read : AreCounts steps
-
-records_some : (left a : ℕ) (bs : List ℕ) (u : Unit {0}) (r : List ℕ) → records left a bs ≡ Some (u, r) → RecordsText left a bs r
-unfolding records
-records_some zero a bs u r e = record { steps = []; text_is = (some_pair tt u bs r e).1; count = refl; read = tt }
-records_some (suc left) a bs u r e =
-    let G : Type 0 = RecordsText (suc left) a bs r in
-    bind_then _ _ _ G e (λ n i got e.
-    let one = record_some a bs n i got in
-    let more = records_some left (suc a) i u r e in
-    let f : List ℕ = flatten (record_lines [] (suc a) (map Step more.steps)) in
-    record {
-      steps = n ∷ more.steps;
-      text_is = one.0 ∙ ap (λ z. decimal a ++ (codes " step " ++ (decimal n ++ 10 ∷ z))) more.text_is ∙ sym (record_nest (decimal a) (decimal n) f r);
-      count = ap (λ k. suc k) more.count;
-      read = (one.1, more.read);
-    })
-
-records_finds : (ns : List ℕ) (left a : ℕ) (r : List ℕ) → left ≡ length ns → a + length ns ≤ 2 ^ 32 → AreCounts ns → records left a (flatten (record_lines [] a (map Step ns)) ++ r) ≡ Some (tt, r)
-unfolding records
-records_finds [] zero a r n room h = refl
-records_finds [] (suc k) a r n room h = absurd (cc)
-records_finds (x ∷ ns) zero a r n room h = absurd (cc)
-records_finds (x ∷ ns) (suc k) a r n room h =
-    let f : List ℕ = flatten (record_lines [] (suc a) (map Step ns)) in
-    let few : k ≡ length ns = cc in
-    let below : a < 2 ^ 32 = omega arith in
-    let rooms : suc a + length ns ≤ 2 ^ 32 = omega arith in
-    ap (records (suc k) a) (record_nest (decimal a) (decimal x) f r)
-    ∙ then_at _ _ _ x (f ++ r) (record_finds a x (f ++ r) below h.0) (records_finds ns k (suc a) r few rooms h.1)
-
 -- ---- an account
-
-abbrev account_lines : ℕ → Account → List Line
-account_lines k a =
-    line (fields (codes "inst" ∷ decimal k ∷ decimal (length a.steps) ∷ end_text a.finish ∷ value_text a.id ∷ [])) ∷ record_lines [] 1 (map Step a.steps)
 
 abbrev account_text : ℕ → Account → List ℕ
 account_text k a = flatten (account_lines k a)
@@ -122,33 +62,33 @@ account_some k bs v r h =
     let e2 = number_field_some b2 n b3 h2 in
     let e3 = end_word_some b3 s b4 h3 in
     let e4 = last_value_some b4 w b5 h4 in
-    let e5 = records_some n 1 b5 q b6 h5 in
+    let e5 = attempts_some n 1 b5 q b6 h5 in
     let same = some_pair w v b6 r h in
     subst G same.0 (record {
-      part = record { id = w; finish = e3.0; steps = e5.steps };
+      part = record { id = w; finish = e3.0; attempts = e5.attempts };
       seen = refl;
-      text_is = account_joined bs b1 b2 b3 b4 b5 (decimal k) (decimal (length e5.steps)) (end_text e3.0) (value_text w) (flatten (record_lines [] 1 (map Step e5.steps))) r
+      text_is = account_joined bs b1 b2 b3 b4 b5 (decimal k) (decimal (length e5.attempts)) (end_text e3.0) (value_text w) (flatten (attempt_lines 1 e5.attempts)) r
           (expect_some (codes "inst ") bs t b1 h0) e1.0 (e2.0 ∙ ap (λ x. decimal x ++ 32 ∷ b3) (sym e5.count)) e3.1 e4.0
-          (e5.text_is ∙ ap (λ z. flatten (record_lines [] 1 (map Step e5.steps)) ++ z) same.1);
-      valid = record { id = e4.1; count = subst (λ x. x < 2 ^ 32) (sym e5.count) e2.1; steps = e5.read };
+          (e5.text_is ∙ ap (λ z. flatten (attempt_lines 1 e5.attempts) ++ z) same.1);
+      valid = record { id = e4.1; count = subst (λ x. x < 2 ^ 32) (sym e5.count) e2.1; attempts = e5.read };
     })))))))
 
 account_finds : (k : ℕ) (a : Account) (r : List ℕ) → k < 2 ^ 32 → IsAccount a → account k (account_text k a ++ r) ≡ Some (a.id, r)
 unfolding account
 account_finds k a r below h =
-    let f : List ℕ = flatten (record_lines [] 1 (map Step a.steps)) in
+    let f : List ℕ = flatten (attempt_lines 1 a.attempts) in
     let b5 : List ℕ = f ++ r in
     let b4 : List ℕ = value_text a.id ++ 10 ∷ b5 in
     let b3 : List ℕ = end_text a.finish ++ 32 ∷ b4 in
-    let b2 : List ℕ = decimal (length a.steps) ++ 32 ∷ b3 in
+    let b2 : List ℕ = decimal (length a.attempts) ++ 32 ∷ b3 in
     let count = h.count in
-    let room : 1 + length a.steps ≤ 2 ^ 32 = omega arith in
-    ap (account k) (account_nest (decimal k) (decimal (length a.steps)) (end_text a.finish) (value_text a.id) f r)
+    let room : 1 + length a.attempts ≤ 2 ^ 32 = omega arith in
+    ap (account k) (account_nest (decimal k) (decimal (length a.attempts)) (end_text a.finish) (value_text a.id) f r)
     ∙ then_at _ _ _ tt b2 (this_field_finds k b2 below)
-    (then_at _ _ _ (length a.steps) b3 (number_field_finds (length a.steps) b3 h.count)
+    (then_at _ _ _ (length a.attempts) b3 (number_field_finds (length a.attempts) b3 h.count)
     (then_at _ _ _ tt b4 (end_word_finds a.finish b4)
     (then_at _ _ _ a.id b5 (last_value_finds a.id b5 h.id)
-    (then_at _ _ _ tt r (records_finds a.steps (length a.steps) 1 r refl room h.steps) refl))))
+    (then_at _ _ _ tt r (attempts_finds a.attempts (length a.attempts) 1 r refl room h.attempts) refl))))
 
 account_starts : (k : ℕ) (a : Account) (r : List ℕ) → begins (codes "inst ") (account_text k a ++ r) ≡ true
 account_starts k a r = refl

@@ -36,7 +36,7 @@ index_part_finds : (v : Data) (r : List ℕ) → IsCanonicalValue v → index_pa
 unfolding index_part
 index_part_finds v r h = then_at _ _ _ v (93 ∷ r) (value_finds v (93 ∷ r) h refl) refl
 
-index_some : (bs : List ℕ) (o : Option Data) (r : List ℕ) → index bs ≡ Some (o, r) → (bs ≡ index_text o ++ r) × IsCanonicalIndex o
+pub index_some : (bs : List ℕ) (o : Option Data) (r : List ℕ) → index bs ≡ Some (o, r) → (bs ≡ index_text o ++ r) × IsCanonicalIndex o
 unfolding index
 index_some bs o r e =
     let G : Option Data → Type 0 = λ o. (bs ≡ index_text o ++ r) × IsCanonicalIndex o in
@@ -48,7 +48,7 @@ index_some bs o r e =
     (λ _ e. let same = some_pair None o bs r e in subst G same.0 (same.1, tt))
 
 -- an index is found where no bracket follows it
-index_finds : (o : Option Data) (r : List ℕ) → IsCanonicalIndex o → begins (codes "[") r ≡ false → index (index_text o ++ r) ≡ Some (o, r)
+pub index_finds : (o : Option Data) (r : List ℕ) → IsCanonicalIndex o → begins (codes "[") r ≡ false → index (index_text o ++ r) ≡ Some (o, r)
 unfolding index
 index_finds None r h n = cond_false (begins (codes "[") r) _ _ n
 index_finds (Some v) r h n =

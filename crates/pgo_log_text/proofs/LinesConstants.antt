@@ -127,17 +127,17 @@ pub opened_some : (bs : List ℕ) (cs : Vars) (r : List ℕ) → constants_part 
 unfolding constants_part
 opened_some bs cs r e =
     let G : Type 0 = Opened bs cs r in
-    bind_then _ _ _ G e (λ u i a e. bind_then _ _ _ G e (λ n j b e.
+    bind_then _ _ _ G e (λ u h f e. bind_then _ _ _ G e (λ v i a e. bind_then _ _ _ G e (λ n j b e.
     let number = last_number_some i n j b in
     let more = constants_some n [] j cs r e in
     let many : length cs ≡ n = ap length more.is_all ∙ more.count in
     let all : cs ≡ more.behind = more.is_all in
     record {
-      text_is = expect_some (codes "pgo 1\nconsts ") bs u i a
-          ∙ ap (λ z. codes "pgo 1\nconsts " ++ z) (number.0 ∙ (λ h. decimal (sym many h) ++ 10 ∷ (more.text_is ∙ ap (λ z. flatten (map value_line z) ++ r) (sym all)) h));
+      text_is = expect_some (codes "pgo 1\n") bs u h f ∙ ap (λ z. codes "pgo 1\n" ++ z) (expect_some (codes "consts ") h v i a)
+          ∙ ap (λ z. codes "pgo 1\nconsts " ++ z) (number.0 ∙ (λ k. decimal (sym many k) ++ 10 ∷ (more.text_is ∙ ap (λ z. flatten (map value_line z) ++ r) (sym all)) k));
       count = subst (λ k. k < 2 ^ 32) (sym many) number.1;
       constants = subst AreConstants (sym all) more.read;
-    }))
+    })))
 
 pub opened_finds : (cs : Vars) (r : List ℕ) → length cs < 2 ^ 32 → AreConstants cs
     → constants_part (codes "pgo 1\nconsts " ++ (decimal (length cs) ++ 10 ∷ (flatten (map value_line cs) ++ r))) ≡ Some (cs, r)

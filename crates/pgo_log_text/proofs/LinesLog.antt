@@ -1,8 +1,7 @@
 -- The lines from `init` to `end`: what is read is a log's text, and a log's text is read.
-use Rattle.std.proofs.Common.{◌≡◌, ◌<◌, ◌≤◌, ◌^◌, ◌+◌, ℕ, true, false, ◌&&◌, IsTrue, List, [], ◌∷◌, ◌++◌, length, map, decimal, Some, None, refl, sym, ap, subst, ◌∙◌, append_assoc, arith}
+use Rattle.std.proofs.Common.{◌≡◌, ◌<◌, ◌≤◌, ◌^◌, ◌+◌, ℕ, true, false, IsTrue, List, [], ◌∷◌, ◌++◌, length, map, decimal, Some, None, refl, sym, ap, subst, ◌∙◌, append_assoc, arith}
 use Rattle.std.specs.Prelude.{codes}
 use Rattle.std.proofs.lemmas.List.{append-nil, length-map}
-use Rattle.std.proofs.lemmas.Bool.{and_parts, and_from}
 use Rattle.std.proofs.lemmas.Bool.Decides.{nat_tests}
 use Rattle.pgo_base.specs.Data.{Data}
 use Rattle.pgo_base.specs.Lookup.{Name, Vars}
@@ -10,13 +9,13 @@ use Rattle.pgo_model.specs.Machine.{Entry}
 use Rattle.pgo_model.specs.Log.{Effect, Log}
 use Rattle.pgo_model.specs.ModuleText.{Line, line, flatten}
 use Rattle.pgo_model.specs.Bundle.{value_line, entries_lines}
-use Rattle.pgo_model.specs.IsBundle.{is_run_status, Account, read_accounts_lines}
-use Rattle.pgo_log_text.specs.Bytes.{begins, at_end}
-use Rattle.pgo_log_text.specs.Lines.{most_parts, ending, finish, heading, log_and_end}
-use Rattle.pgo_log_text.specs.IsBundle.{AreCanonical, AreEntries, AreAccounts, log_lines, IsLogText}
+use Rattle.pgo_model.specs.IsBundle.{is_run_status}
+use Rattle.pgo_log_text.specs.Bytes.{is_apart, begins, at_end}
+use Rattle.pgo_log_text.specs.Lines.{most_parts, run_status, nothing_behind, finish, heading, log_and_end}
+use Rattle.pgo_log_text.specs.IsBundle.{AreCanonical, AreEntries, Account, read_accounts_lines, AreAccounts, log_lines, IsLogText}
 use Rattle.pgo_log_text.proofs.BytesSteps.{if_some, cond_true, bind_then, then_at, some_pair}
-use Rattle.pgo_log_text.proofs.Bytes.{expect_some}
-use Rattle.pgo_log_text.proofs.LinesFields.{this_number_some, this_number_finds, this_field_some, this_field_finds, last_number_some, last_number_finds}
+use Rattle.pgo_log_text.proofs.Bytes.{expect_some, number_some, number_finds}
+use Rattle.pgo_log_text.proofs.LinesFields.{this_number_some, this_number_finds, this_field_some, this_field_finds}
 use Rattle.pgo_log_text.proofs.LinesStart.{start_some, start_finds}
 use Rattle.pgo_log_text.proofs.LinesEntries.{flatten_append, entries_some, entries_finds}
 use Rattle.pgo_log_text.proofs.LinesAccounts.{id_of, accounts_some, accounts_finds}
@@ -49,41 +48,52 @@ record LastText (n s : ℕ) (bs r : List ℕ) : Type 0 where
   status : IsTrue (is_run_status s)
   none : r ≡ []
 
-ending_some : (n : ℕ) (bs : List ℕ) (s : ℕ) (r : List ℕ) → ending n bs ≡ Some (s, r) → (n ≡ s) × (bs ≡ []) × (r ≡ []) × IsTrue (is_run_status s)
-unfolding ending
-ending_some n bs s r e =
-    let G : Type 0 = (n ≡ s) × (bs ≡ []) × (r ≡ []) × IsTrue (is_run_status s) in
-    if_some (is_run_status n && at_end bs) _ _ (s, r) G e
+status_some : (bs : List ℕ) (s : ℕ) (r : List ℕ) → run_status bs ≡ Some (s, r) → (bs ≡ decimal s ++ r) × IsTrue (is_run_status s)
+unfolding run_status
+status_some bs s r e =
+    let G : Type 0 = (bs ≡ decimal s ++ r) × IsTrue (is_run_status s) in
+    bind_then _ _ _ G e (λ n i a e.
+    if_some (is_run_status n) _ _ (s, r) G e
     (λ t e.
-    let same = some_pair n s bs r e in
-    let tests = and_parts (is_run_status n) (at_end bs) t in
-    let all = ends bs tests.1 in
-    (same.0, all, sym same.1 ∙ all, subst (λ n. IsTrue (is_run_status n)) same.0 tests.0))
+    let read = number_some bs n i a in
+    let same = some_pair n s i r e in
+    (read.0 ∙ (λ j. decimal (same.0 j) ++ same.1 j), subst (λ n. IsTrue (is_run_status n)) same.0 t))
+    (λ _ e. absurd (cc)))
+
+behind_some : (n : ℕ) (bs : List ℕ) (s : ℕ) (r : List ℕ) → nothing_behind n bs ≡ Some (s, r) → (n ≡ s) × (bs ≡ []) × (r ≡ [])
+unfolding nothing_behind
+behind_some n bs s r e =
+    if_some (at_end bs) _ _ (s, r) ((n ≡ s) × (bs ≡ []) × (r ≡ [])) e
+    (λ t e. let same = some_pair n s bs r e in let all = ends bs t in (same.0, all, sym same.1 ∙ all))
     (λ _ e. absurd (cc))
 
 finish_some : (n : ℕ) (bs : List ℕ) (s : ℕ) (r : List ℕ) → finish n bs ≡ Some (s, r) → LastText n s bs r
 unfolding finish
 finish_some n bs s r e =
     let G : Type 0 = LastText n s bs r in
-    bind_then _ _ _ G e (λ t i a e. bind_then _ _ _ G e (λ u j b e. bind_then _ _ _ G e (λ m k c e.
+    bind_then _ _ _ G e (λ t i a e. bind_then _ _ _ G e (λ u j b e. bind_then _ _ _ G e (λ m k c e. bind_then _ _ _ G e (λ v l d e.
     let steps = this_field_some n i u j b in
-    let status = last_number_some j m k c in
-    let end = ending_some m k s r e in
+    let status = status_some j m k c in
+    let end = behind_some m l s r e in
     record {
-      text_is = expect_some (codes "end ") bs t i a ∙ ap (λ z. codes "end " ++ z) (steps.0 ∙ ap (λ z. decimal n ++ 32 ∷ z) (status.0 ∙ (λ z. decimal (end.0 z) ++ 10 ∷ end.1 z)));
-      status = end.3;
+      text_is = expect_some (codes "end ") bs t i a ∙ ap (λ z. codes "end " ++ z) (steps.0 ∙ ap (λ z. decimal n ++ 32 ∷ z)
+          (status.0 ∙ ap (λ z. decimal m ++ z) (expect_some (codes "\n") k v l d) ∙ (λ z. decimal (end.0 z) ++ 10 ∷ end.1 z)));
+      status = subst (λ m. IsTrue (is_run_status m)) end.0 status.1;
       none = end.2;
-    })))
+    }))))
 
 status_small : (s : ℕ) → IsTrue (is_run_status s) → s < 2 ^ 32
 status_small s h = grind (arith, nat_tests)
 
+status_finds : (s : ℕ) (r : List ℕ) → IsTrue (is_run_status s) → is_apart r ≡ true → run_status (decimal s ++ r) ≡ Some (s, r)
+unfolding run_status
+status_finds s r k a = then_at _ _ _ s r (number_finds s r (status_small s k) a) (cond_true (is_run_status s) (Some (s, r)) None k)
+
 finish_finds : (n s : ℕ) → n < 2 ^ 32 → IsTrue (is_run_status s) → finish n (last_line n s) ≡ Some (s, [])
-unfolding finish ending
+unfolding finish nothing_behind
 finish_finds n s h k =
     then_at _ _ _ tt (decimal s ++ 10 ∷ []) (this_field_finds n (decimal s ++ 10 ∷ []) h)
-    (then_at _ _ _ s [] (last_number_finds s [] (status_small s k))
-    (cond_true (is_run_status s && true) (Some (s, [])) None (and_from (is_run_status s) true k refl)))
+    (then_at _ _ _ s (10 ∷ []) (status_finds s (10 ∷ []) k refl) refl)
 
 -- ---- the whole
 

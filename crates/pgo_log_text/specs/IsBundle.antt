@@ -1,15 +1,17 @@
--- Which texts are bundles of version 1, of which module, constants and log: every record is `step`. Of the account of attempts the
--- identifiers are part of the log; the rest of it is read for its form alone. In a text components have no owner and entries no prints.
-use Rattle.std.specs.Prelude.{◌≡◌, ◌<◌, ℕ, IsTrue, List, [], ◌∷◌, ◌++◌, length, map, codes, decimal, Option, Some, None}
+-- Which texts are bundles of version 1, of which module, constants and log. Of the accounts of attempts the identifiers are part of
+-- the log; the rest of them is read for its form alone. In a text components have no owner and entries no prints.
+use Rattle.std.specs.Prelude.{◌≡◌, ◌<◌, ℕ, suc, IsTrue, List, [], ◌∷◌, ◌++◌, length, map, codes, decimal, Option, Some, None}
 use Rattle.pgo_base.specs.Data.{Data}
 use Rattle.pgo_base.specs.Lookup.{Name, Vars}
 use Rattle.pgo_model.specs.ValueText.{value_text}
+use Rattle.pgo_model.specs.Outcome.{Kind}
 use Rattle.pgo_model.specs.Machine.{Entry}
+use Rattle.pgo_model.specs.Core.{End}
 use Rattle.pgo_model.specs.Log.{Unowned, Change, Effect, Log}
 use Rattle.pgo_model.specs.Module.{Module}
 use Rattle.pgo_model.specs.ModuleText.{Line, line, flatten}
-use Rattle.pgo_model.specs.Bundle.{value_line, entries_lines}
-use Rattle.pgo_model.specs.IsBundle.{count_limit, is_read_name, Account, read_accounts_lines, AreCounts, is_run_status}
+use Rattle.pgo_model.specs.Bundle.{fields, indexed_text, kind_text, end_text, value_line, entries_lines}
+use Rattle.pgo_model.specs.IsBundle.{count_limit, is_read_name, is_run_status}
 use Rattle.pgo_value_text.specs.IsValueText.{IsValueText}
 use Rattle.pgo_module_spells.specs.Spells.{SpellsModule}
 
@@ -61,10 +63,63 @@ AreEntries (e ∷ es) = IsEntry e × AreEntries es
 
 -- ---- accounts
 
+-- what a line says of an attempt: it is entry n; it has a note with so many entries before it; it was refused since an instance
+-- held a resource, which is a variable with an optional index, or the journal; since a resource's operation of a number failed;
+-- or since the journal was full at n entries
+pub data AttemptLine : Type 0 where
+  StepLine : (n : ℕ) → AttemptLine
+  NoteLine : (kind : Kind) → (position : ℕ) → AttemptLine
+  HeldLine : (holder : ℕ) → (variable : Name) → (index : Option Data) → AttemptLine
+  HeldLogLine : (holder : ℕ) → AttemptLine
+  DownLine : (operation : ℕ) → (variable : Name) → (index : Option Data) → AttemptLine
+  FullLine : (n : ℕ) → AttemptLine
+
+abbrev pub attempt_fields : AttemptLine → List (List ℕ)
+attempt_fields (StepLine n) = codes "step" ∷ decimal n ∷ []
+attempt_fields (NoteLine kind p) = codes "note" ∷ kind_text kind ∷ decimal p ∷ []
+attempt_fields (HeldLine h x i) = codes "held" ∷ decimal h ∷ indexed_text x i ∷ []
+attempt_fields (HeldLogLine h) = codes "held" ∷ decimal h ∷ codes "$log" ∷ []
+attempt_fields (DownLine o x i) = codes "down" ∷ decimal o ∷ indexed_text x i ∷ []
+attempt_fields (FullLine n) = codes "full" ∷ decimal n ∷ []
+
+-- the lines of the attempts from number a on
+abbrev pub attempt_lines : ℕ → List AttemptLine → List Line
+attempt_lines a [] = []
+attempt_lines a (x ∷ xs) = line (fields (decimal a ∷ attempt_fields x)) ∷ attempt_lines (suc a) xs
+
+-- numbers are below 2^32, a variable is an identifier, and an index is a value that can be written and read back
+abbrev pub IsAttemptLine : AttemptLine → Type 0
+IsAttemptLine (StepLine n) = n < count_limit
+IsAttemptLine (NoteLine kind p) = p < count_limit
+IsAttemptLine (HeldLine h x i) = (h < count_limit) × IsTrue (is_read_name x) × IsCanonicalIndex i
+IsAttemptLine (HeldLogLine h) = h < count_limit
+IsAttemptLine (DownLine o x i) = (o < count_limit) × IsTrue (is_read_name x) × IsCanonicalIndex i
+IsAttemptLine (FullLine n) = n < count_limit
+
+abbrev pub AreAttemptLines : List AttemptLine → Type 0
+AreAttemptLines [] = Unit {0}
+AreAttemptLines (x ∷ xs) = IsAttemptLine x × AreAttemptLines xs
+
+-- the account of an instance: its identifier, how it ended (none: it hasn't), and what is said of its attempts, in order
+pub record Account : Type 0 where
+  pub id : Data
+  pub finish : Option End
+  pub attempts : List AttemptLine
+
+-- the lines of the account of instance k
+abbrev pub account_lines : ℕ → Account → List Line
+account_lines k a =
+    line (fields (codes "inst" ∷ decimal k ∷ decimal (length a.attempts) ∷ end_text a.finish ∷ value_text a.id ∷ [])) ∷ attempt_lines 1 a.attempts
+
+-- the lines of the accounts from instance k on
+abbrev pub read_accounts_lines : ℕ → List Account → List Line
+read_accounts_lines k [] = []
+read_accounts_lines k (a ∷ as') = account_lines k a ++ read_accounts_lines (suc k) as'
+
 pub record IsAccount (a : Account) : Type 0 where
   pub id : IsCanonicalValue a.id
-  pub count : length a.steps < count_limit
-  pub steps : AreCounts a.steps
+  pub count : length a.attempts < count_limit
+  pub attempts : AreAttemptLines a.attempts
 
 abbrev pub AreAccounts : List Account → Type 0
 AreAccounts [] = Unit {0}

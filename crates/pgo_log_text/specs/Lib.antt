@@ -3,3 +3,5 @@ pub mod Parsers
 pub mod Bytes
 pub mod Lines
 pub mod ReadBundle
+pub mod LogOf
+pub mod WrittenRun

@@ -90,7 +90,8 @@ constants (suc n) done = do
 -- the version and the constants
 unfoldable pub constants_part : Parser Vars
 constants_part = do
-  expect (codes "pgo 1\nconsts ")
+  expect (codes "pgo 1\n")
+  expect (codes "consts ")
   n ← last_number
   constants n []
 
@@ -174,19 +175,63 @@ end_word bs =
     else if begins (codes "spent ") bs then expect (codes "spent ") bs
     else expect (codes "paused ") bs
 
--- a record: attempt a is the entry of the number that is given
-unfoldable pub record_line : ℕ → Parser ℕ
-record_line a = do
-  this_number a
-  expect (codes " step ")
-  last_number
+-- what a line says of an attempt by a number alone
+unfoldable pub number_word : Parser (Unit {0})
+number_word bs =
+    if begins (codes "step ") bs then expect (codes "step ") bs
+    else if begins (codes "note blocked ") bs then expect (codes "note blocked ") bs
+    else if begins (codes "note novalue ") bs then expect (codes "note novalue ") bs
+    else if begins (codes "note assert ") bs then expect (codes "note assert ") bs
+    else expect (codes "full ") bs
 
--- the records of attempts numbered from a on
-unfoldable pub records : (left a : ℕ) → Parser (Unit {0})
-records zero a = pure tt
-records (suc left) a = do
-  record_line a
-  records left (suc a)
+unfoldable pub number_form : Parser (Unit {0})
+number_form = do
+  number_word
+  n ← last_number
+  pure tt
+
+-- `x` or `x[index]` at the end of a line
+unfoldable pub last_component : Parser (Unit {0})
+last_component = do
+  x ← name
+  i ← index
+  expect (codes "\n")
+
+-- what is held: a component, or the journal
+unfoldable pub held_at : Parser (Unit {0})
+held_at bs = if begins (codes "$log") bs then expect (codes "$log\n") bs else last_component bs
+
+unfoldable pub held_form : Parser (Unit {0})
+held_form = do
+  expect (codes "held ")
+  h ← number_field
+  held_at
+
+unfoldable pub down_form : Parser (Unit {0})
+down_form = do
+  expect (codes "down ")
+  o ← number_field
+  last_component
+
+-- what is said of an attempt
+unfoldable pub attempt_form : Parser (Unit {0})
+attempt_form bs =
+    if begins (codes "held ") bs then held_form bs
+    else if begins (codes "down ") bs then down_form bs
+    else number_form bs
+
+-- the line of attempt a
+unfoldable pub attempt_line : ℕ → Parser (Unit {0})
+attempt_line a = do
+  this_field a
+  attempt_form
+
+-- the lines of attempts numbered from a on
+unfoldable pub attempts : (left a : ℕ) → Parser (Unit {0})
+attempts zero a = pure tt
+attempts (suc left) a = do
+  attempt_line a
+  attempts left (suc a)
 
 -- the account of instance k, of which its identifier is kept
 unfoldable pub account : ℕ → Parser Data
@@ -196,7 +241,7 @@ account k = do
   n ← number_field
   end_word
   v ← last_value
-  records n 1
+  attempts n 1
   pure v
 
 abbrev pub accounts : (left k : ℕ) → List Data → Parser (List Data)
@@ -204,17 +249,24 @@ accounts = parts (codes "inst ") account
 
 -- ---- the whole
 
--- a status of a run, and nothing behind it
-unfoldable pub ending : ℕ → Parser ℕ
-ending s bs = if is_run_status s && at_end bs then Some (s, bs) else None
+-- a status of a run
+unfoldable pub run_status : Parser ℕ
+run_status = do
+  s ← number
+  (λ i. if is_run_status s then Some (s, i) else None)
+
+-- nothing behind it
+unfoldable pub nothing_behind : ℕ → Parser ℕ
+nothing_behind s bs = if at_end bs then Some (s, bs) else None
 
 -- the last line with the number of entries and the status, and nothing behind it
 unfoldable pub finish : ℕ → Parser ℕ
 finish steps = do
   expect (codes "end ")
   this_field steps
-  s ← last_number
-  ending s
+  s ← run_status
+  expect (codes "\n")
+  nothing_behind s
 
 -- the line `init` with the number of variables
 unfoldable pub heading : ℕ → Parser (Unit {0})

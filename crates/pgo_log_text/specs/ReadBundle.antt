@@ -5,6 +5,8 @@ use Rattle.pgo_base.specs.Lookup.{Name}
 use Rattle.pgo_model.specs.Module.{Module}
 use Rattle.pgo_model.specs.Log.{Log}
 use Rattle.pgo_module_spells.specs.Spells.{SpellsModule}
+use Rattle.pgo_log_text.specs.declared.errors.LineStop.{LineStop}
+use Rattle.pgo_log_text.specs.declared.errors.LineStop.TheVariants as parts
 use Rattle.pgo_log_text.specs.declared.errors.LogStop.{LogStop}
 use Rattle.pgo_log_text.specs.declared.errors.LogStop.TheVariants.{BadLog, NoMemory}
 use Rattle.pgo_log_text.specs.IsBundle.{IsBundle}
@@ -24,8 +26,18 @@ IsNoBundle text = (m : Module) (consts : List (Name × Data)) (l : Log) → IsRe
 
 -- it is no bundle, or there is no memory
 abbrev pub IsRefused : List ℕ → LogStop → Type 0
-IsRefused text BadLog = IsNoBundle text
+IsRefused text (BadLog l) = IsNoBundle text
 IsRefused text NoMemory = Unit {0}
+
+-- the same of a part's reader
+abbrev pub IsStopped : List ℕ → LineStop → Type 0
+IsStopped text parts.BadLine = IsNoBundle text
+IsStopped text parts.NoMemory = Unit {0}
+
+-- what stopped the reader of a part, without its line
+abbrev pub stop_of : LogStop → LineStop
+stop_of (BadLog l) = parts.BadLine
+stop_of NoMemory = parts.NoMemory
 
 -- ---- the module of a bundle
 
@@ -39,5 +51,5 @@ abbrev pub SpellsNone : List ℕ → Type 0
 SpellsNone bytes = (m : Module) → SpellsModule bytes m → ⊥
 
 abbrev pub HasNoModule : List ℕ → LogStop → Type 0
-HasNoModule bytes BadLog = SpellsNone bytes
+HasNoModule bytes (BadLog l) = SpellsNone bytes
 HasNoModule bytes NoMemory = Unit {0}

@@ -1,19 +1,20 @@
 // The accounts of attempts, of which the identifiers are kept.
-ghost use Rattle.std.specs.Prelude.{[], ◌+◌, ◌<◌};
+ghost use Rattle.std.specs.Prelude.{[]};
 ghost use Rattle.pgo_base.specs.View.{data_of};
 ghost use Rattle.pgo_log_text.specs.Lines as spec;
 ghost use Rattle.pgo_log_text.specs.Parsers.{Reads, ReadsAs};
 
+use crate::attempt::attempts;
 use crate::cursor::Cursor;
-use crate::errors::LogStop;
-use crate::field::{last_number, last_value, number_field, this_field, this_number};
+use crate::errors::LineStop;
+use crate::field::{last_value, number_field, this_field};
 use pgo_base::log::Values;
 use pgo_base::value::Value;
 use std::alloc::Global;
 
 /// How an instance ended.
 #[tactic(auto, unfolding(crate::specs::Lines::end_word))]
-fn end_word(cursor: &mut Cursor<'_>) -> Result<(), LogStop>
+fn end_word(cursor: &mut Cursor<'_>) -> Result<(), LineStop>
     ensures { Reads (spec.end_word cursor.old) result cursor.new }
 {
     if cursor.begins(b"done ") {
@@ -31,29 +32,9 @@ fn end_word(cursor: &mut Cursor<'_>) -> Result<(), LogStop>
     cursor.expect(b"paused ")
 }
 
-/// The record of this attempt: the number of its entry.
-#[tactic(auto, unfolding(crate::specs::Lines::record_line))]
-fn record_line(cursor: &mut Cursor<'_>, attempt: usize) -> Result<u32, LogStop>
-    ensures { Reads (spec.record_line attempt cursor.old) result cursor.new }
-{
-    this_number(cursor, attempt)?;
-    cursor.expect(b" step ")?;
-    last_number(cursor)
-}
-
-/// The records of so many attempts.
-fn records(cursor: &mut Cursor<'_>, count: u32) -> Result<(), LogStop>
-    ensures { Reads (spec.records count 1 cursor.old) result cursor.new }
-{
-    for turn in 0..count {
-        record_line(cursor, turn as usize + 1)?;
-    }
-    Ok(())
-}
-
 /// The account of this instance.
 #[tactic(auto, unfolding(crate::specs::Lines::account))]
-fn account(alloc: Global, cursor: &mut Cursor<'_>, number: u32) -> Result<Value, LogStop>
+fn account(alloc: Global, cursor: &mut Cursor<'_>, number: u32) -> Result<Value, LineStop>
     ensures { ReadsAs data_of (spec.account number cursor.old) result cursor.new }
 {
     cursor.expect(b"inst ")?;
@@ -61,19 +42,19 @@ fn account(alloc: Global, cursor: &mut Cursor<'_>, number: u32) -> Result<Value,
     let count = number_field(cursor)?;
     end_word(cursor)?;
     let id = last_value(alloc, cursor)?;
-    records(cursor, count)?;
+    attempts(alloc, cursor, count)?;
     Ok(id)
 }
 
 /// The accounts, numbered from 0.
-pub fn accounts(alloc: Global, cursor: &mut Cursor<'_>) -> Result<Values, LogStop>
+pub fn accounts(alloc: Global, cursor: &mut Cursor<'_>) -> Result<Values, LineStop>
     ensures { Reads (spec.accounts spec.most_parts 0 [] cursor.old) result cursor.new }
 {
     let mut ids = Vec::new(alloc);
     let mut count: u32 = 0;
     'parts: while cursor.begins(b"inst ") {
         if count == u32::MAX {
-            return Err(LogStop::BadLog);
+            return Err(LineStop::BadLine);
         }
         ids.push(account(alloc, cursor, count)?)?;
         count += 1;

@@ -5,12 +5,20 @@ ghost use Rattle.pgo_model.specs.Log.{Log as WrittenLog};
 ghost use Rattle.pgo_model.specs.LogView.{log_view};
 ghost use Rattle.pgo_model.specs.Module.{Module as WrittenModule};
 ghost use Rattle.pgo_model.specs.ModuleView.{module_view};
+ghost use Rattle.pgo_log_text.specs.LogOf.{log_of as log_written};
+ghost use Rattle.pgo_log_text.specs.WrittenRun.{IsWrittenRun};
+ghost use Rattle.pgo_model.specs.Bundle.{Bundle};
+ghost use Rattle.pgo_model.specs.Core.{Settings};
+ghost use Rattle.pgo_model.specs.Log.{Effect};
+ghost use Rattle.pgo_model.specs.Machine.{Finished};
+ghost use Rattle.pgo_model.specs.System.{System};
 ghost use Rattle.pgo_log_text.specs.ReadBundle.{IsReadBundle, IsOnlyBundle, IsRefused, SpellsOnly, HasNoModule};
 
 use crate::cursor::Cursor;
 use crate::errors::LogStop;
 use crate::head::{constants_part, module_part};
-use crate::lines::log_of;
+use crate::line::{line_at, line_before, log_line};
+use crate::lines::{are_named, log_of};
 use pgo_base::consts::Consts;
 use pgo_base::log::Log;
 use pgo_base::module::Module;
@@ -20,12 +28,13 @@ use std::alloc::Global;
 
 /// The module, the constants and the log of a bundle.
 ///
-/// A text is read where it is a bundle of version 1 whose records are all `step`. Its module part is any text that spells a
-/// written module. The rest stands byte for byte as it is printed: numbers below 2^32 without leading zeros, names of at most
-/// 512 bytes, and values that can be written and read back, in their canonical text. Of the account of attempts the
-/// identifiers are used, and the rest is read for its form alone.
+/// A text is read where it is a bundle of version 1. Its module part is any text that spells a written module. The rest stands
+/// byte for byte as it is printed: numbers below 2^32 without leading zeros, names of at most 512 bytes, and values that can be
+/// written and read back, in their canonical text. Of the accounts of attempts the identifiers are used, and the rest is read
+/// for its form alone.
 ///
-/// - `BadLog` comes where the text is no such bundle.
+/// - `BadLog` comes where the text is no bundle. Its line counts from 1: it is the first line that no bundle has there, which
+///   is the line behind the last where the text ends too soon; where the constants aren't the module's, that of CONSTANTS.
 /// - `NoMemory` comes where there is no memory.
 ///
 /// Source: this project's choice.
@@ -37,30 +46,36 @@ pub fn read_bundle(alloc: Global, text: &[u8]) -> Result<(Module, Consts, Log), 
     let mut cursor = Cursor::new(text);
     let consts = match constants_part(alloc, &mut cursor) {
         Ok(consts) => consts,
-        Err(stop) => return Err(stop),
+        Err(stop) => return Err(stop.at_line(line_before(text, cursor.left()))),
     };
     let part = match module_part(&mut cursor) {
         Ok(part) => part,
-        Err(stop) => return Err(stop),
+        Err(stop) => return Err(stop.at_line(line_before(text, cursor.left()))),
     };
-    let module = match module_of(alloc, part) {
+    let first = line_before(text, cursor.left().saturating_add(part.len()));
+    let module = match module_of(alloc, part, first) {
         Ok(module) => module,
         Err(stop) => return Err(stop),
     };
     match log_of(alloc, &mut cursor, &consts, &module) {
         Ok(log) => Ok((module, consts, log)),
-        Err(stop) => Err(stop),
+        Err(stop) => {
+            let named = are_named(consts.as_slice(), module.constants.as_slice());
+            Err(stop.at_line(log_line(named, text, cursor.left(), part, first)))
+        }
     }
 }
 
-/// The module that the bytes spell.
-fn module_of(alloc: Global, text: &[u8]) -> Result<Module, LogStop>
+/// The module that the bytes spell, of which the first line has this number.
+fn module_of(alloc: Global, text: &[u8], first: usize) -> Result<Module, LogStop>
     ensures ok { IfOk result (λ m. SpellsOnly text.now (module_view m)) }
     ensures refused { IfErr result (HasNoModule text.now) }
 {
     match read_module(alloc, text) {
         Ok(module) => Ok(module),
-        Err(TextStop::Syntax { .. }) => Err(LogStop::BadLog),
+        Err(TextStop::Syntax { offset }) => Err(LogStop::BadLog {
+            line: line_at(text, offset as usize, first),
+        }),
         Err(TextStop::NoMemory) => Err(LogStop::NoMemory),
     }
 }
@@ -71,3 +86,8 @@ pub fn one_bundle()
 {
     one_module();
 }
+
+/// The bundle of a run that can be written (`IsWrittenRun`) is the bundle of its module, its constants and the log of its entries.
+pub fn written_runs_are_read()
+    ensures { (m : WrittenModule) (consts : Vars) (y : System) (settings : Settings) (f : Finished Effect) (status : ℕ) → IsWrittenRun m consts y f status → IsReadBundle (Bundle m consts y settings f status) m consts (log_written y f.entries) }
+{}

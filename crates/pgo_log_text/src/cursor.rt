@@ -5,7 +5,7 @@ ghost use Rattle.pgo_model.specs.ValueText as text;
 ghost use Rattle.pgo_log_text.specs.Bytes as spec;
 ghost use Rattle.pgo_log_text.specs.Parsers.{Reads, ReadsAs};
 
-use crate::errors::LogStop;
+use crate::errors::LineStop;
 use crate::numbers::natural_of;
 use crate::value::value_length;
 use pgo_base::text::Text;
@@ -51,6 +51,11 @@ impl<'a> Cursor<'a> {
         Cursor { rest: text }
     }
 
+    /// How many bytes are still to be read.
+    pub fn left(&self) -> usize {
+        self.rest.len()
+    }
+
     /// Whether these bytes are next.
     pub fn begins(&self, wanted: &[u8]) -> bool
         ensures { result ≡ spec.begins wanted.now self.now }
@@ -69,7 +74,7 @@ impl<'a> Cursor<'a> {
     }
 
     /// These bytes.
-    pub fn expect(&mut self, wanted: &[u8]) -> Result<(), LogStop>
+    pub fn expect(&mut self, wanted: &[u8]) -> Result<(), LineStop>
         ensures { Reads (spec.expect wanted.now self.old) result self.new }
     {
         match self.rest.strip_prefix(wanted) {
@@ -77,17 +82,18 @@ impl<'a> Cursor<'a> {
                 self.rest = rest;
                 Ok(())
             }
-            None => Err(LogStop::BadLog),
+            None => Err(LineStop::BadLine),
         }
     }
 
-    /// The next bytes, so many.
-    pub fn take(&mut self, count: u32) -> Result<&'a [u8], LogStop>
+    /// The next bytes, so many. Where they are too few, all is read.
+    pub fn take(&mut self, count: u32) -> Result<&'a [u8], LineStop>
         ensures { ReadsAs (λ s. s.now) (spec.taken count self.old) result self.new }
     {
         let count = count as usize;
         if count > self.rest.len() {
-            return Err(LogStop::BadLog);
+            self.rest = &self.rest[self.rest.len()..];
+            return Err(LineStop::BadLine);
         }
         let taken = &self.rest[..count];
         self.rest = &self.rest[count..];
@@ -107,7 +113,7 @@ impl<'a> Cursor<'a> {
 
     /// A number of 64 bits.
     #[tactic(auto, unfolding(crate::specs::Bytes::natural))]
-    fn natural(&mut self) -> Result<u64, LogStop>
+    fn natural(&mut self) -> Result<u64, LineStop>
         ensures { Reads (spec.natural self.old) result self.new }
     {
         let length = digits_length(self.rest);
@@ -115,24 +121,24 @@ impl<'a> Cursor<'a> {
         self.rest = &self.rest[length..];
         match natural_of(digits) {
             Some(n) => Ok(n),
-            None => Err(LogStop::BadLog),
+            None => Err(LineStop::BadLine),
         }
     }
 
     /// A number below 2^32.
     #[tactic(auto, unfolding(crate::specs::Bytes::number))]
-    pub fn number(&mut self) -> Result<u32, LogStop>
+    pub fn number(&mut self) -> Result<u32, LineStop>
         ensures { Reads (spec.number self.old) result self.new }
     {
         match u32::try_from(self.natural()?) {
             Ok(n) => Ok(n),
-            Err(_) => Err(LogStop::BadLog),
+            Err(_) => Err(LineStop::BadLine),
         }
     }
 
     /// A label or a variable.
     #[tactic(auto, unfolding(crate::specs::Bytes::name))]
-    pub fn name(&mut self, alloc: Global) -> Result<Text, LogStop>
+    pub fn name(&mut self, alloc: Global) -> Result<Text, LineStop>
         ensures { Reads (spec.name self.old) result self.new }
     {
         let length = word_length(self.rest);
@@ -141,7 +147,7 @@ impl<'a> Cursor<'a> {
         if is_name(word) {
             Ok(Text::from_slice(alloc, word)?)
         } else {
-            Err(LogStop::BadLog)
+            Err(LineStop::BadLine)
         }
     }
 }

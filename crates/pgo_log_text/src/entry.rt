@@ -6,7 +6,7 @@ ghost use Rattle.pgo_log_text.specs.Lines as spec;
 ghost use Rattle.pgo_log_text.specs.Parsers.{ReadsAs};
 
 use crate::cursor::Cursor;
-use crate::errors::LogStop;
+use crate::errors::LineStop;
 use crate::field::{last_number, last_value, name_field, number_field, this_field};
 use pgo_base::log::{Change, Changes, Component, Entries, Entry, Owner, Values};
 use pgo_base::value::Value;
@@ -14,7 +14,7 @@ use std::alloc::Global;
 
 /// `[index]`.
 #[tactic(auto, unfolding(crate::specs::Lines::index_part))]
-fn index_part(alloc: Global, cursor: &mut Cursor<'_>) -> Result<Value, LogStop>
+fn index_part(alloc: Global, cursor: &mut Cursor<'_>) -> Result<Value, LineStop>
     ensures { ReadsAs data_of (spec.index_part cursor.old) result cursor.new }
 {
     cursor.expect(b"[")?;
@@ -25,7 +25,7 @@ fn index_part(alloc: Global, cursor: &mut Cursor<'_>) -> Result<Value, LogStop>
 
 /// An index, or none.
 #[tactic(auto, unfolding(crate::specs::Lines::index))]
-fn index(alloc: Global, cursor: &mut Cursor<'_>) -> Result<Option<Value>, LogStop>
+pub fn index(alloc: Global, cursor: &mut Cursor<'_>) -> Result<Option<Value>, LineStop>
     ensures { ReadsAs (λ o. option_map data_of o) (spec.index cursor.old) result cursor.new }
 {
     if cursor.begins(b"[") {
@@ -38,7 +38,7 @@ fn index(alloc: Global, cursor: &mut Cursor<'_>) -> Result<Option<Value>, LogSto
 
 /// `set x = value` or `set x[index] = value`.
 #[tactic(auto, unfolding(crate::specs::Lines::change))]
-fn change(alloc: Global, cursor: &mut Cursor<'_>) -> Result<Change, LogStop>
+fn change(alloc: Global, cursor: &mut Cursor<'_>) -> Result<Change, LineStop>
     ensures { ReadsAs change_view (spec.change cursor.old) result cursor.new }
 {
     cursor.expect(b"set ")?;
@@ -57,7 +57,7 @@ fn change(alloc: Global, cursor: &mut Cursor<'_>) -> Result<Change, LogStop>
 }
 
 /// So many changes.
-fn changes(alloc: Global, cursor: &mut Cursor<'_>, count: u32) -> Result<Changes, LogStop>
+fn changes(alloc: Global, cursor: &mut Cursor<'_>, count: u32) -> Result<Changes, LineStop>
     ensures { ReadsAs (λ cs. map change_view cs) (spec.changes count [] cursor.old) result cursor.new }
 {
     let mut changes = Changes::new(alloc);
@@ -69,7 +69,7 @@ fn changes(alloc: Global, cursor: &mut Cursor<'_>, count: u32) -> Result<Changes
 
 /// The entry of this number.
 #[tactic(auto, unfolding(crate::specs::Lines::entry))]
-fn entry(alloc: Global, cursor: &mut Cursor<'_>, number: u32) -> Result<Entry, LogStop>
+fn entry(alloc: Global, cursor: &mut Cursor<'_>, number: u32) -> Result<Entry, LineStop>
     ensures { ReadsAs entry_view (spec.entry number cursor.old) result cursor.new }
 {
     cursor.expect(b"step ")?;
@@ -91,14 +91,14 @@ fn entry(alloc: Global, cursor: &mut Cursor<'_>, number: u32) -> Result<Entry, L
 }
 
 /// The entries, numbered from 1.
-pub fn entries(alloc: Global, cursor: &mut Cursor<'_>) -> Result<Entries, LogStop>
+pub fn entries(alloc: Global, cursor: &mut Cursor<'_>) -> Result<Entries, LineStop>
     ensures { ReadsAs (λ es. map entry_view es) (spec.entries spec.most_parts 1 [] cursor.old) result cursor.new }
 {
     let mut entries = Entries::new(alloc);
     let mut count: u32 = 0;
     'parts: while cursor.begins(b"step ") {
         if count == u32::MAX {
-            return Err(LogStop::BadLog);
+            return Err(LineStop::BadLine);
         }
         count += 1;
         entries.push(entry(alloc, cursor, count)?)?;

@@ -5,7 +5,7 @@ ghost use Rattle.pgo_log_text.specs.Lines as spec;
 ghost use Rattle.pgo_log_text.specs.Parsers.{Reads, ReadsAs};
 
 use crate::cursor::Cursor;
-use crate::errors::LogStop;
+use crate::errors::LineStop;
 use crate::field::{last_number, last_value};
 use pgo_base::consts::Consts;
 use pgo_base::text::Text;
@@ -14,7 +14,7 @@ use std::alloc::Global;
 
 /// A constant's line: `name = value`.
 #[tactic(auto, unfolding(crate::specs::Lines::constant_line))]
-fn constant_line(alloc: Global, cursor: &mut Cursor<'_>) -> Result<(Text, Value), LogStop>
+fn constant_line(alloc: Global, cursor: &mut Cursor<'_>) -> Result<(Text, Value), LineStop>
     ensures { ReadsAs named_data (spec.constant_line cursor.old) result cursor.new }
 {
     let name = cursor.name(alloc)?;
@@ -24,7 +24,7 @@ fn constant_line(alloc: Global, cursor: &mut Cursor<'_>) -> Result<(Text, Value)
 }
 
 /// So many constants.
-fn constants(alloc: Global, cursor: &mut Cursor<'_>, count: u32) -> Result<Consts, LogStop>
+fn constants(alloc: Global, cursor: &mut Cursor<'_>, count: u32) -> Result<Consts, LineStop>
     ensures { Reads (spec.constants count [] cursor.old) result cursor.new }
 {
     let mut list = Vec::new(alloc);
@@ -36,17 +36,18 @@ fn constants(alloc: Global, cursor: &mut Cursor<'_>, count: u32) -> Result<Const
 
 /// The version and the constants.
 #[tactic(auto, unfolding(crate::specs::Lines::constants_part))]
-pub fn constants_part(alloc: Global, cursor: &mut Cursor<'_>) -> Result<Consts, LogStop>
+pub fn constants_part(alloc: Global, cursor: &mut Cursor<'_>) -> Result<Consts, LineStop>
     ensures { Reads (spec.constants_part cursor.old) result cursor.new }
 {
-    cursor.expect(b"pgo 1\nconsts ")?;
+    cursor.expect(b"pgo 1\n")?;
+    cursor.expect(b"consts ")?;
     let count = last_number(cursor)?;
     constants(alloc, cursor, count)
 }
 
 /// The bytes of the module.
 #[tactic(auto, unfolding(crate::specs::Lines::module_part))]
-pub fn module_part<'a>(cursor: &mut Cursor<'a>) -> Result<&'a [u8], LogStop>
+pub fn module_part<'a>(cursor: &mut Cursor<'a>) -> Result<&'a [u8], LineStop>
     ensures { ReadsAs (λ s. s.now) (spec.module_part cursor.old) result cursor.new }
 {
     cursor.expect(b"module ")?;

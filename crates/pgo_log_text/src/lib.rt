@@ -2,12 +2,14 @@
 #![tactic(auto)]
 
 mod account;
+mod attempt;
 pub mod bundle_reader;
 mod cursor;
 mod entry;
 pub mod errors;
 mod field;
 mod head;
+mod line;
 mod lines;
 mod numbers;
 mod value;

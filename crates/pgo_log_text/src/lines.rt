@@ -9,8 +9,8 @@ ghost use Rattle.pgo_log_text.specs.Parsers.{Reads, ReadsAs};
 use crate::account::accounts;
 use crate::cursor::Cursor;
 use crate::entry::entries;
-use crate::errors::LogStop;
-use crate::field::{last_number, last_value, this_field, this_number};
+use crate::errors::LineStop;
+use crate::field::{last_value, this_field, this_number};
 use pgo_base::consts::Consts;
 use pgo_base::log::Log;
 use pgo_base::module::Module;
@@ -21,7 +21,7 @@ use std::alloc::Global;
 
 /// The line `init` with the number of variables.
 #[tactic(auto, unfolding(crate::specs::Lines::heading))]
-fn heading(cursor: &mut Cursor<'_>, count: usize) -> Result<(), LogStop>
+fn heading(cursor: &mut Cursor<'_>, count: usize) -> Result<(), LineStop>
     ensures { Reads (spec.heading count cursor.old) result cursor.new }
 {
     cursor.expect(b"init ")?;
@@ -31,7 +31,7 @@ fn heading(cursor: &mut Cursor<'_>, count: usize) -> Result<(), LogStop>
 
 /// A variable's line: `name = value`.
 #[tactic(auto, unfolding(crate::specs::Lines::variable_line))]
-fn variable_line(alloc: Global, cursor: &mut Cursor<'_>, name: &Text) -> Result<Value, LogStop>
+fn variable_line(alloc: Global, cursor: &mut Cursor<'_>, name: &Text) -> Result<Value, LineStop>
     ensures { ReadsAs data_of (spec.variable_line name.now cursor.old) result cursor.new }
 {
     cursor.expect(name.as_bytes())?;
@@ -40,7 +40,7 @@ fn variable_line(alloc: Global, cursor: &mut Cursor<'_>, name: &Text) -> Result<
 }
 
 /// The values of these variables at the start.
-fn start(alloc: Global, cursor: &mut Cursor<'_>, names: &[Text]) -> Result<State, LogStop>
+fn start(alloc: Global, cursor: &mut Cursor<'_>, names: &[Text]) -> Result<State, LineStop>
     ensures { Reads (spec.start names.now [] cursor.old) result cursor.new }
 {
     let mut list = Vec::new(alloc);
@@ -58,32 +58,46 @@ fn is_run_status(status: u32) -> bool
     status == 0 || status == 20 || status == 21 || status == 23
 }
 
-/// The status, where nothing stands behind it.
-#[tactic(auto, unfolding(crate::specs::Lines::ending))]
-fn ending(cursor: &mut Cursor<'_>, status: u32) -> Result<u32, LogStop>
-    ensures { Reads (spec.ending status cursor.old) result cursor.new }
+/// A status of a run.
+#[tactic(auto, unfolding(crate::specs::Lines::run_status))]
+fn run_status(cursor: &mut Cursor<'_>) -> Result<u32, LineStop>
+    ensures { Reads (spec.run_status cursor.old) result cursor.new }
 {
-    if is_run_status(status) && cursor.is_at_end() {
+    let status = cursor.number()?;
+    if is_run_status(status) {
         Ok(status)
     } else {
-        Err(LogStop::BadLog)
+        Err(LineStop::BadLine)
+    }
+}
+
+/// The status, where nothing stands behind it.
+#[tactic(auto, unfolding(crate::specs::Lines::nothing_behind))]
+fn nothing_behind(cursor: &mut Cursor<'_>, status: u32) -> Result<u32, LineStop>
+    ensures { Reads (spec.nothing_behind status cursor.old) result cursor.new }
+{
+    if cursor.is_at_end() {
+        Ok(status)
+    } else {
+        Err(LineStop::BadLine)
     }
 }
 
 /// The last line, and nothing behind it.
 #[tactic(auto, unfolding(crate::specs::Lines::finish))]
-fn finish(cursor: &mut Cursor<'_>, steps: usize) -> Result<u32, LogStop>
+fn finish(cursor: &mut Cursor<'_>, steps: usize) -> Result<u32, LineStop>
     ensures { Reads (spec.finish steps cursor.old) result cursor.new }
 {
     cursor.expect(b"end ")?;
     this_field(cursor, steps)?;
-    let status = last_number(cursor)?;
-    ending(cursor, status)
+    let status = run_status(cursor)?;
+    cursor.expect(b"\n")?;
+    nothing_behind(cursor, status)
 }
 
 /// The log of a bundle from `init` on, with these variables.
 #[tactic(auto, unfolding(crate::specs::Lines::log_and_end))]
-fn log_and_end(alloc: Global, cursor: &mut Cursor<'_>, names: &[Text]) -> Result<Log, LogStop>
+fn log_and_end(alloc: Global, cursor: &mut Cursor<'_>, names: &[Text]) -> Result<Log, LineStop>
     ensures { ReadsAs log_view (spec.log_and_end names.now cursor.old) result cursor.new }
 {
     heading(cursor, names.len())?;
@@ -99,7 +113,7 @@ fn log_and_end(alloc: Global, cursor: &mut Cursor<'_>, names: &[Text]) -> Result
 }
 
 /// Whether these are the constants' names, in order.
-fn are_named(consts: &[(Text, Value)], names: &[Text]) -> bool
+pub fn are_named(consts: &[(Text, Value)], names: &[Text]) -> bool
     ensures { result ≡ spec.are_named (map named_data consts.now) names.now }
 {
     if consts.len() != names.len() {
@@ -120,12 +134,12 @@ pub fn log_of(
     cursor: &mut Cursor<'_>,
     consts: &Consts,
     module: &Module,
-) -> Result<Log, LogStop>
+) -> Result<Log, LineStop>
     ensures { ReadsAs log_view (spec.log_of consts.now module.now.constants module.now.variables cursor.old) result cursor.new }
 {
     if are_named(consts.as_slice(), module.constants.as_slice()) {
         log_and_end(alloc, cursor, module.variables.as_slice())
     } else {
-        Err(LogStop::BadLog)
+        Err(LineStop::BadLine)
     }
 }

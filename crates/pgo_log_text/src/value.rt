@@ -6,7 +6,7 @@ ghost use Rattle.pgo_log_text.specs.Parsers.{MakesAs, ReadsAs};
 ghost use Rattle.pgo_log_text.specs.declared.value.Place.TheVariants.{Outside as outside};
 
 use crate::cursor::Cursor;
-use crate::errors::LogStop;
+use crate::errors::LineStop;
 use pgo_base::value::Value;
 use pgo_text::names::same_bytes;
 use pgo_value_text::errors::ValueStop;
@@ -82,35 +82,35 @@ pub fn value_length(bytes: &[u8]) -> usize
 }
 
 /// The value, where this is its canonical text.
-fn if_canonical(alloc: Global, value: Value, text: &[u8]) -> Result<Value, LogStop>
+fn if_canonical(alloc: Global, value: Value, text: &[u8]) -> Result<Value, LineStop>
     ensures { MakesAs data_of (spec.if_canonical text.now (Some (data_of value))) result }
 {
     let Ok(written) = write_value(alloc, &value) else {
-        return Err(LogStop::NoMemory);
+        return Err(LineStop::NoMemory);
     };
     if same_bytes(written.as_bytes(), text) {
         Ok(value)
     } else {
-        Err(LogStop::BadLog)
+        Err(LineStop::BadLine)
     }
 }
 
 /// The value of which this is the canonical text.
 #[tactic(auto, unfolding(crate::specs::Bytes::canonical))]
-fn canonical(alloc: Global, text: &[u8]) -> Result<Value, LogStop>
+fn canonical(alloc: Global, text: &[u8]) -> Result<Value, LineStop>
     ensures { MakesAs data_of (spec.canonical text.now) result }
 {
     match read_value(alloc, text) {
         Ok(value) => if_canonical(alloc, value, text),
-        Err(ValueStop::Bad { .. }) => Err(LogStop::BadLog),
-        Err(ValueStop::NoMemory) => Err(LogStop::NoMemory),
+        Err(ValueStop::Bad { .. }) => Err(LineStop::BadLine),
+        Err(ValueStop::NoMemory) => Err(LineStop::NoMemory),
     }
 }
 
 impl<'a> Cursor<'a> {
     /// A value in its canonical text.
     #[tactic(auto, unfolding(crate::specs::Bytes::value))]
-    pub fn value(&mut self, alloc: Global) -> Result<Value, LogStop>
+    pub fn value(&mut self, alloc: Global) -> Result<Value, LineStop>
         ensures { ReadsAs data_of (spec.value self.old) result self.new }
     {
         let text = self.value_part();

@@ -9,12 +9,12 @@ ghost use Rattle.pgo_base.specs.Lookup.{Name};
 ghost use Rattle.pgo_model.specs.IsRun.{IsRun};
 ghost use Rattle.pgo_model.specs.Log.{Log};
 ghost use Rattle.pgo_model.specs.Module.{Module};
-ghost use Rattle.pgo_counter.specs.Spec.{Spec};
+ghost use Rattle.pgo_execute.specs.Schedules.{Schedule};
 ghost use Rattle.pgo_log_text.specs.ReadBundle.{IsReadBundle, IsNoBundle};
 ghost use Rattle.pgo_front.specs.Statuses.{number_of, IsSilent};
-ghost use Rattle.pgo_front.specs.Answers.{AsksNothing, IsNotRun, EndsWell, WritesBundle, WritesVerdict, WritesPrefix, Stops, IsRefusal, ReadsAll, IsAtEnd, OrNoMemory, SaysLine, SaysRefusal, IsToldToStep, IsToldToCheck, IsToldToTranslate};
+ghost use Rattle.pgo_front.specs.Answers.{AsksNothing, EndsWell, WritesBundle, WritesVerdict, WritesPrefix, Stops, IsRefusal, ReadsAll, IsAtEnd, OrNoMemory, IsRunOrNoMemory, SaysLine, SaysRefusal, SaysBundleLine, IsToldToExecute, IsToldToCheck, IsToldToTranslate};
 ghost use Rattle.pgo_front.specs.declared.target.Target.{Target};
-ghost use Rattle.pgo_front.specs.Spells.{Spells, most_bytes};
+ghost use Rattle.pgo_front.specs.Spells.{most_bytes};
 ghost use Rattle.pgo_front.specs.Verdicts.{most_bundle_bytes, IsBadVerdict};
 ghost use Rattle.pgo_accept.specs.Answers.{IsExpandable};
 ghost use Rattle.pgo_main.specs.Arguments.{words_behind_name, words_of, LacksMemory, LacksText};
@@ -56,7 +56,9 @@ fn run<S: Source, O: Sink, E: Sink>(
 ) -> Status
     // Each status has its cause.
     ensures fine { result ≡ Status.Fine → EndsWell (words_of arguments) (S.left input.old) (O.held out.old) (O.held out.new) }
+    ensures halted { result ≡ Status.Stopped → WritesBundle (words_of arguments) (S.left input.old) 20 (O.held out.old) (O.held out.new) }
     ensures spent { result ≡ Status.Spent → WritesBundle (words_of arguments) (S.left input.old) 21 (O.held out.old) (O.held out.new) }
+    ensures full { result ≡ Status.Full → WritesBundle (words_of arguments) (S.left input.old) 23 (O.held out.old) (O.held out.new) }
     ensures not_a_run { result ≡ Status.NotARun →
         WritesVerdict (words_of arguments) (S.left input.old) IsBadVerdict (O.held out.old) (O.held out.new) }
     ensures stopped { IsRefusal result →
@@ -66,14 +68,14 @@ fn run<S: Source, O: Sink, E: Sink>(
 
     // Each cause has its status, or there is no memory.
     ensures usage { AsksNothing (words_of arguments) → OrNoMemory result Status.Usage }
-    ensures too_long { (turns text : List ℕ) (consts : List (Name × Data)) → IsToldToStep (words_of arguments) (S.left input.old) turns consts text →
+    ensures too_long { (schedule : Schedule) (text : List ℕ) (consts : List (Name × Data)) → IsToldToExecute schedule (words_of arguments) (S.left input.old) consts text →
         ¬ Rose (S.faults input.old) (S.faults input.new) → most_bytes < length text → OrNoMemory result Status.TooLong }
-    ensures refused { (turns text : List ℕ) (consts : List (Name × Data)) → IsToldToStep (words_of arguments) (S.left input.old) turns consts text →
+    ensures refused { (schedule : Schedule) (text : List ℕ) (consts : List (Name × Data)) → IsToldToExecute schedule (words_of arguments) (S.left input.old) consts text →
         ¬ Rose (S.faults input.old) (S.faults input.new) →
-        length text ≤ most_bytes → IsNotRun text consts → OrNoMemory result Status.SpecRefused }
-    ensures runs { (turns text : List ℕ) (spec : Spec) → IsToldToStep (words_of arguments) (S.left input.old) turns [] text →
+        length text ≤ most_bytes → ¬ IsExpandable text consts → OrNoMemory result Status.SpecRefused }
+    ensures runs { (schedule : Schedule) (text : List ℕ) (consts : List (Name × Data)) → IsToldToExecute schedule (words_of arguments) (S.left input.old) consts text →
         ¬ Rose (S.faults input.old) (S.faults input.new) → ¬ Rose (O.faults out.old) (O.faults out.new) →
-        length text ≤ most_bytes → Spells text spec → (result ≡ Status.Fine) ⊎ OrNoMemory result Status.Spent }
+        length text ≤ most_bytes → IsExpandable text consts → IsRunOrNoMemory result }
     ensures no_bundle { (text : List ℕ) → IsToldToCheck (words_of arguments) (S.left input.old) text → ¬ Rose (S.faults input.old) (S.faults input.new) →
         length text ≤ most_bundle_bytes → IsNoBundle text → OrNoMemory result Status.BadBundle }
     ensures too_long_bundle { (text : List ℕ) → IsToldToCheck (words_of arguments) (S.left input.old) text → ¬ Rose (S.faults input.old) (S.faults input.new) →
@@ -105,6 +107,7 @@ fn run<S: Source, O: Sink, E: Sink>(
     ensures says { ¬ Rose (E.faults err.old) (E.faults err.new) → SaysLine result (E.held err.old) (E.held err.new) }
     ensures says_refusal { result ≡ Status.SpecRefused → ¬ Rose (E.faults err.old) (E.faults err.new) →
         SaysRefusal (words_of arguments) (S.left input.old) (E.held err.old) (E.held err.new) }
+    ensures says_bundle { result ≡ Status.BadBundle → ¬ Rose (E.faults err.old) (E.faults err.new) → SaysBundleLine (E.held err.old) (E.held err.new) }
     ensures silent { IsSilent result → err.new ≡ err.old }
 {
     match words(alloc, arguments) {

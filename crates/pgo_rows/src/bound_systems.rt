@@ -1,10 +1,10 @@
 // Bound systems: a specification, its constants, and what it is bound to or why it is not accepted.
 use crate::described::described;
-use pgo_accept::accept::{accept, refusal_line};
+use pgo_accept::accept::accept;
+use pgo_accept::lines::rejection_line;
 use pgo_base::consts::Consts;
 use pgo_base::text::Text;
 use pgo_base::value::Value;
-use pgo_counter_read::reader::read_counter;
 use pgo_sheet::escapes::escaped;
 use pgo_sheet::sheet::Subject;
 use pgo_sheet::template::{NO_PLACE, Template};
@@ -46,8 +46,7 @@ impl BoundSystems {
         }
     }
 
-    /// The row's answer on this text, where it is not what is wanted. Where it is wanted `where it runs`, a text that is not of the form
-    /// that is run has any answer.
+    /// The row's answer on this text, where it is not what is wanted.
     fn wrong_row(
         &self,
         text: &str,
@@ -56,13 +55,6 @@ impl BoundSystems {
     ) -> Result<Option<String>, AllocError> {
         if text.starts_with(NO_PLACE) {
             return Ok(Some(String::from_str(self.alloc, text)?));
-        }
-        let (wanted, is_free) = match wanted.strip_suffix(" where it runs") {
-            Some(wanted) => (wanted, read_counter(self.alloc, text.as_bytes()).is_err()),
-            None => (wanted, false),
-        };
-        if is_free {
-            return Ok(None);
         }
         let answer = answer(self.alloc, text.as_bytes(), consts)?;
         if self.is_wanted(answer.as_str(), wanted) {
@@ -112,8 +104,8 @@ fn answer(alloc: Global, text: &[u8], consts: &Consts) -> Result<String, AllocEr
             let lines = described(alloc, &bound)?;
             format!(in alloc; "bound {lines}")
         }
-        Err(_) => {
-            let line = refusal_line(alloc, text, consts)?;
+        Err(rejection) => {
+            let line = rejection_line(alloc, &rejection)?;
             String::from_utf8_lossy(alloc, line.as_bytes())
         }
     }

@@ -1,6 +1,6 @@
 // Runs sheets of rows, each named by an argument, and prints each row that gives another answer than the one that is wanted, then how many
-// rows there are. What a sheet's rows ask is said by its ending, and by its folder: those in `values`, `texts` and `attempts` are run
-// by the libraries on these. Here are `commands`, on whole specifications, and `bound`, on what specifications are bound to.
+// rows there are. What a sheet's rows ask is said by its ending, and by its folder: those in `values`, `texts`, `attempts` and `turns` are
+// run by the libraries on these. Here are `commands`, on whole specifications, and `bound`, on what specifications are bound to.
 #![tactic(auto)]
 
 mod answer;
@@ -16,6 +16,7 @@ use crate::commands::Commands;
 use pgo_run_rows::run_attempts;
 use pgo_sheet::files::{Counts, ending, not_run, run_sheet};
 use pgo_text_rows::run_texts;
+use pgo_turn_rows::run_turns;
 use pgo_value_rows::run_values;
 use std::rt::Files;
 use std::{env, io};
@@ -39,6 +40,7 @@ fn run_file<R: Files + AllocGlobal + Print>(rt: &R, file: &str) -> io::Result<Co
         ("values", _) => run_values(rt, file),
         ("texts", _) => run_texts(rt, file),
         ("attempts", _) => run_attempts(rt, file),
+        ("turns", _) => run_turns(rt, file),
         (_, "commands") => run_sheet(rt, file, Commands::new(rt.alloc())),
         (_, "bound") => run_sheet(rt, file, BoundSystems::new(rt.alloc())),
         _ => not_run(rt, file, "no subject has this ending"),

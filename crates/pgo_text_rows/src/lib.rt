@@ -2,7 +2,6 @@
 #![tactic(auto)]
 
 mod answer;
-mod counters;
 mod expressions;
 mod failing_sink;
 pub mod failing_source;
@@ -23,14 +22,13 @@ use pgo_sheet::files::{Counts, ending, not_run, run_sheet};
 use std::io;
 use std::rt::Files;
 
-const READERS: [(&str, Reader); 7] = [
+const READERS: [(&str, Reader); 6] = [
     ("tokens", Reader::Tokens),
     ("parts", Reader::Parts),
     ("expressions", Reader::Expressions),
     ("specifications", Reader::Specifications),
     ("labels", Reader::Labels),
     ("modules", Reader::Modules),
-    ("counters", Reader::Counters),
 ];
 
 /// Runs the sheet of a file, by its ending.

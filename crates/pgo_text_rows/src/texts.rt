@@ -1,6 +1,6 @@
 // Texts, and what a row asks of them.
 use crate::answer::Answer;
-use crate::{counters, expressions, labels, modules, parts, specifications, tokens};
+use crate::{expressions, labels, modules, parts, specifications, tokens};
 use pgo_sheet::sheet::Subject;
 use pgo_sheet::text_builder::TextBuilder;
 use std::alloc::{AllocError, Global};
@@ -14,7 +14,6 @@ pub enum Reader {
     Specifications,
     Labels,
     Modules,
-    Counters,
 }
 
 /// What a row asks of what is read.
@@ -183,6 +182,5 @@ fn answer(reader: Reader, asked: &Asked<'_>) -> Result<Answer, AllocError> {
         Reader::Specifications => specifications::answer(asked),
         Reader::Labels => labels::answer(asked),
         Reader::Modules => modules::answer(asked),
-        Reader::Counters => counters::answer(asked),
     }
 }

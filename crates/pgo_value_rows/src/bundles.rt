@@ -24,13 +24,22 @@ impl Bundles {
         }
     }
 
+    /// `refused`, with the line where the row asks for `line`.
+    fn refused(&self, line: usize) -> Result<String, AllocError> {
+        let alloc = self.alloc;
+        match self.part.as_str() {
+            "line" => format!(in alloc; "refused at {line}"),
+            _ => String::from_str(alloc, "refused"),
+        }
+    }
+
     /// What is read: `refused`, or `read`, or the part that is asked for. The newline that ends the last line of the text is no part of the bundle.
     fn answer(&self) -> Result<String, AllocError> {
         let text = self.text.changed()?;
         let bundle = text.as_str().strip_suffix("\n").unwrap_or("");
         match read_bundle(self.alloc, bundle.as_bytes()) {
             Ok(read) => part_of(self.alloc, &read.1, &read.2, self.part.as_str()),
-            Err(LogStop::BadLog) => String::from_str(self.alloc, "refused"),
+            Err(LogStop::BadLog { line }) => self.refused(line),
             Err(LogStop::NoMemory) => Err(AllocError),
         }
     }

@@ -1,15 +1,15 @@
 -- The words that `pgo` is given are those of the arguments.
-use Rattle.std.proofs.Common.{◌≡◌, ◌≤◌, ◌<◌, ◌⊎◌, ℕ, List, [], length, subst, ◌∙◌}
+use Rattle.std.proofs.Common.{◌≡◌, ◌≤◌, ◌<◌, ℕ, List, length, subst, ◌∙◌}
 use Rattle.pgo_io.specs.Faults.{Rose}
 use Rattle.pgo_base.specs.Data.{Data}
 use Rattle.pgo_base.specs.Lookup.{Name}
 use Rattle.pgo_model.specs.IsRun.{IsRun}
 use Rattle.pgo_model.specs.Log.{Log}
 use Rattle.pgo_model.specs.Module.{Module}
-use Rattle.pgo_counter.specs.Spec.{Spec}
+use Rattle.pgo_execute.specs.Schedules.{Schedule}
 use Rattle.pgo_log_text.specs.ReadBundle.{IsReadBundle, IsNoBundle}
-use Rattle.pgo_front.specs.Answers.{AsksNothing, IsNotRun, OrNoMemory, Stops, IsRefusal, EndsWell, WritesPrefix, SaysRefusal, IsToldToStep, IsToldToCheck, IsToldToTranslate}
-use Rattle.pgo_front.specs.Spells.{Spells, most_bytes}
+use Rattle.pgo_front.specs.Answers.{AsksNothing, OrNoMemory, IsRunOrNoMemory, Stops, IsRefusal, EndsWell, WritesPrefix, SaysRefusal, IsToldToExecute, IsToldToCheck, IsToldToTranslate}
+use Rattle.pgo_front.specs.Spells.{most_bytes}
 use Rattle.pgo_front.specs.Verdicts.{most_bundle_bytes}
 use Rattle.pgo_accept.specs.Answers.{IsExpandable}
 use Rattle.pgo_front.specs.declared.status.Status.TheVariants as status
@@ -52,19 +52,19 @@ returns-in-Ok-clause-prefix g c =
 pub returns-in-Ok-clause-too_long : goal.returns-in-Ok-clause-too_long
 returns-in-Ok-clause-too_long g c =
     subst
-    (λ ws. (turns text : List ℕ) (consts : List (Name × Data)) → IsToldToStep ws (g.S.Source.left c.args.input.now) turns consts text → (Rose (g.S.Source.faults c.args.input.now) (g.S.Source.faults c.pgo.new.input) → ⊥) → most_bytes < length text → OrNoMemory c.pgo.result status.TooLong)
+    (λ ws. (schedule : Schedule) (text : List ℕ) (consts : List (Name × Data)) → IsToldToExecute schedule ws (g.S.Source.left c.args.input.now) consts text → (Rose (g.S.Source.faults c.args.input.now) (g.S.Source.faults c.pgo.new.input) → ⊥) → most_bytes < length text → OrNoMemory c.pgo.result status.TooLong)
     (c.as_slice.ensures.value ∙ c.in-Ok.ensures.words) c.pgo.ensures.too_long
 
 pub returns-in-Ok-clause-refused : goal.returns-in-Ok-clause-refused
 returns-in-Ok-clause-refused g c =
     subst
-    (λ ws. (turns text : List ℕ) (consts : List (Name × Data)) → IsToldToStep ws (g.S.Source.left c.args.input.now) turns consts text → (Rose (g.S.Source.faults c.args.input.now) (g.S.Source.faults c.pgo.new.input) → ⊥) → length text ≤ most_bytes → IsNotRun text consts → OrNoMemory c.pgo.result status.SpecRefused)
+    (λ ws. (schedule : Schedule) (text : List ℕ) (consts : List (Name × Data)) → IsToldToExecute schedule ws (g.S.Source.left c.args.input.now) consts text → (Rose (g.S.Source.faults c.args.input.now) (g.S.Source.faults c.pgo.new.input) → ⊥) → length text ≤ most_bytes → (IsExpandable text consts → ⊥) → OrNoMemory c.pgo.result status.SpecRefused)
     (c.as_slice.ensures.value ∙ c.in-Ok.ensures.words) c.pgo.ensures.refused
 
 pub returns-in-Ok-clause-runs : goal.returns-in-Ok-clause-runs
 returns-in-Ok-clause-runs g c =
     subst
-    (λ ws. (turns text : List ℕ) (spec : Spec) → IsToldToStep ws (g.S.Source.left c.args.input.now) turns [] text → (Rose (g.S.Source.faults c.args.input.now) (g.S.Source.faults c.pgo.new.input) → ⊥) → (Rose (g.O.Sink.faults c.args.out.now) (g.O.Sink.faults c.pgo.new.out) → ⊥) → length text ≤ most_bytes → Spells text spec → (c.pgo.result ≡ status.Fine) ⊎ OrNoMemory c.pgo.result status.Spent)
+    (λ ws. (schedule : Schedule) (text : List ℕ) (consts : List (Name × Data)) → IsToldToExecute schedule ws (g.S.Source.left c.args.input.now) consts text → (Rose (g.S.Source.faults c.args.input.now) (g.S.Source.faults c.pgo.new.input) → ⊥) → (Rose (g.O.Sink.faults c.args.out.now) (g.O.Sink.faults c.pgo.new.out) → ⊥) → length text ≤ most_bytes → IsExpandable text consts → IsRunOrNoMemory c.pgo.result)
     (c.as_slice.ensures.value ∙ c.in-Ok.ensures.words) c.pgo.ensures.runs
 
 pub returns-in-Ok-clause-no_bundle : goal.returns-in-Ok-clause-no_bundle

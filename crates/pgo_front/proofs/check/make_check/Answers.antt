@@ -4,16 +4,16 @@ use Rattle.pgo_front.specs.Verdicts.{most_bundle_bytes}
 use Rattle.pgo_front.proofs.Making.{makes_check, stops_check}
 use Rattle.pgo_front.proofs.check.make_check.Goals as goal
 
-pub returns-clause-ok : goal.returns-clause-ok
-returns-clause-ok g c =
+pub returns-in-Ok-clause-ok : goal.returns-in-Ok-clause-ok
+returns-in-Ok-clause-ok g c =
     let left = g.S.Source.left c.args.input.now in
-    let told = subst (λ t. IfSome left (λ bs. t ≡ bs)) (sym c.as_slice.ensures.value) c.in_ok-text.ensures.all in
-    let short = subst (λ t. length t ≤ most_bundle_bytes) (sym c.as_slice.ensures.value) c.in_ok-text.ensures.within in
+    let told = subst (λ t. IfSome left (λ bs. t ≡ bs)) (sym c.as_slice.ensures.value) c.in-Ok.ensures.all in
+    let short = subst (λ t. length t ≤ most_bundle_bytes) (sym c.as_slice.ensures.value) c.in-Ok.ensures.within in
     IfOk-weaker c.judge.result _ _ (λ m h. makes_check left _ m told short h) c.judge.ensures.ok
 
-pub returns-clause-err : goal.returns-clause-err
-returns-clause-err g c =
+pub returns-in-Ok-clause-err : goal.returns-in-Ok-clause-err
+returns-in-Ok-clause-err g c =
     let left = g.S.Source.left c.args.input.now in
-    let told = subst (λ t. IfSome left (λ bs. t ≡ bs)) (sym c.as_slice.ensures.value) c.in_ok-text.ensures.all in
-    let short = subst (λ t. length t ≤ most_bundle_bytes) (sym c.as_slice.ensures.value) c.in_ok-text.ensures.within in
-    IfErr-weaker c.judge.result _ _ (λ s h. stops_check left _ _ _ s told short h) c.judge.ensures.err
+    let told = subst (λ t. IfSome left (λ bs. t ≡ bs)) (sym c.as_slice.ensures.value) c.in-Ok.ensures.all in
+    let short = subst (λ t. length t ≤ most_bundle_bytes) (sym c.as_slice.ensures.value) c.in-Ok.ensures.within in
+    IfErr-weaker c.judge.result _ _ (λ e h. stops_check left _ _ _ e.status told short h) c.judge.ensures.err

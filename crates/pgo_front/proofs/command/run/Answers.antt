@@ -1,5 +1,7 @@
 use Rattle.std.proofs.Common.{sym, ◌∙◌}
-use Rattle.pgo_front.proofs.Making.{into_fault, fine_to, spent_to, not_a_run_to}
+use Rattle.pgo_front.proofs.Making.{into_fault, fine_to, halted_to, spent_to, full_to, not_a_run_to, made_line, other_line}
+use Rattle.pgo_front.specs.declared.status.Status.TheVariants as status
+use Rattle.pgo_front.specs.Answers.{RefusedBy}
 use Rattle.pgo_front.proofs.command.run.Goals as goal
 
 pub returns-in-Ok-clause-prefix : goal.returns-in-Ok-clause-prefix
@@ -10,10 +12,23 @@ pub returns-in-Ok-write_made-clause-fine : goal.returns-in-Ok-write_made-clause-
 returns-in-Ok-write_made-clause-fine g c e =
     fine_to c.args.words.now (g.S.Source.left c.args.input.now) _ _ c.in-Ok.output (sym c.as_status.ensures.status ∙ e) c.in-Ok.ensures.ok c.in-Ok-write_made.ensures.all
 
+pub returns-in-Ok-write_made-clause-halted : goal.returns-in-Ok-write_made-clause-halted
+returns-in-Ok-write_made-clause-halted g c e =
+    halted_to c.args.words.now (g.S.Source.left c.args.input.now) _ _ c.in-Ok.output (sym c.as_status.ensures.status ∙ e) c.in-Ok.ensures.ok c.in-Ok-write_made.ensures.all
+
 pub returns-in-Ok-write_made-clause-spent : goal.returns-in-Ok-write_made-clause-spent
 returns-in-Ok-write_made-clause-spent g c e =
     spent_to c.args.words.now (g.S.Source.left c.args.input.now) _ _ c.in-Ok.output (sym c.as_status.ensures.status ∙ e) c.in-Ok.ensures.ok c.in-Ok-write_made.ensures.all
 
+pub returns-in-Ok-write_made-clause-full : goal.returns-in-Ok-write_made-clause-full
+returns-in-Ok-write_made-clause-full g c e =
+    full_to c.args.words.now (g.S.Source.left c.args.input.now) _ _ c.in-Ok.output (sym c.as_status.ensures.status ∙ e) c.in-Ok.ensures.ok c.in-Ok-write_made.ensures.all
+
 pub returns-in-Ok-write_made-clause-not_a_run : goal.returns-in-Ok-write_made-clause-not_a_run
 returns-in-Ok-write_made-clause-not_a_run g c e =
     not_a_run_to c.args.words.now (g.S.Source.left c.args.input.now) _ _ c.in-Ok.output (sym c.as_status.ensures.status ∙ e) c.in-Ok.ensures.ok c.in-Ok-write_made.ensures.all
+
+pub returns-in-Ok-write_made-clause-line : goal.returns-in-Ok-write_made-clause-line
+returns-in-Ok-write_made-clause-line g c =
+    made_line c.args.words.now (g.S.Source.left c.args.input.now) (RefusedBy c.args.words.now) c.as_status.result.status c.as_status.result.line c.in-Ok.output
+    c.as_status.ensures.status c.as_status.ensures.line c.in-Ok.ensures.ok

@@ -1,6 +1,6 @@
 use Rattle.std.proofs.lemmas.Result.{IfOk-weaker}
 use Rattle.pgo_front.specs.Makes.{bytes_of}
-use Rattle.pgo_front.proofs.Translating.{translates_to, stops_translating, refused_line}
+use Rattle.pgo_front.proofs.Translating.{translates_to, stops_refused, refused_line}
 use Rattle.pgo_front.proofs.translate.translate_text.Goals as goal
 
 pub returns-in-Ok-clause-ok : goal.returns-in-Ok-clause-ok
@@ -11,8 +11,8 @@ returns-in-Ok-clause-ok c =
 
 pub returns-in-Err-clause-err : goal.returns-in-Err-clause-err
 returns-in-Err-clause-err c =
-    stops_translating c.args.text.now c.args.consts.now c.in-Err.rejection c.rejected.result.status c.rejected.result.line c.in-Err.ensures c.rejected.ensures
+    stops_refused c.args.text.now c.args.consts.now c.in-Err.rejection c.as_rejected.result.status c.as_rejected.result.line c.in-Err.ensures c.as_rejected.ensures
 
 pub returns-in-Err-clause-line : goal.returns-in-Err-clause-line
 returns-in-Err-clause-line c =
-    refused_line c.args.text.now c.args.consts.now c.in-Err.rejection c.rejected.result.status c.rejected.result.line c.in-Err.ensures c.rejected.ensures
+    refused_line c.args.text.now c.args.consts.now c.in-Err.rejection c.as_rejected.result.status c.as_rejected.result.line c.in-Err.ensures c.as_rejected.ensures

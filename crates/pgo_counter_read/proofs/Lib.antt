@@ -1,9 +1,0 @@
-pub mod Turns
-pub mod LexRuns
-pub mod LexSound
-pub mod LexComplete
-pub mod ReadParts
-pub mod ReadSound
-pub mod ReadTail
-pub mod ReadComplete
-pub mod ReadExact

@@ -1,0 +1,25 @@
+-- What is asked of a specification is so of its program.
+use Rattle.std.proofs.Common.{◌≡◌, ℕ, Option, [], Result, Ok, Err, IfOk, inr, sym, ap, subst}
+use Rattle.pgo_accesses.specs.Programs.{tree_of}
+use Rattle.pgo_code.specs.declared.program.Program.{Program}
+use Rattle.pgo_core.specs.Cores.{CoreFits, MayFail}
+use Rattle.pgo_meaning.specs.System.{system_of}
+use Rattle.pgo_model.specs.Core.{Settings, is_listed}
+use Rattle.pgo_places.specs.Trees.{tree_in}
+use Rattle.pgo_section.specs.Programs.{Trees}
+use Rattle.pgo_syntax.specs.declared.bound.Bound.{Bound}
+use Rattle.pgo_workers.specs.Walk.{Own}
+
+pub fits_program : (p : Program) (b : Bound) (settings : Settings) → p.bound.now ≡ b → ((seed k a : ℕ) (own : Own) → tree_in p seed k a own ≡ tree_of b seed k a own)
+    → CoreFits (system_of b) (tree_of b) settings → CoreFits (system_of p.bound.now) (tree_in p) settings
+fits_program p b settings e trees fits =
+    subst (λ (x : Bound). CoreFits (system_of x) (tree_in p) settings) (sym e)
+    (subst (λ (t : Trees). CoreFits (system_of b) t settings) (λ i. λ seed k a own. sym (trees seed k a own) i) fits)
+
+-- no pre-commit fails where none is listed
+pub may_fail : (settings : Settings) (r : ℕ) (number : Option ℕ) → settings.down ≡ [] → MayFail settings r number
+may_fail settings r number e = inr (λ n. ap (λ d. is_listed d r n) e)
+
+pub both_ok : {A E : Type 0} (r : Result A E) (P Q : A → Type 0) → IfOk r P → IfOk r Q → IfOk r (λ x. P x × Q x)
+both_ok (Ok a) P Q p q = (p, q)
+both_ok (Err e) P Q p q = tt

@@ -1,0 +1,43 @@
+-- What is said of a run, from what its parts give.
+use Rattle.std.proofs.Common.{◌≡◌, ◌≤◌, ◌<◌, ◌^◌, ◌↔◌, ◌⊎◌, inl, inr, ℕ, suc, Bool, true, false, List, length, Option, Some, None, refl, sym, ap, subst, ◌∙◌, arith}
+use Rattle.std.specs.Prelude.{if◌then◌else◌}
+use Rattle.pgo_base.specs.Data.{Data}
+use Rattle.pgo_base.specs.Lookup.{Name}
+use Rattle.pgo_bound.specs.BoundOf.{bound_of}
+use Rattle.pgo_bound.specs.Declares.{Declares}
+use Rattle.pgo_bound.specs.Sound.{Sound}
+use Rattle.pgo_meaning.specs.System.{system_of}
+use Rattle.pgo_model.specs.Accounts.{Accounts, JointAccounts, Told}
+use Rattle.pgo_model.specs.Bundle.{Bundle}
+use Rattle.pgo_model.specs.Core.{Core, Settings, Reaches, rules_of, status_of, last_ends_from, has_stopped, has_full, are_at_done}
+use Rattle.pgo_model.specs.Log.{Effect}
+use Rattle.pgo_model.specs.Machine.{Rules, Record, Step, Noted, Held, Down, Full, Finished, finished_of, nth, state_at}
+use Rattle.pgo_model.specs.Module.{Module}
+use Rattle.pgo_model.specs.System.{System}
+use Rattle.pgo_syntax.specs.declared.bound.Bound.{Bound}
+use Rattle.pgo_syntax.specs.declared.spec.Spec.{Spec}
+use Rattle.pgo_translate.specs.ModuleOf.{constants_with, module_of}
+use Rattle.pgo_execute.specs.Gives.{IsRunStatus}
+
+-- the bytes are the bundle of the specification's own module, constants and system
+pub bundle_of : (s : Spec) (consts : List (Name × Data)) (b : Bound) (m : Module) (cs : List (Name × Data)) (settings : Settings) (turns : List ℕ) (status : ℕ) (written : List ℕ)
+    → b ≡ bound_of s consts → m ≡ module_of s → cs ≡ constants_with s consts → written ≡ Bundle m cs (system_of b) settings (finished_of (Core (system_of b) settings turns)) status
+    → written ≡ Bundle (module_of s) (constants_with s consts) (system_of (bound_of s consts)) settings (finished_of (Core (system_of (bound_of s consts)) settings turns)) status
+bundle_of s consts b m cs settings turns status written e f g h =
+    h ∙ (λ i. Bundle (f i) (g i) (system_of (e i)) settings (finished_of (Core (system_of (e i)) settings turns)) status)
+
+pub status_is : (s : Spec) (consts : List (Name × Data)) (b : Bound) (settings : Settings) (turns : List ℕ) (status : ℕ) → b ≡ bound_of s consts
+    → status ≡ status_of (system_of b) settings (finished_of (Core (system_of b) settings turns))
+    → status ≡ status_of (system_of (bound_of s consts)) settings (finished_of (Core (system_of (bound_of s consts)) settings turns))
+status_is s consts b settings turns status e h = h ∙ (λ i. status_of (system_of (e i)) settings (finished_of (Core (system_of (e i)) settings turns)))
+
+-- it is one of four
+pub one_of_four : (y : System) (settings : Settings) (f : Finished Effect) → IsRunStatus (status_of y settings f)
+one_of_four y settings f =
+    go (has_stopped (last_ends_from f 0 y.members)) (has_full (last_ends_from f 0 y.members)) (are_at_done y (state_at (rules_of y settings) y.start f.entries (length f.entries)) 0 y.members)
+  where
+    go : (a b c : Bool) → IsRunStatus (if a then 20 else if b then 23 else if c then 0 else 21)
+    go true b c = inr (inl refl)
+    go false true c = inr (inr (inr refl))
+    go false false true = inl refl
+    go false false false = inr (inr (inl refl))

@@ -1,0 +1,6 @@
+pub mod Accepts
+pub mod Executes
+pub mod Follows
+pub mod Gives
+pub mod Ran
+pub mod Schedules

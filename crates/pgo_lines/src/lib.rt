@@ -1,0 +1,4 @@
+// Lines, and how they are put together from pieces.
+#![tactic(auto)]
+
+pub mod line;

@@ -1,7 +1,0 @@
--- What the loop keeps: what is left to read gives the same.
-use Rattle.std.proofs.Common.{◌≡◌, ◌-◌, ◌+◌}
-use Rattle.pgo_log_text.specs.Lines as spec
-use Rattle.pgo_log_text.proofs.account.records.Given as goal
-
-abbrev pub invariant-loop-turn : goal.invariant-loop-turn
-invariant-loop-turn l = spec.records l.count 1 l.fn.cursor ≡ spec.records (l.count - l.turn) (l.turn + 1) l.cursor

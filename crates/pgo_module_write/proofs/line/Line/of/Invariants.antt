@@ -1,6 +1,0 @@
-use Rattle.std.proofs.Common.{◌≡◌, ◌++◌, drop}
-use Rattle.pgo_module_write.specs.Pieces.{pieces_text}
-use Rattle.pgo_module_write.proofs.line.Line.of.Given as goal
-
-abbrev pub invariant-loop-piece : goal.invariant-loop-piece
-invariant-loop-piece l = l.bytes.items ++ pieces_text (drop l.piece-index l.pieces) ≡ pieces_text l.pieces

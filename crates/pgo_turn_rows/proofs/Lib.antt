@@ -1,0 +1,2 @@
+mod AcceptedRuns
+mod Fresh

@@ -1,0 +1,143 @@
+// One instance at work, on a board of its own.
+ghost use Rattle.std.specs.Prelude.{◌≡◌, ◌<◌, length, [], None, IfOk};
+ghost use Rattle.pgo_model.specs.Core.{Settings as SettingsView};
+ghost use Rattle.pgo_bound.specs.State.{AreDifferent, variables_of};
+ghost use Rattle.pgo_meaning.specs.System.{system_of};
+ghost use Rattle.pgo_places.specs.PlaceWalk.{walk_in};
+ghost use Rattle.pgo_places.specs.Trees.{tree_in};
+ghost use Rattle.pgo_resource.specs.PlainBoards.{board_layout, shows_of};
+ghost use Rattle.pgo_section.specs.Programs.{RunsSystem};
+ghost use Rattle.pgo_section.specs.Turns.{Met};
+ghost use Rattle.pgo_turn_rows.specs.Runs.{Runs};
+ghost use Rattle.pgo_workers.specs.Worlds.{layout_of};
+
+use crate::told::told;
+use pgo_base::results::both;
+use pgo_cells::cell::Cell;
+use pgo_lower::lower::lower;
+use pgo_places::place::Place;
+use pgo_places::program::Runnable;
+use pgo_programs::programs_run;
+use pgo_resource::layout::BoardLayout;
+use pgo_resource::plain_board::PlainBoard;
+use pgo_section::worker::Worker;
+use pgo_sheet::answers::push_word;
+use pgo_starts::contents::contents;
+use pgo_starts::own::own_at_start;
+use pgo_syntax::bound::Bound;
+use pgo_syntax::records::Settings;
+use std::alloc::{AllocError, Global};
+
+/// The sections of what is bound, to be run.
+fn sections<'a>(alloc: Global, bound: &'a Bound) -> Result<Runnable<'a>, AllocError>
+    requires { Runs bound.now }
+    ensures bound { IfOk result (λ p. p.program.bound ≡ bound.entry) }
+    ensures runs { IfOk result (λ p. (s : SettingsView) → RunsSystem (system_of p.program.bound.now) (tree_in p.program) s) }
+{
+    programs_run();
+    let program = lower(alloc, bound)?;
+    Ok(Runnable { program })
+}
+
+/// What one step says: a turn, a stop, or how many entries or records there are.
+fn step(
+    alloc: Global,
+    sections: &Runnable<'_>,
+    board: &mut PlainBoard<Cell>,
+    worker: &mut Worker<Place>,
+    word: &str,
+) -> Result<String, AllocError>
+    requires layout { board_layout board.old ≡ layout_of (system_of sections.now.program.bound.now) }
+    requires runs { (s : SettingsView) → RunsSystem (system_of sections.now.program.bound.now) (tree_in sections.now.program) s }
+    requires met { Met (system_of sections.now.program.bound.now) (tree_in sections.now.program) (walk_in sections.now.program) worker.old (shows_of board.old) }
+    ensures layout { board_layout board.new ≡ layout_of (system_of sections.now.program.bound.now) }
+    ensures met { Met (system_of sections.now.program.bound.now) (tree_in sections.now.program) (walk_in sections.now.program) worker.new (shows_of board.new) }
+{
+    if word == "turn" {
+        return told(alloc, worker.turn(alloc, sections, board));
+    }
+    if word == "stop" {
+        worker.stop(sections, board);
+    }
+    let (entries, records) = (board.entries().len(), worker.records().len());
+    format!(in alloc; "{entries} entries, {records} records")
+}
+
+/// What all steps say.
+fn steps(
+    alloc: Global,
+    sections: &Runnable<'_>,
+    board: &mut PlainBoard<Cell>,
+    worker: &mut Worker<Place>,
+    words: &str,
+) -> Result<String, AllocError>
+    requires layout { board_layout board.old ≡ layout_of (system_of sections.now.program.bound.now) }
+    requires runs { (s : SettingsView) → RunsSystem (system_of sections.now.program.bound.now) (tree_in sections.now.program) s }
+    requires met { Met (system_of sections.now.program.bound.now) (tree_in sections.now.program) (walk_in sections.now.program) worker.old (shows_of board.old) }
+{
+    let mut answer = String::new(alloc);
+    for word in words.split("; ") {
+        let said = step(alloc, sections, board, worker, word)?;
+        push_word(&mut answer, "; ", said.as_str())?;
+    }
+    Ok(answer)
+}
+
+/// A board for an instance.
+fn board(
+    alloc: Global,
+    bound: &Bound,
+    instance: u32,
+    settings: &Settings,
+) -> Result<PlainBoard<Cell>, AllocError>
+    requires runs { Runs bound.now }
+    requires instance { instance < length bound.now.instances }
+    ensures layout { IfOk result (λ b. board_layout b ≡ layout_of (system_of bound.now)) }
+    ensures view { IfOk result (λ b. shows_of b ≡ record { instance = instance; resources = length bound.now.resources; steps = settings.now.steps; share = settings.now.attempts; held = []; entries = []; notes = []; told = None; last = None }) }
+{
+    let contents = contents(alloc, bound)?;
+    PlainBoard::open(
+        alloc,
+        bound,
+        instance,
+        contents,
+        settings.steps,
+        settings.attempts,
+    )
+}
+
+/// What these steps of an instance say.
+fn at_work(
+    alloc: Global,
+    bound: &Bound,
+    instance: u32,
+    settings: &Settings,
+    words: &str,
+) -> Result<String, AllocError>
+    requires runs { Runs bound.now }
+    requires instance { instance < length bound.now.instances }
+{
+    let resources = bound.resources.as_slice().len() as u32;
+    let sections = sections(alloc, bound)?;
+    let layout = BoardLayout::of(alloc, bound)?;
+    let own = own_at_start(alloc, &layout, instance as usize)?;
+    let worker = Worker::open(alloc, &sections, own, resources, instance, settings);
+    let (mut worker, mut board) = both(worker, board(alloc, bound, instance, settings))?;
+    steps(alloc, &sections, &mut board, &mut worker, words)
+}
+
+/// What these steps of an instance say, its board's journal empty before; none where no instance has the number.
+pub fn alone(
+    alloc: Global,
+    bound: &Bound,
+    instance: u32,
+    settings: &Settings,
+    words: &str,
+) -> Result<Option<String>, AllocError>
+    requires { Runs bound.now }
+{
+    if instance as usize >= bound.instances.as_slice().len() {
+        return Ok(None);
+    }
+    Ok(Some(at_work(alloc, bound, instance, settings, words)?))
+}

@@ -1,0 +1,10 @@
+pub mod Parts
+pub mod Components
+pub mod TextLengths
+pub mod Names
+pub mod Constants
+pub mod TextDepths
+pub mod Spellable
+pub mod Runs
+pub mod OwnCounts
+pub mod TextCounts

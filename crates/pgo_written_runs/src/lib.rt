@@ -1,0 +1,69 @@
+// Runs of accepted specifications are read back from their bundles.
+#![tactic(auto)]
+
+ghost use Rattle.std.specs.Prelude.{◌≡◌, ◌≤◌, ◌<◌, ◌^◌, ℕ, IsTrue, List, [], length};
+ghost use Rattle.pgo_base.specs.Data.{Data};
+ghost use Rattle.pgo_base.specs.Lookup.{Name};
+ghost use Rattle.pgo_model.specs.Bundle.{Bundle};
+ghost use Rattle.pgo_model.specs.Core.{Core, Settings, status_of};
+ghost use Rattle.pgo_model.specs.IsBundle.{is_run_status};
+ghost use Rattle.pgo_model.specs.Log.{Effect};
+ghost use Rattle.pgo_model.specs.Machine.{Finished, finished_of};
+ghost use Rattle.pgo_model.specs.ModuleText.{Text};
+ghost use Rattle.pgo_model.specs.System.{System};
+ghost use Rattle.pgo_syntax.specs.declared.spec.Spec.{Spec};
+ghost use Rattle.pgo_bound.specs.BoundOf.{bound_of};
+ghost use Rattle.pgo_meaning.specs.System.{system_of};
+ghost use Rattle.pgo_expr_read.specs.Texts.{most_tokens};
+ghost use Rattle.pgo_mpcal_read.specs.Texts.{SpellsSpec};
+ghost use Rattle.pgo_value_text.specs.IsValueText.{IsValueText};
+ghost use Rattle.pgo_translate.specs.ModuleOf.{constants_with, module_of};
+ghost use Rattle.pgo_accept.specs.Answers.{NothingRefuses};
+ghost use Rattle.pgo_log_text.specs.IsBundle.{AreCanonical, IsCanonicalValue};
+ghost use Rattle.pgo_log_text.specs.LogOf.{log_of};
+ghost use Rattle.pgo_log_text.specs.ReadBundle.{IsReadBundle};
+ghost use Rattle.pgo_log_text.specs.WrittenRun.{IsWrittenRun};
+ghost use Rattle.pgo_run_values.specs.Spellable.{AllSpellable};
+
+use pgo_accounts::texts_keep_states;
+use pgo_agrees::texts_are_accepted;
+use pgo_run_values::{run_values_are_spellable, spellable_values_are_read_back};
+use pgo_systems::bound_accounts;
+use pgo_written::{modules_are_read_back, modules_are_written};
+
+/// Constants whose canonical texts are texts of them (`AreCanonical`), as the words of a command give them.
+///
+/// - `value`: the value of a text is read back from its canonical text.
+/// - `spellable`: values that are read back are spellable (`AllSpellable` of pgo_run_values).
+///
+/// Source: this project's choice.
+pub fn read_values_are_canonical()
+    ensures value { (text : List ℕ) (v : Data) → IsValueText text v → IsCanonicalValue v }
+    ensures spellable { (consts : List (Name × Data)) → AreCanonical consts → AllSpellable consts }
+{
+    spellable_values_are_read_back();
+}
+
+/// The law of bundles of runs: of the one specification that a text spells, where nothing refuses it with these constants, the constants
+/// are read back from their canonical texts, and its module's text is no longer than a text may have tokens; under settings with steps
+/// and attempts below 2^32 and without failing pre-commits, and with every list of turns:
+///
+/// - `run` (`IsWrittenRun` of pgo_log_text): what the core machine leaves can be written and read back.
+/// - `read` (`IsReadBundle`): so its bundle is one of the specification's module, the constants and the log of the machine's entries.
+/// - `status`: the status of a run is one that a bundle may have.
+///
+/// Source: this project's choice.
+pub fn runs_are_read_back()
+    ensures run { (text : List ℕ) (s : Spec) (consts : List (Name × Data)) (settings : Settings) (turns : List ℕ) (status : ℕ) → SpellsSpec text s → NothingRefuses s consts → AreCanonical consts → length (Text (module_of s)) ≤ most_tokens → settings.steps < 2 ^ 32 → settings.attempts < 2 ^ 32 → settings.down ≡ [] → IsTrue (is_run_status status) → IsWrittenRun (module_of s) (constants_with s consts) (system_of (bound_of s consts)) (finished_of (Core (system_of (bound_of s consts)) settings turns)) status }
+    ensures read { (text : List ℕ) (s : Spec) (consts : List (Name × Data)) (settings : Settings) (turns : List ℕ) (status : ℕ) → SpellsSpec text s → NothingRefuses s consts → AreCanonical consts → length (Text (module_of s)) ≤ most_tokens → settings.steps < 2 ^ 32 → settings.attempts < 2 ^ 32 → settings.down ≡ [] → IsTrue (is_run_status status) → IsReadBundle (Bundle (module_of s) (constants_with s consts) (system_of (bound_of s consts)) settings (finished_of (Core (system_of (bound_of s consts)) settings turns)) status) (module_of s) (constants_with s consts) (log_of (system_of (bound_of s consts)) (Core (system_of (bound_of s consts)) settings turns).entries) }
+    ensures status { (y : System) (settings : Settings) (f : Finished Effect) → IsTrue (is_run_status (status_of y settings f)) }
+{
+    read_values_are_canonical();
+    spellable_values_are_read_back();
+    texts_are_accepted();
+    texts_keep_states();
+    run_values_are_spellable();
+    bound_accounts();
+    modules_are_written();
+    modules_are_read_back();
+}
