@@ -34,6 +34,7 @@ use Rattle.pgo_section.specs.declared.worker.Turn.TheVariants as turns
 use Rattle.pgo_section.specs.declared.worker.Worker.{Worker}
 use Rattle.pgo_core.specs.AllViews.{AllViews, Became, Leaves, IsBoard}
 use Rattle.pgo_core.specs.Cores.{CoreFits, MayFail, IsSafe, IsSeat, StandsWith, TurnedAt, told, has_turned, turned, worker_at}
+use Rattle.pgo_core.proofs.FreeContents.{free_values}
 use Rattle.pgo_core.proofs.Alone.{IsAt}
 use Rattle.pgo_core.proofs.Steps as law
 
@@ -294,6 +295,7 @@ module _ {C : Type 0} (y : System) (tree : Trees) (walk : C → Walk) (settings 
             let b = old_stands.bounded r in let e = ap (λ (n : Machine Effect). n.counts r) is_next in omega (arith, a, b, e);
         most = omega (arith, made_so);
         numbers = law.numbers_next W P (Reaches y) (IsGood y) fits.runs fits.differs m (worker_at y tree walk ws) (worker_at y tree walk vs) u t k became.current is_there is_at after leaves (see walk x.after) (spec_of answer) turn unmixed;
+        free = free_values y settings tree fits (turned y settings (turns ++ (k ∷ []))) (worker_at y tree walk vs) t core_after after k is_there;
       }
 
       pub told_after : ((turned y settings (turns ++ (k ∷ []))).workers k).records ≡ (m.workers k).records ++ told answer

@@ -29,3 +29,5 @@ pub mod Contention
 pub mod OpenedLists
 pub mod Unplaced
 pub mod RoundTurns
+pub mod TurnAnswers
+pub mod FreeContents

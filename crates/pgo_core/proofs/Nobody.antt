@@ -1,17 +1,17 @@
 -- A turn of nobody changes nothing.
-use Rattle.std.proofs.Common.{◌≡◌, ◌≤◌, ℕ, false, List, [], ◌∷◌, ◌++◌, length, sym, ap, ◌∙◌, subst}
+use Rattle.std.proofs.Common.{◌≡◌, ◌≤◌, ℕ, true, false, None, List, [], ◌∷◌, ◌++◌, length, sym, ap, ◌∙◌, subst}
 use Rattle.std.specs.Prelude.{if◌then◌else◌, nat_lt}
 use Rattle.pgo_model.specs.Core.{Settings, Reaches, rules_of}
 use Rattle.pgo_model.specs.Log.{Effect}
-use Rattle.pgo_model.specs.Machine.{Machine, Record, step, opened}
+use Rattle.pgo_model.specs.Machine.{Machine, Record, step, opened, last_state}
 use Rattle.pgo_model.specs.MachineAccounts.{append_none}
 use Rattle.pgo_model.specs.System.{System}
 use Rattle.pgo_workers.specs.CoreTurns.{IsCore}
 use Rattle.pgo_workers.specs.Walk.{Walk}
-use Rattle.pgo_workers.specs.Worlds.{layout_of, world_of}
+use Rattle.pgo_workers.specs.Worlds.{layout_of, value_in, world_of}
 use Rattle.pgo_section.specs.Programs.{Trees, IsGood, program_of}
 use Rattle.pgo_section.specs.declared.worker.Worker.{Worker}
-use Rattle.pgo_core.specs.AllViews.{AllViews}
+use Rattle.pgo_core.specs.AllViews.{AllViews, HasValue}
 use Rattle.pgo_core.specs.Cores.{CoreFits, StandsWith, turned, worker_at}
 use Rattle.pgo_core.proofs.CoreTurned.{one_more}
 
@@ -40,4 +40,5 @@ module _ (y : System) (settings : Settings) (turns : List ℕ) (k : ℕ) (nobody
     bounded = λ r. subst (λ (n : Machine Effect). n.counts r ≤ made) (sym nobody_turns) (st.bounded r);
     most = st.most;
     numbers = st.numbers;
+    free = subst (λ (n : Machine Effect). (r : ℕ) → nat_lt r (length y.resources) ≡ true → n.holder r ≡ None → HasValue (s.content r) (value_in (layout_of y) (last_state (rules_of y settings) n) r)) (sym nobody_turns) st.free;
   }

@@ -16,13 +16,13 @@ use Rattle.pgo_workers.specs.View.{Shown, View, World}
 use Rattle.pgo_workers.specs.Walk.{Walk}
 use Rattle.pgo_workers.specs.Worker as spec
 use Rattle.pgo_workers.specs.Worker.{Program}
-use Rattle.pgo_workers.specs.Worlds.{Layout, layout_of, world_of}
+use Rattle.pgo_workers.specs.Worlds.{Layout, layout_of, value_in, world_of}
 use Rattle.pgo_resource.specs.PlainRows.{FitsStart, shown_at, nothing}
 use Rattle.pgo_section.specs.Programs.{Trees, IsGood, RunsSystem, program_of}
 use Rattle.pgo_section.specs.Sight.{see, phase_at, program_at}
 use Rattle.pgo_section.specs.Turns.{Met, IsFresh}
 use Rattle.pgo_section.specs.declared.worker.Worker.{Worker}
-use Rattle.pgo_core.specs.AllViews.{AllViews}
+use Rattle.pgo_core.specs.AllViews.{AllViews, HasValue}
 use Rattle.pgo_core.specs.Cores.{CoreFits, MayFail, AreOpened, IsSafe, StandsWith, worker_at}
 use Rattle.pgo_core.specs.ExclusiveBoards.{fresh_view}
 
@@ -78,7 +78,8 @@ module _ {C : Type 0} (y : System) (tree : Trees) (walk : C → Walk) (settings 
     worker_is : (j : ℕ) (w : Worker C) → nth ws j ≡ Some w → worker_at y tree walk ws j ≡ see walk w
     worker_is j w e = ap (λ o. elim o as (λ o. spec.Worker) [ None ↦ record { number = j; records = []; own = []; phase = spec.Resting; taken = []; dropped = false } | Some w ↦ see walk w ]) e
 
-    module _ (counts : (r : ℕ) → (s.content r).count ≡ 0) (numbers : (r : ℕ) → nat_lt r (length y.resources) ≡ true → MayFail settings r (s.content r).number) where
+    module _ (counts : (r : ℕ) → (s.content r).count ≡ 0) (numbers : (r : ℕ) → nat_lt r (length y.resources) ≡ true → MayFail settings r (s.content r).number)
+        (free : (r : ℕ) → nat_lt r (length y.resources) ≡ true → HasValue (s.content r) (value_in (layout_of y) y.start r)) where
       pub opened_core : StandsWith y tree walk settings fits [] 0 ws s
       opened_core = record {
         core = record {
@@ -98,6 +99,7 @@ module _ {C : Type 0} (y : System) (tree : Trees) (walk : C → Walk) (settings 
         bounded = λ r. omega arith;
         most = omega arith;
         numbers = numbers;
+        free = λ r is none. free r is;
       }
         where
           inside : (j : ℕ) → nat_lt j (length y.members) ≡ true → j < length ws
@@ -142,3 +144,12 @@ module _ {R : Type 0} (shows : R → Shown) where
         go : (o : Option R) → slice_get xs r ≡ o → MayFail settings r (shown_at shows zs r).number
         go None e = absurd (nth_past xs r (sym (some_nth xs r) ∙ e) (let h = ltb-true r n l in omega (arith, h, len)))
         go (Some c) e = subst (λ (x : Shown). MayFail settings r x.number) (sym (shown_some zs r c (same r ∙ e))) (numbers r c (sym (some_nth xs r) ∙ e))
+
+    pub opened_free : (n : ℕ) → n ≡ length xs → (r : ℕ) → nat_lt r n ≡ true → HasValue (shown_at shows zs r) (value_in y y.start r)
+    opened_free n len r l = go (slice_get xs r) refl
+      where
+        go : (o : Option R) → slice_get xs r ≡ o → HasValue (shown_at shows zs r) (value_in y y.start r)
+        go None e = absurd (nth_past xs r (sym (some_nth xs r) ∙ e) (let h = ltb-true r n l in omega (arith, h, len)))
+        go (Some c) e =
+            let f = fit r c (sym (some_nth xs r) ∙ e) in let is = shown_some zs r c (same r ∙ e) in
+            record { base = ap (λ (c : Shown). c.base) is ∙ f.0; current = ap (λ (c : Shown). c.current) is ∙ f.1 }

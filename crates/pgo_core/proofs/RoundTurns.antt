@@ -98,7 +98,7 @@ module _ {C : Type 0} (y : System) (tree : Trees) (walk : C → Walk) (settings 
   P = program_of y tree settings
 
   -- a worker that says no end goes on
-  goes_so : (w : Worker C) → settings_view w.settings ≡ settings → w.out_of_memory ≡ false → end_of w ≡ None → has_ended W P (see walk w) ≡ false
+  pub goes_so : (w : Worker C) → settings_view w.settings ≡ settings → w.out_of_memory ≡ false → end_of w ≡ None → has_ended W P (see walk w) ≡ false
   goes_so w same awake says = go w.giving w.place (sym (ap (λ b. if b then Some ends.NoMemory else end_between w w.giving w.place) awake) ∙ says)
     where
       attempts : w.settings.attempts ≡ settings.attempts
@@ -134,13 +134,13 @@ module _ {C : Type 0} (y : System) (tree : Trees) (walk : C → Walk) (settings 
     abbrev m : Machine Effect
     m = turned y settings turns
 
-    there : nat_lt k (length y.members) ≡ true
+    pub there : nat_lt k (length y.members) ≡ true
     there = lt-ltb k (length y.members) (subst (λ n. k < n) safe.as_many (nth_inside ws k w here))
 
     mine : worker_at y tree walk ws k ≡ see walk w
     mine = ap (λ o. elim o as (λ o. spec.Worker) [ None ↦ record { number = k; records = []; own = []; phase = spec.Resting; taken = []; dropped = false } | Some w ↦ see walk w ]) here
 
-    as_worker : machine.has_ended (rules_of y settings) m k ≡ has_ended W P (see walk w)
+    pub as_worker : machine.has_ended (rules_of y settings) m k ≡ has_ended W P (see walk w)
     as_worker =
         steps.ended_as W P (Reaches y) (IsGood y) fits.runs m k (see walk w) (s.view k) (subst (λ w. steps.Stands W P (Reaches y) (IsGood y) fits.runs m k w (s.view k)) mine (st.core.stands k there))
         (subst (λ w. Meets W P (Reaches y) (IsGood y) w (s.view k)) mine (st.core.meets k there)) (fits.good turns) there

@@ -1,5 +1,6 @@
 -- A board of all instances, as it shows itself to each, and what the calls of one instance leave of it.
-use Rattle.std.specs.Prelude.{◌≡◌, ◌≤◌, ℕ, Bool, true, false, List, [], ◌∷◌, ◌++◌, length, Some, None}
+use Rattle.std.specs.Prelude.{◌≡◌, ◌≤◌, ◌-◌, ℕ, Bool, true, false, List, [], ◌∷◌, ◌++◌, length, Some, None}
+use Rattle.pgo_base.specs.Data.{Data}
 use Rattle.pgo_model.specs.Machine.{Entry, Note, among}
 use Rattle.pgo_workers.specs.View.{Shown, IsHeld, View, World, Same, EachHold, resources_of, state}
 
@@ -47,6 +48,11 @@ pub record Leaves {D : Type 0} (s t : AllViews D) : Type 0 where
   pub moved : t.moved ≡ false → (s.moved ≡ false) × (resources_of (t.view s.current).held ≡ resources_of (s.view s.current).held)
   pub content : t.moved ≡ false → (r : ℕ) → among r (resources_of (s.view s.current).held) ≡ false → t.content r ≡ s.content r
 
+-- the content has this value, as its base and now
+pub record HasValue (c : Shown) (v : Data) : Type 0 where
+  pub base : c.base ≡ v
+  pub current : c.current ≡ v
+
 -- what holds of a board of all instances at any time
 pub record IsBoard {S D : Type 0} (W : World S D) (s : AllViews D) : Type 0 where
   pub instance : (j : ℕ) → (s.view j).instance ≡ j
@@ -56,6 +62,10 @@ pub record IsBoard {S D : Type 0} (W : World S D) (s : AllViews D) : Type 0 wher
   pub room : (j : ℕ) → length (s.view j).entries ≤ (s.view j).steps
   -- a resource has one holder
   pub apart : (i j r : ℕ) → among r (resources_of (s.view i).held) ≡ true → among r (resources_of (s.view j).held) ≡ true → i ≡ j
+  -- who holds a resource is an instance, or 0 where there is none
+  pub holders : (j r : ℕ) → among r (resources_of (s.view j).held) ≡ true → j ≤ W.instances - 1
+  -- what nobody holds has the value of the journal's last state
+  pub free : (r : ℕ) → W.is_resource r ≡ true → ((i : ℕ) → among r (resources_of (s.view i).held) ≡ false) → (j : ℕ) → HasValue (s.content r) (W.value (state W (s.view j).entries (length (s.view j).entries)) r)
   -- what is held has the value of the journal's last state, and shows its content
   pub values : (j : ℕ) → EachHold (λ h. W.value (state W (s.view j).entries (length (s.view j).entries)) h.resource ≡ h.value) (s.view j).held
   pub contents : (j : ℕ) → EachHold (λ h. h.content ≡ s.content h.resource) (s.view j).held

@@ -3,16 +3,18 @@ use Rattle.std.specs.Prelude.{◌≡◌, ◌≤◌, ◌<◌, ◌⊎◌, ℕ, suc
 use Rattle.std.proofs.Math.ListN.{set}
 use Rattle.pgo_model.specs.Core.{Settings, Reaches, End, is_listed, rules_of, end_of}
 use Rattle.pgo_model.specs.Log.{Effect}
-use Rattle.pgo_model.specs.Machine.{Machine, Record, Step, Noted, Finished, nth, is_empty, last_state, opened, after_turns}
+use Rattle.pgo_model.specs.Machine.{Machine, Record, Step, Noted, Finished, nth, is_empty, last_state, opened, after_turns, has_ended, finished_of}
 use Rattle.pgo_model.specs.System.{System, Member}
 use Rattle.pgo_journal.specs.declared.finished.Account.{Account}
 use Rattle.pgo_syntax.specs.RecordView.{kind_view, refusal_view, record_view, result_view, settings_view}
+use Rattle.pgo_syntax.specs.declared.records.End as declared
+use Rattle.pgo_syntax.specs.declared.records.End.TheVariants as ends
 use Rattle.pgo_workers.specs.CoreStands.{Differs}
 use Rattle.pgo_workers.specs.CoreTurns.{IsCore}
 use Rattle.pgo_workers.specs.View.{View}
 use Rattle.pgo_workers.specs.Walk.{Walk}
 use Rattle.pgo_workers.specs.Worker as spec
-use Rattle.pgo_workers.specs.Worlds.{layout_of, world_of}
+use Rattle.pgo_workers.specs.Worlds.{layout_of, value_in, world_of}
 use Rattle.pgo_section.specs.Programs.{Trees, IsGood, RunsSystem, program_of}
 use Rattle.pgo_section.specs.Sight.{see, ended}
 use Rattle.pgo_section.specs.Sight as sight
@@ -20,7 +22,7 @@ use Rattle.pgo_section.specs.Turns.{Met, Same, Keeps, TurnedBy, IsFresh}
 use Rattle.pgo_section.specs.declared.worker.Turn.{Turn}
 use Rattle.pgo_section.specs.declared.worker.Turn.TheVariants as turns
 use Rattle.pgo_section.specs.declared.worker.Worker.{Worker}
-use Rattle.pgo_core.specs.AllViews.{AllViews}
+use Rattle.pgo_core.specs.AllViews.{AllViews, HasValue}
 
 -- the machine after these turns, before it is stopped
 abbrev pub turned : System → Settings → List ℕ → Machine Effect
@@ -58,6 +60,13 @@ has_turned (turns.Refused x) = true
 has_turned (turns.Idle e) = true
 has_turned turns.NoMemory = false
 
+-- what a turn of k answers where the machine is m: that nobody has the number, or the end of an instance that has ended; of one
+-- that hasn't, no end
+pub record IsAnswer (y : System) (settings : Settings) (m : Machine Effect) (k : ℕ) (t : Turn) : Type 0 where
+  pub nobody : nat_lt k (length y.members) ≡ false → t ≡ turns.Idle ends.Nobody
+  pub at_end : nat_lt k (length y.members) ≡ true → has_ended (rules_of y settings) m k ≡ true → (e : End) × (end_of y settings (finished_of m) k ≡ Some e) × (t ≡ turns.Idle (ended e))
+  pub goes_on : nat_lt k (length y.members) ≡ true → has_ended (rules_of y settings) m k ≡ false → (e : declared.End) → t ≡ turns.Idle e → ⊥
+
 -- lists are empty and have room for n items
 abbrev pub all_roomy : {A B : Type 0} → ℕ → List (Vec A B) → Bool
 all_roomy n [] = true
@@ -94,6 +103,8 @@ module _ {C : Type 0} (y : System) (tree : Trees) (walk : C → Walk) where
     pub bounded : (r : ℕ) → (turned y settings turns).counts r ≤ made
     pub most : made ≤ 18446744073709551615
     pub numbers : (r : ℕ) → nat_lt r (length y.resources) ≡ true → MayFail settings r (s.content r).number
+    -- the content of a resource that nobody holds has the value of its component in the last state
+    pub free : (r : ℕ) → nat_lt r (length y.resources) ≡ true → (turned y settings turns).holder r ≡ None → HasValue (s.content r) (value_in (layout_of y) (last_state (rules_of y settings) (turned y settings turns)) r)
 
   abbrev pub Stands : Settings → List ℕ → ℕ → List (Worker C) → AllViews Effect → Type 0
   Stands settings turns made ws s = (fits : CoreFits y tree settings) → StandsWith settings fits turns made ws s

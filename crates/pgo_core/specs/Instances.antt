@@ -15,7 +15,7 @@ use Rattle.pgo_section.specs.declared.worker.Worker.{Worker}
 use Rattle.pgo_resource.specs.declared.resource.Resource.{Ghosts}
 use Rattle.pgo_resource.specs.declared.sections.Sections as sections
 use Rattle.pgo_core.specs.declared.instances.Core.{Core}
-use Rattle.pgo_core.specs.Cores.{CoreFits, IsSafe, Stands, SameJournal, Rested, RestedBelow, AreAccounts, EachEnds, has_turned, told, turned}
+use Rattle.pgo_core.specs.Cores.{CoreFits, IsSafe, Stands, SameJournal, Rested, RestedBelow, AreAccounts, EachEnds, IsAnswer, has_turned, told, turned}
 use Rattle.pgo_core.specs.ExclusiveBoards.{board_layout, views_of}
 use Rattle.pgo_core.specs.Rounds.{round_from, AreRounds}
 
@@ -48,11 +48,13 @@ module _ {S R P : Type 0} {s : sections.Ghosts S P} {g : Ghosts R} where
     pub sections : d.sections ≡ c.sections
     pub settings : d.settings ≡ c.settings
 
-  -- a turn of k that memory wasn't wanting for is a turn of the machine, and its answer is the record that the machine adds
+  -- a turn of k that memory wasn't wanting for is a turn of the machine; its answer is the record that the machine adds, and tells
+  -- whether k is an instance and how it had ended
   pub record Turns (k : ℕ) (t : Turn) (c d : Core S R P s g) : Type 0 where
     pub same : IsSame c d
     pub stands : has_turned t ≡ true → (turns : List ℕ) → StandsAt turns c → StandsAt (turns ++ (k ∷ [])) d
     pub told_is : has_turned t ≡ true → (turns : List ℕ) → StandsAt turns c → FitsCore c → ((turned (system_of c) (settings_of c) (turns ++ (k ∷ []))).workers k).records ≡ ((turned (system_of c) (settings_of c) turns).workers k).records ++ told t
+    pub answer : has_turned t ≡ true → (turns : List ℕ) → StandsAt turns c → FitsCore c → IsAnswer (system_of c) (settings_of c) (turned (system_of c) (settings_of c) turns) k t
 
   abbrev pub workers_in : Core S R P s g → List (Worker P)
   workers_in c = c.workers.items

@@ -13,7 +13,7 @@ use Rattle.pgo_syntax.specs.declared.spec.Spec.{Spec}
 use Rattle.pgo_execute.specs.Ran.{EachEnded, Ran}
 use Rattle.pgo_execute.specs.Schedules.{Schedule, Turns, Rounds, ends_all}
 
--- under a list of turns, these turns; in rounds, some list of turns
+-- under a list of turns, these turns; of rounds any: `Ran` says which
 abbrev pub TurnsOf : Schedule → List ℕ → Type 0
 TurnsOf (Turns ts) turns = turns ≡ ts
 TurnsOf Rounds turns = Unit {0}

@@ -1,14 +1,16 @@
-use Rattle.std.proofs.Common.{◌≡◌, [], length, sym, ap, ◌∙◌, subst}
+use Rattle.std.proofs.Common.{◌≡◌, [], ℕ, true, length, sym, ap, ◌∙◌, subst}
+use Rattle.std.specs.Prelude.{nat_lt}
 use Rattle.std.proofs.lemmas.List.{length-map}
 use Rattle.std.proofs.lemmas.Result.{IfOk-at_ok}
 use Rattle.pgo_meaning.specs.System.{system_of}
 use Rattle.pgo_model.specs.System.{System}
 use Rattle.pgo_syntax.specs.RecordView.{settings_view}
 use Rattle.pgo_syntax.specs.declared.records.Settings.{Settings}
-use Rattle.pgo_workers.specs.Worlds.{layout_of}
+use Rattle.pgo_workers.specs.Worlds.{layout_of, value_in}
 use Rattle.pgo_core.specs.Cores.{CoreFits, IsSafe, StandsWith}
+use Rattle.pgo_core.specs.AllViews.{HasValue}
 use Rattle.pgo_core.specs.ExclusiveBoards.{views_of}
-use Rattle.pgo_core.proofs.OpenedCore.{opened_safe, opened_core, opened_counts, opened_numbers}
+use Rattle.pgo_core.proofs.OpenedCore.{opened_safe, opened_core, opened_counts, opened_numbers, opened_free}
 use Rattle.pgo_core.proofs.instances.Core.open.Goals as goal
 
 pub returns-clause-safe : goal.returns-clause-safe
@@ -44,4 +46,6 @@ returns-clause-stands g c =
     (λ fits.
     opened_core y tree walk (settings_view c.args.settings.now) ws.items (views_of b) (IfOk-at_ok _ w c.workers_of-workers.ensures.opened) as_many (length c.args.bound.now.resources) (IfOk-at_ok _ board c.open-board.ensures.view) fits
     (opened_counts g.R.Resource.shows (layout_of (system_of c.args.bound.now)) c.args.contents.items b.contents.items contents c.requires.fit)
-    (opened_numbers g.R.Resource.shows (layout_of (system_of c.args.bound.now)) c.args.contents.items b.contents.items contents c.requires.fit (settings_view c.args.settings.now) (length y.resources) resources c.requires.numbers))
+    (opened_numbers g.R.Resource.shows (layout_of (system_of c.args.bound.now)) c.args.contents.items b.contents.items contents c.requires.fit (settings_view c.args.settings.now) (length y.resources) resources c.requires.numbers)
+    (subst (λ l. (r : ℕ) → nat_lt r (length y.resources) ≡ true → HasValue ((views_of b).content r) (value_in l l.start r)) (ap layout_of (sym c.requires.system))
+    (opened_free g.R.Resource.shows (layout_of (system_of c.args.bound.now)) c.args.contents.items b.contents.items contents c.requires.fit (length y.resources) resources)))

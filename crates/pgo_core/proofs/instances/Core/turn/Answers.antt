@@ -2,7 +2,9 @@ use Rattle.std.proofs.Common.{◌≡◌, ◌≤◌, ℕ, false, length, refl, �
 use Rattle.std.specs.Prelude.{nat_lt}
 use Rattle.pgo_core.specs.Instances.{settings_of}
 use Rattle.pgo_core.specs.ExclusiveBoards.{views_of}
+use Rattle.pgo_core.specs.Cores.{turned}
 use Rattle.pgo_core.proofs.Nobody.{nobody_records, nobody_stands}
+use Rattle.pgo_core.proofs.TurnAnswers.{nobody_answers}
 use Rattle.pgo_core.proofs.instances.Core.turn.Goals as goal
 
 nobody : (k len n m : ℕ) → len ≤ k → len ≡ n → n ≡ m → nat_lt k m ≡ false
@@ -16,4 +18,5 @@ returns-then-k-len-clause-turns g c =
       same = record { sections = refl; settings = refl };
       stands = λ has turns st fits. nobody_stands y (settings_of a) turns c.args.k none tree walk a.made a.workers.items (views_of a.board) fits (st fits);
       told_is = λ has turns st fits. nobody_records y (settings_of a) turns c.args.k none;
+      answer = λ has turns st fits. nobody_answers y (settings_of a) (turned y (settings_of a) turns) c.args.k none;
     }
