@@ -1,5 +1,5 @@
 -- What accepting a text says of the run of what it is bound to.
-use Rattle.std.proofs.Common.{◌≡◌, ℕ, List, Option, Some, None, Result, Ok, Err, IfOk, inl, inr, sym, subst}
+use Rattle.std.proofs.Common.{◌≡◌, ℕ, List, None, Result, Ok, Err, IfOk, inl, inr, sym, subst}
 use Rattle.pgo_base.specs.Data.{Data}
 use Rattle.pgo_base.specs.Lookup.{Name}
 use Rattle.pgo_accept.specs.Answers as answers
@@ -12,7 +12,6 @@ use Rattle.pgo_expand.specs.Limits as limits
 use Rattle.pgo_expand.specs.Limits.{expand_refusal}
 use Rattle.pgo_expand.specs.declared.errors.ExpandStop.{ExpandStop}
 use Rattle.pgo_mpcal_read.specs.Texts.{SpellsSpec}
-use Rattle.pgo_pluscal.specs.PlusCalOf.{pluscal_of}
 use Rattle.pgo_pluscal.specs.declared.pluscal.PlusCal.{PlusCal}
 use Rattle.pgo_syntax.specs.declared.bound.Bound.{Bound}
 use Rattle.pgo_syntax.specs.declared.spec.Spec.{Spec}

@@ -1,5 +1,5 @@
 -- What the core leaves is what is written.
-use Rattle.std.proofs.Common.{◌≡◌, ℕ, suc, Bool, true, false, List, [], ◌∷◌, map, Option, Some, None, refl, sym, ap, subst, ◌∙◌, option_map}
+use Rattle.std.proofs.Common.{◌≡◌, ℕ, suc, true, false, List, [], ◌∷◌, map, Option, Some, None, refl, sym, ap, subst, ◌∙◌, option_map}
 use Rattle.pgo_core.specs.Cores.{CoreFits, attempts_from}
 use Rattle.pgo_core.specs.Instances.{AreAccountsIn, ComesToEnd, FitsCore, IsJournalOf, IsSame, StandsAt, settings_of, system_of}
 use Rattle.pgo_core.specs.declared.instances.Core.{Core}

@@ -1,17 +1,14 @@
 -- What is said of a run, from what its parts give.
-use Rattle.std.proofs.Common.{◌≡◌, ◌≤◌, ◌<◌, ◌^◌, ◌↔◌, ◌⊎◌, inl, inr, ℕ, suc, Bool, true, false, List, length, Option, Some, None, refl, sym, ap, subst, ◌∙◌, arith}
+use Rattle.std.proofs.Common.{◌≡◌, inl, inr, ℕ, Bool, true, false, List, length, refl, ◌∙◌}
 use Rattle.std.specs.Prelude.{if◌then◌else◌}
 use Rattle.pgo_base.specs.Data.{Data}
 use Rattle.pgo_base.specs.Lookup.{Name}
 use Rattle.pgo_bound.specs.BoundOf.{bound_of}
-use Rattle.pgo_bound.specs.Declares.{Declares}
-use Rattle.pgo_bound.specs.Sound.{Sound}
 use Rattle.pgo_meaning.specs.System.{system_of}
-use Rattle.pgo_model.specs.Accounts.{Accounts, JointAccounts, Told}
 use Rattle.pgo_model.specs.Bundle.{Bundle}
-use Rattle.pgo_model.specs.Core.{Core, Settings, Reaches, rules_of, status_of, last_ends_from, has_stopped, has_full, are_at_done}
+use Rattle.pgo_model.specs.Core.{Core, Settings, rules_of, status_of, last_ends_from, has_stopped, has_full, are_at_done}
 use Rattle.pgo_model.specs.Log.{Effect}
-use Rattle.pgo_model.specs.Machine.{Rules, Record, Step, Noted, Held, Down, Full, Finished, finished_of, nth, state_at}
+use Rattle.pgo_model.specs.Machine.{Finished, finished_of, state_at}
 use Rattle.pgo_model.specs.Module.{Module}
 use Rattle.pgo_model.specs.System.{System}
 use Rattle.pgo_syntax.specs.declared.bound.Bound.{Bound}

@@ -1,10 +1,10 @@
 -- What the core comes to under a schedule.
 use Rattle.std.specs.Prelude.{◌≡◌, true, List, [], ℕ}
+use Rattle.pgo_core.specs.Cores.{EachEnds}
 use Rattle.pgo_core.specs.Instances.{FitsCore, StandsAt, settings_of, system_of}
 use Rattle.pgo_core.specs.Rounds.{AreRounds}
 use Rattle.pgo_core.specs.declared.instances.Core.{Core}
 use Rattle.pgo_execute.specs.Gives.{TurnsOf}
-use Rattle.pgo_execute.specs.Ran.{EachEnded}
 use Rattle.pgo_execute.specs.Schedules.{Schedule, ends_all}
 use Rattle.pgo_model.specs.Accounts.{Contended}
 use Rattle.pgo_model.specs.Core as model
@@ -21,7 +21,7 @@ module _ {S R P : Type 0} {s : sections.Ghosts S P} {g : Ghosts R} where
     pub turns_of : TurnsOf schedule turns
     pub stands : StandsAt turns d
     pub rounds : ends_all schedule ≡ true → FitsCore d → AreRounds (system_of d) (settings_of d) [] turns
-    pub ended : ends_all schedule ≡ true → FitsCore d → EachEnded (system_of d) (settings_of d) (finished_of (model.Core (system_of d) (settings_of d) turns))
+    pub ended : ends_all schedule ≡ true → FitsCore d → EachEnds (system_of d) (settings_of d) (finished_of (model.Core (system_of d) (settings_of d) turns))
     pub contended : ends_all schedule ≡ true → FitsCore d → Contended (rules_of (system_of d) (settings_of d)) (finished_of (model.Core (system_of d) (settings_of d) turns))
 
   abbrev pub Follows : Schedule → Core S R P s g → Core S R P s g → Type 0

@@ -1,7 +1,8 @@
 -- What the run of a bound specification under a schedule gives.
-use Rattle.std.specs.Prelude.{◌≡◌, ◌⊎◌, ℕ, Bool, true, false, List, []}
+use Rattle.std.specs.Prelude.{◌≡◌, ◌⊎◌, ℕ, true, List, []}
 use Rattle.pgo_base.specs.Data.{Data}
 use Rattle.pgo_base.specs.Lookup.{Name}
+use Rattle.pgo_core.specs.Cores.{EachEnds}
 use Rattle.pgo_core.specs.Rounds.{AreRounds}
 use Rattle.pgo_journal.specs.declared.finished.Finished.{Finished}
 use Rattle.pgo_log_write.specs.IsFinished.{IsFinished}
@@ -10,7 +11,7 @@ use Rattle.pgo_model.specs.Core.{Core, Settings, rules_of}
 use Rattle.pgo_model.specs.Machine.{finished_of}
 use Rattle.pgo_model.specs.System.{System}
 use Rattle.pgo_syntax.specs.declared.spec.Spec.{Spec}
-use Rattle.pgo_execute.specs.Ran.{EachEnded, Ran}
+use Rattle.pgo_execute.specs.Ran.{Ran}
 use Rattle.pgo_execute.specs.Schedules.{Schedule, Turns, Rounds, ends_all}
 
 -- under a list of turns, these turns; of rounds any: `Ran` says which
@@ -28,7 +29,7 @@ pub record Leaves (y : System) (settings : Settings) (schedule : Schedule) (f : 
   pub turns_of : TurnsOf schedule turns
   pub is : IsFinished y settings (finished_of (Core y settings turns)) f
   pub rounds : ends_all schedule ≡ true → AreRounds y settings [] turns
-  pub ended : ends_all schedule ≡ true → EachEnded y settings (finished_of (Core y settings turns))
+  pub ended : ends_all schedule ≡ true → EachEnds y settings (finished_of (Core y settings turns))
   pub contended : ends_all schedule ≡ true → Contended (rules_of y settings) (finished_of (Core y settings turns))
 
 -- the bytes, and the status, of a run of the specification under the schedule

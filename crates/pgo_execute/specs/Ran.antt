@@ -4,7 +4,7 @@ use Rattle.pgo_base.specs.Data.{Data, string}
 use Rattle.pgo_base.specs.Lookup.{Name, Vars}
 use Rattle.pgo_model.specs.Accounts.{Accounts, JointAccounts}
 use Rattle.pgo_model.specs.Bundle.{Bundle}
-use Rattle.pgo_model.specs.Core.{Core, End, Settings, Reaches, end_of, rules_of, status_of}
+use Rattle.pgo_model.specs.Core.{Core, Settings, Reaches, rules_of, status_of}
 use Rattle.pgo_model.specs.IsRun.{IsRun}
 use Rattle.pgo_model.specs.Log.{Effect, StateAt}
 use Rattle.pgo_model.specs.Machine.{Entry, Finished, finished_of, last_state, nth}
@@ -17,16 +17,13 @@ use Rattle.pgo_bound.specs.BoundOf.{bound_of}
 use Rattle.pgo_bound.specs.Declares.{Declares}
 use Rattle.pgo_bound.specs.Sound.{Sound}
 use Rattle.pgo_meaning.specs.System.{system_of}
+use Rattle.pgo_core.specs.Cores.{EachEnds}
 use Rattle.pgo_core.specs.Rounds.{AreRounds}
 use Rattle.pgo_translate.specs.Agrees.{Agrees, IsNext}
 use Rattle.pgo_translate.specs.ModuleOf.{constants_with, module_of}
 use Rattle.pgo_written.specs.Alone.{SpellsAlone}
 use Rattle.pgo_log_text.specs.ReadBundle.{IsReadBundle, IsOnlyBundle}
 use Rattle.pgo_log_text.specs.LogOf.{log_of}
-
--- each instance of a system has ended
-abbrev pub EachEnded : System → Settings → Finished Effect → Type 0
-EachEnded y settings f = (k : ℕ) (i : Member) → nth y.members k ≡ Some i → (e : End) × (end_of y settings f k ≡ Some e)
 
 module _ (s : Spec) (consts : List (Name × Data)) where
   -- the system of what the specification is bound to
@@ -76,7 +73,7 @@ module _ (s : Spec) (consts : List (Name × Data)) where
     pub joint : JointAccounts (rules_of system settings) all (finished settings turns)
     -- where the run went on until each instance had ended, its turns are those of rounds, and each has ended
     pub rounds : all ≡ true → AreRounds system settings [] turns
-    pub ended : all ≡ true → EachEnded system settings (finished settings turns)
+    pub ended : all ≡ true → EachEnds system settings (finished settings turns)
     -- the status is that of the records and the last state: 0 exactly where every instance is at Done
     pub status_is : status ≡ status_of system settings (finished settings turns)
     pub fine : (status ≡ 0) ↔ AllDone (last_state (rules_of system settings) (Core system settings turns))

@@ -37,12 +37,8 @@ fn listed(
 {
     let mut list = Vec::new(alloc);
     for c in declared {
-        match given_value(consts, &c.name) {
-            None => continue,
-            Some(value) => {
-                add_constant(alloc, &mut list, &c.name, value)?;
-                continue;
-            }
+        if let Some(value) = given_value(consts, &c.name) {
+            add_constant(alloc, &mut list, &c.name, value)?;
         }
     }
     Ok(list)

@@ -19,7 +19,6 @@ use pgo_base::consts::Consts;
 use pgo_execute::execute::execute;
 use pgo_execute::schedule::Schedule;
 use pgo_io::source::Source;
-use pgo_log_text::bundle_reader::one_bundle;
 use pgo_syntax::records::{Down, Settings};
 use std::alloc::Global;
 
@@ -60,7 +59,6 @@ fn execute_text(
     ensures err { IfErr result (λ e. StopsSpec text.now consts.now e.status) }
     ensures line { IfErr result (λ e. HasLine (Some text.now) (λ t l. RefusedWith t consts.now l) e.status e.line) }
 {
-    one_bundle();
     let settings = run_settings(alloc);
     match execute(alloc, text, consts, &settings, schedule) {
         Ok(executed) => Ok(Output {

@@ -1,4 +1,4 @@
-use Rattle.std.proofs.Common.{Ok, Err, ap, subst, sym, ◌∙◌}
+use Rattle.std.proofs.Common.{subst}
 use Rattle.std.proofs.lemmas.Result.{IfErr-weaker}
 use Rattle.pgo_accept.specs.Answers.{Answers}
 use Rattle.pgo_execute.proofs.Asked.{accepts, executed, not_run, refused}

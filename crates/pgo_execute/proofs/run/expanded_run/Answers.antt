@@ -4,7 +4,7 @@ use Rattle.pgo_agrees.proofs.Premises as premises
 use Rattle.pgo_bound.specs.BoundOf.{bound_of}
 use Rattle.pgo_bound.specs.Declares.{Declares}
 use Rattle.pgo_bound.specs.Sound.{Sound}
-use Rattle.pgo_core.specs.Cores.{CoreFits}
+use Rattle.pgo_core.specs.Cores.{CoreFits, EachEnds}
 use Rattle.pgo_core.specs.Rounds.{AreRounds}
 use Rattle.pgo_meaning.specs.System.{system_of}
 use Rattle.pgo_translate.specs.ModuleOf.{constants_with, module_of, module_with}
@@ -22,7 +22,7 @@ use Rattle.pgo_runnable.proofs.Kept.{all_values}
 use Rattle.pgo_syntax.specs.RecordView.{settings_view}
 use Rattle.pgo_syntax.specs.declared.bound.Bound.{Bound}
 use Rattle.pgo_execute.specs.Gives.{IsRunStatus}
-use Rattle.pgo_execute.specs.Ran.{AllDone, EachEnded}
+use Rattle.pgo_execute.specs.Ran.{AllDone}
 use Rattle.pgo_execute.proofs.RanGiven.{bundle_of, one_of_four, status_is}
 use Rattle.pgo_execute.proofs.ReadRuns.{run_read}
 use Rattle.pgo_model.specs.System.{ids_of}
@@ -99,7 +99,7 @@ returns c =
           contended = λ e. subst (λ (b : Bound). Contended (rules_of (system_of b) settings) (finished_of (Core (system_of b) settings left.turns))) a.bound_is (left.contended e);
         };
         rounds = λ e. subst (λ (b : Bound). AreRounds (system_of b) settings [] left.turns) a.bound_is (left.rounds e);
-        ended = λ e. subst (λ (b : Bound). EachEnded (system_of b) settings (finished_of (Core (system_of b) settings left.turns))) a.bound_is (left.ended e);
+        ended = λ e. subst (λ (b : Bound). EachEnds (system_of b) settings (finished_of (Core (system_of b) settings left.turns))) a.bound_is (left.ended e);
         status_is = status;
         fine = subst (λ (m : ℕ). (m ≡ 0) ↔ AllDone s consts (last_state (rules_of (system_of (bound_of s consts)) settings) (Core (system_of (bound_of s consts)) settings left.turns))) (sym status) (c.statuses_are_fine.ensures.fine a.text s consts settings left.turns a.spells n counted);
       };
