@@ -1,4 +1,4 @@
--- When an expression of the counter form is TRUE: a conjunction, an equation, a choice from one value.
+-- When an expression of a written module is TRUE: a conjunction, an equation, a choice from one value.
 use Rattle.std.proofs.Common.{◌≡◌, Bool, true, false, [], ◌∷◌, Option, Some, None, ◌↔◌, refl, sym, ap, ◌∙◌, subst}
 use Rattle.pgo_base.specs.declared.expr.Infix.TheVariants as infixs
 use Rattle.pgo_base.specs.declared.expr.Quantifier.TheVariants as quantifiers
