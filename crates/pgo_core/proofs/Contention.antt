@@ -22,10 +22,6 @@ use Rattle.pgo_core.specs.AllViews.{AllViews}
 use Rattle.pgo_core.specs.Cores.{CoreFits, StandsWith, IsSafe, AllEnded, turned, worker_at}
 use Rattle.pgo_core.proofs.Stages.{stage_opened, stage_after, stage_contended}
 
--- with the causes of refusals, where they are there
-pub joint_with : {S D : Type 0} (R : Rules S D) (f : Finished D) (run : Bool) → JointAccounts R false f → (run ≡ true → Contended R f) → JointAccounts R run f
-joint_with R f run joint causes = record { once = joint.once; full = joint.full; room = joint.room; contended = causes }
-
 module _ (y : System) (tree : Trees) (settings : Settings) (fits : CoreFits y tree settings) (turns : List ℕ) where
   abbrev W : World Vars Effect
   W = world_of (layout_of y)

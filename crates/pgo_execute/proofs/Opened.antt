@@ -16,10 +16,6 @@ fits_program p b settings e trees fits =
     subst (λ (x : Bound). CoreFits (system_of x) (tree_in p) settings) (sym e)
     (subst (λ (t : Trees). CoreFits (system_of b) t settings) (λ i. λ seed k a own. sym (trees seed k a own) i) fits)
 
--- no pre-commit fails where none is listed
-pub may_fail : (settings : Settings) (r : ℕ) (number : Option ℕ) → settings.down ≡ [] → MayFail settings r number
-may_fail settings r number e = inr (λ n. ap (λ d. is_listed d r n) e)
-
 pub both_ok : {A E : Type 0} (r : Result A E) (P Q : A → Type 0) → IfOk r P → IfOk r Q → IfOk r (λ x. P x × Q x)
 both_ok (Ok a) P Q p q = (p, q)
 both_ok (Err e) P Q p q = tt

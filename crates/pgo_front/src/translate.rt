@@ -20,7 +20,7 @@ use pgo_base::consts::Consts;
 use pgo_base::text::Text;
 use pgo_expr_write::errors::NoMemory;
 use pgo_io::source::Source;
-use pgo_module_text::write::write_module;
+use pgo_module_write::write::write_module;
 use pgo_pluscal::pluscal::PlusCal;
 use pgo_pluscal::write::write_pluscal;
 use pgo_translate::translate::translate;

@@ -81,10 +81,6 @@ number_form_some bs u r e =
 
 -- ---- components
 
-component_nest : (w : List ℕ) (x : Name) (o : Option Data) (r : List ℕ) → w ++ (x ++ (index_text o ++ 10 ∷ r)) ≡ (w ++ indexed_text x o) ++ 10 ∷ r
-component_nest w x None r = sym (append_assoc w x (10 ∷ r))
-component_nest w x (Some i) r = simp append_assoc
-
 -- what was read as a component
 record ComponentText (bs r : List ℕ) : Type 0 where
   variable : Name

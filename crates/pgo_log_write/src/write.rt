@@ -17,7 +17,7 @@ use pgo_base::consts::Consts;
 use pgo_base::module::Module;
 use pgo_base::text::Text;
 use pgo_journal::finished::Finished;
-use pgo_module_text::write::write_module;
+use pgo_module_write::write::write_module;
 use pgo_syntax::bound::Bound;
 use std::alloc::{AllocError, Global};
 

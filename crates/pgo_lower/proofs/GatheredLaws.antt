@@ -28,9 +28,6 @@ by : {C : Type 0} (b : Bool) → (b ≡ true → C) → (b ≡ false → C) → 
 by true f g = f refl
 by false f g = g refl
 
-same_side : {A : Type 0} (b : Bool) (x y z : A) → y ≡ z → (if b then x else y) ≡ (if b then x else z)
-same_side b x y z e = λ i. if b then x else e i
-
 -- one that is read already may be left out
 left_out : (rs : List Name) (x : Name) (ys : List Name) → is_among x rs ≡ true → others rs (without x ys) ≡ others rs ys
 left_out rs x [] h = refl

@@ -78,12 +78,6 @@ write_answers m ds id at x old new p q (Err stops.AssertFails) pr h t =
     let e = h.2 (choices (used_of p)) (length-replicate (used_of p) _) in (ap (λ z. z.current) h.0 ∙ sym (ap (left_by_write old.current) e.2), (e.0, e.2), h.1)
 write_answers m ds id at x old new p q (Err stops.NoMemory) pr h t = absurd t
 
--- nothing but what it is now may be another
-pub read_keeps : (m : Mapping) (ds : List Defined) (id : Data) (at : Option Data) (old new : Shown) (p q : Picks) (ans : Result Value OpStop)
-    → IsRead m ds id at old new p q ans → new ≡ record old { current = new.current }
-read_keeps m ds id at old new p q (Ok v) h = h.0
-read_keeps m ds id at old new p q (Err e) h = h.0 ∙ ap (λ (v : Data). record old { current = v }) (ap (λ z. z.current) (sym h.0))
-
 pub write_keeps : (m : Mapping) (ds : List Defined) (id : Data) (at : Option Data) (x : Data) (old new : Shown) (p q : Picks) (ans : Result (Unit {0}) OpStop)
     → Written m ds id at x old new p q ans → new ≡ record old { current = new.current }
 write_keeps m ds id at x old new p q (Ok v) h = h.0

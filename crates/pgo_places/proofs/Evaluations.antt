@@ -62,14 +62,6 @@ resume_evaluates a k n is (Read w c j) s e h = absurd (cc)
 resume_evaluates a k n is (Write c j w) s e h = absurd (cc)
 resume_evaluates a k n is Fail s e h = absurd (cc)
 
--- all reads are done
-pub resume_ready : (a : Attempt) (k : Fixed) (n : ℕ) (is : List Step) (i : Step) (s : Stand) (e : Evaluation)
-    → evaluation_in i s.value ≡ Some e → left_of (evaluation_in i s.value) s ≡ []
-    → resume a k (suc n) (i ∷ is) s ≡ after a k n is i (cleared k s) (value_in a k e.expression s.env s.variables)
-resume_ready a k n is i s e h none =
-    resume_evaluates a k n is i s e h
-    ∙ ap (λ us. reads_then k us s.variables (λ vs. after a k n is i (cleared k s) (value_in a k e.expression s.env vs))) (sym (ap (λ o. left_of o s) h) ∙ none)
-
 -- a read is left
 pub resume_waits : (a : Attempt) (k : Fixed) (n : ℕ) (is : List Step) (i : Step) (s : Stand) (x : Unmapped) (xs : List Unmapped)
     → left_of (evaluation_in i s.value) s ≡ x ∷ xs

@@ -38,14 +38,6 @@ touch_tells m r w t h = go (nat_lt r m) refl
     go true e = (t.0, λ v. limited m (t.1 v), ap (limited m) t.2 ∙ ap (λ c. if c then Touch r t.0 (λ v. limited m (t.1 v)) else no_value) e)
     go false e = absurd (grind (arith, e, h))
 
--- of one that there isn't
-pub touch_fails : (m r : ℕ) (w : Walk) → IsTouchOf r w → m ≤ r → limited m w ≡ no_value
-touch_fails m r w t h = go (nat_lt r m) refl
-  where
-    go : (b : Bool) → nat_lt r m ≡ b → limited m w ≡ no_value
-    go true e = absurd (grind (arith, e, h))
-    go false e = ap (limited m) t.2 ∙ ap (λ c. if c then Touch r t.0 (λ v. limited m (t.1 v)) else no_value) e
-
 pub drop_behind : {A : Type 0} (n : ℕ) (xs : List A) (x : A) (ys : List A) → drop n xs ≡ x ∷ ys → drop (suc n) xs ≡ ys
 drop_behind zero [] x ys h = absurd (cc)
 drop_behind zero (u ∷ us) x ys h = ap (elim [ [] ↦ [] | z ∷ zs ↦ zs ]) h

@@ -10,7 +10,7 @@ use pgo_base::module::{Module, WrittenProcess};
 use pgo_base::text::Text;
 use pgo_lexer::bytes::{first, skip};
 use pgo_module_read::read::read_module;
-use pgo_module_text::write::write_module;
+use pgo_module_write::write::write_module;
 use std::alloc::{AllocError, Global};
 
 pub fn answer(asked: &Asked<'_>) -> Result<Answer, AllocError> {

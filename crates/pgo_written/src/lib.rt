@@ -14,7 +14,7 @@ ghost use Rattle.pgo_module_spells.specs.Written.{IsWritten};
 ghost use Rattle.pgo_written.specs.Alone.{SpellsAlone};
 
 use pgo_module_read::read::one_module;
-use pgo_module_text::laws::canonical_modules_are_spelled;
+use pgo_module_write::laws::canonical_modules_are_spelled;
 
 /// The law of written modules: of a specification that a text spells, where nothing refuses it with these constants, neither the rules
 /// of names, of labels and of binding nor the limits of its expansion, the module is one that some text spells (`IsWritten` of

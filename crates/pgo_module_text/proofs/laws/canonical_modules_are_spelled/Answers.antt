@@ -1,5 +1,0 @@
-use Rattle.pgo_module_text.proofs.WholeModule.{module_spelled}
-use Rattle.pgo_module_text.proofs.laws.canonical_modules_are_spelled.Goals as goal
-
-pub returns : goal.returns
-returns c = module_spelled c.signs_end.ensures
