@@ -9,4 +9,3 @@ pub mod ElementStarts
 pub mod SoundStart
 pub mod SoundResources
 pub mod SoundBound
-pub mod ByValue

@@ -10,13 +10,15 @@ ghost use Rattle.pgo_heads.specs.Answers.{Answers, Passes};
 ghost use Rattle.pgo_heads.specs.Refusals.{bind_refusal, constants_refused, ids_refused, starts_refused, heads_refused};
 ghost use Rattle.pgo_heads.specs.Views.{run_view, global_view};
 
-use crate::evaluated::EvaluatedDefinitions;
 use crate::globals::globals_of;
 use crate::initial::{sets_filled, values_set};
 use crate::runs::runs_of;
 use crate::start::start_of;
-use crate::used::used_definitions;
+use crate::used::names_in_heads;
 use pgo_base::consts::Consts;
+use pgo_definitions::definitions::EvaluatedDefinitions;
+use pgo_definitions::evaluate::evaluated;
+use pgo_definitions::used::used_definitions;
 use pgo_heads::constants::{constants_declared, constants_given};
 use pgo_heads::definitions::definitions;
 use pgo_heads::errors::BindError;
@@ -102,7 +104,7 @@ fn made(
     known_state(&start);
     Ok(Bound {
         spec: spec.copy(alloc)?,
-        defs: defs.into_defs(),
+        defs: defs.into_written(),
         instances: Instances::from_vec(instances),
         resources: Resources::from_vec(resources),
         start,
@@ -132,8 +134,9 @@ fn answered(alloc: Global, spec: &Spec, consts: &Consts) -> Result<Bound, BindEr
 {
     constants_fit(alloc, spec, consts)?;
     let defs = definitions(alloc, spec, consts)?;
-    let used = used_definitions(alloc, spec, defs.as_slice())?;
-    let defs = EvaluatedDefinitions::new(alloc, defs, used.as_slice())?;
+    let names = names_in_heads(alloc, spec)?;
+    let used = used_definitions(alloc, names, defs.as_slice())?;
+    let defs = evaluated(alloc, defs, used.as_slice())?;
     let runs = runs_of(alloc, spec, &defs)?;
     let globals = globals_of(alloc, spec, &defs, runs.as_slice())?;
     bound(alloc, spec, defs, runs.as_slice(), globals.as_slice())

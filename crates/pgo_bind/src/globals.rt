@@ -3,8 +3,8 @@ ghost use Rattle.std.specs.Prelude.{◌≡◌, map, IfOk};
 ghost use Rattle.pgo_bound.specs.BoundOf as specs;
 ghost use Rattle.pgo_heads.specs.Views.{run_view, global_view};
 
-use crate::evaluated::EvaluatedDefinitions;
 use crate::values::global_start;
+use pgo_definitions::definitions::EvaluatedDefinitions;
 use pgo_heads::globals::GlobalStart;
 use pgo_heads::kinds::kind_of;
 use pgo_heads::runs::Run;

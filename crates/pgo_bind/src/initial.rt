@@ -10,11 +10,11 @@ ghost use Rattle.pgo_heads.specs.Refusals as specs;
 ghost use Rattle.pgo_heads.specs.Views.{start_view, handed_view, run_view, global_view, finding_view};
 ghost use Rattle.pgo_heads.specs.declared.errors.BindError.TheVariants as errors;
 
-use crate::evaluated::EvaluatedDefinitions;
 use crate::values::{argument_start, closed_value, start_in};
 use pgo_base::expr::Expr;
 use pgo_base::text::Text;
 use pgo_base::value::Value;
+use pgo_definitions::definitions::EvaluatedDefinitions;
 use pgo_heads::errors::BindError;
 use pgo_heads::findings::{Finding, Lack};
 use pgo_heads::globals::GlobalStart;

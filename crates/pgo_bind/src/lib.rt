@@ -6,7 +6,6 @@
 
 pub mod bind;
 pub mod errors;
-mod evaluated;
 mod globals;
 mod initial;
 mod runs;

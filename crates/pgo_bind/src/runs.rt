@@ -6,9 +6,9 @@ ghost use Rattle.pgo_model.specs.Operators.{members_of};
 ghost use Rattle.pgo_bound.specs.Runs as specs;
 ghost use Rattle.pgo_heads.specs.Views.{run_view};
 
-use crate::evaluated::EvaluatedDefinitions;
 use crate::values::closed_value;
 use pgo_base::value::Value;
+use pgo_definitions::definitions::EvaluatedDefinitions;
 use pgo_heads::runs::{Run, archetype_named, matched};
 use pgo_syntax::archetype::Archetype;
 use pgo_syntax::binding::Origin;

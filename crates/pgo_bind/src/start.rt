@@ -8,12 +8,12 @@ ghost use Rattle.pgo_bound.specs.BoundOf as specs;
 ghost use Rattle.pgo_bound.specs.Values as values;
 ghost use Rattle.pgo_heads.specs.Views.{start_view, handed_view, run_view, global_view};
 
-use crate::evaluated::EvaluatedDefinitions;
 use crate::values::{argument_start, start_in};
 use pgo_base::expr::Expr;
 use pgo_base::scope::State;
 use pgo_base::text::Text;
 use pgo_base::value::{Fun, Value};
+use pgo_definitions::definitions::EvaluatedDefinitions;
 use pgo_heads::globals::{GlobalStart, add_globals};
 use pgo_heads::runs::{Handed, Run};
 use pgo_heads::start_values::{Start, beginning, default_value};

@@ -5,11 +5,12 @@ ghost use Rattle.pgo_base.specs.ExprView.{tree};
 ghost use Rattle.pgo_bound.specs.Values as values;
 ghost use Rattle.pgo_heads.specs.Views.{start_view};
 
-use crate::evaluated::EvaluatedDefinitions;
 use pgo_base::bindings::Bindings;
 use pgo_base::expr::Expr;
 use pgo_base::text::Text;
 use pgo_base::value::Value;
+use pgo_definitions::definitions::EvaluatedDefinitions;
+use pgo_definitions::evaluate::value;
 use pgo_heads::start_values::{Start, default_value, start_of_value};
 use pgo_syntax::binding::Origin;
 use std::alloc::{AllocError, Global};
@@ -22,7 +23,7 @@ pub fn closed_value(
 ) -> Result<Option<Value>, AllocError>
     ensures { IfOk result (λ v. option_map data_of v ≡ values.closed_value defs.now (tree e.now)) }
 {
-    defs.value(alloc, &Bindings::new(), e)
+    value(alloc, defs, &Bindings::new(), e)
 }
 
 /// The value of an expression that sees `self` as this identifier besides.
@@ -36,7 +37,12 @@ pub fn value_at(
 {
     let self_name = Text::from_slice(alloc, b"self")?;
     let outer = Bindings::new();
-    defs.value(alloc, &Bindings::with(&self_name, Some(id), &outer), e)
+    value(
+        alloc,
+        defs,
+        &Bindings::with(&self_name, Some(id), &outer),
+        e,
+    )
 }
 
 /// The start of a variable with `\in e`: the least member.

@@ -1,6 +1,12 @@
 // The sections of all instances.
+ghost use Rattle.std.specs.Prelude.{◌≡◌};
+ghost use Rattle.std.proofs.Props.{props};
+ghost use Rattle.pgo_base.specs.Code.{coded_data};
+ghost use Rattle.pgo_model.specs.Val.{Meaning};
+ghost use Rattle.pgo_definitions.specs.Meant.{meant};
 
 use crate::instruction::Instruction;
+use pgo_base::module::Defs;
 use pgo_base::text::Text;
 use pgo_syntax::bound::Bound;
 
@@ -27,9 +33,12 @@ pub struct Code<'a> {
     pub sections: Vec<Section<'a>>,
 }
 
-/// The sections of all instances of a bound specification, by their numbers.
+/// The sections of all instances of a bound specification, by their numbers; and definitions that mean the same as its own, of which
+/// some are given by their values, so that these are evaluated once.
 #[derive(Drop)]
 pub struct Program<'a> {
     pub bound: &'a Bound,
+    pub definitions: Defs,
     pub codes: Vec<Code<'a>>,
+    ghost same: { meant definitions ≡ meant bound.now.defs } by { Prim.hlevel (props, coded_data) },
 }

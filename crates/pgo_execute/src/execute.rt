@@ -62,8 +62,8 @@ fn bound_run(
 /// some instance's last record is that the journal is full; else 0 where every instance is at Done; else 21.
 ///
 /// Its condition is that texts spell the constants' values: integers have 64 bits, strings have newlines, tabs and bytes 32 to 126
-/// alone, model values are identifiers of at most 512 bytes, and sets and functions have at most 65,536 members. And no
-/// pre-commit is set to fail, since the contents are plain values, whose pre-commits don't.
+/// alone, model values are identifiers of at most 512 bytes, sets and functions have at most 65,536 members, and they are at most
+/// 1,024 deep. And no pre-commit is set to fail, since the contents are plain values, whose pre-commits don't.
 ///
 /// Source: Modular PlusCal; the core, its schedules and the form of bundles are this project's choice.
 pub fn execute(

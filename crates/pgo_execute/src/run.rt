@@ -29,6 +29,7 @@ use pgo_base::consts::Consts;
 use pgo_base::results::both;
 use pgo_cells::cell::Cell;
 use pgo_core::instances::Core;
+use pgo_definitions::sections::evaluated_for_sections;
 use pgo_journal::finished::Finished;
 use pgo_log_text::bundle_reader::one_bundle;
 use pgo_log_write::status::run_status;
@@ -85,7 +86,8 @@ fn opened<'a>(
     ensures fits { IfOk result (λ c. CoreFits (system_of bound.entry.now) (tree_of bound.entry.now) (settings_view settings.now) → FitsCore c) }
 {
     programs_run();
-    let program = lower(alloc, bound)?;
+    let definitions = evaluated_for_sections(alloc, bound)?;
+    let program = lower(alloc, bound, definitions)?;
     let (owns, cells) = both(all_own_at_start(alloc, bound), contents(alloc, bound))?;
     Core::open(alloc, Runnable { program }, bound, owns, cells, settings)
 }

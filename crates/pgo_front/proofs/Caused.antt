@@ -1,5 +1,5 @@
 -- Which status each cause gives: by exclusion of the others, from what each status says.
-use Rattle.std.proofs.Common.{◌≡◌, ◌≤◌, ◌<◌, inl, inr, ℕ, List, [], ◌∷◌, length, Option, Some, IfSome, refl, ap, subst, arith}
+use Rattle.std.proofs.Common.{◌≡◌, ◌≤◌, ◌<◌, ◌⊎◌, inl, inr, ℕ, List, length, Option, Some, IfSome, refl, subst, arith}
 use Rattle.pgo_io.specs.Faults.{Rose}
 use Rattle.pgo_base.specs.Data.{Data}
 use Rattle.pgo_base.specs.Lookup.{Name}
@@ -10,14 +10,11 @@ use Rattle.pgo_check.specs.declared.verdict.Verdict.{Verdict}
 use Rattle.pgo_log_text.specs.ReadBundle.{IsReadBundle, IsNoBundle}
 use Rattle.pgo_front.specs.declared.status.Status.{Status}
 use Rattle.pgo_front.specs.declared.status.Status.TheVariants as status
-use Rattle.pgo_front.specs.declared.target.Target.{Target}
-use Rattle.pgo_front.specs.declared.target.Target.TheVariants as targets
-use Rattle.pgo_execute.specs.Schedules.{Schedule, Turns, Rounds}
-use Rattle.pgo_front.specs.Turns.{AsksExecution, AsksCheck, command_of}
 use Rattle.pgo_front.specs.Spells.{most_bytes}
 use Rattle.pgo_front.specs.Verdicts.{most_bundle_bytes, IsRunVerdict, IsBadVerdict}
-use Rattle.pgo_front.specs.Answers.{AsksNothing, AsksSomething, AsksSomeExecution, AsksSomeTranslation, WritesBundle, Checked, WritesVerdict, EndsWell, WritesPrefix, Stops, IsRefusal, OrNoMemory, IsToldToCheck}
+use Rattle.pgo_front.specs.Answers.{AsksNothing, AsksOfInput, AsksSomeExecution, AsksSomeLoad, AsksSomeTranslation, WritesBundle, Checked, WritesVerdict, EndsWell, WritesPrefix, Stops, IsRefusal, OrNoMemory, IsToldToCheck}
 use Rattle.pgo_front.proofs.Judging.{run_is_not_bad, no_run_is_not_run}
+use Rattle.pgo_front.proofs.Asking.{execution_no_check, translation_no_check, check_no_load, input_something, load_something}
 
 -- what an input told is what holds of its text
 pub at_told : (input : Option (List ℕ)) (text : List ℕ) (P : List ℕ → Type 0) → input ≡ Some text → IfSome input P → P text
@@ -29,46 +26,10 @@ not_short long short = omega (arith, long, short)
 not_short_bundle : {n : ℕ} → most_bundle_bytes < n → n ≤ most_bundle_bytes → ⊥
 not_short_bundle long short = omega (arith, long, short)
 
--- how long the first word is
-abbrev first_length : List (List ℕ) → ℕ
-first_length [] = 0
-first_length (w ∷ ws) = length w
-
--- the word for a run is shorter than the others, and that for a translation is longer
-short_command : (words : List (List ℕ)) (schedule : Schedule) (consts : List (Name × Data)) → AsksExecution words schedule consts → first_length words ≤ 4
-short_command words (Turns ts) consts a = let n : first_length words ≡ 4 = ap first_length a.words_are in omega (arith, n)
-short_command words Rounds consts a = let n : first_length words ≡ 3 = ap first_length a.words_are in omega (arith, n)
-
-long_command : (target : Target) → 5 < length (command_of target)
-long_command targets.Expansion = omega arith
-long_command targets.Module = omega arith
-
--- words that ask for a run ask for no check
-pub execution_no_check : {words : List (List ℕ)} → AsksSomeExecution words → AsksCheck words → ⊥
-execution_no_check {words} a check =
-    let n : first_length words ≡ 5 = ap first_length check in
-    let l = short_command words a.0 a.1 a.2 in
-    omega (arith, n, l)
-
--- words that ask for a translation ask for nothing else
-pub translation_no_execution : {words : List (List ℕ)} → AsksSomeTranslation words → AsksSomeExecution words → ⊥
-translation_no_execution {words} a e =
-    let n : first_length words ≡ length (command_of a.0) = ap first_length a.2.words_are in
-    let l = long_command a.0 in let k = short_command words e.0 e.1 e.2 in
-    omega (arith, n, l, k)
-
-pub translation_no_check : {words : List (List ℕ)} → AsksSomeTranslation words → AsksCheck words → ⊥
-translation_no_check {words} a check =
-    let n : first_length words ≡ length (command_of a.0) = ap first_length a.2.words_are in
-    let m : first_length words ≡ 5 = ap first_length check in
-    let l = long_command a.0 in
-    omega (arith, n, m, l)
-
 -- words that ask for something don't ask for nothing
-pub not_nothing : {words : List (List ℕ)} → AsksSomething words → AsksNothing words → ⊥
-not_nothing (inl a) nothing = nothing.0 a.0 a.1 a.2
-not_nothing (inr (inl a)) nothing = nothing.1 a
-not_nothing (inr (inr a)) nothing = nothing.2 a.0 a.1 a.2
+not_nothing : (words : List (List ℕ)) → AsksOfInput words ⊎ AsksSomeLoad words → AsksNothing words → ⊥
+not_nothing words (inl a) nothing = input_something words a nothing
+not_nothing words (inr a) nothing = load_something words a nothing
 
 module _ (words : List (List ℕ)) (input : Option (List ℕ)) (before now : ℕ) (out_before out_now : ℕ) (old new : Option (List ℕ)) where
   -- what the statuses say of a call
@@ -82,51 +43,61 @@ module _ (words : List (List ℕ)) (input : Option (List ℕ)) (before now : ℕ
     pub write_fault : s ≡ status.WriteFault → Rose out_before out_now
     pub prefix : s ≡ status.WriteFault → WritesPrefix words input old new
 
-  fine_asks : EndsWell words input old new → AsksSomething words
-  fine_asks (inl h) = inl h.0
-  fine_asks (inr (inl h)) = inr (inl h.0)
-  fine_asks (inr (inr h)) = inr (inr h.0)
+  abbrev Something : Type 0
+  Something = AsksOfInput words ⊎ AsksSomeLoad words
 
-  fault_asks : WritesPrefix words input old new → AsksSomething words
-  fault_asks (inl h) = inl h.0
-  fault_asks (inr (inl h)) = inr (inl h.0)
-  fault_asks (inr (inr h)) = inr (inr h.0)
+  fine_asks : EndsWell words input old new → Something
+  fine_asks (inl h) = inl (inl h.0)
+  fine_asks (inr (inl h)) = inl (inr (inl h.0))
+  fine_asks (inr (inr (inl h))) = inl (inr (inr h.0))
+  fine_asks (inr (inr (inr h))) = inr (h.1.size, h.1.asks)
 
-  refused_asks : Stops words input before now status.SpecRefused → AsksSomething words
-  refused_asks (inl h) = inl h.0
-  refused_asks (inr h) = inr (inr h.0)
+  fault_asks : WritesPrefix words input old new → Something
+  fault_asks (inl h) = inl (inl h.0)
+  fault_asks (inr (inl h)) = inl (inr (inl h.0))
+  fault_asks (inr (inr (inl h))) = inl (inr (inr h.0))
+  fault_asks (inr (inr (inr h))) = inr (h.1.size, h.1.asks)
+
+  refused_asks : Stops words input before now status.SpecRefused → Something
+  refused_asks (inl h) = inl (inl h.0)
+  refused_asks (inr (inl h)) = inl (inr (inr h.0))
+  refused_asks (inr (inr h)) = inr (h.size, h.asks)
 
   -- words that ask for nothing
   pub usage_comes : (s : Status) → Says s → AsksNothing words → OrNoMemory s status.Usage
-  usage_comes status.Fine h nothing = absurd (not_nothing (fine_asks (h.fine refl)) nothing)
+  usage_comes status.Fine h nothing = absurd (not_nothing words (fine_asks (h.fine refl)) nothing)
   usage_comes status.Usage h nothing = inl refl
-  usage_comes status.SpecRefused h nothing = absurd (not_nothing (refused_asks (h.stopped tt)) nothing)
-  usage_comes status.ReadFault h nothing = absurd (not_nothing (h.stopped tt).0 nothing)
-  usage_comes status.WriteFault h nothing = absurd (not_nothing (fault_asks (h.prefix refl)) nothing)
-  usage_comes status.TooLong h nothing = absurd (not_nothing (long_asks (h.stopped tt)) nothing)
+  usage_comes status.SpecRefused h nothing = absurd (not_nothing words (refused_asks (h.stopped tt)) nothing)
+  usage_comes status.ReadFault h nothing = absurd (not_nothing words (inl (h.stopped tt).0) nothing)
+  usage_comes status.WriteFault h nothing = absurd (not_nothing words (fault_asks (h.prefix refl)) nothing)
+  usage_comes status.TooLong h nothing = absurd (not_nothing words (long_asks (h.stopped tt)) nothing)
     where
-      long_asks : Stops words input before now status.TooLong → AsksSomething words
-      long_asks (inl h) = inl h.0
-      long_asks (inr (inl h)) = inr (inl h.0)
-      long_asks (inr (inr h)) = inr (inr h.0)
-  usage_comes status.Stopped h nothing = absurd (not_nothing (inl (h.halted refl).0) nothing)
-  usage_comes status.Spent h nothing = absurd (not_nothing (inl (h.spent refl).0) nothing)
-  usage_comes status.Full h nothing = absurd (not_nothing (inl (h.full refl).0) nothing)
-  usage_comes status.NotARun h nothing = absurd (not_nothing (inr (inl (h.not_a_run refl).0)) nothing)
-  usage_comes status.BadBundle h nothing = absurd (not_nothing (inr (inl (h.stopped tt).0)) nothing)
+      long_asks : Stops words input before now status.TooLong → Something
+      long_asks (inl h) = inl (inl h.0)
+      long_asks (inr (inl h)) = inl (inr (inl h.0))
+      long_asks (inr (inr h)) = inl (inr (inr h.0))
+  usage_comes status.Stopped h nothing = absurd (not_nothing words (inl (inl (h.halted refl).0)) nothing)
+  usage_comes status.Spent h nothing = absurd (not_nothing words (inl (inl (h.spent refl).0)) nothing)
+  usage_comes status.Full h nothing = absurd (not_nothing words (inl (inl (h.full refl).0)) nothing)
+  usage_comes status.NotARun h nothing = absurd (not_nothing words (inl (inr (inl (h.not_a_run refl).0))) nothing)
+  usage_comes status.BadBundle h nothing = absurd (not_nothing words (inl (inr (inl (h.stopped tt).0))) nothing)
   usage_comes status.NoMemory h nothing = inr refl
 
   module _ (text : List ℕ) (told : IsToldToCheck words input text) (read : Rose before now → ⊥) where
     no_run : {A : Type 0} → AsksSomeExecution words → A
-    no_run run = absurd (execution_no_check run told.asks)
+    no_run run = absurd (execution_no_check words run told.asks)
 
     not_translation : {A : Type 0} → AsksSomeTranslation words → A
-    not_translation a = absurd (translation_no_check a told.asks)
+    not_translation a = absurd (translation_no_check words a told.asks)
+
+    not_load : {A : Type 0} → AsksSomeLoad words → A
+    not_load a = absurd (check_no_load words told.asks a)
 
     -- words that ask for a check aren't refused for a specification
     not_refused_spec : {A : Type 0} → Stops words input before now status.SpecRefused → A
     not_refused_spec (inl h) = no_run h.0
-    not_refused_spec (inr h) = not_translation h.0
+    not_refused_spec (inr (inl h)) = not_translation h.0
+    not_refused_spec (inr (inr h)) = not_load (h.size, h.asks)
 
     found : (Wanted : Verdict → Type 0) → WritesVerdict words input Wanted old new → (v : Verdict) × Wanted v × Checked text v
     found Wanted h = let g = at_told input text _ told.told h.1 in (g.0, g.1, g.2)
@@ -134,11 +105,13 @@ module _ (words : List (List ℕ)) (input : Option (List ℕ)) (before now : ℕ
     fine_found : EndsWell words input old new → (v : Verdict) × IsRunVerdict v × Checked text v
     fine_found (inl h) = no_run h.0
     fine_found (inr (inl h)) = found IsRunVerdict h
-    fine_found (inr (inr h)) = not_translation h.0
+    fine_found (inr (inr (inl h))) = not_translation h.0
+    fine_found (inr (inr (inr h))) = not_load (h.1.size, h.1.asks)
 
     fault_found : WritesPrefix words input old new → (v : Verdict) × Checked text v
     fault_found (inl h) = no_run h.0
-    fault_found (inr (inr h)) = not_translation h.0
+    fault_found (inr (inr (inl h))) = not_translation h.0
+    fault_found (inr (inr (inr h))) = not_load (h.1.size, h.1.asks)
     fault_found (inr (inl h)) = let g = at_told input text _ told.told h.1 in (g.0, g.1)
 
     refused_bundle : Stops words input before now status.BadBundle → (length text ≤ most_bundle_bytes) × IsNoBundle text
@@ -150,7 +123,7 @@ module _ (words : List (List ℕ)) (input : Option (List ℕ)) (before now : ℕ
     long_bundle (inr (inl h)) = at_told input text (λ t. most_bundle_bytes < length t) told.told h.1
 
     asks_something : AsksNothing words → ⊥
-    asks_something nothing = nothing.1 told.asks
+    asks_something nothing = input_something words (inr (inl told.asks)) nothing
 
     is_some_bundle : {v : Verdict} → Checked text v → IsNoBundle text → ⊥
     is_some_bundle h nothing = nothing h.1.written_module h.1.consts h.1.log h.1.bundle

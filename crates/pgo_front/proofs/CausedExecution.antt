@@ -7,20 +7,28 @@ use Rattle.pgo_accept.specs.Answers.{IsExpandable}
 use Rattle.pgo_execute.specs.Schedules.{Schedule}
 use Rattle.pgo_front.specs.declared.status.Status.{Status}
 use Rattle.pgo_front.specs.declared.status.Status.TheVariants as status
-use Rattle.pgo_front.specs.Turns.{AsksCheck}
+use Rattle.pgo_model.specs.Core.{Settings}
+use Rattle.pgo_front.specs.Asked.{AsksCheck}
 use Rattle.pgo_front.specs.Spells.{most_bytes}
-use Rattle.pgo_front.specs.Answers.{AsksNothing, AsksSomeTranslation, Asked, IsRefused, WritesBundle, EndsWell, WritesPrefix, Stops, OrNoMemory, IsRunOrNoMemory, IsToldToExecute}
-use Rattle.pgo_front.proofs.Caused.{Says, at_told, not_short, execution_no_check, translation_no_execution}
+use Rattle.pgo_front.specs.Answers.{AsksNothing, AsksSomeExecution, AsksSomeLoad, AsksSomeTranslation, Asked, IsRefused, WritesBundle, EndsWell, WritesPrefix, Stops, OrNoMemory, IsRunOrNoMemory, IsToldToExecute}
+use Rattle.pgo_front.proofs.Caused.{Says, at_told, not_short}
+use Rattle.pgo_front.proofs.Asking.{execution_no_check, execution_no_load, execution_something, translation_no_execution}
 
-module _ (words : List (List ℕ)) (input : Option (List ℕ)) (before now : ℕ) (out_before out_now : ℕ) (old new : Option (List ℕ)) (schedule : Schedule) (text : List ℕ) (consts : List (Name × Data)) (told : IsToldToExecute schedule words input consts text) (read : Rose before now → ⊥) where
+module _ (words : List (List ℕ)) (input : Option (List ℕ)) (before now : ℕ) (out_before out_now : ℕ) (old new : Option (List ℕ)) (schedule : Schedule) (settings : Settings) (text : List ℕ) (consts : List (Name × Data)) (told : IsToldToExecute schedule settings words input consts text) (read : Rose before now → ⊥) where
+  this_run : AsksSomeExecution words
+  this_run = (schedule, settings, consts, told.asks)
+
   no_check : {A : Type 0} → AsksCheck words → A
-  no_check check = absurd (execution_no_check (schedule, consts, told.asks) check)
+  no_check check = absurd (execution_no_check words this_run check)
+
+  no_load : {A : Type 0} → AsksSomeLoad words → A
+  no_load a = absurd (execution_no_load words this_run a)
 
   no_translation : {A : Type 0} → AsksSomeTranslation words → A
-  no_translation a = absurd (translation_no_execution a (schedule, consts, told.asks))
+  no_translation a = absurd (translation_no_execution words a this_run)
 
   not_usage : {A : Type 0} → AsksNothing words → A
-  not_usage nothing = absurd (nothing.0 schedule consts told.asks)
+  not_usage nothing = absurd (execution_something words this_run nothing)
 
   abbrev Made : Type 0
   Made = (n : ℕ) × (written : List ℕ) × Asked words text n written
@@ -31,16 +39,19 @@ module _ (words : List (List ℕ)) (input : Option (List ℕ)) (before now : ℕ
   fine_made : EndsWell words input old new → Made
   fine_made (inl h) = made 0 h
   fine_made (inr (inl h)) = no_check h.0
-  fine_made (inr (inr h)) = no_translation h.0
+  fine_made (inr (inr (inl h))) = no_translation h.0
+  fine_made (inr (inr (inr h))) = no_load (h.1.size, h.1.asks)
 
   fault_made : WritesPrefix words input old new → Made
   fault_made (inl h) = let g = at_told input text _ told.told h.1 in (g.0, g.1, g.2)
   fault_made (inr (inl h)) = no_check h.0
-  fault_made (inr (inr h)) = no_translation h.0
+  fault_made (inr (inr (inl h))) = no_translation h.0
+  fault_made (inr (inr (inr h))) = no_load (h.1.size, h.1.asks)
 
   refused_text : Stops words input before now status.SpecRefused → IsRefused words text
   refused_text (inl h) = at_told input text (IsRefused words) told.told h.1
-  refused_text (inr h) = no_translation h.0
+  refused_text (inr (inl h)) = no_translation h.0
+  refused_text (inr (inr h)) = no_load (h.size, h.asks)
 
   long_text : Stops words input before now status.TooLong → most_bytes < length text
   long_text (inl h) = at_told input text (λ t. most_bytes < length t) told.told h.1
@@ -51,10 +62,10 @@ module _ (words : List (List ℕ)) (input : Option (List ℕ)) (before now : ℕ
   was_expandable : Made → IsExpandable text consts
   was_expandable m =
       let a = m.2 in let x = a.runs.executes in
-      subst (IsExpandable text) (sym (a.no_others schedule consts told.asks).1) (x.spec, x.spells, x.passes)
+      subst (IsExpandable text) (sym (a.no_others schedule settings consts told.asks).2) (x.spec, x.spells, x.passes)
 
   not_refused : IsRefused words text → IsExpandable text consts → ⊥
-  not_refused n x = n.refused (subst (IsExpandable text) (n.no_others schedule consts told.asks).1 x)
+  not_refused n x = n.refused (subst (IsExpandable text) (n.no_others schedule settings consts told.asks).2 x)
 
   -- a text that is too long
   pub too_long_comes : (s : Status) → Says words input before now out_before out_now old new s → most_bytes < length text → OrNoMemory s status.TooLong

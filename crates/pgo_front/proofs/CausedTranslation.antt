@@ -8,11 +8,12 @@ use Rattle.pgo_front.specs.declared.status.Status.{Status}
 use Rattle.pgo_front.specs.declared.status.Status.TheVariants as status
 use Rattle.pgo_front.specs.declared.target.Target.{Target}
 use Rattle.pgo_front.specs.declared.target.Target.TheVariants as targets
-use Rattle.pgo_front.specs.Turns.{AsksCheck}
+use Rattle.pgo_front.specs.Asked.{AsksCheck}
 use Rattle.pgo_front.specs.Spells.{most_bytes}
 use Rattle.pgo_front.specs.Translations.{TranslatesTo, Translated, NotTranslated}
-use Rattle.pgo_front.specs.Answers.{AsksNothing, AsksSomeExecution, EndsWell, WritesPrefix, Stops, OrNoMemory, IsToldToTranslate}
-use Rattle.pgo_front.proofs.Caused.{Says, at_told, not_short, translation_no_execution, translation_no_check}
+use Rattle.pgo_front.specs.Answers.{AsksNothing, AsksSomeExecution, AsksSomeLoad, AsksSomeTranslation, EndsWell, WritesPrefix, Stops, OrNoMemory, IsToldToTranslate}
+use Rattle.pgo_front.proofs.Caused.{Says, at_told, not_short}
+use Rattle.pgo_front.proofs.Asking.{translation_no_check, translation_no_execution, translation_no_load, translation_something}
 
 -- what is translated can be expanded
 expandable : (target : Target) (text : List ℕ) (consts : List (Name × Data)) (written : List ℕ) → TranslatesTo target text consts written → IsExpandable text consts
@@ -20,14 +21,20 @@ expandable targets.Expansion text consts written x = (x.spec, x.spells, x.passes
 expandable targets.Module text consts written x = (x.spec, x.spells, x.passes)
 
 module _ (words : List (List ℕ)) (input : Option (List ℕ)) (before now : ℕ) (out_before out_now : ℕ) (old new : Option (List ℕ)) (target : Target) (text : List ℕ) (consts : List (Name × Data)) (told : IsToldToTranslate target words input consts text) (read : Rose before now → ⊥) where
+  this_translation : AsksSomeTranslation words
+  this_translation = (target, consts, told.asks)
+
   no_run : {A : Type 0} → AsksSomeExecution words → A
-  no_run run = absurd (translation_no_execution (target, consts, told.asks) run)
+  no_run run = absurd (translation_no_execution words this_translation run)
+
+  no_load : {A : Type 0} → AsksSomeLoad words → A
+  no_load a = absurd (translation_no_load words this_translation a)
 
   no_check : {A : Type 0} → AsksCheck words → A
-  no_check check = absurd (translation_no_check (target, consts, told.asks) check)
+  no_check check = absurd (translation_no_check words this_translation check)
 
   not_usage : {A : Type 0} → AsksNothing words → A
-  not_usage nothing = absurd (nothing.2 target consts told.asks)
+  not_usage nothing = absurd (translation_something words this_translation nothing)
 
   abbrev Made : Type 0
   Made = (written : List ℕ) × Translated words text written
@@ -35,16 +42,19 @@ module _ (words : List (List ℕ)) (input : Option (List ℕ)) (before now : ℕ
   fine_made : EndsWell words input old new → Made
   fine_made (inl h) = no_run h.0
   fine_made (inr (inl h)) = no_check h.0
-  fine_made (inr (inr h)) = let g = at_told input text _ told.told h.1 in (g.0, g.1)
+  fine_made (inr (inr (inr h))) = no_load (h.1.size, h.1.asks)
+  fine_made (inr (inr (inl h))) = let g = at_told input text _ told.told h.1 in (g.0, g.1)
 
   fault_made : WritesPrefix words input old new → Made
   fault_made (inl h) = no_run h.0
   fault_made (inr (inl h)) = no_check h.0
-  fault_made (inr (inr h)) = let g = at_told input text _ told.told h.1 in (g.0, g.1)
+  fault_made (inr (inr (inr h))) = no_load (h.1.size, h.1.asks)
+  fault_made (inr (inr (inl h))) = let g = at_told input text _ told.told h.1 in (g.0, g.1)
 
   refused_text : Stops words input before now status.SpecRefused → NotTranslated words text
   refused_text (inl h) = no_run h.0
-  refused_text (inr h) = at_told input text (NotTranslated words) told.told h.1
+  refused_text (inr (inr h)) = no_load (h.size, h.asks)
+  refused_text (inr (inl h)) = at_told input text (NotTranslated words) told.told h.1
 
   long_text : Stops words input before now status.TooLong → most_bytes < length text
   long_text (inl h) = no_run h.0

@@ -1,25 +1,28 @@
 -- What the words of constants give are values.
-use Rattle.std.proofs.Common.{◌≡◌, ◌≤◌, ◌+◌, ◌^◌, ℕ, zero, suc, pos, IsTrue, nat_le, List, [], ◌∷◌, length, sym, ◌∙◌, ap, subst, arith}
+use Rattle.std.proofs.Common.{◌≡◌, ◌≤◌, ◌+◌, ◌^◌, ℕ, zero, suc, IsTrue, List, [], ◌∷◌, length, sym, ◌∙◌, ap, subst, arith}
 use Rattle.std.proofs.lemmas.Bool.{and_parts, leb-true, lt-ltb}
 use Rattle.std.specs.declared.cmp.Ordering.{Ordering}
 use Rattle.std.specs.declared.cmp.Ordering.TheVariants.{Less, Equal, Greater}
 use Rattle.std.specs.List.{AllByRecursion}
 use Rattle.std.specs.Ordering.{match_ordering}
-use Rattle.pgo_base.specs.Data.{Data, integer, string, set, function, Items, items, members, members-items, Pairs, pairs, graph, graph-pairs, keys}
+use Rattle.pgo_base.specs.Data.{Data, set, function, items, members-items, pairs, graph, graph-pairs, keys}
 use Rattle.pgo_base.specs.Lookup.{Name}
 use Rattle.pgo_base.specs.Order.{data_cmp}
 use Rattle.pgo_base.specs.Pairs.{insert_pair, pairs_in_order}
 use Rattle.pgo_base.specs.Sets.{IsSorted, insert_member, in_order, sorted-in_order}
 use Rattle.pgo_base.proofs.Keyed.{sorted_pairs_in_order}
-use Rattle.pgo_model.specs.Operators.{fits_i64, sequence_at, most_members}
+use Rattle.pgo_model.specs.Operators.{sequence_at, most_members}
 use Rattle.pgo_model.specs.State.{AllValues}
 use Rattle.pgo_model.specs.Value.{IsValue, AreValues, ArePairs}
 use Rattle.pgo_log_text.specs.IsBundle.{IsCanonicalValue, AreCanonical}
 use Rattle.pgo_value_text.specs.IsValueText.{IsValueText, most_depth, Spaced, spaced, Joined, joined, Followed, none, next, Parted, parted, Listed, nothing, listed, Field, field, Form, truth, number, negative, string_in_quotes, name, set_text, tuple_text, record_text, function_text, Spells, is_small, are_small, all_small}
 use Rattle.pgo_value_text.proofs.Numbered.{length-sequence_at, sorted_sequence}
 use Rattle.pgo_execute.specs.Schedules.{Schedule, Turns, Rounds}
-use Rattle.pgo_front.specs.Constants.{AreConstants}
-use Rattle.pgo_front.specs.Turns.{AsksExecution}
+use Rattle.pgo_model.specs.Core.{Settings}
+use Rattle.pgo_words.specs.Constants.{AreConstants}
+use Rattle.pgo_front.specs.declared.target.Target.{Target}
+use Rattle.pgo_front.specs.declared.target.Target.TheVariants as targets
+use Rattle.pgo_front.specs.Asked.{AsksExecution, AsksTranslation}
 
 -- where it is small it is a value
 abbrev Sound : Data → Type 0
@@ -134,19 +137,30 @@ unfolding Spells
 text_sound zero bs v h = absurd h
 text_sound (suc n) bs v h = form_sound (Spells n) (text_sound n) bs v h
 
-pub constants_are_values : (ws : List (List ℕ)) (cs : List (Name × Data)) → AreConstants ws cs → AllValues cs
+constants_are_values : (ws : List (List ℕ)) (cs : List (Name × Data)) → AreConstants ws cs → AllValues cs
 constants_are_values ws [] h = tt
 constants_are_values [] (c ∷ cs) h = absurd h
 constants_are_values (w ∷ ws) (c ∷ cs) h = (text_sound most_depth h.0.text c.1 h.0.value.spelled h.0.value.small, constants_are_values ws cs h.1)
 
 -- and texts spell them
-pub constants_are_canonical : ((text : List ℕ) (v : Data) → IsValueText text v → IsCanonicalValue v) → (ws : List (List ℕ)) (cs : List (Name × Data)) → AreConstants ws cs → AreCanonical cs
+constants_are_canonical : ((text : List ℕ) (v : Data) → IsValueText text v → IsCanonicalValue v) → (ws : List (List ℕ)) (cs : List (Name × Data)) → AreConstants ws cs → AreCanonical cs
 constants_are_canonical read ws [] h = tt
 constants_are_canonical read [] (c ∷ cs) h = absurd h
 constants_are_canonical read (w ∷ ws) (c ∷ cs) h = (read h.0.text c.1 h.0.value, constants_are_canonical read ws cs h.1)
 
+-- those of a translation
+pub translation_constants : (words : List (List ℕ)) (target : Target) (consts : List (Name × Data)) → AsksTranslation target words consts → AllValues consts
+translation_constants words targets.Expansion consts a = constants_are_values a.rest consts a.consts_are.each
+translation_constants words targets.Module consts a = constants_are_values a.rest consts a.consts_are.each
+
 -- those of a run
-pub run_constants : ((text : List ℕ) (v : Data) → IsValueText text v → IsCanonicalValue v) → (words : List (List ℕ)) (schedule : Schedule) (consts : List (Name × Data))
-    → AsksExecution words schedule consts → AreCanonical consts
-run_constants read words (Turns ts) consts a = constants_are_canonical read a.rest consts a.constants.each
-run_constants read words Rounds consts a = constants_are_canonical read a.rest consts a.constants.each
+pub run_constants : ((text : List ℕ) (v : Data) → IsValueText text v → IsCanonicalValue v) → (words : List (List ℕ)) (schedule : Schedule) (settings : Settings)
+    (consts : List (Name × Data)) → AsksExecution words schedule settings consts → AreCanonical consts
+run_constants read words (Turns ts) settings consts a = constants_are_canonical read a.parts.rest consts a.parts.consts_are.each
+run_constants read words Rounds settings consts a = constants_are_canonical read a.parts.rest consts a.parts.consts_are.each
+
+-- and its settings set no pre-commit to fail
+pub run_no_failures : (words : List (List ℕ)) (schedule : Schedule) (settings : Settings) (consts : List (Name × Data)) → AsksExecution words schedule settings consts
+    → settings.down ≡ []
+run_no_failures words (Turns ts) settings consts a = a.settings_are.none_down
+run_no_failures words Rounds settings consts a = a.settings_are.none_down

@@ -10,7 +10,8 @@ use Rattle.pgo_check.specs.declared.verdict.Verdict.TheVariants.{Run, Bad}
 use Rattle.pgo_check.specs.declared.verdict.Why.TheVariants.{NoInit, NoStep}
 use Rattle.pgo_check.specs.Verdict.{Decides}
 use Rattle.pgo_log_text.specs.ReadBundle.{IsReadBundle}
-use Rattle.pgo_front.specs.Verdicts.{Judged, IsRunVerdict, IsBadVerdict}
+use Rattle.pgo_verdicts.specs.Judged.{Judged}
+use Rattle.pgo_front.specs.Verdicts.{IsRunVerdict, IsBadVerdict}
 
 -- the verdict on a bundle, of the module, the constants and the log that it is known to have
 decided : (text : List ℕ) (m : Module) (consts : List (Name × Data)) (l : Log) → IsReadBundle text m consts l → (v : Verdict) → Judged text v

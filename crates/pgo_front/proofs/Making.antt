@@ -11,18 +11,18 @@ use Rattle.pgo_front.specs.declared.ended.Ended.{Ended}
 use Rattle.pgo_front.specs.declared.status.Status.{Status}
 use Rattle.pgo_front.specs.declared.status.Status.TheVariants as status
 use Rattle.pgo_execute.specs.Schedules.{Schedule}
-use Rattle.pgo_front.specs.Turns.{AsksExecution, AsksCheck, AsksTranslation}
+use Rattle.pgo_model.specs.Core.{Settings}
 use Rattle.pgo_front.specs.declared.target.Target.{Target}
-use Rattle.pgo_front.specs.Asked.{ExecutesOnly, TranslatesOnly}
+use Rattle.pgo_front.specs.Asked.{AsksExecution, AsksCheck, AsksTranslation, ExecutesOnly, TranslatesOnly}
 use Rattle.pgo_front.specs.Spells.{most_bytes}
 use Rattle.pgo_front.specs.Statuses.{number_of, line_of, IsSilent}
 use Rattle.pgo_front.specs.Verdicts.{IsRunVerdict, IsBadVerdict, most_bundle_bytes}
 use Rattle.pgo_accept.specs.Answers.{IsExpandable}
 use Rattle.pgo_accept.specs.Refusals.{RefusedWith}
 use Rattle.pgo_front.specs.Translations.{NotTranslated}
-use Rattle.pgo_front.specs.Answers.{AsksSomeExecution, Asked, IsRefused, RefusedBy, WritesBundle, WritesVerdict, EndsWell, WritesPrefix, Stops, IsRefusal, SaysRefusal, SaysBundleLine}
-use Rattle.pgo_front.specs.Makes.{IsRunEnd, IsVerdictStatus, MakesRun, MakesAsked, MakesTranslation, MakesJudged, MakesVerdict, StopsFor, StopsInput, StopsJudging, StopsCheck, StopsSpecInput, HasLine, NamesLine, HasBundleLine, IsNoBundleEnd, HasOwnLine, bytes_of}
-use Rattle.pgo_front.proofs.ConstantValues.{constants_are_values}
+use Rattle.pgo_front.specs.Answers.{AsksSomeExecution, Asked, IsRefused, RefusedBy, RefusesSpec, WritesBundle, WritesVerdict, EndsWell, WritesPrefix, Stops, IsRefusal, SaysRefusal, SaysBundleLine}
+use Rattle.pgo_front.specs.Makes.{IsRunEnd, IsVerdictStatus, MakesRun, MakesAsked, MakesTranslation, MakesJudged, MakesVerdict, StopsFor, StopsInput, StopsJudging, StopsCheck, StopsSpecInput, HasLine, RefusesInput, HasBundleLine, IsNoBundleEnd, HasOwnLine, bytes_of}
+use Rattle.pgo_front.proofs.ConstantValues.{translation_constants}
 
 -- ---- why a command stopped
 
@@ -41,9 +41,9 @@ stops_check input before now text s told short (inr e) = inr (inr (inr e))
 
 -- of words that ask for a translation
 pub translation_stopped : (words : List (List ℕ)) (input : Option (List ℕ)) (before now : ℕ) (target : Target) (consts : List (Name × Data)) (s : Status)
-    → TranslatesOnly words (Some (target, consts)) → StopsSpecInput consts input before now s → Stops words input before now s
+    → TranslatesOnly words target consts → StopsSpecInput consts input before now s → Stops words input before now s
 translation_stopped words input before now target consts s asks (inl h) =
-    subst (Stops words input before now) (sym h.0) (inr ((target, consts, asks.0), refused input h.1))
+    subst (Stops words input before now) (sym h.0) (inr (inl ((target, consts, asks.0), refused input h.1)))
   where
     refused : (o : Option (List ℕ)) → IfSome o (λ text. (length text ≤ most_bytes) × (IsExpandable text consts → ⊥)) → IfSome o (NotTranslated words)
     refused None g = tt
@@ -54,38 +54,45 @@ translation_stopped words input before now target consts s asks (inr (inr (inl h
 translation_stopped words input before now target consts s asks (inr (inr (inr e))) = subst (Stops words input before now) (sym e) tt
 
 -- of words that ask for a run
-pub execution_stopped : (words : List (List ℕ)) (input : Option (List ℕ)) (before now : ℕ) (schedule : Schedule) (consts : List (Name × Data)) (s : Status)
-    → ExecutesOnly words (Some (schedule, consts)) → StopsSpecInput consts input before now s → Stops words input before now s
-execution_stopped words input before now schedule consts s asks (inl h) =
-    subst (Stops words input before now) (sym h.0) (inl ((schedule, consts, asks.0), refused input h.1))
+pub execution_stopped : (words : List (List ℕ)) (input : Option (List ℕ)) (before now : ℕ) (schedule : Schedule) (settings : Settings) (consts : List (Name × Data)) (s : Status)
+    → ExecutesOnly words schedule settings consts → StopsSpecInput consts input before now s → Stops words input before now s
+execution_stopped words input before now schedule settings consts s asks (inl h) =
+    subst (Stops words input before now) (sym h.0) (inl ((schedule, settings, consts, asks.0), refused input h.1))
   where
     refused : (o : Option (List ℕ)) → IfSome o (λ text. (length text ≤ most_bytes) × (IsExpandable text consts → ⊥)) → IfSome o (IsRefused words)
     refused None g = tt
-    refused (Some text) g = record { schedule = schedule; consts = consts; asks = asks.0; no_others = asks.1; short = g.0; refused = g.1 }
-execution_stopped words input before now schedule consts s asks (inr (inl h)) = subst (Stops words input before now) (sym h.0) (inl (schedule, consts, asks.0), h.1)
-execution_stopped words input before now schedule consts s asks (inr (inr (inl h))) =
-    subst (Stops words input before now) (sym h.0) (inl ((schedule, consts, asks.0), h.1))
-execution_stopped words input before now schedule consts s asks (inr (inr (inr e))) = subst (Stops words input before now) (sym e) tt
+    refused (Some text) g = record { schedule = schedule; settings = settings; consts = consts; asks = asks.0; no_others = asks.1; short = g.0; refused = g.1 }
+execution_stopped words input before now schedule settings consts s asks (inr (inl h)) = subst (Stops words input before now) (sym h.0) (inl (schedule, settings, consts, asks.0), h.1)
+execution_stopped words input before now schedule settings consts s asks (inr (inr (inl h))) =
+    subst (Stops words input before now) (sym h.0) (inl ((schedule, settings, consts, asks.0), h.1))
+execution_stopped words input before now schedule settings consts s asks (inr (inr (inr e))) = subst (Stops words input before now) (sym e) tt
 
 -- the line of a refusal, of the words that asked for a translation
 pub translation_line : (words : List (List ℕ)) (input : Option (List ℕ)) (target : Target) (consts : List (Name × Data)) (s : Status) (line : Option (List ℕ))
-    → AsksTranslation target words consts → HasLine input (λ text l. RefusedWith text consts l) s line → HasLine input (RefusedBy words) s line
+    → AsksTranslation target words consts → HasLine (RefusesInput consts input) s line → HasLine (RefusesSpec words input) s line
 translation_line words input target consts s None asks h = h
-translation_line words input target consts s (Some l) asks h = (h.0, refused input h.1)
+translation_line words input target consts s (Some l) asks h = (h.0, inl (inr (target, consts, asks), refused input h.1))
   where
-    refused : (o : Option (List ℕ)) → IfSome o (λ text. RefusedWith text consts l) → IfSome o (λ text. RefusedBy words text l)
+    refused : (o : Option (List ℕ)) → RefusesInput consts o l → IfSome o (λ text. RefusedBy words text l)
     refused None g = tt
     refused (Some text) g = record { consts = consts; asks = inr (target, asks); refused = g }
 
 -- and of the words that asked for a run
-pub execution_line : (words : List (List ℕ)) (input : Option (List ℕ)) (schedule : Schedule) (consts : List (Name × Data)) (s : Status) (line : Option (List ℕ))
-    → AsksExecution words schedule consts → HasLine input (λ text l. RefusedWith text consts l) s line → HasLine input (RefusedBy words) s line
-execution_line words input schedule consts s None asks h = h
-execution_line words input schedule consts s (Some l) asks h = (h.0, refused input h.1)
+pub execution_line : (words : List (List ℕ)) (input : Option (List ℕ)) (schedule : Schedule) (settings : Settings) (consts : List (Name × Data)) (s : Status) (line : Option (List ℕ))
+    → AsksExecution words schedule settings consts → HasLine (RefusesInput consts input) s line → HasLine (RefusesSpec words input) s line
+execution_line words input schedule settings consts s None asks h = h
+execution_line words input schedule settings consts s (Some l) asks h = (h.0, inl (inl (schedule, settings, consts, asks), refused input h.1))
   where
-    refused : (o : Option (List ℕ)) → IfSome o (λ text. RefusedWith text consts l) → IfSome o (λ text. RefusedBy words text l)
+    refused : (o : Option (List ℕ)) → RefusesInput consts o l → IfSome o (λ text. RefusedBy words text l)
     refused None g = tt
-    refused (Some text) g = record { consts = consts; asks = inl (schedule, asks); refused = g }
+    refused (Some text) g = record { consts = consts; asks = inl (schedule, settings, asks); refused = g }
+
+-- the line that refuses a text, of the input that it came from
+pub line_input : (consts : List (Name × Data)) (input : Option (List ℕ)) (text : List ℕ) (s : Status) (line : Option (List ℕ))
+    → IfSome input (λ bs. text ≡ bs) → HasLine (RefusedWith text consts) s line → HasLine (RefusesInput consts input) s line
+line_input consts input text s None told h = h
+line_input consts None text s (Some l) told h = (h.0, tt)
+line_input consts (Some bs) text s (Some l) told h = (h.0, subst (λ t. RefusedWith t consts l) told h.1)
 
 -- ---- what a command made
 
@@ -101,35 +108,39 @@ makes_check None text m told short h = tt
 makes_check (Some bs) text m told short h = subst (λ bs. (length bs ≤ most_bundle_bytes) × MakesJudged bs m) told (short, h)
 
 -- of the words that asked for it
-execution_asked : (words : List (List ℕ)) (input : Option (List ℕ)) (schedule : Schedule) (consts : List (Name × Data)) (m : Output) → ExecutesOnly words (Some (schedule, consts))
-    → IsRunEnd m.status → IfSome input (λ text. (length text ≤ most_bytes) × MakesRun schedule text consts m) → MakesAsked words input m
-execution_asked words None schedule consts m asks either h = inl ((schedule, consts, asks.0), either, tt)
-execution_asked words (Some text) schedule consts m asks either h =
-    inl ((schedule, consts, asks.0), either, record { schedule = schedule; consts = consts; asks = asks.0; no_others = asks.1; short = h.0; runs = h.1 })
+execution_asked : (words : List (List ℕ)) (input : Option (List ℕ)) (schedule : Schedule) (settings : Settings) (consts : List (Name × Data)) (m : Output) → ExecutesOnly words schedule settings consts
+    → IsRunEnd m.status → IfSome input (λ text. (length text ≤ most_bytes) × MakesRun schedule settings text consts m) → MakesAsked words input m
+execution_asked words None schedule settings consts m asks either h = inl ((schedule, settings, consts, asks.0), either, tt)
+execution_asked words (Some text) schedule settings consts m asks either h =
+    inl (
+      (schedule, settings, consts, asks.0),
+      either,
+      record { schedule = schedule; settings = settings; consts = consts; asks = asks.0; no_others = asks.1; short = h.0; runs = h.1 },
+    )
 
 pub check_asked : (words : List (List ℕ)) (input : Option (List ℕ)) (m : Output) → AsksCheck words → IsVerdictStatus m
     → IfSome input (λ text. (length text ≤ most_bundle_bytes) × MakesJudged text m) → MakesAsked words input m
 check_asked words None m asks either h = inr (inl (asks, either, tt))
 check_asked words (Some text) m asks either h = inr (inl (asks, either, (h.1.0, (h.0, h.1.1), h.1.2)))
 
-translation_asked : (words : List (List ℕ)) (input : Option (List ℕ)) (target : Target) (consts : List (Name × Data)) (m : Output) → TranslatesOnly words (Some (target, consts))
+translation_asked : (words : List (List ℕ)) (input : Option (List ℕ)) (target : Target) (consts : List (Name × Data)) (m : Output) → TranslatesOnly words target consts
     → m.status ≡ status.Fine → IfSome input (λ text. (length text ≤ most_bytes) × MakesTranslation target text consts m) → MakesAsked words input m
-translation_asked words None target consts m asks fine h = inr (inr ((target, consts, asks.0), fine, tt))
+translation_asked words None target consts m asks fine h = inr (inr (inl ((target, consts, asks.0), fine, tt)))
 translation_asked words (Some text) target consts m asks fine h =
-    let values = constants_are_values asks.0.rest consts asks.0.constants.each in
-    inr (inr ((target, consts, asks.0), fine, record { target = target; consts = consts; asks = asks.0; no_others = asks.1; short = h.0; translates = h.1 values }))
+    let values = translation_constants words target consts asks.0 in
+    inr (inr (inl ((target, consts, asks.0), fine, record { target = target; consts = consts; asks = asks.0; no_others = asks.1; short = h.0; translates = h.1 values })))
 
 pub translation_made : (words : List (List ℕ)) (input : Option (List ℕ)) (target : Target) (consts : List (Name × Data)) (r : Result Output Ended)
-    → TranslatesOnly words (Some (target, consts)) → IfOk r (λ m. m.status ≡ status.Fine)
+    → TranslatesOnly words target consts → IfOk r (λ m. m.status ≡ status.Fine)
     → IfOk r (λ m. IfSome input (λ text. (length text ≤ most_bytes) × MakesTranslation target text consts m)) → IfOk r (MakesAsked words input)
 translation_made words input target consts (Ok m) asks fine h = translation_asked words input target consts m asks fine h
 translation_made words input target consts (Err e) asks fine h = tt
 
-pub execution_made : (words : List (List ℕ)) (input : Option (List ℕ)) (schedule : Schedule) (consts : List (Name × Data)) (r : Result Output Ended)
-    → ExecutesOnly words (Some (schedule, consts)) → IfOk r (λ m. IsRunEnd m.status)
-    → IfOk r (λ m. IfSome input (λ text. (length text ≤ most_bytes) × MakesRun schedule text consts m)) → IfOk r (MakesAsked words input)
-execution_made words input schedule consts (Ok m) asks either h = execution_asked words input schedule consts m asks either h
-execution_made words input schedule consts (Err e) asks either h = tt
+pub execution_made : (words : List (List ℕ)) (input : Option (List ℕ)) (schedule : Schedule) (settings : Settings) (consts : List (Name × Data)) (r : Result Output Ended)
+    → ExecutesOnly words schedule settings consts → IfOk r (λ m. IsRunEnd m.status)
+    → IfOk r (λ m. IfSome input (λ text. (length text ≤ most_bytes) × MakesRun schedule settings text consts m)) → IfOk r (MakesAsked words input)
+execution_made words input schedule settings consts (Ok m) asks either h = execution_asked words input schedule settings consts m asks either h
+execution_made words input schedule settings consts (Err e) asks either h = tt
 
 -- ---- what came to the output
 
@@ -156,8 +167,9 @@ into_fault words None old new m (inl h) g = inl (h.0, tt)
 into_fault words (Some text) old new m (inl h) g = inl (h.0, (number_of m.status, bytes_of m.written, h.2, g))
 into_fault words None old new m (inr (inl h)) g = inr (inl (h.0, tt))
 into_fault words (Some text) old new m (inr (inl h)) g = inr (inl (h.0, (h.2.0, h.2.1, subst (GrowsByPrefix old new) h.2.2.line_is g)))
-into_fault words None old new m (inr (inr h)) g = inr (inr (h.0, tt))
-into_fault words (Some text) old new m (inr (inr h)) g = inr (inr (h.0, (bytes_of m.written, h.2, g)))
+into_fault words None old new m (inr (inr (inl h))) g = inr (inr (inl (h.0, tt)))
+into_fault words (Some text) old new m (inr (inr (inl h))) g = inr (inr (inl (h.0, (bytes_of m.written, h.2, g))))
+into_fault words input old new m (inr (inr (inr h))) g = inr (inr (inr (bytes_of m.written, h.1, g)))
 
 ran_with : (words : List (List ℕ)) (input old new : Option (List ℕ)) (m : Output) (s : Status) → m.status ≡ s → AsksSomeExecution words
     → IfSome input (λ text. Asked words text (number_of m.status) (bytes_of m.written)) → Grows old new (bytes_of m.written) → WritesBundle words input (number_of s) old new
@@ -171,14 +183,16 @@ fine_to words input old new m e (inl h) g = inl (ran_with words input old new m 
 fine_to words None old new m e (inr (inl h)) g = inr (inl (h.0, tt))
 fine_to words (Some text) old new m e (inr (inl h)) g =
     inr (inl (h.0, (h.2.0, is_run_verdict h.2.0 m h.2.2 e, h.2.1, subst (Grows old new) h.2.2.line_is g)))
-fine_to words None old new m e (inr (inr h)) g = inr (inr (h.0, tt))
-fine_to words (Some text) old new m e (inr (inr h)) g = inr (inr (h.0, (bytes_of m.written, h.2, g)))
+fine_to words None old new m e (inr (inr (inl h))) g = inr (inr (inl (h.0, tt)))
+fine_to words (Some text) old new m e (inr (inr (inl h))) g = inr (inr (inl (h.0, (bytes_of m.written, h.2, g))))
+fine_to words input old new m e (inr (inr (inr h))) g = inr (inr (inr (bytes_of m.written, h.1, g)))
 
 -- with a status that is a run's alone
 bundle_to : (words : List (List ℕ)) (input old new : Option (List ℕ)) (m : Output) (s : Status) → m.status ≡ s → (number_of s ≡ 0 → ⊥) → (number_of s ≡ 30 → ⊥)
     → MakesAsked words input m → Grows old new (bytes_of m.written) → WritesBundle words input (number_of s) old new
 bundle_to words input old new m s e no_fine no_log (inl h) g = ran_with words input old new m s e h.0 h.2 g
-bundle_to words input old new m s e no_fine no_log (inr (inr h)) g = absurd (no_fine (numbered e h.1))
+bundle_to words input old new m s e no_fine no_log (inr (inr (inl h))) g = absurd (no_fine (numbered e h.1))
+bundle_to words input old new m s e no_fine no_log (inr (inr (inr h))) g = absurd (no_fine (numbered e h.0))
 bundle_to words input old new m s e no_fine no_log (inr (inl h)) g = absurd (neither h.1)
   where
     neither : IsVerdictStatus m → ⊥
@@ -206,10 +220,28 @@ not_a_run_to words input old new m e (inl h) g = absurd (none h.1)
     none (inr (inl f)) = let n : 20 ≡ 30 = numbered f e in omega (arith, n)
     none (inr (inr (inl f))) = let n : 21 ≡ 30 = numbered f e in omega (arith, n)
     none (inr (inr (inr f))) = let n : 23 ≡ 30 = numbered f e in omega (arith, n)
-not_a_run_to words input old new m e (inr (inr h)) g = absurd (fine_no_run m h.1 e)
+not_a_run_to words input old new m e (inr (inr (inl h))) g = absurd (fine_no_run m h.1 e)
+not_a_run_to words input old new m e (inr (inr (inr h))) g = absurd (fine_no_run m h.0 e)
 not_a_run_to words None old new m e (inr (inl h)) g = (h.0, tt)
 not_a_run_to words (Some text) old new m e (inr (inl h)) g =
     (h.0, (h.2.0, is_bad_verdict h.2.0 m h.2.2 e, h.2.1, subst (Grows old new) h.2.2.line_is g))
+
+-- what was made has no status of a failed output
+pub made_no_fault : (words : List (List ℕ)) (input : Option (List ℕ)) (m : Output) → MakesAsked words input m → m.status ≡ status.WriteFault → ⊥
+made_no_fault words input m (inl h) e = ran h.1
+  where
+    ran : IsRunEnd m.status → ⊥
+    ran (inl f) = let n : 0 ≡ 13 = numbered f e in omega (arith, n)
+    ran (inr (inl f)) = let n : 20 ≡ 13 = numbered f e in omega (arith, n)
+    ran (inr (inr (inl f))) = let n : 21 ≡ 13 = numbered f e in omega (arith, n)
+    ran (inr (inr (inr f))) = let n : 23 ≡ 13 = numbered f e in omega (arith, n)
+made_no_fault words input m (inr (inl h)) e = judged h.1
+  where
+    judged : IsVerdictStatus m → ⊥
+    judged (inl f) = let n : 0 ≡ 13 = numbered f e in omega (arith, n)
+    judged (inr f) = let n : 30 ≡ 13 = numbered f e in omega (arith, n)
+made_no_fault words input m (inr (inr (inl h))) e = let n : 0 ≡ 13 = numbered h.1 e in omega (arith, n)
+made_no_fault words input m (inr (inr (inr h))) e = let n : 0 ≡ 13 = numbered h.0 e in omega (arith, n)
 
 -- a verdict's status is one of two
 pub verdict_status : (v : Verdict) (m : Output) → MakesVerdict v m → IsVerdictStatus m
@@ -232,50 +264,51 @@ no_specification input before now s (inr (inl h)) e = let n : 12 ≡ 11 = number
 no_specification input before now s (inr (inr (inl h))) e = let n : 14 ≡ 11 = numbered h.0 e in omega (arith, n)
 no_specification input before now s (inr (inr (inr h))) e = let n : 40 ≡ 11 = numbered h e in omega (arith, n)
 
-pub spec_lines : (consts : List (Name × Data)) (input : Option (List ℕ)) (before now : ℕ) (R Q : (text line : List ℕ) → Type 0) (r : Result Output Ended)
-    → ((e : Ended) → HasLine input R e.status e.line → HasLine input Q e.status e.line) → IfErr r (λ e. StopsSpecInput consts input before now e.status)
-    → IfErr r (λ e. HasLine input R e.status e.line) → IfErr r (λ e. HasOwnLine input Q e.status e.line)
+pub spec_lines : (consts : List (Name × Data)) (input : Option (List ℕ)) (before now : ℕ) (R Q : (line : List ℕ) → Type 0) (r : Result Output Ended)
+    → ((e : Ended) → HasLine R e.status e.line → HasLine Q e.status e.line) → IfErr r (λ e. StopsSpecInput consts input before now e.status)
+    → IfErr r (λ e. HasLine R e.status e.line) → IfErr r (λ e. HasOwnLine Q e.status e.line)
 spec_lines consts input before now R Q (Ok m) f stops lines = tt
 spec_lines consts input before now R Q (Err e) f stops lines = inl (f e lines, no_bundle consts input before now e.status stops)
 
-pub check_lines : (input : Option (List ℕ)) (before now : ℕ) (Q : (text line : List ℕ) → Type 0) (r : Result Output Ended)
-    → IfErr r (λ e. StopsCheck input before now e.status) → IfErr r (λ e. HasBundleLine e.status e.line) → IfErr r (λ e. HasOwnLine input Q e.status e.line)
+pub check_lines : (input : Option (List ℕ)) (before now : ℕ) (Q : (line : List ℕ) → Type 0) (r : Result Output Ended)
+    → IfErr r (λ e. StopsCheck input before now e.status) → IfErr r (λ e. HasBundleLine e.status e.line) → IfErr r (λ e. HasOwnLine Q e.status e.line)
 check_lines input before now Q (Ok m) stops lines = tt
 check_lines input before now Q (Err e) stops lines = go lines
   where
-    go : HasBundleLine e.status e.line → HasOwnLine input Q e.status e.line
+    go : HasBundleLine e.status e.line → HasOwnLine Q e.status e.line
     go (inl h) = inr h
-    go (inr h) = inl (subst (HasLine input Q e.status) (sym h.1) (no_specification input before now e.status stops), h.0)
+    go (inr h) = inl (subst (HasLine Q e.status) (sym h.1) (no_specification input before now e.status stops), h.0)
 
 -- an end of another number has no line
-no_line : (input : Option (List ℕ)) (Q : (text line : List ℕ) → Type 0) (s : Status) (line : Option (List ℕ)) (n : ℕ) → number_of s ≡ n → (n ≡ 11 → ⊥) → (n ≡ 31 → ⊥) → line ≡ None
-    → HasOwnLine input Q s line
-no_line input Q s line n is a b none = inl (subst (HasLine input Q s) (sym none) (λ e. a (sym is ∙ ap number_of e)), λ e. b (sym is ∙ ap number_of e))
+no_line : (Q : (line : List ℕ) → Type 0) (s : Status) (line : Option (List ℕ)) (n : ℕ) → number_of s ≡ n → (n ≡ 11 → ⊥) → (n ≡ 31 → ⊥) → line ≡ None
+    → HasOwnLine Q s line
+no_line Q s line n is a b none = inl (subst (HasLine Q s) (sym none) (λ e. a (sym is ∙ ap number_of e)), λ e. b (sym is ∙ ap number_of e))
 
 -- what was made has none
-pub made_line : (words : List (List ℕ)) (input : Option (List ℕ)) (Q : (text line : List ℕ) → Type 0) (s : Status) (line : Option (List ℕ)) (m : Output) → s ≡ m.status → line ≡ None
-    → MakesAsked words input m → HasOwnLine input Q s line
+pub made_line : (words : List (List ℕ)) (input : Option (List ℕ)) (Q : (line : List ℕ) → Type 0) (s : Status) (line : Option (List ℕ)) (m : Output) → s ≡ m.status → line ≡ None
+    → MakesAsked words input m → HasOwnLine Q s line
 made_line words input Q s line m e none h = made h
   where
-    ran : IsRunEnd m.status → HasOwnLine input Q s line
-    ran (inl f) = no_line input Q s line 0 (ap number_of (e ∙ f)) (λ n. omega (arith, n)) (λ n. omega (arith, n)) none
-    ran (inr (inl f)) = no_line input Q s line 20 (ap number_of (e ∙ f)) (λ n. omega (arith, n)) (λ n. omega (arith, n)) none
-    ran (inr (inr (inl f))) = no_line input Q s line 21 (ap number_of (e ∙ f)) (λ n. omega (arith, n)) (λ n. omega (arith, n)) none
-    ran (inr (inr (inr f))) = no_line input Q s line 23 (ap number_of (e ∙ f)) (λ n. omega (arith, n)) (λ n. omega (arith, n)) none
+    ran : IsRunEnd m.status → HasOwnLine Q s line
+    ran (inl f) = no_line Q s line 0 (ap number_of (e ∙ f)) (λ n. omega (arith, n)) (λ n. omega (arith, n)) none
+    ran (inr (inl f)) = no_line Q s line 20 (ap number_of (e ∙ f)) (λ n. omega (arith, n)) (λ n. omega (arith, n)) none
+    ran (inr (inr (inl f))) = no_line Q s line 21 (ap number_of (e ∙ f)) (λ n. omega (arith, n)) (λ n. omega (arith, n)) none
+    ran (inr (inr (inr f))) = no_line Q s line 23 (ap number_of (e ∙ f)) (λ n. omega (arith, n)) (λ n. omega (arith, n)) none
 
-    judged : IsVerdictStatus m → HasOwnLine input Q s line
-    judged (inl f) = no_line input Q s line 0 (ap number_of (e ∙ f)) (λ n. omega (arith, n)) (λ n. omega (arith, n)) none
-    judged (inr f) = no_line input Q s line 30 (ap number_of (e ∙ f)) (λ n. omega (arith, n)) (λ n. omega (arith, n)) none
+    judged : IsVerdictStatus m → HasOwnLine Q s line
+    judged (inl f) = no_line Q s line 0 (ap number_of (e ∙ f)) (λ n. omega (arith, n)) (λ n. omega (arith, n)) none
+    judged (inr f) = no_line Q s line 30 (ap number_of (e ∙ f)) (λ n. omega (arith, n)) (λ n. omega (arith, n)) none
 
-    made : MakesAsked words input m → HasOwnLine input Q s line
+    made : MakesAsked words input m → HasOwnLine Q s line
     made (inl h) = ran h.1
     made (inr (inl h)) = judged h.1
-    made (inr (inr h)) = no_line input Q s line 0 (ap number_of (e ∙ h.1)) (λ n. omega (arith, n)) (λ n. omega (arith, n)) none
+    made (inr (inr (inl h))) = no_line Q s line 0 (ap number_of (e ∙ h.1)) (λ n. omega (arith, n)) (λ n. omega (arith, n)) none
+    made (inr (inr (inr h))) = no_line Q s line 0 (ap number_of (e ∙ h.0)) (λ n. omega (arith, n)) (λ n. omega (arith, n)) none
 
 -- nor has a failed output, or an end without its text
-pub other_line : (input : Option (List ℕ)) (Q : (text line : List ℕ) → Type 0) (s t : Status) (line : Option (List ℕ)) → s ≡ t → (number_of t ≡ 11 → ⊥) → (number_of t ≡ 31 → ⊥) → line ≡ None
-    → HasOwnLine input Q s line
-other_line input Q s t line e a b none = no_line input Q s line (number_of t) (ap number_of e) a b none
+pub other_line : (Q : (line : List ℕ) → Type 0) (s t : Status) (line : Option (List ℕ)) → s ≡ t → (number_of t ≡ 11 → ⊥) → (number_of t ≡ 31 → ⊥) → line ≡ None
+    → HasOwnLine Q s line
+other_line Q s t line e a b none = no_line Q s line (number_of t) (ap number_of e) a b none
 
 -- ---- the command `check`
 
@@ -312,18 +345,18 @@ check_refuses input before now s (inr (inr (inr e))) = subst IsRefusal (sym e) t
 -- ---- what came to the error output
 
 -- the line of a refused specification
-pub said_refusal : (words : List (List ℕ)) (input old new : Option (List ℕ)) (s : Status) (line : Option (List ℕ)) (Quiet : Type 0) → HasOwnLine input (RefusedBy words) s line
+pub said_refusal : (words : List (List ℕ)) (input old new : Option (List ℕ)) (s : Status) (line : Option (List ℕ)) (Quiet : Type 0) → HasOwnLine (RefusesSpec words input) s line
     → (line_of s ≡ None → Quiet → IfSome line (λ l. Grows old new l)) → s ≡ status.SpecRefused → Quiet → SaysRefusal words input old new
 said_refusal words input old new s None Quiet (inl h) said e quiet = absurd (h.0 e)
 said_refusal words input old new s (Some l) Quiet (inl h) said e quiet = (l, said (ap line_of e) quiet, h.0.1)
 said_refusal words input old new s line Quiet (inr h) said e quiet = absurd (let n : 31 ≡ 11 = numbered h.0 e in omega (arith, n))
 
 -- and of a text that is no bundle
-pub said_bundle : (input old new : Option (List ℕ)) (Q : (text line : List ℕ) → Type 0) (s : Status) (line : Option (List ℕ)) (Quiet : Type 0) → HasOwnLine input Q s line
+pub said_bundle : (old new : Option (List ℕ)) (Q : (line : List ℕ) → Type 0) (s : Status) (line : Option (List ℕ)) (Quiet : Type 0) → HasOwnLine Q s line
     → (line_of s ≡ None → Quiet → IfSome line (λ l. Grows old new l)) → s ≡ status.BadBundle → Quiet → SaysBundleLine old new
-said_bundle input old new Q s line Quiet (inl h) said e quiet = absurd (h.1 e)
-said_bundle input old new Q s None Quiet (inr h) said e quiet = absurd h.1
-said_bundle input old new Q s (Some l) Quiet (inr h) said e quiet = (h.1.0, subst (Grows old new) h.1.1 (said (ap line_of e) quiet))
+said_bundle old new Q s line Quiet (inl h) said e quiet = absurd (h.1 e)
+said_bundle old new Q s None Quiet (inr h) said e quiet = absurd h.1
+said_bundle old new Q s (Some l) Quiet (inr h) said e quiet = (h.1.0, subst (Grows old new) h.1.1 (said (ap line_of e) quiet))
 
 -- where the command did its work there is none
 pub silent_status : (s : Status) → IsSilent s → line_of s ≡ None
@@ -340,7 +373,7 @@ silent_status status.WriteFault h = absurd h
 silent_status status.TooLong h = absurd h
 silent_status status.NoMemory h = absurd h
 
-pub silent_line : (input : Option (List ℕ)) (Q : (text line : List ℕ) → Type 0) (s : Status) (line : Option (List ℕ)) → IsSilent s → HasOwnLine input Q s line → line ≡ None
-silent_line input Q s None quiet h = refl
-silent_line input Q s (Some l) quiet (inl h) = absurd (subst IsSilent h.0.0 quiet)
-silent_line input Q s (Some l) quiet (inr h) = absurd (subst IsSilent h.0 quiet)
+pub silent_line : (Q : (line : List ℕ) → Type 0) (s : Status) (line : Option (List ℕ)) → IsSilent s → HasOwnLine Q s line → line ≡ None
+silent_line Q s None quiet h = refl
+silent_line Q s (Some l) quiet (inl h) = absurd (subst IsSilent h.0.0 quiet)
+silent_line Q s (Some l) quiet (inr h) = absurd (subst IsSilent h.0 quiet)

@@ -66,7 +66,7 @@ stops_refused text consts e s None g h = inr h
 stops_refused text consts e s (Some l) g h = inl (h.0, not_expandable text consts e l g h.1)
 
 pub refused_line : (text : List ℕ) (consts : List (Name × Data)) (e : Rejection) (s : Status) (o : Option (List ℕ)) → GivesExpansion text consts (Err e) → IsRejected e s o
-    → HasLine (Some text) (λ t l. RefusedWith t consts l) s o
+    → HasLine (RefusedWith text consts) s o
 refused_line text consts e s None g h = λ f. no_memory_refused (sym h ∙ f)
   where
     no_memory_refused : status.NoMemory ≡ status.SpecRefused → ⊥

@@ -11,37 +11,47 @@ use Rattle.pgo_front.specs.declared.target.Target.{Target}
 use Rattle.pgo_front.specs.declared.status.Status.{Status}
 use Rattle.pgo_front.specs.declared.status.Status.TheVariants as status
 use Rattle.pgo_execute.specs.Schedules.{Schedule}
-use Rattle.pgo_front.specs.Turns.{AsksExecution, AsksCheck, AsksTranslation}
+use Rattle.pgo_model.specs.Core.{Settings}
+use Rattle.pgo_verdicts.specs.Judged.{Judged}
+use Rattle.pgo_verdicts.specs.Runs.{Runs}
+use Rattle.pgo_words.specs.Asks.{Request, Asks}
+use Rattle.pgo_front.specs.Asked.{AsksExecution, AsksCheck, AsksTranslation, AsksLoad}
 use Rattle.pgo_front.specs.Spells.{most_bytes}
 use Rattle.pgo_front.specs.Statuses.{line_of}
-use Rattle.pgo_front.specs.Headline.{Runs}
 use Rattle.pgo_log_text.specs.ReadBundle.{IsNoBundle}
-use Rattle.pgo_front.specs.Verdicts.{Judged, IsRunVerdict, verdict_line, bundle_line, most_bundle_bytes}
+use Rattle.pgo_front.specs.Verdicts.{IsRunVerdict, verdict_line, bundle_line, most_bundle_bytes}
 use Rattle.pgo_front.specs.Translations.{Translated, NotTranslated}
+use Rattle.pgo_front.specs.Loads.{Loaded, NotLoaded, LoadRefusedBy}
 
 -- ---- words
 
--- the words ask for a run under some schedule, with some constants
+-- the words ask for a run under some schedule, with some settings and constants
 abbrev pub AsksSomeExecution : List (List ℕ) → Type 0
-AsksSomeExecution words = (schedule : Schedule) × (consts : List (Name × Data)) × AsksExecution words schedule consts
+AsksSomeExecution words = (schedule : Schedule) × (settings : Settings) × (consts : List (Name × Data)) × AsksExecution words schedule settings consts
 
 -- the words ask for a translation, with some constants
 abbrev pub AsksSomeTranslation : List (List ℕ) → Type 0
 AsksSomeTranslation words = (target : Target) × (consts : List (Name × Data)) × AsksTranslation target words consts
 
--- the words ask for something that there is
-abbrev pub AsksSomething : List (List ℕ) → Type 0
-AsksSomething words = AsksSomeExecution words ⊎ (AsksCheck words ⊎ AsksSomeTranslation words)
+-- the words ask for the load of some size
+abbrev pub AsksSomeLoad : List (List ℕ) → Type 0
+AsksSomeLoad words = (size : ℕ) × AsksLoad size words
+
+-- the words ask for a command that reads the input
+abbrev pub AsksOfInput : List (List ℕ) → Type 0
+AsksOfInput words = AsksSomeExecution words ⊎ (AsksCheck words ⊎ AsksSomeTranslation words)
 
 -- the words ask for nothing that there is
 abbrev pub AsksNothing : List (List ℕ) → Type 0
-AsksNothing words =
-    ((schedule : Schedule) (consts : List (Name × Data)) → AsksExecution words schedule consts → ⊥) × (AsksCheck words → ⊥)
-    × ((target : Target) (consts : List (Name × Data)) → AsksTranslation target words consts → ⊥)
+AsksNothing words = (r : Request) → Asks words r → ⊥
+
+-- the words ask for nothing that there is, or for a load, which reads nothing
+abbrev pub ReadsNothing : List (List ℕ) → Type 0
+ReadsNothing words = AsksNothing words ⊎ AsksSomeLoad words
 
 -- the words ask for a command on a specification, with these constants
 abbrev pub AsksWith : List (List ℕ) → List (Name × Data) → Type 0
-AsksWith words consts = ((schedule : Schedule) × AsksExecution words schedule consts) ⊎ ((target : Target) × AsksTranslation target words consts)
+AsksWith words consts = ((schedule : Schedule) × (settings : Settings) × AsksExecution words schedule settings consts) ⊎ ((target : Target) × AsksTranslation target words consts)
 
 -- the line that refuses the text with the constants that the words ask for
 pub record RefusedBy (words : List (List ℕ)) (text line : List ℕ) : Type 0 where
@@ -49,24 +59,33 @@ pub record RefusedBy (words : List (List ℕ)) (text line : List ℕ) : Type 0 w
   pub asks : AsksWith words consts
   pub refused : RefusedWith text consts line
 
+-- the line refuses the specification that the words ask for: the one that the input told, or that of a load
+abbrev pub RefusesSpec : List (List ℕ) → (input : Option (List ℕ)) → (line : List ℕ) → Type 0
+RefusesSpec words input line =
+    ((AsksSomeExecution words ⊎ AsksSomeTranslation words) × IfSome input (λ text. RefusedBy words text line)) ⊎ LoadRefusedBy words line
+
 -- ---- the commands `step` and `run`
 
--- the words ask for a run under some schedule with some constants and for no other, the text is short enough, and its run
--- gives these bytes and this status
+-- the words ask for a run under some schedule with some settings and constants and for no other, the text is short enough, and
+-- its run gives these bytes and this status
 pub record Asked (words : List (List ℕ)) (text : List ℕ) (number : ℕ) (written : List ℕ) : Type 0 where
   pub schedule : Schedule
+  pub settings : Settings
   pub consts : List (Name × Data)
-  pub asks : AsksExecution words schedule consts
-  pub no_others : (other : Schedule) (others : List (Name × Data)) → AsksExecution words other others → (other ≡ schedule) × (others ≡ consts)
+  pub asks : AsksExecution words schedule settings consts
+  pub no_others : (other : Schedule) (set : Settings) (others : List (Name × Data)) → AsksExecution words other set others
+      → (other ≡ schedule) × (set ≡ settings) × (others ≡ consts)
   pub short : length text ≤ most_bytes
-  pub runs : Runs text consts schedule number written
+  pub runs : Runs text consts settings schedule number written
 
 -- the same words, and the text has no run with these constants: it spells no specification, or one that is refused
 pub record IsRefused (words : List (List ℕ)) (text : List ℕ) : Type 0 where
   pub schedule : Schedule
+  pub settings : Settings
   pub consts : List (Name × Data)
-  pub asks : AsksExecution words schedule consts
-  pub no_others : (other : Schedule) (others : List (Name × Data)) → AsksExecution words other others → (other ≡ schedule) × (others ≡ consts)
+  pub asks : AsksExecution words schedule settings consts
+  pub no_others : (other : Schedule) (set : Settings) (others : List (Name × Data)) → AsksExecution words other set others
+      → (other ≡ schedule) × (set ≡ settings) × (others ≡ consts)
   pub short : length text ≤ most_bytes
   pub refused : IsExpandable text consts → ⊥
 
@@ -108,24 +127,40 @@ abbrev pub WritesTranslationPrefix : List (List ℕ) → (input old new : Option
 WritesTranslationPrefix words input old new =
     AsksSomeTranslation words × IfSome input (λ text. (written : List ℕ) × Translated words text written × GrowsByPrefix old new written)
 
+-- ---- the command `load`
+
+-- the words ask for a load, and the output has grown by its line
+abbrev pub WritesLoad : List (List ℕ) → (old new : Option (List ℕ)) → Type 0
+WritesLoad words old new = (written : List ℕ) × Loaded words written × Grows old new written
+
+-- the words ask for a load, and the output has grown by a prefix of its line
+abbrev pub WritesLoadPrefix : List (List ℕ) → (old new : Option (List ℕ)) → Type 0
+WritesLoadPrefix words old new = (written : List ℕ) × Loaded words written × GrowsByPrefix old new written
+
 -- ---- statuses
 
--- the run ended with every instance at Done, or the log is a run, or the specification is translated
+-- the run ended with every instance at Done, or the log is a run, or the specification is translated, or the load is judged
 abbrev pub EndsWell : List (List ℕ) → (input old new : Option (List ℕ)) → Type 0
-EndsWell words input old new = WritesBundle words input 0 old new ⊎ (WritesVerdict words input IsRunVerdict old new ⊎ WritesTranslation words input old new)
+EndsWell words input old new =
+    WritesBundle words input 0 old new
+    ⊎ (WritesVerdict words input IsRunVerdict old new
+    ⊎ (WritesTranslation words input old new ⊎ WritesLoad words old new))
 
--- a prefix of the bundle of a run, of the line of a verdict, or of a translation, came to the output
+-- a prefix of the bundle of a run, of the line of a verdict, of a translation, or of the line of a load, came to the output
 abbrev pub WritesPrefix : List (List ℕ) → (input old new : Option (List ℕ)) → Type 0
 WritesPrefix words input old new =
-    WritesBundlePrefix words input old new ⊎ (WritesVerdictPrefix words input old new ⊎ WritesTranslationPrefix words input old new)
+    WritesBundlePrefix words input old new
+    ⊎ (WritesVerdictPrefix words input old new
+    ⊎ (WritesTranslationPrefix words input old new ⊎ WritesLoadPrefix words old new))
 
 -- why a command that wrote nothing stopped
 abbrev pub Stops : List (List ℕ) → (input : Option (List ℕ)) → (faults_before faults_now : ℕ) → Status → Type 0
 Stops words input before now status.Usage = AsksNothing words
 Stops words input before now status.SpecRefused =
-    (AsksSomeExecution words × IfSome input (IsRefused words)) ⊎ (AsksSomeTranslation words × IfSome input (NotTranslated words))
+    (AsksSomeExecution words × IfSome input (IsRefused words))
+    ⊎ ((AsksSomeTranslation words × IfSome input (NotTranslated words)) ⊎ NotLoaded words)
 Stops words input before now status.BadBundle = AsksCheck words × IfSome input (λ text. (length text ≤ most_bundle_bytes) × IsNoBundle text)
-Stops words input before now status.ReadFault = AsksSomething words × Rose before now
+Stops words input before now status.ReadFault = AsksOfInput words × Rose before now
 Stops words input before now status.TooLong =
     (AsksSomeExecution words × IfSome input (λ text. most_bytes < length text))
     ⊎ ((AsksCheck words × IfSome input (λ text. most_bundle_bytes < length text))
@@ -153,7 +188,7 @@ IsRefusal status.ReadFault = Unit {0}
 IsRefusal status.TooLong = Unit {0}
 IsRefusal status.NoMemory = Unit {0}
 
--- a status that comes after the input was read to its end
+-- a status that comes after the input was read to its end, of a command that reads it
 abbrev pub ReadsAll : Status → Type 0
 ReadsAll status.Fine = Unit {0}
 ReadsAll status.Stopped = Unit {0}
@@ -184,17 +219,17 @@ IsRunOrNoMemory s = (s ≡ status.Fine) ⊎ ((s ≡ status.Stopped) ⊎ ((s ≡ 
 abbrev pub SaysLine : Status → (old new : Option (List ℕ)) → Type 0
 SaysLine s old new = IfSome (line_of s) (λ l. Grows old new l)
 
--- the error output has grown by a line, and where the input told its text, that line refuses it
+-- the error output has grown by a line that refuses the specification
 abbrev pub SaysRefusal : List (List ℕ) → (input old new : Option (List ℕ)) → Type 0
-SaysRefusal words input old new = (line : List ℕ) × Grows old new line × IfSome input (λ text. RefusedBy words text line)
+SaysRefusal words input old new = (line : List ℕ) × Grows old new line × RefusesSpec words input line
 
 -- the error output has grown by a line that names a line of a text that is no bundle
 abbrev pub SaysBundleLine : (old new : Option (List ℕ)) → Type 0
 SaysBundleLine old new = (n : ℕ) × Grows old new (bundle_line n)
 
--- the words ask for a run under this schedule with these constants, and the input tells this text
-pub record IsToldToExecute (schedule : Schedule) (words : List (List ℕ)) (input : Option (List ℕ)) (consts : List (Name × Data)) (text : List ℕ) : Type 0 where
-  pub asks : AsksExecution words schedule consts
+-- the words ask for a run under this schedule with these settings and constants, and the input tells this text
+pub record IsToldToExecute (schedule : Schedule) (settings : Settings) (words : List (List ℕ)) (input : Option (List ℕ)) (consts : List (Name × Data)) (text : List ℕ) : Type 0 where
+  pub asks : AsksExecution words schedule settings consts
   pub told : input ≡ Some text
 
 -- the words ask for a check, and the input tells this text

@@ -1,13 +1,8 @@
-pub mod Constants
-pub mod Turns
 pub mod Asked
-pub mod Items
-pub mod Cuts
 pub mod Statuses
-pub mod RunSettings
 pub mod Spells
-pub mod Headline
 pub mod Verdicts
 pub mod Translations
+pub mod Loads
 pub mod Answers
 pub mod Makes

@@ -12,29 +12,33 @@ use Rattle.pgo_front.specs.declared.output.Written.{Written}
 use Rattle.pgo_front.specs.declared.output.Written.TheVariants as written
 use Rattle.pgo_front.specs.declared.status.Status.{Status}
 use Rattle.pgo_front.specs.declared.status.Status.TheVariants as status
-use Rattle.pgo_front.specs.declared.words.Request.{Request}
-use Rattle.pgo_front.specs.declared.words.Request.TheVariants.{Execute, Check, Translate}
+use Rattle.pgo_front.specs.declared.task.Task.{Task}
+use Rattle.pgo_front.specs.declared.task.Task.TheVariants.{Execute, Check, Translate, Load}
 use Rattle.pgo_front.specs.declared.target.Target.{Target}
 use Rattle.pgo_execute.specs.Schedules.{Schedule, schedule_view}
-use Rattle.pgo_front.specs.Turns.{AsksCheck}
-use Rattle.pgo_front.specs.Asked.{ExecutesOnly, TranslatesOnly}
+use Rattle.pgo_load.specs.Load.{Loads}
+use Rattle.pgo_model.specs.Core.{Settings}
+use Rattle.pgo_syntax.specs.RecordView.{settings_view}
+use Rattle.pgo_verdicts.specs.Judged.{Judged}
+use Rattle.pgo_verdicts.specs.Runs.{Runs}
+use Rattle.pgo_front.specs.Asked.{AsksCheck, ExecutesOnly, TranslatesOnly, LoadsOnly}
+use Rattle.pgo_front.specs.Loads.{Loaded, load_line}
 use Rattle.pgo_front.specs.Spells.{most_bytes}
 use Rattle.pgo_front.specs.Statuses.{number_of}
-use Rattle.pgo_front.specs.Headline.{Runs}
 use Rattle.pgo_log_text.specs.ReadBundle.{IsNoBundle}
-use Rattle.pgo_front.specs.Verdicts.{Judged, verdict_line, bundle_line, most_bundle_bytes}
+use Rattle.pgo_front.specs.Verdicts.{verdict_line, bundle_line, most_bundle_bytes}
 use Rattle.pgo_front.specs.Translations.{TranslatesTo, Translated}
 use Rattle.pgo_accept.specs.Answers.{IsExpandable}
-use Rattle.pgo_accept.specs.Refusals.{rejection_line}
+use Rattle.pgo_accept.specs.Refusals.{RefusedWith, rejection_line}
 use Rattle.pgo_accept.specs.declared.errors.Rejection.{Rejection}
-use Rattle.pgo_front.specs.Answers.{Asked, AsksSomeExecution, AsksSomeTranslation, AsksNothing, Checked}
+use Rattle.pgo_front.specs.Answers.{Asked, AsksSomeExecution, AsksSomeTranslation, Checked}
 
--- what the words ask for
-abbrev pub AsksFor : List (List ℕ) → Option Request → Type 0
-AsksFor words None = AsksNothing words
-AsksFor words (Some (Execute schedule consts)) = ExecutesOnly words (Some (schedule_view schedule, consts))
-AsksFor words (Some Check) = AsksCheck words
-AsksFor words (Some (Translate target consts)) = TranslatesOnly words (Some (target, consts))
+-- the words ask for this task and for nothing else
+abbrev pub AsksFor : List (List ℕ) → Task → Type 0
+AsksFor words (Execute schedule consts settings) = ExecutesOnly words (schedule_view schedule) (settings_view settings) consts
+AsksFor words Check = AsksCheck words
+AsksFor words (Translate target consts) = TranslatesOnly words target consts
+AsksFor words (Load size) = LoadsOnly words size
 
 -- the bytes of what is written
 abbrev pub bytes_of : Written → List ℕ
@@ -53,9 +57,9 @@ StopsReading limit input before now s =
 abbrev pub IsRunEnd : Status → Type 0
 IsRunEnd s = (s ≡ status.Fine) ⊎ ((s ≡ status.Stopped) ⊎ ((s ≡ status.Spent) ⊎ (s ≡ status.Full)))
 
--- this is what the run of the text with these constants under this schedule gives
-abbrev pub MakesRun : Schedule → (text : List ℕ) → List (Name × Data) → Output → Type 0
-MakesRun schedule text consts m = Runs text consts schedule (number_of m.status) (bytes_of m.written)
+-- this is what the run of the text with these constants and settings under this schedule gives
+abbrev pub MakesRun : Schedule → Settings → (text : List ℕ) → List (Name × Data) → Output → Type 0
+MakesRun schedule settings text consts m = Runs text consts settings schedule (number_of m.status) (bytes_of m.written)
 
 -- a text is refused for this cause, or there was no memory
 abbrev pub StopsFor : Type 0 → Status → Type 0
@@ -74,10 +78,14 @@ StopsInput Cause input before now s =
 abbrev pub StopsSpecInput : List (Name × Data) → (input : Option (List ℕ)) → (faults_before faults_now : ℕ) → Status → Type 0
 StopsSpecInput consts input before now s = StopsInput (λ text. IsExpandable text consts → ⊥) input before now s
 
--- a line comes with a refused specification alone, and says of its text what R says
-abbrev pub HasLine : (input : Option (List ℕ)) → (R : (text line : List ℕ) → Type 0) → Status → Option (List ℕ) → Type 0
-HasLine input R s None = s ≡ status.SpecRefused → ⊥
-HasLine input R s (Some l) = (s ≡ status.SpecRefused) × IfSome input (λ text. R text l)
+-- a line comes with a refused specification alone, and this holds of it
+abbrev pub HasLine : (R : (line : List ℕ) → Type 0) → Status → Option (List ℕ) → Type 0
+HasLine R s None = s ≡ status.SpecRefused → ⊥
+HasLine R s (Some l) = (s ≡ status.SpecRefused) × R l
+
+-- the line refuses the text that the input told, with these constants
+abbrev pub RefusesInput : List (Name × Data) → (input : Option (List ℕ)) → (line : List ℕ) → Type 0
+RefusesInput consts input l = IfSome input (λ text. RefusedWith text consts l)
 
 -- ---- the command `check`
 
@@ -132,11 +140,20 @@ abbrev pub IsRejected : Rejection → Status → Option (List ℕ) → Type 0
 IsRejected e s None = s ≡ status.NoMemory
 IsRejected e s (Some l) = (s ≡ status.SpecRefused) × (rejection_line e ≡ Some l)
 
+-- ---- the command `load`
+
+-- the load of this size has so many instances and entries, and this is its line
+pub record MakesLoad (size : ℕ) (m : Output) : Type 0 where
+  pub instances : ℕ
+  pub steps : ℕ
+  pub loads : Loads size instances steps
+  pub line_is : bytes_of m.written ≡ load_line size instances steps
+
 -- ---- all of them
 
 -- the line of the end of a command: that of a refused specification, or of a text that is no bundle; no other end has one
-abbrev pub HasOwnLine : (input : Option (List ℕ)) → (R : (text line : List ℕ) → Type 0) → Status → Option (List ℕ) → Type 0
-HasOwnLine input R s line = (HasLine input R s line × (s ≡ status.BadBundle → ⊥)) ⊎ ((s ≡ status.BadBundle) × NamesLine line)
+abbrev pub HasOwnLine : (R : (line : List ℕ) → Type 0) → Status → Option (List ℕ) → Type 0
+HasOwnLine R s line = (HasLine R s line × (s ≡ status.BadBundle → ⊥)) ⊎ ((s ≡ status.BadBundle) × NamesLine line)
 
 -- what a command made of its words and its input
 abbrev pub MakesOfRun : List (List ℕ) → (input : Option (List ℕ)) → Output → Type 0
@@ -151,5 +168,8 @@ abbrev pub MakesOfTranslation : List (List ℕ) → (input : Option (List ℕ)) 
 MakesOfTranslation words input m =
     AsksSomeTranslation words × (m.status ≡ status.Fine) × IfSome input (λ text. Translated words text (bytes_of m.written))
 
+abbrev pub MakesOfLoad : List (List ℕ) → Output → Type 0
+MakesOfLoad words m = (m.status ≡ status.Fine) × Loaded words (bytes_of m.written)
+
 abbrev pub MakesAsked : List (List ℕ) → (input : Option (List ℕ)) → Output → Type 0
-MakesAsked words input m = MakesOfRun words input m ⊎ (MakesOfCheck words input m ⊎ MakesOfTranslation words input m)
+MakesAsked words input m = MakesOfRun words input m ⊎ (MakesOfCheck words input m ⊎ (MakesOfTranslation words input m ⊎ MakesOfLoad words m))

@@ -18,7 +18,7 @@ use Rattle.pgo_written.specs.Alone.{SpellsAlone}
 use Rattle.pgo_front.specs.declared.target.Target.{Target}
 use Rattle.pgo_front.specs.declared.target.Target.TheVariants as targets
 use Rattle.pgo_front.specs.Spells.{most_bytes}
-use Rattle.pgo_front.specs.Turns.{AsksTranslation}
+use Rattle.pgo_front.specs.Asked.{AsksTranslation}
 
 -- the text spells this specification and no other, nothing refuses it with these constants, and this is the text of its
 -- expansion

@@ -1,16 +1,10 @@
 -- What `pgo check` says of a bundle.
 use Rattle.std.specs.Prelude.{ℕ, List, ◌++◌, codes, decimal}
-use Rattle.pgo_base.specs.Data.{Data}
-use Rattle.pgo_base.specs.Lookup.{Name}
-use Rattle.pgo_model.specs.Module.{Module}
 use Rattle.pgo_model.specs.ModuleText.{line}
-use Rattle.pgo_model.specs.Log.{Log}
 use Rattle.pgo_check.specs.declared.verdict.Verdict.{Verdict}
 use Rattle.pgo_check.specs.declared.verdict.Verdict.TheVariants.{Run, Bad}
 use Rattle.pgo_check.specs.declared.verdict.Why.{Why}
 use Rattle.pgo_check.specs.declared.verdict.Why.TheVariants.{NoInit, NoStep}
-use Rattle.pgo_check.specs.Verdict.{Decides}
-use Rattle.pgo_log_text.specs.ReadBundle.{IsReadBundle, IsOnlyBundle}
 
 -- the most bytes of a bundle
 abbrev pub most_bundle_bytes : ℕ
@@ -36,13 +30,3 @@ IsRunVerdict (Bad n w) = ⊥
 abbrev pub IsBadVerdict : Verdict → Type 0
 IsBadVerdict (Run n) = ⊥
 IsBadVerdict (Bad n w) = Unit {0}
-
--- the text is the bundle of one module, its constants and one log, and this is the verdict on the log
-pub record Judged (text : List ℕ) (v : Verdict) : Type 0 where
-  pub written_module : Module
-  pub consts : List (Name × Data)
-  pub log : Log
-  pub bundle : IsReadBundle text written_module consts log
-  -- it is the bundle of nothing else
-  pub only : IsOnlyBundle text written_module consts log
-  pub decides : Decides written_module consts log.ids log.start log.entries v

@@ -8,13 +8,12 @@ use crate::ended::Ended;
 use crate::input::read_input;
 use crate::output::{Output, Written};
 use crate::status::Status;
-use pgo_check::checker::check;
 use pgo_check::verdict::{Verdict, Why};
 use pgo_io::source::Source;
 use pgo_lines::line::Lines;
 use pgo_lines::line::Piece::{Bytes, Number};
-use pgo_log_text::bundle_reader::read_bundle;
 use pgo_log_text::errors::LogStop;
+use pgo_verdicts::judge::judge;
 use std::alloc::{AllocError, Global};
 
 /// The most bytes of a bundle.
@@ -32,26 +31,22 @@ pub fn make_check<S: Source>(alloc: Global, input: &mut S) -> Result<Output, End
     ensures ended_refused { IfErr result (λ e. ReadsAll e.status → IsAtEnd (S.left input.old) (S.left input.new)) }
 {
     match read_input(alloc, input, MOST_BUNDLE_BYTES) {
-        Ok(text) => judge(alloc, text.as_slice()),
+        Ok(text) => check_text(alloc, text.as_slice()),
         Err(status) => Err(Ended::as_status(status)),
     }
 }
 
 /// Makes the line of the verdict on the bundle that the text is.
-fn judge(alloc: Global, text: &[u8]) -> Result<Output, Ended>
+fn check_text(alloc: Global, text: &[u8]) -> Result<Output, Ended>
     ensures ok { IfOk result (MakesJudged text.now) }
     ensures either { IfOk result IsVerdictStatus }
     ensures err { IfErr result (λ e. StopsJudging text.now e.status) }
     ensures line { IfErr result (λ e. HasBundleLine e.status e.line) }
 {
-    let (module, consts, log) = match read_bundle(alloc, text) {
-        Ok(bundle) => bundle,
-        Err(LogStop::BadLog { line }) => return Err(Ended::as_no_bundle(alloc, line)),
-        Err(LogStop::NoMemory) => return Err(Ended::as_status(Status::NoMemory)),
-    };
-    match check(alloc, &module, &consts, &log) {
-        Ok(verdict) => make_verdict(alloc, verdict),
-        Err(_) => Err(Ended::as_status(Status::NoMemory)),
+    match judge(alloc, text) {
+        Ok(judgement) => make_verdict(alloc, judgement.verdict),
+        Err(LogStop::BadLog { line }) => Err(Ended::as_no_bundle(alloc, line)),
+        Err(LogStop::NoMemory) => Err(Ended::as_status(Status::NoMemory)),
     }
 }
 

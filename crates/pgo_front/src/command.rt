@@ -4,6 +4,7 @@ ghost use Rattle.pgo_io.specs.Faults.{Rose};
 ghost use Rattle.pgo_io.specs.Sink.{Grows, GrowsByPrefix};
 ghost use Rattle.pgo_base.specs.Data.{Data};
 ghost use Rattle.pgo_base.specs.Lookup.{Name};
+ghost use Rattle.pgo_model.specs.Core.{Settings};
 ghost use Rattle.pgo_model.specs.Module.{Module};
 ghost use Rattle.pgo_model.specs.ModuleText.{flatten};
 ghost use Rattle.pgo_model.specs.Log.{Log};
@@ -14,35 +15,45 @@ ghost use Rattle.pgo_front.specs.declared.target.Target.{Target};
 ghost use Rattle.pgo_front.specs.Spells.{most_bytes};
 ghost use Rattle.pgo_front.specs.Statuses.{line_of, IsSilent};
 ghost use Rattle.pgo_front.specs.Verdicts.{most_bundle_bytes, IsBadVerdict};
-ghost use Rattle.pgo_front.specs.Answers.{AsksNothing, RefusedBy, EndsWell, WritesBundle, WritesVerdict, WritesPrefix, Stops, IsRefusal, ReadsAll, IsAtEnd, OrNoMemory, IsRunOrNoMemory, SaysLine, SaysRefusal, SaysBundleLine, IsToldToExecute, IsToldToCheck, IsToldToTranslate};
+ghost use Rattle.pgo_front.specs.Asked.{AsksLoad};
+ghost use Rattle.pgo_front.specs.Answers.{AsksNothing, AsksSomeLoad, ReadsNothing, RefusesSpec, EndsWell, WritesBundle, WritesVerdict, WritesPrefix, Stops, IsRefusal, ReadsAll, IsAtEnd, OrNoMemory, IsRunOrNoMemory, SaysLine, SaysRefusal, SaysBundleLine, IsToldToExecute, IsToldToCheck, IsToldToTranslate};
 ghost use Rattle.pgo_front.specs.Makes.{MakesAsked, HasOwnLine, bytes_of};
 ghost use Rattle.pgo_accept.specs.Answers.{IsExpandable};
+ghost use Rattle.pgo_load.specs.Load.{load_consts, load_text};
 
 use crate::check::make_check;
 use crate::ended::Ended;
 use crate::execution::make_execution;
+use crate::load::make_load;
 use crate::output::{Output, Written};
 use crate::status::Status;
+use crate::task::{Task, read_task};
 use crate::translate::make_translation;
-use crate::words::{Request, read_words};
 use pgo_base::word::Word;
 use pgo_io::errors::Failed;
 use pgo_io::sink::Sink;
 use pgo_io::source::Source;
 use pgo_io::write_all::write_all;
 use pgo_lines::line::Lines;
+use pgo_words::errors::WordStop;
 use pgo_written_runs::read_values_are_canonical;
 use std::alloc::Global;
 
-/// Runs the command that the words ask for: `step --turns LIST` or `run` and then constants, `NAME=value` each, with a
-/// specification as its input and the bundle of its run as its output, under these turns or in rounds until all instances have
-/// ended; or `check`, with a bundle as its input and the verdict on its log as its output, one line, `run steps` or
-/// `bad at why`; or `expand` or `compile` and then constants, with a specification as its input and its translation as its
-/// output: the text of its expansion, or that of its module.
+/// Runs the command that the words ask for:
+///
+/// - `step`, its options with `--turns LIST` among them, and constants, `NAME=value` each; or `run`, its options, and constants. A
+///   specification is the input, and the bundle of its run the output: under these turns, or in rounds until all instances have
+///   ended, with the settings that the options `--seed`, `--attempts` and `--steps` give.
+/// - `check`: a bundle is the input, and the verdict on its log the output, one line, `run steps` or `bad at why`.
+/// - `expand` or `compile`, and constants: a specification is the input, and its translation the output: the text of its expansion,
+///   or that of its module.
+/// - `load N`: the output is one line, `load N: instances I, steps S, verdict run S`, of the run of the specification that is made
+///   from N, with I instances and S entries, whose bundle is judged a run. No input is read.
 ///
 /// The words come first, then the input is read to its end, then the text is read, then the run, the check or the translation
-/// is made, and only then is the output written, line by line. A refusal puts its one line on `err`, whose faults change no status. The
-/// statuses are those of `Status`. This project's choice.
+/// is made, and only then is the output written, line by line. A refusal puts its one line on `err`, whose faults change no status.
+/// The specification of a load may be refused as one of the input may: with `SpecRefused` and its line. The statuses are those of
+/// `Status`. This project's choice.
 pub fn pgo<S: Source, O: Sink, E: Sink>(
     alloc: Global,
     words: &[Word],
@@ -62,12 +73,15 @@ pub fn pgo<S: Source, O: Sink, E: Sink>(
 
     // Each cause has its status, or there is no memory.
     ensures usage { AsksNothing words.now → OrNoMemory result Status.Usage }
-    ensures too_long { (schedule : Schedule) (text : List ℕ) (consts : List (Name × Data)) → IsToldToExecute schedule words.now (S.left input.old) consts text →
+    ensures too_long { (schedule : Schedule) (settings : Settings) (text : List ℕ) (consts : List (Name × Data)) →
+        IsToldToExecute schedule settings words.now (S.left input.old) consts text →
         ¬ Rose (S.faults input.old) (S.faults input.new) → most_bytes < length text → OrNoMemory result Status.TooLong }
-    ensures refused { (schedule : Schedule) (text : List ℕ) (consts : List (Name × Data)) → IsToldToExecute schedule words.now (S.left input.old) consts text →
+    ensures refused { (schedule : Schedule) (settings : Settings) (text : List ℕ) (consts : List (Name × Data)) →
+        IsToldToExecute schedule settings words.now (S.left input.old) consts text →
         ¬ Rose (S.faults input.old) (S.faults input.new) →
         length text ≤ most_bytes → ¬ IsExpandable text consts → OrNoMemory result Status.SpecRefused }
-    ensures runs { (schedule : Schedule) (text : List ℕ) (consts : List (Name × Data)) → IsToldToExecute schedule words.now (S.left input.old) consts text →
+    ensures runs { (schedule : Schedule) (settings : Settings) (text : List ℕ) (consts : List (Name × Data)) →
+        IsToldToExecute schedule settings words.now (S.left input.old) consts text →
         ¬ Rose (S.faults input.old) (S.faults input.new) → ¬ Rose (O.faults out.old) (O.faults out.new) →
         length text ≤ most_bytes → IsExpandable text consts → IsRunOrNoMemory result }
 
@@ -91,14 +105,18 @@ pub fn pgo<S: Source, O: Sink, E: Sink>(
     ensures too_long_to_translate { (target : Target) (text : List ℕ) (consts : List (Name × Data)) → IsToldToTranslate target words.now (S.left input.old) consts text →
         ¬ Rose (S.faults input.old) (S.faults input.new) → most_bytes < length text → OrNoMemory result Status.TooLong }
 
+    ensures loads { (size : ℕ) → AsksLoad size words.now → ¬ Rose (O.faults out.old) (O.faults out.new) →
+        IsExpandable (load_text size) (load_consts size) → OrNoMemory result Status.Fine }
+    ensures load_refused { (size : ℕ) → AsksLoad size words.now → ¬ IsExpandable (load_text size) (load_consts size) → OrNoMemory result Status.SpecRefused }
+
     // A failure of the input or the output is never passed over.
     ensures read_failed { (result ≡ Status.ReadFault) ⊎ (S.faults input.new ≡ S.faults input.old) }
     ensures write_failed { (result ≡ Status.WriteFault) ⊎ (O.faults out.new ≡ O.faults out.old) }
 
     // A refusal writes nothing but its line.
     ensures kept { IsRefusal result → out.new ≡ out.old }
-    ensures unread { AsksNothing words.now → input.new ≡ input.old }
-    ensures ended { ReadsAll result → IsAtEnd (S.left input.old) (S.left input.new) }
+    ensures unread { ReadsNothing words.now → input.new ≡ input.old }
+    ensures ended { ¬ AsksSomeLoad words.now → ReadsAll result → IsAtEnd (S.left input.old) (S.left input.new) }
     ensures says { ¬ Rose (E.faults err.old) (E.faults err.new) → SaysLine result (E.held err.old) (E.held err.new) }
     ensures says_refusal { result ≡ Status.SpecRefused → ¬ Rose (E.faults err.old) (E.faults err.new) →
         SaysRefusal words.now (S.left input.old) (E.held err.old) (E.held err.new) }
@@ -137,14 +155,14 @@ fn run<S: Source, O: Sink>(alloc: Global, words: &[Word], input: &mut S, out: &m
     ensures full { result.status ≡ Status.Full → WritesBundle words.now (S.left input.old) 23 (O.held out.old) (O.held out.new) }
     ensures not_a_run { result.status ≡ Status.NotARun → WritesVerdict words.now (S.left input.old) IsBadVerdict (O.held out.old) (O.held out.new) }
     ensures stopped { IsRefusal result.status → Stops words.now (S.left input.old) (S.faults input.old) (S.faults input.new) result.status }
-    ensures line { HasOwnLine (S.left input.old) (RefusedBy words.now) result.status result.line }
+    ensures line { HasOwnLine (RefusesSpec words.now (S.left input.old)) result.status result.line }
     ensures write_fault { result.status ≡ Status.WriteFault → Rose (O.faults out.old) (O.faults out.new) }
     ensures prefix { result.status ≡ Status.WriteFault → WritesPrefix words.now (S.left input.old) (O.held out.old) (O.held out.new) }
     ensures read_failed { (result.status ≡ Status.ReadFault) ⊎ (S.faults input.new ≡ S.faults input.old) }
     ensures write_failed { (result.status ≡ Status.WriteFault) ⊎ (O.faults out.new ≡ O.faults out.old) }
     ensures kept { IsRefusal result.status → out.new ≡ out.old }
-    ensures unread { AsksNothing words.now → input.new ≡ input.old }
-    ensures ended { ReadsAll result.status → IsAtEnd (S.left input.old) (S.left input.new) }
+    ensures unread { ReadsNothing words.now → input.new ≡ input.old }
+    ensures ended { ¬ AsksSomeLoad words.now → ReadsAll result.status → IsAtEnd (S.left input.old) (S.left input.new) }
 {
     match make(alloc, words, input) {
         Ok(output) => match write_made(out, &output.written) {
@@ -210,28 +228,27 @@ fn write_text<O: Sink>(out: &mut O, text: &[u8]) -> Result<(), Failed>
     Ok(())
 }
 
-/// Makes the output that the words ask for, from all of the input.
+/// Makes the output that the words ask for, from all of the input, or from a load's number.
 fn make<S: Source>(alloc: Global, words: &[Word], input: &mut S) -> Result<Output, Ended>
     ensures ok { IfOk result (MakesAsked words.now (S.left input.old)) }
     ensures err { IfErr result (λ e. Stops words.now (S.left input.old) (S.faults input.old) (S.faults input.new) e.status) }
-    ensures line { IfErr result (λ e. HasOwnLine (S.left input.old) (RefusedBy words.now) e.status e.line) }
+    ensures line { IfErr result (λ e. HasOwnLine (RefusesSpec words.now (S.left input.old)) e.status e.line) }
     ensures refusal { IfErr result (λ e. IsRefusal e.status) }
-    ensures unread { AsksNothing words.now → input.new ≡ input.old }
-    ensures ended { OnOk result (IsAtEnd (S.left input.old) (S.left input.new)) }
+    ensures unread { ReadsNothing words.now → input.new ≡ input.old }
+    ensures ended { ¬ AsksSomeLoad words.now → OnOk result (IsAtEnd (S.left input.old) (S.left input.new)) }
     ensures steady { OnOk result (S.faults input.new ≡ S.faults input.old) }
     ensures failed { IfErr result (λ e. (e.status ≡ Status.ReadFault) ⊎ (S.faults input.new ≡ S.faults input.old)) }
-    ensures ended_refused { IfErr result (λ e. ReadsAll e.status → IsAtEnd (S.left input.old) (S.left input.new)) }
+    ensures ended_refused { ¬ AsksSomeLoad words.now → IfErr result (λ e. ReadsAll e.status → IsAtEnd (S.left input.old) (S.left input.new)) }
 {
-    match read_words(alloc, words) {
-        Ok(Some(Request::Execute(schedule, consts))) => {
+    match read_task(alloc, words) {
+        Ok(Task::Execute(schedule, consts, settings)) => {
             read_values_are_canonical();
-            make_execution(alloc, &schedule, &consts, input)
+            make_execution(alloc, &schedule, &consts, &settings, input)
         }
-        Ok(Some(Request::Check)) => make_check(alloc, input),
-        Ok(Some(Request::Translate(target, consts))) => make_translation(
-            alloc, target, &consts, input,
-        ),
-        Ok(None) => Err(Ended::as_status(Status::Usage)),
-        Err(_) => Err(Ended::as_status(Status::NoMemory)),
+        Ok(Task::Check) => make_check(alloc, input),
+        Ok(Task::Translate(target, consts)) => make_translation(alloc, target, &consts, input),
+        Ok(Task::Load(size)) => make_load(alloc, size),
+        Err(WordStop::Usage) => Err(Ended::as_status(Status::Usage)),
+        Err(WordStop::NoMemory) => Err(Ended::as_status(Status::NoMemory)),
     }
 }

@@ -1,13 +1,12 @@
 // The commands `step` and `run`: a specification is run.
-ghost use Rattle.std.specs.Prelude.{◌≡◌, ◌≤◌, ◌⊎◌, length, Some, IfOk, IfErr, IfSome, OnOk};
+ghost use Rattle.std.specs.Prelude.{◌≡◌, ◌≤◌, ◌⊎◌, [], length, IfOk, IfErr, IfSome, OnOk};
 ghost use Rattle.pgo_accept.specs.Refusals.{RefusedWith};
 ghost use Rattle.pgo_execute.specs.Gives.{IsRunStatus};
 ghost use Rattle.pgo_execute.specs.Schedules.{schedule_view};
 ghost use Rattle.pgo_log_text.specs.IsBundle.{AreCanonical};
 ghost use Rattle.pgo_syntax.specs.RecordView.{settings_view};
 ghost use Rattle.pgo_front.specs.Answers.{IsAtEnd, ReadsAll};
-ghost use Rattle.pgo_front.specs.Makes.{HasLine, IsRunEnd, MakesRun, StopsSpec, StopsSpecInput};
-ghost use Rattle.pgo_front.specs.RunSettings as spec;
+ghost use Rattle.pgo_front.specs.Makes.{HasLine, IsRunEnd, MakesRun, RefusesInput, StopsSpec, StopsSpecInput};
 ghost use Rattle.pgo_front.specs.Spells.{most_bytes};
 ghost use Rattle.pgo_front.specs.Statuses.{number_of};
 
@@ -19,29 +18,32 @@ use pgo_base::consts::Consts;
 use pgo_execute::execute::execute;
 use pgo_execute::schedule::Schedule;
 use pgo_io::source::Source;
-use pgo_syntax::records::{Down, Settings};
+use pgo_syntax::records::Settings;
+use pgo_verdicts::runs_are_accepted;
 use std::alloc::Global;
 
-/// Makes the bundle of a run, under this schedule and with these constants, of the specification that the input spells. Texts spell
-/// the constants' values.
+/// Makes the bundle of a run, under this schedule and with these constants and settings, of the specification that the input
+/// spells. Texts spell the constants' values, and no pre-commit is set to fail.
 pub fn make_execution<S: Source>(
     alloc: Global,
     schedule: &Schedule,
     consts: &Consts,
+    settings: &Settings,
     input: &mut S,
 ) -> Result<Output, Ended>
-    requires { AreCanonical consts.now }
-    ensures ok { IfOk result (λ m. IfSome (S.left input.old) (λ text. (length text ≤ most_bytes) × MakesRun (schedule_view schedule.now) text consts.now m)) }
+    requires constants { AreCanonical consts.now }
+    requires no_failures { (settings_view settings.now).down ≡ [] }
+    ensures ok { IfOk result (λ m. IfSome (S.left input.old) (λ text. (length text ≤ most_bytes) × MakesRun (schedule_view schedule.now) (settings_view settings.now) text consts.now m)) }
     ensures either { IfOk result (λ m. IsRunEnd m.status) }
     ensures err { IfErr result (λ e. StopsSpecInput consts.now (S.left input.old) (S.faults input.old) (S.faults input.new) e.status) }
-    ensures line { IfErr result (λ e. HasLine (S.left input.old) (λ text l. RefusedWith text consts.now l) e.status e.line) }
+    ensures line { IfErr result (λ e. HasLine (RefusesInput consts.now (S.left input.old)) e.status e.line) }
     ensures ended { OnOk result (IsAtEnd (S.left input.old) (S.left input.new)) }
     ensures steady { OnOk result (S.faults input.new ≡ S.faults input.old) }
     ensures failed { IfErr result (λ e. (e.status ≡ Status.ReadFault) ⊎ (S.faults input.new ≡ S.faults input.old)) }
     ensures ended_refused { IfErr result (λ e. ReadsAll e.status → IsAtEnd (S.left input.old) (S.left input.new)) }
 {
     match read_input(alloc, input, MOST_BYTES) {
-        Ok(text) => execute_text(alloc, schedule, consts, text.as_slice()),
+        Ok(text) => execute_text(alloc, schedule, consts, settings, text.as_slice()),
         Err(status) => Err(Ended::as_status(status)),
     }
 }
@@ -51,35 +53,23 @@ fn execute_text(
     alloc: Global,
     schedule: &Schedule,
     consts: &Consts,
+    settings: &Settings,
     text: &[u8],
 ) -> Result<Output, Ended>
-    requires { AreCanonical consts.now }
-    ensures ok { IfOk result (MakesRun (schedule_view schedule.now) text.now consts.now) }
+    requires constants { AreCanonical consts.now }
+    requires no_failures { (settings_view settings.now).down ≡ [] }
+    ensures ok { IfOk result (MakesRun (schedule_view schedule.now) (settings_view settings.now) text.now consts.now) }
     ensures either { IfOk result (λ m. IsRunEnd m.status) }
     ensures err { IfErr result (λ e. StopsSpec text.now consts.now e.status) }
-    ensures line { IfErr result (λ e. HasLine (Some text.now) (λ t l. RefusedWith t consts.now l) e.status e.line) }
+    ensures line { IfErr result (λ e. HasLine (RefusedWith text.now consts.now) e.status e.line) }
 {
-    let settings = run_settings(alloc);
-    match execute(alloc, text, consts, &settings, schedule) {
+    runs_are_accepted();
+    match execute(alloc, text, consts, settings, schedule) {
         Ok(executed) => Ok(Output {
             status: run_status(executed.status),
             written: Written::Text(executed.text),
         }),
         Err(rejection) => Err(Ended::as_rejected(alloc, &rejection)),
-    }
-}
-
-/// The settings of each run: seed 0, at most 10,000 attempts of an instance and as many entries, and no pre-commit that
-/// fails. This project's choice.
-fn run_settings(alloc: Global) -> Settings
-    ensures { settings_view result ≡ spec.settings }
-{
-    Settings {
-        seed: 0,
-        attempts: 10_000,
-        steps: 10_000,
-        down: Down::new(alloc),
-        park: false,
     }
 }
 

@@ -3,15 +3,15 @@
 
 mod check;
 mod command;
-mod constants;
 mod ended;
 mod execution;
 mod input;
+mod load;
 mod output;
 mod status;
 mod target;
+mod task;
 mod translate;
-mod words;
 
 pub use command::pgo;
 pub use status::Status;

@@ -5,7 +5,8 @@ ghost use Rattle.pgo_front.specs.Statuses.{number_of, line_of};
 /// How a command ended. This project's choice.
 #[derive(Clone, Copy, Debug, PartialEq, Eq)]
 pub enum Status {
-    /// Every instance is at Done, or the bundle's log is a run of its module, or the specification is translated.
+    /// Every instance is at Done, or the bundle's log is a run of its module, or the specification is translated, or the load is
+    /// judged.
     Fine,
     /// The words ask for nothing that there is.
     Usage,

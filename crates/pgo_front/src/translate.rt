@@ -1,11 +1,11 @@
 // The commands `expand` and `compile`: a specification is translated.
-ghost use Rattle.std.specs.Prelude.{◌≡◌, ◌≤◌, ◌⊎◌, length, None, Some, IfOk, IfErr, IfSome, OnOk};
+ghost use Rattle.std.specs.Prelude.{◌≡◌, ◌≤◌, ◌⊎◌, length, None, IfOk, IfErr, IfSome, OnOk};
 ghost use Rattle.pgo_accept.specs.Refusals.{RefusedWith};
 ghost use Rattle.pgo_expr_read.specs.Texts.{most_tokens};
 ghost use Rattle.pgo_pluscal.specs.Text.{pluscal_text};
 ghost use Rattle.pgo_translate.specs.ModuleOf.{module_with};
 ghost use Rattle.pgo_front.specs.Answers.{IsAtEnd, ReadsAll};
-ghost use Rattle.pgo_front.specs.Makes.{HasLine, MakesTranslation, StopsSpec, StopsSpecInput, bytes_of};
+ghost use Rattle.pgo_front.specs.Makes.{HasLine, MakesTranslation, RefusesInput, StopsSpec, StopsSpecInput, bytes_of};
 ghost use Rattle.pgo_front.specs.Spells.{most_bytes};
 ghost use Rattle.pgo_front.specs.Translations.{IsModuleText, IsTextOf};
 
@@ -40,7 +40,7 @@ pub fn make_translation<S: Source>(
     ensures ok { IfOk result (λ m. IfSome (S.left input.old) (λ text. (length text ≤ most_bytes) × MakesTranslation target text consts.now m)) }
     ensures fine { IfOk result (λ m. m.status ≡ Status.Fine) }
     ensures err { IfErr result (λ e. StopsSpecInput consts.now (S.left input.old) (S.faults input.old) (S.faults input.new) e.status) }
-    ensures line { IfErr result (λ e. HasLine (S.left input.old) (λ text l. RefusedWith text consts.now l) e.status e.line) }
+    ensures line { IfErr result (λ e. HasLine (RefusesInput consts.now (S.left input.old)) e.status e.line) }
     ensures ended { OnOk result (IsAtEnd (S.left input.old) (S.left input.new)) }
     ensures steady { OnOk result (S.faults input.new ≡ S.faults input.old) }
     ensures failed { IfErr result (λ e. (e.status ≡ Status.ReadFault) ⊎ (S.faults input.new ≡ S.faults input.old)) }
@@ -62,7 +62,7 @@ fn translate_text(
     ensures ok { IfOk result (MakesTranslation target text.now consts.now) }
     ensures fine { IfOk result (λ m. m.status ≡ Status.Fine) }
     ensures err { IfErr result (λ e. StopsSpec text.now consts.now e.status) }
-    ensures line { IfErr result (λ e. HasLine (Some text.now) (λ t l. RefusedWith t consts.now l) e.status e.line) }
+    ensures line { IfErr result (λ e. HasLine (RefusedWith text.now consts.now) e.status e.line) }
 {
     modules_agree();
     modules_are_read_back();

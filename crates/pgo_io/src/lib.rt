@@ -1,7 +1,10 @@
 // Where bytes come from and where they go.
 #![tactic(auto)]
 
+mod calls;
 pub mod errors;
+pub mod mem_sink;
+pub mod mem_source;
 pub mod read_all;
 pub mod sink;
 pub mod source;

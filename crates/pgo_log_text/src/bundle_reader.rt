@@ -34,7 +34,8 @@ use std::alloc::Global;
 /// for its form alone.
 ///
 /// - `BadLog` comes where the text is no bundle. Its line counts from 1: it is the first line that no bundle has there, which
-///   is the line behind the last where the text ends too soon; where the constants aren't the module's, that of CONSTANTS.
+///   is the line behind the last where the text ends too soon; where the constants aren't the module's, that of CONSTANTS. Within
+///   the module it is the line at which its reader stops, which is that of `vars` where lines behind that are of no written module.
 /// - `NoMemory` comes where there is no memory.
 ///
 /// Source: this project's choice.

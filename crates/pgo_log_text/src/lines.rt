@@ -133,12 +133,12 @@ pub fn log_of(
     alloc: Global,
     cursor: &mut Cursor<'_>,
     consts: &Consts,
-    module: &Module,
+    written: &Module,
 ) -> Result<Log, LineStop>
-    ensures { ReadsAs log_view (spec.log_of consts.now module.now.constants module.now.variables cursor.old) result cursor.new }
+    ensures { ReadsAs log_view (spec.log_of consts.now written.now.constants written.now.variables cursor.old) result cursor.new }
 {
-    if are_named(consts.as_slice(), module.constants.as_slice()) {
-        log_and_end(alloc, cursor, module.variables.as_slice())
+    if are_named(consts.as_slice(), written.constants.as_slice()) {
+        log_and_end(alloc, cursor, written.variables.as_slice())
     } else {
         Err(LineStop::BadLine)
     }

@@ -1,6 +1,7 @@
 // The sections of all instances of a bound specification.
 ghost use Rattle.std.specs.Prelude.{◌≡◌, map, IfOk};
 ghost use Rattle.pgo_meaning.specs.LabelSections.{AreUnlabelled};
+ghost use Rattle.pgo_definitions.specs.Meant.{meant};
 ghost use Rattle.pgo_effects.specs.SettingView.{setting_view};
 ghost use Rattle.pgo_lower.specs.Agree.{AreLowered, IsLowered, bare_section, lowered_section};
 ghost use Rattle.pgo_lower.specs.Globals.{tables_in, targets_in};
@@ -12,6 +13,7 @@ use crate::globals::Globals;
 use crate::names::Names;
 use crate::slots::{Slot, slots_of, variables};
 use crate::turns::instructions;
+use pgo_base::module::Defs;
 use pgo_base::results::both;
 use pgo_code::program::{Code, Program, Section};
 use pgo_effects::setting::Setting;
@@ -19,8 +21,9 @@ use pgo_section_list::sections::{Section as Listed, sections};
 use pgo_syntax::bound::{Bound, Instance};
 use std::alloc::{AllocError, Global};
 
-/// How many tasks there may be for one program.
-const MOST_TASKS: u64 = 67_108_864;
+/// How many tasks there may be for one program. Where nothing refuses the specification, it takes fewer than 2^30: each node of
+/// its expansion, of which there are at most 2^20, stands for at most ten, in each of at most 64 instances.
+const MOST_TASKS: u64 = 4_294_967_296;
 
 /// The section of a label.
 fn section<'a>(
@@ -107,13 +110,18 @@ fn code<'a>(
     })
 }
 
-/// The sections of all instances as instructions.
+/// The sections of all instances as instructions, to be run with these definitions, which mean the same as those of what is bound.
 ///
-/// Err where there is no memory, and where a program would take more than 2^26 tasks: two for each level of code (a statement, where a
+/// Err where there is no memory, and where a program would take more than 2^32 tasks, which none takes that nothing refuses: two for each level of code (a statement, where a
 /// macro's body stands in the place of its call; the rest of a row; further branches of an `if`), two more for an `if`, one more for
 /// each arm of an `either`, and one for each section; again in each section that has it, of each instance. (This project's choice.)
-pub fn lower<'a>(alloc: Global, bound: &'a Bound) -> Result<Program<'a>, AllocError>
-    requires { AreUnlabelled bound.now.spec.macros }
+pub fn lower<'a>(
+    alloc: Global,
+    bound: &'a Bound,
+    definitions: Defs,
+) -> Result<Program<'a>, AllocError>
+    requires unlabelled { AreUnlabelled bound.now.spec.macros }
+    requires same { meant definitions ≡ meant bound.now.defs }
     ensures bound { IfOk result (λ p. p.bound ≡ bound.entry) }
     ensures codes { IfOk result (λ p. AreLowered bound.entry.now bound.entry.now.instances p.codes.items) }
 {
@@ -123,5 +131,9 @@ pub fn lower<'a>(alloc: Global, bound: &'a Bound) -> Result<Program<'a>, AllocEr
     for i in bound.instances.as_slice() {
         codes.push(code(alloc, &globals, i, &mut left)?)?;
     }
-    Ok(Program { bound, codes })
+    Ok(Program {
+        bound,
+        definitions,
+        codes,
+    })
 }

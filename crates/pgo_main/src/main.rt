@@ -6,13 +6,16 @@ ghost use Rattle.std.specs.Process.{exit_status};
 ghost use Rattle.pgo_io.specs.Faults.{Rose};
 ghost use Rattle.pgo_base.specs.Data.{Data};
 ghost use Rattle.pgo_base.specs.Lookup.{Name};
+ghost use Rattle.pgo_model.specs.Core.{Settings};
 ghost use Rattle.pgo_model.specs.IsRun.{IsRun};
 ghost use Rattle.pgo_model.specs.Log.{Log};
 ghost use Rattle.pgo_model.specs.Module.{Module};
 ghost use Rattle.pgo_execute.specs.Schedules.{Schedule};
 ghost use Rattle.pgo_log_text.specs.ReadBundle.{IsReadBundle, IsNoBundle};
 ghost use Rattle.pgo_front.specs.Statuses.{number_of, IsSilent};
-ghost use Rattle.pgo_front.specs.Answers.{AsksNothing, EndsWell, WritesBundle, WritesVerdict, WritesPrefix, Stops, IsRefusal, ReadsAll, IsAtEnd, OrNoMemory, IsRunOrNoMemory, SaysLine, SaysRefusal, SaysBundleLine, IsToldToExecute, IsToldToCheck, IsToldToTranslate};
+ghost use Rattle.pgo_load.specs.Load.{load_consts, load_text};
+ghost use Rattle.pgo_front.specs.Asked.{AsksLoad};
+ghost use Rattle.pgo_front.specs.Answers.{AsksNothing, AsksSomeLoad, ReadsNothing, EndsWell, WritesBundle, WritesVerdict, WritesPrefix, Stops, IsRefusal, ReadsAll, IsAtEnd, OrNoMemory, IsRunOrNoMemory, SaysLine, SaysRefusal, SaysBundleLine, IsToldToExecute, IsToldToCheck, IsToldToTranslate};
 ghost use Rattle.pgo_front.specs.declared.target.Target.{Target};
 ghost use Rattle.pgo_front.specs.Spells.{most_bytes};
 ghost use Rattle.pgo_front.specs.Verdicts.{most_bundle_bytes, IsBadVerdict};
@@ -68,12 +71,15 @@ fn run<S: Source, O: Sink, E: Sink>(
 
     // Each cause has its status, or there is no memory.
     ensures usage { AsksNothing (words_of arguments) → OrNoMemory result Status.Usage }
-    ensures too_long { (schedule : Schedule) (text : List ℕ) (consts : List (Name × Data)) → IsToldToExecute schedule (words_of arguments) (S.left input.old) consts text →
+    ensures too_long { (schedule : Schedule) (settings : Settings) (text : List ℕ) (consts : List (Name × Data)) →
+        IsToldToExecute schedule settings (words_of arguments) (S.left input.old) consts text →
         ¬ Rose (S.faults input.old) (S.faults input.new) → most_bytes < length text → OrNoMemory result Status.TooLong }
-    ensures refused { (schedule : Schedule) (text : List ℕ) (consts : List (Name × Data)) → IsToldToExecute schedule (words_of arguments) (S.left input.old) consts text →
+    ensures refused { (schedule : Schedule) (settings : Settings) (text : List ℕ) (consts : List (Name × Data)) →
+        IsToldToExecute schedule settings (words_of arguments) (S.left input.old) consts text →
         ¬ Rose (S.faults input.old) (S.faults input.new) →
         length text ≤ most_bytes → ¬ IsExpandable text consts → OrNoMemory result Status.SpecRefused }
-    ensures runs { (schedule : Schedule) (text : List ℕ) (consts : List (Name × Data)) → IsToldToExecute schedule (words_of arguments) (S.left input.old) consts text →
+    ensures runs { (schedule : Schedule) (settings : Settings) (text : List ℕ) (consts : List (Name × Data)) →
+        IsToldToExecute schedule settings (words_of arguments) (S.left input.old) consts text →
         ¬ Rose (S.faults input.old) (S.faults input.new) → ¬ Rose (O.faults out.old) (O.faults out.new) →
         length text ≤ most_bytes → IsExpandable text consts → IsRunOrNoMemory result }
     ensures no_bundle { (text : List ℕ) → IsToldToCheck (words_of arguments) (S.left input.old) text → ¬ Rose (S.faults input.old) (S.faults input.new) →
@@ -94,6 +100,10 @@ fn run<S: Source, O: Sink, E: Sink>(
         length text ≤ most_bytes → ¬ IsExpandable text consts → OrNoMemory result Status.SpecRefused }
     ensures too_long_to_translate { (target : Target) (text : List ℕ) (consts : List (Name × Data)) → IsToldToTranslate target (words_of arguments) (S.left input.old) consts text →
         ¬ Rose (S.faults input.old) (S.faults input.new) → most_bytes < length text → OrNoMemory result Status.TooLong }
+    ensures loads { (size : ℕ) → AsksLoad size (words_of arguments) → ¬ Rose (O.faults out.old) (O.faults out.new) →
+        IsExpandable (load_text size) (load_consts size) → OrNoMemory result Status.Fine }
+    ensures load_refused { (size : ℕ) → AsksLoad size (words_of arguments) →
+        ¬ IsExpandable (load_text size) (load_consts size) → OrNoMemory result Status.SpecRefused }
 
     // A failure of the input or the output is never passed over.
     ensures read_failed { (result ≡ Status.ReadFault) ⊎ (S.faults input.new ≡ S.faults input.old) }
@@ -101,8 +111,8 @@ fn run<S: Source, O: Sink, E: Sink>(
 
     // A refusal writes nothing but its line.
     ensures kept { IsRefusal result → out.new ≡ out.old }
-    ensures unread { AsksNothing (words_of arguments) → input.new ≡ input.old }
-    ensures ended { ReadsAll result → IsAtEnd (S.left input.old) (S.left input.new) }
+    ensures unread { ReadsNothing (words_of arguments) → input.new ≡ input.old }
+    ensures ended { ¬ AsksSomeLoad (words_of arguments) → ReadsAll result → IsAtEnd (S.left input.old) (S.left input.new) }
     ensures no_memory { LacksMemory arguments → result ≡ Status.NoMemory }
     ensures says { ¬ Rose (E.faults err.old) (E.faults err.new) → SaysLine result (E.held err.old) (E.held err.new) }
     ensures says_refusal { result ≡ Status.SpecRefused → ¬ Rose (E.faults err.old) (E.faults err.new) →

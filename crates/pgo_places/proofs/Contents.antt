@@ -1,23 +1,28 @@
 -- What a content's answers say of an access.
-use Rattle.std.proofs.Common.{◌≡◌, ℕ, List, Option, Some, None, Result, Ok, Err, ap, sym, ◌∙◌, length}
+use Rattle.std.proofs.Common.{◌≡◌, ℕ, List, Option, Some, None, Result, Ok, Err, ap, sym, ◌∙◌, subst, length}
 use Rattle.std.proofs.lemmas.List.{length-replicate}
 use Rattle.pgo_base.specs.Data.{Data}
 use Rattle.pgo_base.specs.Lookup.{Name}
 use Rattle.pgo_base.specs.declared.module.Defined.{Defined}
 use Rattle.pgo_base.specs.declared.value.Value.{Value}
+use Rattle.pgo_base.specs.View.{data_of}
 use Rattle.pgo_model.specs.Options.{on}
+use Rattle.pgo_model.specs.Outcome.{NoValue}
 use Rattle.pgo_model.specs.System.{Words}
+use Rattle.pgo_definitions.specs.Meant.{meant}
 use Rattle.pgo_syntax.specs.declared.bound.Mapping.{Mapping}
 use Rattle.pgo_syntax.specs.declared.bound.Mapping.TheVariants.{Identity}
 use Rattle.pgo_sections.specs.BoundValues.{bindable, value_under}
 use Rattle.pgo_sections.specs.Context.{index_value}
 use Rattle.pgo_sections.specs.Exec.{MacroEnd, Gives, Stops}
+use Rattle.pgo_sections.specs.Macros.{block_read, block_write}
 use Rattle.pgo_sections.specs.SectionRun.{ChoiceMade}
 use Rattle.pgo_meaning.proofs.MacroUse.{identity_writes}
-use Rattle.pgo_workers.specs.Operations.{read_of, write_of, write_put, Ends}
+use Rattle.pgo_meaning.specs.Parameters.{reads_by, writes_by}
+use Rattle.pgo_workers.specs.Operations.{part_of, read_of, write_of, read_put, write_put, Ends}
 use Rattle.pgo_workers.specs.View.{Shown}
 use Rattle.pgo_workers.specs.Walk.{Touch}
-use Rattle.pgo_resource.specs.Answers.{Read as IsRead, Written}
+use Rattle.pgo_resource.specs.Answers.{Read as IsRead, Written, StopsSo}
 use Rattle.pgo_resource.specs.Picked.{words_of, used_of}
 use Rattle.pgo_resource.specs.declared.picks.Picks.{Picks}
 use Rattle.pgo_resource.specs.declared.resource.OpStop.{OpStop}
@@ -37,6 +42,27 @@ given_of x (Stops kind cs) = x
 abbrev made_in : {A : Type 0} → MacroEnd A → List ChoiceMade
 made_in (Gives y cs) = cs
 made_in (Stops kind cs) = cs
+
+-- definitions that mean the same have the same reads and writes
+same_read : (a b : List Defined) → meant a ≡ meant b → (m : Mapping) (id : Data) (at : Option Data) (d : Words) (v : Data) → read_of m a id at d v ≡ read_of m b id at d v
+same_read a b h m id at d v = λ i cs. on (Stops NoValue cs) (part_of at v) (λ old. read_put at v (block_read (reads_by m) (h i) id old d cs))
+
+same_write : (a b : List Defined) → meant a ≡ meant b → (m : Mapping) (id : Data) (at : Option Data) (x : Data) (d : Words) (v : Data) → write_of m a id at x d v ≡ write_of m b id at x d v
+same_write a b h m id at x d v = λ i cs. on (Stops NoValue cs) (part_of at v) (λ old. write_put at v (block_write (writes_by m) (h i) id old x d cs))
+
+pub read_meant : (a b : List Defined) → meant a ≡ meant b → (m : Mapping) (id : Data) (at : Option Data) (old new : Shown) (p q : Picks) (ans : Result Value OpStop)
+    → IsRead m a id at old new p q ans → IsRead m b id at old new p q ans
+read_meant a b h m id at old new p q (Ok v) r =
+    (r.0, r.1, subst (λ (f : List ChoiceMade → MacroEnd (Data × Data)). Ends f (used_of p) (used_of q) (λ cs. Gives (data_of v, new.current) cs)) (same_read a b h m id at (words_of p) old.current) r.2)
+read_meant a b h m id at old new p q (Err x) r =
+    (r.0, r.1, subst (λ (f : List ChoiceMade → MacroEnd (Data × Data)). StopsSo x (λ e. Ends f (used_of p) (used_of q) e)) (same_read a b h m id at (words_of p) old.current) r.2)
+
+pub write_meant : (a b : List Defined) → meant a ≡ meant b → (m : Mapping) (id : Data) (at : Option Data) (x : Data) (old new : Shown) (p q : Picks) (ans : Result (Unit {0}) OpStop)
+    → Written m a id at x old new p q ans → Written m b id at x old new p q ans
+write_meant a b h m id at x old new p q (Ok u) r =
+    (r.0, r.1, subst (λ (f : List ChoiceMade → MacroEnd Data). Ends f (used_of p) (used_of q) (λ cs. Gives new.current cs)) (same_write a b h m id at x (words_of p) old.current) r.2)
+write_meant a b h m id at x old new p q (Err e) r =
+    (r.0, r.1, subst (λ (f : List ChoiceMade → MacroEnd Data). StopsSo e (λ g. Ends f (used_of p) (used_of q) g)) (same_write a b h m id at x (words_of p) old.current) r.2)
 
 -- a write with no macro makes the content the value, and uses no word
 pub identity_written : (ds : List Defined) (id x d : Data) (w : Words) (used used' : ℕ) (new : Data) → bindable (Some x) ≡ Some x

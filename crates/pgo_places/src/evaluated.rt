@@ -1,8 +1,12 @@
 // The values of expressions.
 ghost use Rattle.std.specs.Prelude.{◌≡◌, map, option_map, Option, IfOk};
+ghost use Rattle.std.proofs.Props.{props};
+ghost use Rattle.pgo_base.specs.Code.{coded_data};
 ghost use Rattle.pgo_base.specs.Data.{Data};
 ghost use Rattle.pgo_base.specs.View.{data_of};
+ghost use Rattle.pgo_model.specs.Val.{Meaning};
 ghost use Rattle.pgo_sections.specs.BoundValues.{bindable};
+ghost use Rattle.pgo_definitions.specs.Meant.{meant};
 ghost use Rattle.pgo_sets.specs.Answers.{Answers};
 ghost use Rattle.pgo_places.specs.Stands.{value_in, cleared};
 ghost use Rattle.pgo_places.specs.PlaceView.{stand_view, fixed_view, attempt_view};
@@ -11,6 +15,7 @@ use crate::stand::{Fixed, Stand};
 use pgo_base::bindings::Bindings;
 use pgo_base::depth::is_deeper;
 use pgo_base::expr::Sub;
+use pgo_base::module::Defs;
 use pgo_base::scope::{Env, State};
 use pgo_base::value::Value;
 use pgo_eval::eval::eval;
@@ -22,7 +27,9 @@ use std::alloc::{AllocError, Global};
 #[derive(Clone, Copy)]
 pub struct Frame<'a> {
     pub bound: &'a Bound,
+    pub definitions: &'a Defs,
     pub fixed: &'a Fixed,
+    ghost same: { meant definitions.now ≡ meant bound.now.defs } by { Prim.hlevel (props, coded_data) },
 }
 
 /// The value, or none.
@@ -55,7 +62,7 @@ fn value_here(
         state: &state,
         next: None,
     };
-    optional(eval(alloc, &frame.bound.defs, expression.get(), &env))
+    optional(eval(alloc, frame.definitions, expression.get(), &env))
 }
 
 /// What the expression is, after which no global is seen.

@@ -68,7 +68,7 @@ fn overwrite<R: Resource>(
         return Err(AllocError);
     }
     let env = MacroEnv {
-        defs: &frame.bound.defs,
+        defs: frame.definitions,
         id: &frame.fixed.id,
     };
     let m = Mapping::Identity;
@@ -223,7 +223,7 @@ fn mapped_read<R: Resource>(
         return Err(AllocError);
     };
     let env = MacroEnv {
-        defs: &frame.bound.defs,
+        defs: frame.definitions,
         id: &frame.fixed.id,
     };
     let answer = content.read(alloc, c.mapped.mapping, env, part(c, j), &mut stand.picks);
@@ -253,7 +253,7 @@ fn mapped_write<R: Resource>(
     };
     let value = v.copy(alloc)?;
     let env = MacroEnv {
-        defs: &frame.bound.defs,
+        defs: frame.definitions,
         id: &frame.fixed.id,
     };
     let answer = content.write(

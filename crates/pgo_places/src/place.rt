@@ -186,6 +186,7 @@ fn turn_at(
 {
     let frame = Frame {
         bound: program.bound,
+        definitions: &program.definitions,
         fixed: &place.fixed,
     };
     match access(frame, instruction, &place.stand) {

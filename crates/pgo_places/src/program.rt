@@ -134,6 +134,7 @@ fn operate_at<R: Resource>(
 {
     let frame = Frame {
         bound: program.bound,
+        definitions: &program.definitions,
         fixed: &place.fixed,
     };
     let flow = perform(alloc, frame, instruction, &mut place.stand, content)?;

@@ -1,13 +1,11 @@
 // What a command answers.
-use crate::failing_sink::FailingSink;
 use crate::output::WantedOutput;
 use crate::streams::Streams;
 use pgo_base::word::Word;
 use pgo_front::pgo;
-use pgo_io::sure_sink::SureSink;
-use pgo_io::sure_source::SureSource;
+use pgo_io::mem_sink::MemSink;
+use pgo_io::mem_source::MemSource;
 use pgo_sheet::escapes::escaped;
-use pgo_text_rows::failing_source::FailingSource;
 use std::alloc::{AllocError, Global};
 
 /// A status, and what was written and read.
@@ -18,8 +16,8 @@ pub struct Answer {
     pub err: String,
     /// how many reads failed
     pub faults: u64,
-    /// whether both outputs had room for what was written
-    pub is_whole: bool,
+    /// whether both outputs have room left
+    pub has_room: bool,
 }
 
 impl Answer {
@@ -30,20 +28,16 @@ impl Answer {
         streams: &Streams,
         text: Vec<u8>,
     ) -> Result<Answer, AllocError> {
-        let mut input = FailingSource {
-            inner: SureSource::new(text),
-            good_calls: streams.reads,
-            faults: 0,
-        };
+        let mut input = MemSource::new(text, failing(alloc, streams.reads)?);
         let mut out = sink(alloc, 1_048_576, streams.writes)?;
         let mut err = sink(alloc, 256, streams.error_writes)?;
         let status = pgo(alloc, words, &mut input, &mut out, &mut err);
         Ok(Answer {
             status: status.number(),
-            out: String::from_utf8_lossy(alloc, out.inner.content())?,
-            err: String::from_utf8_lossy(alloc, err.inner.content())?,
-            faults: input.faults,
-            is_whole: out.inner.is_whole() && err.inner.is_whole(),
+            out: String::from_utf8_lossy(alloc, out.content())?,
+            err: String::from_utf8_lossy(alloc, err.content())?,
+            faults: input.faults(),
+            has_room: !out.is_full() && !err.is_full(),
         })
     }
 
@@ -55,7 +49,7 @@ impl Answer {
         faults: u64,
         output: &WantedOutput,
     ) -> Result<Option<String>, AllocError> {
-        if !self.is_whole {
+        if !self.has_room {
             let reason = "more is written than there is room for";
             return Ok(Some(String::from_str(alloc, reason)?));
         }
@@ -88,14 +82,15 @@ impl Answer {
     }
 }
 
-/// A sink with so much room, whose writes fail after so many.
-fn sink(alloc: Global, room: usize, good_calls: u64) -> Result<FailingSink, AllocError> {
-    match SureSink::with_room(alloc, room) {
-        Ok(inner) => Ok(FailingSink {
-            inner,
-            good_calls,
-            faults: 0,
-        }),
+/// A sink with so much room, whose write behind so many good ones fails.
+fn sink(alloc: Global, room: usize, good_calls: u64) -> Result<MemSink, AllocError> {
+    match MemSink::new(alloc, room, failing(alloc, good_calls)?) {
+        Ok(sink) => Ok(sink),
         Err(_) => Err(AllocError),
     }
+}
+
+/// The number of the call behind so many good ones.
+fn failing(alloc: Global, good_calls: u64) -> Result<Vec<u64>, AllocError> {
+    Ok(vec![in alloc; good_calls.saturating_add(1)]?)
 }

@@ -7,7 +7,6 @@ mod answer;
 mod bound_systems;
 mod commands;
 mod described;
-mod failing_sink;
 mod output;
 mod streams;
 

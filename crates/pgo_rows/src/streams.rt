@@ -1,6 +1,6 @@
 // How far the streams of a command work.
 
-/// How many calls of the input, the output and the error output succeed.
+/// How many calls of the input, the output and the error output succeed before the one that fails.
 #[derive(Drop)]
 pub struct Streams {
     pub reads: u64,

@@ -3,10 +3,9 @@
 
 mod answer;
 mod expressions;
-mod failing_sink;
-pub mod failing_source;
 mod labels;
 mod modules;
+mod one_byte_sink;
 mod operators;
 mod parts;
 mod shapes;

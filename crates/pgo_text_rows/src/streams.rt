@@ -1,10 +1,12 @@
 // What is read from a source up to a limit, and what a sink holds after some writes.
 //
 // `memory N` takes a source or a sink in memory, the sink with room for N bytes; `standard N` takes those over the standard
-// traits, the sink over a slice of N bytes; `failing N` takes those that fail after N calls. `read N` reads the text up to N
-// bytes, `write T` writes T; a row reads or writes once for each of its lines.
-use crate::failing_sink::FailingSink;
-use crate::failing_source::FailingSource;
+// traits, the sink over a slice of N bytes; `failing N` takes those in memory whose call behind N good ones fails, where each
+// write takes one byte. `read N` reads the text up to N bytes, `write T` writes T; a row reads or writes once for each of its
+// lines.
+use crate::one_byte_sink::OneByteSink;
+use pgo_io::mem_sink::MemSink;
+use pgo_io::mem_source::MemSource;
 use pgo_io::read_all::{ReadStop, read_all};
 use pgo_io::sink::Sink;
 use pgo_io::source::Source;
@@ -16,6 +18,9 @@ use pgo_sheet::answers::{push_word, unless_same};
 use pgo_sheet::sheet::Subject;
 use pgo_sheet::text_builder::TextBuilder;
 use std::alloc::{AllocError, Global};
+
+/// The room of a sink that fails.
+const SINK_ROOM: usize = 64;
 
 /// What is read from and written to.
 #[derive(Clone, Copy)]
@@ -30,7 +35,7 @@ pub struct Streams {
     alloc: Global,
     builder: TextBuilder,
     medium: Medium,
-    /// The room of a sink, or the calls that succeed.
+    /// The room of a sink, or how many calls succeed before the one that fails.
     size: u32,
     reads: Vec<u64>,
     writes: Vec<String>,
@@ -93,14 +98,15 @@ impl Streams {
         Ok(words)
     }
 
+    /// The number of the call that fails.
+    fn failing(&self) -> Result<Vec<u64>, AllocError> {
+        Ok(vec![in self.alloc; u64::from(self.size) + 1]?)
+    }
+
     fn read_failing(&self, text: &[u8]) -> Result<String, AllocError> {
-        let mut source = FailingSource {
-            inner: SureSource::new(text.to_vec(self.alloc)?),
-            good_calls: u64::from(self.size),
-            faults: 0,
-        };
+        let mut source = MemSource::new(text.to_vec(self.alloc)?, self.failing()?);
         let words = self.read_from(&mut source)?;
-        format!(in self.alloc; "{words}, {} faults", source.faults)
+        format!(in self.alloc; "{words}, {} faults", source.faults())
     }
 
     /// Whether each write succeeds.
@@ -134,14 +140,13 @@ impl Streams {
     }
 
     fn write_failing(&self) -> Result<String, AllocError> {
-        let mut sink = FailingSink {
-            bytes: Vec::new(self.alloc),
-            good_calls: u64::from(self.size),
-            faults: 0,
+        let Ok(inner) = MemSink::new(self.alloc, SINK_ROOM, self.failing()?) else {
+            return Err(AllocError);
         };
+        let mut sink = OneByteSink { inner };
         let words = self.write_to(&mut sink)?;
-        let held = String::from_utf8_lossy(self.alloc, sink.bytes.as_slice())?;
-        format!(in self.alloc; "{words}, \"{held}\", {} faults", sink.faults)
+        let held = String::from_utf8_lossy(self.alloc, sink.inner.content())?;
+        format!(in self.alloc; "{words}, \"{held}\", {} faults", sink.inner.faults())
     }
 }
 

@@ -14,6 +14,7 @@ ghost use Rattle.pgo_workers.specs.Worlds.{layout_of};
 use crate::told::told;
 use pgo_base::results::both;
 use pgo_cells::cell::Cell;
+use pgo_definitions::sections::evaluated_for_sections;
 use pgo_lower::lower::lower;
 use pgo_places::place::Place;
 use pgo_places::program::Runnable;
@@ -35,7 +36,8 @@ fn sections<'a>(alloc: Global, bound: &'a Bound) -> Result<Runnable<'a>, AllocEr
     ensures runs { IfOk result (λ p. (s : SettingsView) → RunsSystem (system_of p.program.bound.now) (tree_in p.program) s) }
 {
     programs_run();
-    let program = lower(alloc, bound)?;
+    let definitions = evaluated_for_sections(alloc, bound)?;
+    let program = lower(alloc, bound, definitions)?;
     Ok(Runnable { program })
 }
 

@@ -9,11 +9,11 @@ returns-in-Ok-clause-ok g c =
     let left = g.S.Source.left c.args.input.now in
     let told = subst (λ t. IfSome left (λ bs. t ≡ bs)) (sym c.as_slice.ensures.value) c.in-Ok.ensures.all in
     let short = subst (λ t. length t ≤ most_bundle_bytes) (sym c.as_slice.ensures.value) c.in-Ok.ensures.within in
-    IfOk-weaker c.judge.result _ _ (λ m h. makes_check left _ m told short h) c.judge.ensures.ok
+    IfOk-weaker c.check_text.result _ _ (λ m h. makes_check left _ m told short h) c.check_text.ensures.ok
 
 pub returns-in-Ok-clause-err : goal.returns-in-Ok-clause-err
 returns-in-Ok-clause-err g c =
     let left = g.S.Source.left c.args.input.now in
     let told = subst (λ t. IfSome left (λ bs. t ≡ bs)) (sym c.as_slice.ensures.value) c.in-Ok.ensures.all in
     let short = subst (λ t. length t ≤ most_bundle_bytes) (sym c.as_slice.ensures.value) c.in-Ok.ensures.within in
-    IfErr-weaker c.judge.result _ _ (λ e h. stops_check left _ _ _ e.status told short h) c.judge.ensures.err
+    IfErr-weaker c.check_text.result _ _ (λ e h. stops_check left _ _ _ e.status told short h) c.check_text.ensures.err

@@ -1,8 +1,9 @@
 use Rattle.pgo_front.proofs.Caused.{usage_comes, too_long_bundle_comes, no_bundle_comes, is_run_comes, is_no_run_comes}
 use Rattle.pgo_front.proofs.CausedExecution.{too_long_comes, refused_comes, run_comes}
 use Rattle.pgo_front.proofs.CausedTranslation.{too_long_to_translate_comes, not_translated_comes, translates_comes}
+use Rattle.pgo_front.proofs.CausedLoad.{loads_comes, load_refused_comes}
 use Rattle.pgo_front.proofs.Making.{said_refusal, said_bundle, silent_status, silent_line}
-use Rattle.pgo_front.specs.Answers.{RefusedBy}
+use Rattle.pgo_front.specs.Answers.{RefusesSpec}
 use Rattle.pgo_front.proofs.command.pgo.Goals as goal
 
 pub returns-clause-usage : goal.returns-clause-usage
@@ -12,21 +13,21 @@ returns-clause-usage g c =
     (record { fine = e.fine; halted = e.halted; spent = e.spent; full = e.full; not_a_run = e.not_a_run; stopped = e.stopped; write_fault = e.write_fault; prefix = e.prefix })
 
 pub returns-clause-too_long : goal.returns-clause-too_long
-returns-clause-too_long g c schedule text consts told read =
+returns-clause-too_long g c schedule settings text consts told read =
     let e = c.run-ended.ensures in
-    too_long_comes c.args.words.now (g.S.Source.left c.args.input.now) _ _ _ _ _ _ schedule text consts told read c.run-ended.result.status
+    too_long_comes c.args.words.now (g.S.Source.left c.args.input.now) _ _ _ _ _ _ schedule settings text consts told read c.run-ended.result.status
     (record { fine = e.fine; halted = e.halted; spent = e.spent; full = e.full; not_a_run = e.not_a_run; stopped = e.stopped; write_fault = e.write_fault; prefix = e.prefix })
 
 pub returns-clause-refused : goal.returns-clause-refused
-returns-clause-refused g c schedule text consts told read =
+returns-clause-refused g c schedule settings text consts told read =
     let e = c.run-ended.ensures in
-    refused_comes c.args.words.now (g.S.Source.left c.args.input.now) _ _ _ _ _ _ schedule text consts told read c.run-ended.result.status
+    refused_comes c.args.words.now (g.S.Source.left c.args.input.now) _ _ _ _ _ _ schedule settings text consts told read c.run-ended.result.status
     (record { fine = e.fine; halted = e.halted; spent = e.spent; full = e.full; not_a_run = e.not_a_run; stopped = e.stopped; write_fault = e.write_fault; prefix = e.prefix })
 
 pub returns-clause-runs : goal.returns-clause-runs
-returns-clause-runs g c schedule text consts told read wrote short expandable =
+returns-clause-runs g c schedule settings text consts told read wrote short expandable =
     let e = c.run-ended.ensures in
-    run_comes c.args.words.now (g.S.Source.left c.args.input.now) _ _ _ _ _ _ schedule text consts told read c.run-ended.result.status
+    run_comes c.args.words.now (g.S.Source.left c.args.input.now) _ _ _ _ _ _ schedule settings text consts told read c.run-ended.result.status
     (record { fine = e.fine; halted = e.halted; spent = e.spent; full = e.full; not_a_run = e.not_a_run; stopped = e.stopped; write_fault = e.write_fault; prefix = e.prefix })
     wrote short expandable
 
@@ -73,6 +74,19 @@ returns-clause-too_long_to_translate g c target text consts told read =
     too_long_to_translate_comes c.args.words.now (g.S.Source.left c.args.input.now) _ _ _ _ _ _ target text consts told read c.run-ended.result.status
     (record { fine = e.fine; halted = e.halted; spent = e.spent; full = e.full; not_a_run = e.not_a_run; stopped = e.stopped; write_fault = e.write_fault; prefix = e.prefix })
 
+pub returns-clause-loads : goal.returns-clause-loads
+returns-clause-loads g c size asks wrote expandable =
+    let e = c.run-ended.ensures in
+    loads_comes c.args.words.now (g.S.Source.left c.args.input.now) _ _ _ _ _ _ size asks c.run-ended.result.status
+    (record { fine = e.fine; halted = e.halted; spent = e.spent; full = e.full; not_a_run = e.not_a_run; stopped = e.stopped; write_fault = e.write_fault; prefix = e.prefix })
+    wrote expandable
+
+pub returns-clause-load_refused : goal.returns-clause-load_refused
+returns-clause-load_refused g c size asks =
+    let e = c.run-ended.ensures in
+    load_refused_comes c.args.words.now (g.S.Source.left c.args.input.now) _ _ _ _ _ _ size asks c.run-ended.result.status
+    (record { fine = e.fine; halted = e.halted; spent = e.spent; full = e.full; not_a_run = e.not_a_run; stopped = e.stopped; write_fault = e.write_fault; prefix = e.prefix })
+
 pub returns-clause-says_refusal : goal.returns-clause-says_refusal
 returns-clause-says_refusal g c refused quiet =
     said_refusal c.args.words.now (g.S.Source.left c.args.input.now) _ _ c.run-ended.result.status c.run-ended.result.line _ c.run-ended.ensures.line
@@ -80,10 +94,10 @@ returns-clause-says_refusal g c refused quiet =
 
 pub returns-clause-says_bundle : goal.returns-clause-says_bundle
 returns-clause-says_bundle g c refused quiet =
-    said_bundle (g.S.Source.left c.args.input.now) _ _ (RefusedBy c.args.words.now) c.run-ended.result.status c.run-ended.result.line _ c.run-ended.ensures.line
+    said_bundle _ _ (RefusesSpec c.args.words.now (g.S.Source.left c.args.input.now)) c.run-ended.result.status c.run-ended.result.line _ c.run-ended.ensures.line
     c.say.ensures.says_refusal refused quiet
 
 pub returns-clause-silent : goal.returns-clause-silent
 returns-clause-silent g c quiet =
     c.say.ensures.silent (silent_status c.run-ended.result.status quiet)
-    (silent_line (g.S.Source.left c.args.input.now) (RefusedBy c.args.words.now) c.run-ended.result.status c.run-ended.result.line quiet c.run-ended.ensures.line)
+    (silent_line (RefusesSpec c.args.words.now (g.S.Source.left c.args.input.now)) c.run-ended.result.status c.run-ended.result.line quiet c.run-ended.ensures.line)

@@ -1,7 +1,6 @@
 use Rattle.std.proofs.Common.{sym, ◌∙◌}
-use Rattle.pgo_front.proofs.Making.{into_fault, fine_to, halted_to, spent_to, full_to, not_a_run_to, made_line, other_line}
-use Rattle.pgo_front.specs.declared.status.Status.TheVariants as status
-use Rattle.pgo_front.specs.Answers.{RefusedBy}
+use Rattle.pgo_front.proofs.Making.{into_fault, fine_to, halted_to, spent_to, full_to, not_a_run_to, made_line, made_no_fault}
+use Rattle.pgo_front.specs.Answers.{RefusesSpec}
 use Rattle.pgo_front.proofs.command.run.Goals as goal
 
 pub returns-in-Ok-clause-prefix : goal.returns-in-Ok-clause-prefix
@@ -30,5 +29,9 @@ returns-in-Ok-write_made-clause-not_a_run g c e =
 
 pub returns-in-Ok-write_made-clause-line : goal.returns-in-Ok-write_made-clause-line
 returns-in-Ok-write_made-clause-line g c =
-    made_line c.args.words.now (g.S.Source.left c.args.input.now) (RefusedBy c.args.words.now) c.as_status.result.status c.as_status.result.line c.in-Ok.output
+    made_line c.args.words.now (g.S.Source.left c.args.input.now) (RefusesSpec c.args.words.now (g.S.Source.left c.args.input.now)) c.as_status.result.status c.as_status.result.line c.in-Ok.output
     c.as_status.ensures.status c.as_status.ensures.line c.in-Ok.ensures.ok
+
+pub returns-in-Ok-write_made-clause-prefix : goal.returns-in-Ok-write_made-clause-prefix
+returns-in-Ok-write_made-clause-prefix g c e =
+    absurd (made_no_fault c.args.words.now (g.S.Source.left c.args.input.now) c.in-Ok.output c.in-Ok.ensures.ok (sym c.as_status.ensures.status ∙ e))

@@ -3,7 +3,7 @@ use Rattle.std.proofs.lemmas.Result.{IfOk-weaker, IfErr-weaker}
 use Rattle.pgo_front.specs.Spells.{most_bytes}
 use Rattle.pgo_accept.specs.Answers.{IsExpandable}
 use Rattle.pgo_front.specs.Makes.{MakesTranslation}
-use Rattle.pgo_front.proofs.Making.{makes_input, stops_input}
+use Rattle.pgo_front.proofs.Making.{makes_input, stops_input, line_input}
 use Rattle.pgo_front.proofs.translate.make_translation.Goals as goal
 
 pub returns-in-Ok-clause-ok : goal.returns-in-Ok-clause-ok
@@ -19,3 +19,9 @@ returns-in-Ok-clause-err g c =
     let told = subst (λ t. IfSome left (λ bs. t ≡ bs)) (sym c.as_slice.ensures.value) c.in-Ok.ensures.all in
     let short = subst (λ t. length t ≤ most_bytes) (sym c.as_slice.ensures.value) c.in-Ok.ensures.within in
     IfErr-weaker c.translate_text.result _ _ (λ e h. stops_input (λ t. IsExpandable t c.args.consts.now → ⊥) left _ _ _ e.status told short h) c.translate_text.ensures.err
+
+pub returns-in-Ok-clause-line : goal.returns-in-Ok-clause-line
+returns-in-Ok-clause-line g c =
+    let left = g.S.Source.left c.args.input.now in
+    let told = subst (λ t. IfSome left (λ bs. t ≡ bs)) (sym c.as_slice.ensures.value) c.in-Ok.ensures.all in
+    IfErr-weaker c.translate_text.result _ _ (λ e h. line_input c.args.consts.now left _ e.status e.line told h) c.translate_text.ensures.line

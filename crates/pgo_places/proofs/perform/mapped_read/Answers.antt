@@ -13,7 +13,7 @@ use Rattle.pgo_code.specs.Steps.{Read}
 use Rattle.pgo_code.specs.See.{content_view}
 use Rattle.pgo_places.specs.Flows.{part_index}
 use Rattle.pgo_places.specs.PlaceView.{stand_view, fixed_view, attempt_view}
-use Rattle.pgo_places.proofs.Contents.{performs_read, read_answers}
+use Rattle.pgo_places.proofs.Contents.{performs_read, read_answers, read_meant}
 use Rattle.pgo_places.proofs.perform.mapped_read.Goals as goal
 
 pub returns-clause-performs : goal.returns-clause-performs
@@ -27,7 +27,7 @@ returns-clause-performs g c =
     IfOk-weaker c.read_end.result _ _
     (λ f h.
     let t = read_answers m ds id (part_index cv j) old new p q c.read-answer.result s.progress
-    (subst (λ (at : Option Data). IsRead m ds id at old new p q c.read-answer.result) c.part.ensures c.read-answer.ensures) h.0 in
+    (subst (λ (at : Option Data). IsRead m ds id at old new p q c.read-answer.result) c.part.ensures (read_meant c.args.frame.definitions.now ds c.args.frame.same m id _ old new p q c.read-answer.result c.read-answer.ensures)) h.0 in
     performs_read a k c.args.read.0.now cv c.args.read.2.now s (words_of q) (record s.progress { used = used_of q }) j c.in-Some-resource_number.r f
     (stand_view c.read_end.new.stand) old.current new.current
     (sym (c.in-Some.ensures ∙ ap (λ xs. index_value c.args.read.2.now (reverse (map named_view xs))) c.deref.ensures.value))

@@ -15,7 +15,7 @@ use Rattle.pgo_code.specs.See.{content_view}
 use Rattle.pgo_places.specs.Flows.{part_index}
 use Rattle.pgo_places.specs.PlaceView.{stand_view, fixed_view, attempt_view}
 use Rattle.pgo_places.specs.Stands.{going, onward, with_words, resume}
-use Rattle.pgo_places.proofs.Contents.{performs_write, write_answers}
+use Rattle.pgo_places.proofs.Contents.{performs_write, write_answers, write_meant}
 use Rattle.pgo_places.proofs.Puts.{writes_nothing}
 use Rattle.pgo_places.proofs.perform.mapped_write.Goals as goal
 
@@ -42,7 +42,7 @@ returns-clause-performs g c =
     IfOk-weaker c.write_end.result _ _
     (λ f h.
     let t = write_answers m ds id (part_index cv j) x old new p q c.write-answer.result s.progress
-    (subst (λ (at : Option Data). Written m ds id at x old new p q c.write-answer.result) c.part.ensures c.write-answer.ensures) h.0 in
+    (subst (λ (at : Option Data). Written m ds id at x old new p q c.write-answer.result) c.part.ensures (write_meant c.args.frame.definitions.now ds c.args.frame.same m id _ x old new p q c.write-answer.result c.write-answer.ensures)) h.0 in
     performs_write a k cv c.args.write.1.now w s (words_of q) (record s.progress { used = used_of q }) j c.in-Some-resource_number.r f
     (stand_view c.write_end.new.stand) old.current new.current
     (sym (c.in-Some.ensures ∙ ap (λ xs. index_value c.args.write.1.now (reverse (map named_view xs))) c.deref.ensures.value))

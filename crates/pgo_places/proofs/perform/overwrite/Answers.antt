@@ -11,7 +11,7 @@ pub returns-in-Ok-clause-stand : goal.returns-in-Ok-clause-stand
 returns-in-Ok-clause-stand g c =
     let x = data_of c.args.value in let p = c.args.stand.now.picks in let q = c.write.new.picks in let s = stand_view c.args.stand.now in
     let b : bindable (Some x) ≡ Some x = search rules in
-    let h = identity_written c.args.frame.bound.now.defs (data_of c.args.frame.fixed.now.id) x (g.R.Resource.shows c.args.content.now).current (words_of p) (used_of p) (used_of q)
+    let h = identity_written c.args.frame.definitions.now (data_of c.args.frame.fixed.now.id) x (g.R.Resource.shows c.args.content.now).current (words_of p) (used_of p) (used_of q)
     (g.R.Resource.shows c.write.new.self).current b c.in-Ok.ensures.2 in
     λ i. record s { words = c.in-Ok.ensures.1 i; progress = record s.progress { used = h.1 i } }
 
@@ -19,5 +19,5 @@ pub returns-in-Ok-clause-value : goal.returns-in-Ok-clause-value
 returns-in-Ok-clause-value g c =
     let x = data_of c.args.value in let p = c.args.stand.now.picks in let q = c.write.new.picks in
     let b : bindable (Some x) ≡ Some x = search rules in
-    (identity_written c.args.frame.bound.now.defs (data_of c.args.frame.fixed.now.id) x (g.R.Resource.shows c.args.content.now).current (words_of p) (used_of p) (used_of q)
+    (identity_written c.args.frame.definitions.now (data_of c.args.frame.fixed.now.id) x (g.R.Resource.shows c.args.content.now).current (words_of p) (used_of p) (used_of q)
     (g.R.Resource.shows c.write.new.self).current b c.in-Ok.ensures.2).0

@@ -1,0 +1,177 @@
+-- What a request says of each command, and that words ask for one command alone.
+use Rattle.std.proofs.Common.{◌≡◌, ◌+◌, inl, inr, ℕ, List, [], ◌∷◌, refl, ap, sym, ◌∙◌, subst, arith}
+use Rattle.pgo_base.specs.Data.{Data}
+use Rattle.pgo_base.specs.Lookup.{Name}
+use Rattle.pgo_model.specs.Core.{Settings}
+use Rattle.pgo_execute.specs.Schedules.{Schedule, Turns, Rounds}
+use Rattle.pgo_words.specs.Asks.{Command, Compile, Expand, Step, Run, Check, Load, Request, AsksBy}
+use Rattle.pgo_words.specs.Settings.{default_settings}
+use Rattle.pgo_front.specs.declared.target.Target.{Target}
+use Rattle.pgo_front.specs.declared.target.Target.TheVariants as targets
+use Rattle.pgo_front.specs.Asked.{AsksCheck, AsksOnly, ExecutesOnly, LoadsOnly, TranslatesOnly, command_to, command_under}
+use Rattle.pgo_front.specs.Answers.{AsksNothing, AsksOfInput, AsksSomeExecution, AsksSomeLoad, AsksSomeTranslation, ReadsNothing}
+
+-- ---- one command alone
+
+-- the sum of the bytes of the first word
+abbrev bytes_sum : List ℕ → ℕ
+bytes_sum [] = 0
+bytes_sum (b ∷ bs) = b + bytes_sum bs
+
+abbrev first_sum : List (List ℕ) → ℕ
+first_sum [] = 0
+first_sum (w ∷ ws) = bytes_sum w
+
+-- that of each command
+abbrev number : Command → ℕ
+number Compile = 745
+number Expand = 640
+number (Step ts) = 444
+number Run = 341
+number Check = 510
+number (Load n) = 416
+
+number_is : (words : List (List ℕ)) (k : Command) (consts : List (Name × Data)) (settings : Settings) → AsksBy k words consts settings → first_sum words ≡ number k
+number_is words Compile consts settings a = ap first_sum a.words_are
+number_is words Expand consts settings a = ap first_sum a.words_are
+number_is words (Step ts) consts settings a = ap first_sum a.words_are
+number_is words Run consts settings a = ap first_sum a.words_are
+number_is words Check consts settings a = ap first_sum a.words_are
+number_is words (Load n) consts settings a = ap first_sum a.alone.words_are
+
+same_number : (words : List (List ℕ)) (k l : Command) (consts others : List (Name × Data)) (settings set : Settings)
+    → AsksBy k words consts settings → AsksBy l words others set → number k ≡ number l
+same_number words k l consts others settings set a b = sym (number_is words k consts settings a) ∙ number_is words l others set b
+
+-- another number than those of runs, and than those of translations
+no_execution : (n : ℕ) → (444 ≡ n → ⊥) → (341 ≡ n → ⊥) → (schedule : Schedule) → number (command_under schedule) ≡ n → ⊥
+no_execution n a b (Turns ts) e = a e
+no_execution n a b Rounds e = b e
+
+no_translation : (n : ℕ) → (640 ≡ n → ⊥) → (745 ≡ n → ⊥) → (target : Target) → number (command_to target) ≡ n → ⊥
+no_translation n a b targets.Expansion e = a e
+no_translation n a b targets.Module e = b e
+
+pub execution_no_check : (words : List (List ℕ)) → AsksSomeExecution words → AsksCheck words → ⊥
+execution_no_check words a check =
+    no_execution 510 (λ e. omega (arith, e)) (λ e. omega (arith, e)) a.0 (same_number words (command_under a.0) Check a.2 [] a.1 default_settings a.3 check)
+
+pub execution_no_load : (words : List (List ℕ)) → AsksSomeExecution words → AsksSomeLoad words → ⊥
+execution_no_load words a load =
+    no_execution 416 (λ e. omega (arith, e)) (λ e. omega (arith, e)) a.0 (same_number words (command_under a.0) (Load load.0) a.2 [] a.1 default_settings a.3 load.1)
+
+pub translation_no_check : (words : List (List ℕ)) → AsksSomeTranslation words → AsksCheck words → ⊥
+translation_no_check words a check =
+    no_translation 510 (λ e. omega (arith, e)) (λ e. omega (arith, e)) a.0 (same_number words (command_to a.0) Check a.1 [] default_settings default_settings a.2 check)
+
+pub translation_no_load : (words : List (List ℕ)) → AsksSomeTranslation words → AsksSomeLoad words → ⊥
+translation_no_load words a load =
+    no_translation 416 (λ e. omega (arith, e)) (λ e. omega (arith, e)) a.0 (same_number words (command_to a.0) (Load load.0) a.1 [] default_settings default_settings a.2 load.1)
+
+pub translation_no_execution : (words : List (List ℕ)) → AsksSomeTranslation words → AsksSomeExecution words → ⊥
+translation_no_execution words a e =
+    no_execution (number (command_to a.0)) (λ n. no_translation 444 (λ m. omega (arith, m)) (λ m. omega (arith, m)) a.0 (sym n))
+    (λ n. no_translation 341 (λ m. omega (arith, m)) (λ m. omega (arith, m)) a.0 (sym n)) e.0
+    (same_number words (command_under e.0) (command_to a.0) e.2 a.1 e.1 default_settings e.3 a.2)
+
+pub check_no_load : (words : List (List ℕ)) → AsksCheck words → AsksSomeLoad words → ⊥
+check_no_load words check load =
+    let n : 510 ≡ 416 = same_number words Check (Load load.0) [] [] default_settings default_settings check load.1 in omega (arith, n)
+
+-- a command that reads the input is no load
+pub input_no_load : (words : List (List ℕ)) → AsksOfInput words → AsksSomeLoad words → ⊥
+input_no_load words (inl a) load = execution_no_load words a load
+input_no_load words (inr (inl a)) load = check_no_load words a load
+input_no_load words (inr (inr a)) load = translation_no_load words a load
+
+-- ---- words that ask for something don't ask for nothing
+
+pub execution_something : (words : List (List ℕ)) → AsksSomeExecution words → AsksNothing words → ⊥
+execution_something words a nothing = nothing (record { command = command_under a.0; consts = a.2; settings = a.1 }) a.3
+
+pub check_something : (words : List (List ℕ)) → AsksCheck words → AsksNothing words → ⊥
+check_something words a nothing = nothing (record { command = Check; consts = []; settings = default_settings }) a
+
+pub translation_something : (words : List (List ℕ)) → AsksSomeTranslation words → AsksNothing words → ⊥
+translation_something words a nothing = nothing (record { command = command_to a.0; consts = a.1; settings = default_settings }) a.2
+
+pub load_something : (words : List (List ℕ)) → AsksSomeLoad words → AsksNothing words → ⊥
+load_something words a nothing = nothing (record { command = Load a.0; consts = []; settings = default_settings }) a.1
+
+pub input_something : (words : List (List ℕ)) → AsksOfInput words → AsksNothing words → ⊥
+input_something words (inl a) nothing = execution_something words a nothing
+input_something words (inr (inl a)) nothing = check_something words a nothing
+input_something words (inr (inr a)) nothing = translation_something words a nothing
+
+-- nor for a load
+pub input_unread : (words : List (List ℕ)) → AsksOfInput words → ReadsNothing words → ⊥
+input_unread words a (inl nothing) = input_something words a nothing
+input_unread words a (inr load) = input_no_load words a load
+
+-- ---- the one request of the words, of each command
+
+abbrev pub record_of : Command → List (Name × Data) → Settings → Request
+record_of k cs s = record { command = k; consts = cs; settings = s }
+
+abbrev schedule_of : Command → Schedule
+schedule_of Compile = Rounds
+schedule_of Expand = Rounds
+schedule_of (Step ts) = Turns ts
+schedule_of Run = Rounds
+schedule_of Check = Rounds
+schedule_of (Load n) = Rounds
+
+schedule_back : (schedule : Schedule) → schedule_of (command_under schedule) ≡ schedule
+schedule_back (Turns ts) = refl
+schedule_back Rounds = refl
+
+abbrev target_of : Command → Target
+target_of Compile = targets.Module
+target_of Expand = targets.Expansion
+target_of (Step ts) = targets.Module
+target_of Run = targets.Module
+target_of Check = targets.Module
+target_of (Load n) = targets.Module
+
+target_back : (target : Target) → target_of (command_to target) ≡ target
+target_back targets.Expansion = refl
+target_back targets.Module = refl
+
+abbrev size_of : Command → ℕ
+size_of Compile = 0
+size_of Expand = 0
+size_of (Step ts) = 0
+size_of Run = 0
+size_of Check = 0
+size_of (Load n) = n
+
+default_to : (words : List (List ℕ)) (target : Target) (consts : List (Name × Data)) (settings : Settings) → AsksBy (command_to target) words consts settings → settings ≡ default_settings
+default_to words targets.Expansion consts settings a = a.settings_are
+default_to words targets.Module consts settings a = a.settings_are
+
+module _ (words : List (List ℕ)) (consts : List (Name × Data)) (settings : Settings) where
+  pub execution_only : (schedule : Schedule) → AsksOnly words (record_of (command_under schedule) consts settings) → ExecutesOnly words schedule settings consts
+  execution_only schedule h = (h.0, λ other set others a. others_are other set others (h.1 (record { command = command_under other; consts = others; settings = set }) a))
+    where
+      others_are : (other : Schedule) (set : Settings) (others : List (Name × Data))
+          → record_of (command_under other) others set ≡ record_of (command_under schedule) consts settings → (other ≡ schedule) × (set ≡ settings) × (others ≡ consts)
+      others_are other set others e = (sym (schedule_back other) ∙ ap (λ r. schedule_of r.command) e ∙ schedule_back schedule, ap (λ r. r.settings) e, ap (λ r. r.consts) e)
+
+  pub translation_only : (target : Target) → AsksOnly words (record_of (command_to target) consts settings) → TranslatesOnly words target consts
+  translation_only target h = (
+    subst (AsksBy (command_to target) words consts) (default_to words target consts settings h.0) h.0,
+    λ other others a. others_are other others (h.1 (record { command = command_to other; consts = others; settings = default_settings }) a),
+  )
+    where
+      others_are : (other : Target) (others : List (Name × Data))
+          → record_of (command_to other) others default_settings ≡ record_of (command_to target) consts settings → (other ≡ target) × (others ≡ consts)
+      others_are other others e = (sym (target_back other) ∙ ap (λ r. target_of r.command) e ∙ target_back target, ap (λ r. r.consts) e)
+
+  pub check_only : AsksOnly words (record_of Check consts settings) → AsksCheck words
+  check_only h = record { words_are = h.0.words_are; no_consts = refl; settings_are = refl }
+
+  pub load_only : (size : ℕ) → AsksOnly words (record_of (Load size) consts settings) → LoadsOnly words size
+  load_only size h = (
+    record { alone = record { words_are = h.0.alone.words_are; no_consts = refl; settings_are = refl }; some = h.0.some; few = h.0.few },
+    λ other a. ap (λ r. size_of r.command) (h.1 (record { command = Load other; consts = []; settings = default_settings }) a),
+  )

@@ -1,0 +1,3 @@
+pub mod Constants
+pub mod Loading
+pub mod Texts

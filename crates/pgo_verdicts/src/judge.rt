@@ -1,0 +1,37 @@
+// The verdict on a text.
+ghost use Rattle.std.specs.Prelude.{◌≡◌, length, IfOk, IfErr};
+ghost use Rattle.pgo_log_text.specs.ReadBundle.{IsRefused};
+ghost use Rattle.pgo_verdicts.specs.Judged.{Judged};
+
+use pgo_check::checker::check;
+use pgo_check::verdict::Verdict;
+use pgo_log_text::bundle_reader::read_bundle;
+use pgo_log_text::errors::LogStop;
+use std::alloc::Global;
+
+/// The verdict on a bundle, and the number of its instances.
+#[derive(Clone, Copy)]
+pub struct Judgement {
+    pub verdict: Verdict,
+    pub instances: usize,
+}
+
+/// The verdict on the log of the bundle that the text is.
+///
+/// - `BadLog` comes where the text is no bundle, with the first line that no bundle has there.
+/// - `NoMemory` comes where there is no memory.
+///
+/// Source: this project's choice.
+pub fn judge(alloc: Global, text: &[u8]) -> Result<Judgement, LogStop>
+    ensures judged { IfOk result (λ j. (d : Judged text.now j.verdict) × (j.instances ≡ length d.log.ids)) }
+    ensures refused { IfErr result (IsRefused text.now) }
+{
+    let (module, consts, log) = read_bundle(alloc, text)?;
+    match check(alloc, &module, &consts, &log) {
+        Ok(verdict) => Ok(Judgement {
+            verdict,
+            instances: log.ids.as_slice().len(),
+        }),
+        Err(_) => Err(LogStop::NoMemory),
+    }
+}

@@ -1,0 +1,14 @@
+pub mod TurnLists
+pub mod ItemReads
+pub mod ListReads
+pub mod ConstantWords
+pub mod OptionSteps
+pub mod OptionRows
+pub mod OptionWalks
+pub mod OptionUses
+pub mod OptionFaults
+pub mod OptionCuts
+pub mod OptionParts
+pub mod OptionReads
+pub mod OptionAsks
+pub mod ReadLaws

@@ -1,0 +1,11 @@
+pub mod Constants
+pub mod Turns
+pub mod Options
+pub mod Settings
+pub mod Asks
+pub mod View
+pub mod Cuts
+pub mod Items
+pub mod Commands
+pub mod Parts
+pub mod Reads

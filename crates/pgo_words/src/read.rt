@@ -1,0 +1,210 @@
+// What words ask for.
+ghost use Rattle.std.specs.Prelude.{◌≡◌, IfOk, IfErr, IfSome, false, option_map};
+ghost use Rattle.pgo_words.specs.Asks as asked;
+ghost use Rattle.pgo_words.specs.Asks.{Asks};
+ghost use Rattle.pgo_words.specs.Parts.{texts};
+ghost use Rattle.pgo_words.specs.Reads.{BehindOnly, BothOnly, both_view, RequestOnly, SizeOnly};
+ghost use Rattle.pgo_words.specs.Settings as spec;
+ghost use Rattle.pgo_words.specs.View.{command_view, request_view};
+ghost use Rattle.pgo_words.specs.declared.commands.CommandName.TheVariants as names;
+
+use crate::commands::{CommandName, find_command};
+use crate::constants::read_constants;
+use crate::errors::WordStop;
+use crate::numbers::number;
+use crate::options::{Options, read_options, texts_of};
+use crate::request::{Command, Request};
+use crate::settings::{default_settings, read_settings};
+use crate::turns::read_list;
+use pgo_base::consts::Consts;
+use pgo_base::word::Word;
+use pgo_syntax::records::Settings;
+use std::alloc::{AllocError, Global};
+
+/// What the words of the command line, without the program's name, ask for: a command, then its options, `--name` and its value
+/// as the next word, at most once each and in any order, then its constants, `NAME=value` with an identifier of at most 512 bytes
+/// and the text of a value, each name once. `compile` and `expand` have constants, `step` and `run` options and constants; `check`
+/// has neither, and `load` a number from 1 to 32 alone. `step` and `run` have `--seed` (below 2^64, 0 where it isn't given),
+/// `--attempts` and `--steps` (at most 100,000 each, 10,000 where they aren't given); `step` has `--turns` besides, which must be
+/// given: one item or more, separated by commas, each `k` or `k*n`, n turns of k, where k is below 2^32 and n is at least 1, at
+/// most 1,000,000 turns in all. Numbers are decimal digits without sign or leading zeros.
+///
+/// `Usage` comes exactly where the words ask for nothing of these. Source: this project's choice.
+pub fn read_words(alloc: Global, words: &[Word]) -> Result<Request, WordStop>
+    ensures asks { IfOk result (λ r. Asks words.now (request_view r)) }
+    ensures only { IfOk result (λ r. (other : asked.Request) → Asks words.now other → other ≡ request_view r) }
+    ensures usage { IfErr result (λ e. e ≡ WordStop.Usage → (other : asked.Request) → Asks words.now other → ⊥) }
+    ensures unparked { IfOk result (λ r. r.settings.park ≡ false) }
+{
+    match read_request(alloc, words) {
+        Ok(Some(request)) => Ok(request),
+        Ok(None) => Err(WordStop::Usage),
+        Err(_) => Err(WordStop::NoMemory),
+    }
+}
+
+/// What the words ask for; none where they ask for nothing that there is.
+fn read_request(alloc: Global, words: &[Word]) -> Result<Option<Request>, AllocError>
+    ensures reads { IfOk result (λ o. RequestOnly words.now (option_map request_view o)) }
+    ensures unparked { IfOk result (λ o. IfSome o (λ r. r.settings.park ≡ false)) }
+{
+    let texts = texts_of(alloc, words)?;
+    match texts.as_slice() {
+        [command, behind @ ..] => match find_command(command.as_bytes()) {
+            Some(name) => read_command(alloc, name, behind),
+            None => Ok(None),
+        },
+        _ => Ok(None),
+    }
+}
+
+/// What the command asks for with these words behind it.
+fn read_command(
+    alloc: Global,
+    name: CommandName,
+    behind: &[&str],
+) -> Result<Option<Request>, AllocError>
+    ensures reads { IfOk result (λ o. BehindOnly name (texts behind.now) (option_map request_view o)) }
+    ensures unparked { IfOk result (λ o. IfSome o (λ r. r.settings.park ≡ false)) }
+{
+    match name {
+        CommandName::Compile => read_compile(alloc, behind),
+        CommandName::Expand => read_expand(alloc, behind),
+        CommandName::Step => read_step(alloc, behind),
+        CommandName::Run => read_run(alloc, behind),
+        CommandName::Check => Ok(read_check(alloc, behind)),
+        CommandName::Load => Ok(read_load(alloc, behind)),
+    }
+}
+
+/// `compile` and constants.
+fn read_compile(alloc: Global, behind: &[&str]) -> Result<Option<Request>, AllocError>
+    ensures reads { IfOk result (λ o. BehindOnly names.Compile (texts behind.now) (option_map request_view o)) }
+    ensures unparked { IfOk result (λ o. IfSome o (λ r. r.settings.park ≡ false)) }
+{
+    match read_constants(alloc, behind)? {
+        Some(consts) => Ok(Some(without_options(alloc, Command::Compile, consts))),
+        None => Ok(None),
+    }
+}
+
+/// `expand` and constants.
+fn read_expand(alloc: Global, behind: &[&str]) -> Result<Option<Request>, AllocError>
+    ensures reads { IfOk result (λ o. BehindOnly names.Expand (texts behind.now) (option_map request_view o)) }
+    ensures unparked { IfOk result (λ o. IfSome o (λ r. r.settings.park ≡ false)) }
+{
+    match read_constants(alloc, behind)? {
+        Some(consts) => Ok(Some(without_options(alloc, Command::Expand, consts))),
+        None => Ok(None),
+    }
+}
+
+/// `step`, its options and constants.
+fn read_step(alloc: Global, behind: &[&str]) -> Result<Option<Request>, AllocError>
+    ensures reads { IfOk result (λ o. BehindOnly names.Step (texts behind.now) (option_map request_view o)) }
+    ensures unparked { IfOk result (λ o. IfSome o (λ r. r.settings.park ≡ false)) }
+{
+    let Some(options) = read_options(alloc, true, behind)? else {
+        return Ok(None);
+    };
+    let Some(list) = options.turns else {
+        return Ok(None);
+    };
+    let Some(turns) = read_list(alloc, list)? else {
+        return Ok(None);
+    };
+    match read_both(alloc, &options)? {
+        Some((settings, consts)) => Ok(Some(Request {
+            command: Command::Step { turns },
+            consts,
+            settings,
+        })),
+        None => Ok(None),
+    }
+}
+
+/// `run`, its options and constants.
+fn read_run(alloc: Global, behind: &[&str]) -> Result<Option<Request>, AllocError>
+    ensures reads { IfOk result (λ o. BehindOnly names.Run (texts behind.now) (option_map request_view o)) }
+    ensures unparked { IfOk result (λ o. IfSome o (λ r. r.settings.park ≡ false)) }
+{
+    let Some(options) = read_options(alloc, false, behind)? else {
+        return Ok(None);
+    };
+    match read_both(alloc, &options)? {
+        Some((settings, consts)) => Ok(Some(Request {
+            command: Command::Run,
+            consts,
+            settings,
+        })),
+        None => Ok(None),
+    }
+}
+
+/// The settings that the options give, and the constants behind them.
+fn read_both(alloc: Global, options: &Options) -> Result<Option<(Settings, Consts)>, AllocError>
+    ensures reads { IfOk result (λ o. BothOnly options.now (option_map both_view o)) }
+    ensures unparked { IfOk result (λ o. IfSome o (λ p. p.0.park ≡ false)) }
+{
+    let Some(settings) = read_settings(alloc, options) else {
+        return Ok(None);
+    };
+    match read_constants(alloc, options.rest)? {
+        Some(consts) => Ok(Some((settings, consts))),
+        None => Ok(None),
+    }
+}
+
+/// `check` alone.
+fn read_check(alloc: Global, behind: &[&str]) -> Option<Request>
+    ensures reads { BehindOnly names.Check (texts behind.now) (option_map request_view result) }
+    ensures unparked { IfSome result (λ r. r.settings.park ≡ false) }
+{
+    if behind.is_empty() {
+        Some(without_options(alloc, Command::Check, Consts::new(alloc)))
+    } else {
+        None
+    }
+}
+
+/// `load` and a size.
+fn read_load(alloc: Global, behind: &[&str]) -> Option<Request>
+    ensures reads { BehindOnly names.Load (texts behind.now) (option_map request_view result) }
+    ensures unparked { IfSome result (λ r. r.settings.park ≡ false) }
+{
+    if behind.len() != 1 {
+        return None;
+    }
+    match read_size(behind[0]) {
+        Some(size) => Some(without_options(alloc, Command::Load { size }, Consts::new(alloc))),
+        None => None,
+    }
+}
+
+/// A number from 1 to 32.
+fn read_size(text: &str) -> Option<u32>
+    ensures { SizeOnly text.now result }
+{
+    match number(text) {
+        Some(size) => {
+            if 1 <= size && size <= 32 {
+                Some(size)
+            } else {
+                None
+            }
+        }
+        None => None,
+    }
+}
+
+/// A command without options.
+fn without_options(alloc: Global, command: Command, consts: Consts) -> Request
+    ensures view { request_view result ≡ record { command = command_view command; consts = consts; settings = spec.default_settings } }
+    ensures unparked { result.settings.park ≡ false }
+{
+    Request {
+        command,
+        consts,
+        settings: default_settings(alloc),
+    }
+}
