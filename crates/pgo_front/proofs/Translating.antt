@@ -1,8 +1,17 @@
 -- What a translation of a text gives, and why it stops.
-use Rattle.std.proofs.Common.{◌≡◌, ◌≤◌, length, inl, inr, ℕ, List, Option, Some, None, Result, Ok, Err, IfOk, refl, ◌∙◌, ap, sym, subst}
-use Rattle.pgo_base.specs.Data.{Data}
-use Rattle.pgo_base.specs.Lookup.{Name}
+use Rattle.std.proofs.Common.{◌≡◌, ◌≤◌, ◌↔◌, length, inl, inr, ℕ, List, Option, Some, None, Result, Ok, Err, IfOk, refl, ◌∙◌, ap, sym, subst}
+use Rattle.pgo_base.specs.Data.{Data, string}
+use Rattle.pgo_base.specs.Lookup.{Name, Vars}
 use Rattle.pgo_bound.specs.BoundOf.{bound_of}
+use Rattle.pgo_bound.specs.Declares.{value_in}
+use Rattle.pgo_bound.specs.Sound.{IsLabel}
+use Rattle.pgo_bound.specs.State.{IsState, id_of}
+use Rattle.pgo_model.specs.Machine.{nth}
+use Rattle.pgo_model.specs.Written.{pc}
+use Rattle.pgo_meaning.specs.Sect.{Allows}
+use Rattle.pgo_meaning.specs.TreeAllows.{TreeAllows}
+use Rattle.pgo_agrees.specs.Trees.{trees_in}
+use Rattle.pgo_syntax.specs.declared.bound.Instance.{Instance}
 use Rattle.pgo_model.specs.Module.{Module}
 use Rattle.pgo_model.specs.ModuleText.{Text}
 use Rattle.pgo_model.specs.State.{AllValues}
@@ -33,6 +42,13 @@ ModulesAgree =
     (text : List ℕ) (s : Spec) (consts : List (Name × Data)) (p : PlusCal) → SpellsSpec text s → NothingRefuses s consts → AllValues consts → p ≡ pluscal_of s
     → Agrees (module_with p) (constants_with s consts) (bound_of s consts)
 
+-- the trees of an expansion allow what the sections of its specification allow
+abbrev pub ExpansionsAgree : Type 0
+ExpansionsAgree =
+    (text : List ℕ) (s : Spec) (consts : List (Name × Data)) (p : PlusCal) (k : ℕ) (i : Instance) (l : Name) (t u : Vars) → SpellsSpec text s → NothingRefuses s consts → p ≡ pluscal_of s
+    → nth (bound_of s consts).instances k ≡ Some i → IsLabel i l → IsState (bound_of s consts) t → IsState (bound_of s consts) u → value_in t pc (id_of i) ≡ Some (string l)
+    → TreeAllows (trees_in p) (bound_of s consts) l (id_of i) t u ↔ Allows (bound_of s consts) k t u
+
 -- a text that is a module's and is short enough
 pub module_text_is : {E : Type 0} (r : Result (List ℕ) E) (t : List ℕ) (m n : Module) → IfOk r (λ u. u ≡ t) → IfOk r (λ u. length u ≤ most_tokens) → t ≡ Text m → m ≡ n → IfOk r (IsModuleText n)
 module_text_is (Ok u) t m n a b e q = (a ∙ e ∙ ap Text q, b)
@@ -43,11 +59,18 @@ abbrev pub ReadBack : Type 0
 ReadBack = (text : List ℕ) (s : Spec) (consts : List (Name × Data)) → SpellsSpec text s → NothingRefuses s consts → length (Text (module_of s)) ≤ most_tokens → SpellsAlone (Text (module_of s)) (module_of s)
 
 -- the text of what the expansion gives
-pub translates_to : ModulesAgree → ReadBack → (target : Target) (text : List ℕ) (consts : List (Name × Data)) (p : PlusCal) (bytes : List ℕ) → GivesExpansion text consts (Ok p)
+pub translates_to : ExpansionsAgree → ModulesAgree → ReadBack → (target : Target) (text : List ℕ) (consts : List (Name × Data)) (p : PlusCal) (bytes : List ℕ) → GivesExpansion text consts (Ok p)
     → IsTextOf target p bytes → AllValues consts → TranslatesTo target text consts bytes
-translates_to agree back targets.Expansion text consts p bytes (answers.spelled s r sp only (answers.expanded q n m)) e values =
-    record { spec = s; spells = sp; only = only; passes = n; written_is = e ∙ ap pluscal_text m }
-translates_to agree back targets.Module text consts p bytes (answers.spelled s r sp only (answers.expanded q n m)) e values =
+translates_to trees agree back targets.Expansion text consts p bytes (answers.spelled s r sp only (answers.expanded q n m)) e values =
+    record {
+      spec = s;
+      spells = sp;
+      only = only;
+      passes = n;
+      written_is = e ∙ ap pluscal_text m;
+      agrees = λ k i l t u. trees text s consts (pluscal_of s) k i l t u sp n refl;
+    }
+translates_to trees agree back targets.Module text consts p bytes (answers.spelled s r sp only (answers.expanded q n m)) e values =
     let is : bytes ≡ Text (module_of s) = e.0 ∙ ap (λ q. Text (module_with q)) m in
     record {
       spec = s;

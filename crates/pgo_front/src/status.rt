@@ -28,7 +28,8 @@ pub enum Status {
     NotARun,
     /// The text is no bundle.
     BadBundle,
-    /// There was no memory.
+    /// There was no memory; or an expression opens more than 640 levels, is made more than 1,024 high by macros, or a module's text
+    /// has 2^32 bytes or more.
     NoMemory,
 }
 

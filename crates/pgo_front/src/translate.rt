@@ -15,7 +15,7 @@ use crate::output::{Output, Written};
 use crate::status::Status;
 use crate::target::Target;
 use pgo_accept::accept::expansion;
-use pgo_agrees::modules_agree;
+use pgo_agrees::{expansions_agree, modules_agree};
 use pgo_base::consts::Consts;
 use pgo_base::text::Text;
 use pgo_expr_write::errors::NoMemory;
@@ -64,6 +64,7 @@ fn translate_text(
     ensures err { IfErr result (λ e. StopsSpec text.now consts.now e.status) }
     ensures line { IfErr result (λ e. HasLine (RefusedWith text.now consts.now) e.status e.line) }
 {
+    expansions_agree();
     modules_agree();
     modules_are_read_back();
     match expansion(alloc, text, consts) {

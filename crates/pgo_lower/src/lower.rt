@@ -112,9 +112,10 @@ fn code<'a>(
 
 /// The sections of all instances as instructions, to be run with these definitions, which mean the same as those of what is bound.
 ///
-/// Err where there is no memory, and where a program would take more than 2^32 tasks, which none takes that nothing refuses: two for each level of code (a statement, where a
-/// macro's body stands in the place of its call; the rest of a row; further branches of an `if`), two more for an `if`, one more for
-/// each arm of an `either`, and one for each section; again in each section that has it, of each instance. (This project's choice.)
+/// Err where there is no memory, and where a program would take more than 2^32 tasks: two for each level of code (a statement, where
+/// a macro's body stands in the place of its call; the rest of a row; further branches of an `if`), two more for an `if`, one more
+/// for each arm of an `either`, and one for each section; again in each section that has it, of each instance. (This project's
+/// choice.)
 pub fn lower<'a>(
     alloc: Global,
     bound: &'a Bound,
@@ -123,6 +124,7 @@ pub fn lower<'a>(
     requires unlabelled { AreUnlabelled bound.now.spec.macros }
     requires same { meant definitions ≡ meant bound.now.defs }
     ensures bound { IfOk result (λ p. p.bound ≡ bound.entry) }
+    ensures definitions { IfOk result (λ p. p.definitions ≡ definitions) }
     ensures codes { IfOk result (λ p. AreLowered bound.entry.now bound.entry.now.instances p.codes.items) }
 {
     let globals = Globals::new(alloc, bound)?;

@@ -18,7 +18,7 @@ pub struct Judgement {
 
 /// The verdict on the log of the bundle that the text is.
 ///
-/// - `BadLog` comes where the text is no bundle, with the first line that no bundle has there.
+/// - `BadLog` comes where the text is no bundle, with the line that `read_bundle` names.
 /// - `NoMemory` comes where there is no memory.
 ///
 /// Source: this project's choice.

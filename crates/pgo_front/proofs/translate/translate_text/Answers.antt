@@ -6,7 +6,7 @@ use Rattle.pgo_front.proofs.translate.translate_text.Goals as goal
 pub returns-in-Ok-clause-ok : goal.returns-in-Ok-clause-ok
 returns-in-Ok-clause-ok c =
     IfOk-weaker c.output_of.result _ _
-    (λ m e. translates_to c.modules_agree.ensures c.modules_are_read_back.ensures c.args.target c.args.text.now c.args.consts.now c.in-Ok.expanded (bytes_of m.written) c.in-Ok.ensures e)
+    (λ m e. translates_to c.expansions_agree.ensures c.modules_agree.ensures c.modules_are_read_back.ensures c.args.target c.args.text.now c.args.consts.now c.in-Ok.expanded (bytes_of m.written) c.in-Ok.ensures e)
     c.output_of.ensures.ok
 
 pub returns-in-Err-clause-err : goal.returns-in-Err-clause-err
