@@ -123,14 +123,14 @@ some_line e = cc
 
 pub refused : (text : List ℕ) (consts : List (Name × Data)) (e : Rejection) (l : List ℕ) → GivesExpansion text consts (Err e) → rejection_line e ≡ Some l
     → RefusedWith text consts l
-refused text consts e l (answers.syntax offset h) k = subst (RefusedWith text consts) (some_line k) (refusals.syntax offset h)
+refused text consts e l (answers.syntax offset within h) k = subst (RefusedWith text consts) (some_line k) (refusals.syntax offset within h)
 refused text consts e l (answers.spelled s r sp only j) k = refusals.spelled s l sp (stopped_line s consts e l j k)
 refused text consts e l answers.no_memory k = absurd (no_line k)
 
 -- a text that is refused with a line has no expansion
 pub not_expandable : (text : List ℕ) (consts : List (Name × Data)) (e : Rejection) (l : List ℕ) → GivesExpansion text consts (Err e) → rejection_line e ≡ Some l
     → IsExpandable text consts → ⊥
-not_expandable text consts e l (answers.syntax offset h) k x = h x.0 x.1
+not_expandable text consts e l (answers.syntax offset within h) k x = h x.0 x.1
 not_expandable text consts e l (answers.spelled s r sp only j) k x =
     stopped_not_passed s consts e l j k (subst (λ t. NothingRefuses t consts) (sym (only x.0 x.1)) x.2)
 not_expandable text consts e l answers.no_memory k x = absurd (no_line k)
@@ -140,7 +140,7 @@ not_expandable text consts e l answers.no_memory k x = absurd (no_line k)
 -- what stops the reading stops whatever comes behind it
 pub unread : {A : Type 0} (P : Spec → Result A Rejection → Type 0) (text : List ℕ) (e : Rejection) → OfText (λ s (r : Result Spec Rejection). r ≡ Ok s) text (Err e)
     → OfText P text (Err e)
-unread P text e (answers.syntax offset h) = answers.syntax offset h
+unread P text e (answers.syntax offset within h) = answers.syntax offset within h
 unread P text e (answers.spelled s r sp only j) = absurd (cc)
 unread P text e answers.no_memory = answers.no_memory
 

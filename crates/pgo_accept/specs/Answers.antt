@@ -1,5 +1,5 @@
 -- What is answered about a text with constants.
-use Rattle.std.specs.Prelude.{◌≡◌, ℕ, List, None, Result, Ok, Err}
+use Rattle.std.specs.Prelude.{◌≡◌, ◌≤◌, ℕ, List, length, None, Result, Ok, Err}
 use Rattle.pgo_base.specs.Data.{Data}
 use Rattle.pgo_base.specs.Lookup.{Name}
 use Rattle.pgo_syntax.specs.declared.bound.Bound.{Bound}
@@ -54,8 +54,8 @@ pub data Expands (s : Spec) (consts : List (Name × Data)) : Result PlusCal Reje
 
 -- the answer about a text, where P says what is answered about the one specification that it spells
 pub data OfText {A : Type 0} (P : Spec → Result A Rejection → Type 0) (text : List ℕ) : Result A Rejection → Type 0 where
-  -- it spells no specification
-  syntax : (offset : ℕ) → ((s : Spec) → SpellsSpec text s → ⊥) → OfText P text (Err (rejections.Syntax offset))
+  -- it spells no specification, and the offset is at most its length
+  syntax : (offset : ℕ) → offset ≤ length text → ((s : Spec) → SpellsSpec text s → ⊥) → OfText P text (Err (rejections.Syntax offset))
   -- it spells this one, and no other
   spelled : (s : Spec) (r : Result A Rejection) → SpellsSpec text s → ((t : Spec) → SpellsSpec text t → s ≡ t) → P s r → OfText P text r
   -- there was no memory to read it

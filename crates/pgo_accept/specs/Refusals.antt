@@ -1,5 +1,5 @@
 -- Why a specification's text is refused, and the line that says so.
-use Rattle.std.specs.Prelude.{◌≡◌, ℕ, List, ◌++◌, codes, decimal, Option, Some, None}
+use Rattle.std.specs.Prelude.{◌≡◌, ◌≤◌, ℕ, List, ◌++◌, length, codes, decimal, Option, Some, None}
 use Rattle.pgo_base.specs.Data.{Data}
 use Rattle.pgo_base.specs.Lookup.{Name}
 use Rattle.pgo_base.specs.View.{data_of}
@@ -110,7 +110,7 @@ spec_line s consts = or_line scope_line (scope_refusal s) (labeled_line s consts
 
 -- the line that a text with these constants is refused with
 pub data RefusedWith (text : List ℕ) (consts : List (Name × Data)) : List ℕ → Type 0 where
-  -- it spells no specification
-  syntax : (offset : ℕ) → ((s : Spec) → SpellsSpec text s → ⊥) → RefusedWith text consts (syntax_line offset)
+  -- it spells no specification, and the offset is at most its length
+  syntax : (offset : ℕ) → offset ≤ length text → ((s : Spec) → SpellsSpec text s → ⊥) → RefusedWith text consts (syntax_line offset)
   -- it spells this one, which has this line
   spelled : (s : Spec) (line : List ℕ) → SpellsSpec text s → spec_line s consts ≡ Some line → RefusedWith text consts line

@@ -22,6 +22,7 @@ use Rattle.pgo_meaning.specs.Parameters.{mapped_of, all_mapped, place_of, parame
 use Rattle.pgo_meaning.specs.System.{global_in, globals_in}
 use Rattle.pgo_meaning.specs.TreesAgree.{sections_at}
 use Rattle.pgo_meaning.proofs.SectionCode.{Holds, section_good}
+use Rattle.pgo_meaning.proofs.Traces.{no_local}
 use Rattle.pgo_workers.proofs.Components.{index_is, and_parts}
 
 or_right : (b c : Bool) → c ≡ true → b || c ≡ true
@@ -56,14 +57,6 @@ place_bound p (b ∷ bs) ls x g h none = go b.target h (λ k. place_bound p bs l
     go (targets.Value e) h more = own (Own _) (same_name x b.parameter) (own_not _) h more
     go (targets.Global g' e None) h more = found x g' (same_name x b.parameter) h more
     go (targets.Global g' e (Some m)) h more = or_right (same_name g g') (is_among g (globals_in bs)) (more h)
-
-no_local : (p : Name) (ds : List Declaration) (x g : Name) → find x (local_places p ds) ≡ Some (Whole g) → ⊥
-no_local p [] x g h = cc
-no_local p (d ∷ ds) x g h = go (same_name x d.name.name) _ h (λ k. no_local p ds x g k)
-  where
-    go : (b : Bool) (z : Name) → (if b then Some (Own z) else find x (local_places p ds)) ≡ Some (Whole g) → (find x (local_places p ds) ≡ Some (Whole g) → ⊥) → ⊥
-    go true z h more = grind (arith, h)
-    go false z h more = more h
 
 pub mapped_bound : (bs : List Binding) (x : Name) (m : Mapped) → find x (all_mapped bs) ≡ Some m → is_among m.global (globals_in bs) ≡ true
 mapped_bound [] x m h = absurd (cc)

@@ -23,8 +23,8 @@ use Rattle.pgo_sections.proofs.Closing.{closed_at}
 use Rattle.pgo_sections.proofs.Domains.{same_of}
 use Rattle.pgo_workers.specs.Walk as walks
 use Rattle.pgo_accesses.specs.Accesses.{Progress, own_next, none_deep, all_shallow, is_too_deep}
-use Rattle.pgo_accesses.proofs.Parts.{same_self, size_is, lookup_low, replaced_low, lookup_here, lookup_other, with_at, put_is, depth_at, made_of, le_of, of_le, gt_of, not_less}
-use Rattle.pgo_accesses.proofs.Related.{Matches, IsWhole, IsElements, IsResource, MayChange, Elements, AsBound, Related}
+use Rattle.pgo_accesses.proofs.Parts.{same_self, size_is, lookup_low, replaced_low, lookup_here, lookup_other, with_at, put_is, depth_at, made_of, le_of, of_le, not_less}
+use Rattle.pgo_accesses.proofs.Related.{Matches, IsElements, IsResource, MayChange, Elements, AsBound, Related}
 
 -- ---- graphs
 
@@ -33,7 +33,7 @@ abbrev pub Once : List Data → Type 0
 Once [] = Unit {0}
 Once (k ∷ ks) = (contains k ks ≡ false) × Once ks
 
-in_keys : (k v : Data) (l : List (Data × Data)) → lookup k l ≡ Some v → contains k (keys l) ≡ true
+pub in_keys : (k v : Data) (l : List (Data × Data)) → lookup k l ≡ Some v → contains k (keys l) ≡ true
 in_keys k v [] h = absurd (grind (arith, h))
 in_keys k v (p ∷ l) h = go (same_data k p.0) h (λ e. in_keys k v l e)
   where

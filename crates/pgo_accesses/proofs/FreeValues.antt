@@ -1,80 +1,19 @@
 -- An expression's value hangs on the names that stand free in it alone.
-use Rattle.std.proofs.Common.{◌≡◌, ℕ, suc, Bool, true, false, ◌||◌, if◌then◌else◌, List, [], ◌∷◌, ◌++◌, length, Option, Some, None, refl, sym, ap, ◌∙◌, subst, arith, option_and_then}
+use Rattle.std.proofs.Common.{◌≡◌, Bool, true, false, ◌||◌, if◌then◌else◌, List, [], ◌∷◌, ◌++◌, length, Option, Some, None, refl, sym, ap, ◌∙◌, subst, arith, option_and_then}
 use Rattle.pgo_base.specs.declared.expr.Quantifier.{Quantifier}
 use Rattle.pgo_base.specs.declared.expr.Quantifier.TheVariants as quantifiers
 use Rattle.pgo_base.specs.Data.{Data, string}
 use Rattle.pgo_base.specs.Lookup.{Name, Names, Vars, same_name, find}
 use Rattle.pgo_base.specs.Tree.{Tree, name, primed, number, text, truth, at, word, unary, binary, product, cond_of, case_of, case_other, let_in, quantified, choose, tuple, set_of, filter_of, image, fun_of, fun_set, record_of, record_set, except, index, field, call, unchanged, Trees, no_trees, more_trees, NamedTrees, no_named, more_named, TreePairs, no_arms, more_arms, BoundTrees, no_bound, more_bound, PathTrees, no_paths, more_paths}
 use Rattle.pgo_model.specs.FunctionSets.{choice_count, product_choices, function_choices, record_choices}
-use Rattle.pgo_model.specs.Operators.{truth_of, from_truth, any3, all3, first3, filter3, both, each, where_few, set_from, function_from, members_of, apply, sequence, choices, put, spread, put_at}
+use Rattle.pgo_model.specs.Operators.{truth_of, from_truth, any3, all3, first3, filter3, both, each, where_few, set_from, function_from, members_of, apply, sequence, choices, put_at}
 use Rattle.pgo_model.specs.Sequences.{assert_name, assert, operators}
 use Rattle.pgo_model.specs.Val.{or_else, Meaning, Scope, sem, val, plain, call_def, value_of_call, with_name, with_names, with_part, unary_sem, binary_sem, functions_sem, decide, over_each, some_of, every_of, quantify, name_values, names_over, sets_over, index_of, function_over, values_of, asserted, let_scope, case_value, ranges, fields, updated}
 use Rattle.pgo_sections.specs.Among.{is_among}
 use Rattle.pgo_sections.specs.Bound.{names_of, names_bound, below}
 use Rattle.pgo_sections.specs.FreeNames.{free_names, free_names_all, free_names_fields, free_names_let, free_names_arms, free_names_bound, free_names_paths}
 use Rattle.pgo_sections.specs.Plain.{All}
-use Rattle.pgo_sections.proofs.Under.{names}
-
-abbrev Long : ℕ → List (List Data) → Type 0
-Long n [] = Unit {0}
-Long n (c ∷ cs) = (length c ≡ n) × Long n cs
-
-long_put : (n : ℕ) (m : Data) (cs : List (List Data)) → Long n cs → Long (suc n) (put m cs)
-long_put n m [] h = tt
-long_put n m (c ∷ cs) h = (ap suc h.0, long_put n m cs h.1)
-
-long_append : (n : ℕ) (as' bs : List (List Data)) → Long n as' → Long n bs → Long n (as' ++ bs)
-long_append n [] bs h g = g
-long_append n (a ∷ as') bs h g = (h.0, long_append n as' bs h.1 g)
-
-long_spread : (n : ℕ) (ms : List Data) (cs : List (List Data)) → Long n cs → Long (suc n) (spread ms cs)
-long_spread n [] cs h = tt
-long_spread n (m ∷ ms) cs h = long_append (suc n) (put m cs) (spread ms cs) (long_put n m cs h) (long_spread n ms cs h)
-
-long_choices : (mss : List (List Data)) → Long (length mss) (choices mss)
-long_choices [] = (refl, tt)
-long_choices (ms ∷ rest) = long_spread (length rest) ms (choices rest) (long_choices rest)
-
-each_long : {B : Type 0} → (n : ℕ) (f g : List Data → Option B) (cs : List (List Data)) → Long n cs → ((c : List Data) → length c ≡ n → f c ≡ g c) → each f cs ≡ each g cs
-each_long n f g [] h e = refl
-each_long n f g (c ∷ cs) h e =
-    let p = e c h.0 in let q = each_long n f g cs h.1 e in λ i. both (λ b bs. Some (b ∷ bs)) (p i) (q i)
-
-sets_names : (bs : List (Name × List Data)) → length (sets_over bs) ≡ length (names_over bs)
-sets_names [] = refl
-sets_names (b ∷ bs) = ap suc (sets_names bs)
-
-values_names : (xs : List Name) (vs : List Data) (Γ : Names) → length vs ≡ length xs → names (name_values xs vs Γ) ≡ below xs (names Γ)
-values_names [] vs Γ h = refl
-values_names (x ∷ xs) [] Γ h = absurd (omega (arith, h))
-values_names (x ∷ xs) (v ∷ vs) Γ h = values_names xs vs ((x, Some v) ∷ Γ) (omega (arith, h))
-
-values_before : (xs : List Name) (vs : List Data) (Γ env : Names) → name_values xs vs (Γ ++ env) ≡ name_values xs vs Γ ++ env
-values_before [] vs Γ env = refl
-values_before (x ∷ xs) [] Γ env = refl
-values_before (x ∷ xs) (v ∷ vs) Γ env = values_before xs vs ((x, Some v) ∷ Γ) env
-
-each_names : (xs : List Name) (ms : List Data) (rest : List (Name × List Data)) → names_over (over_each xs ms rest) ≡ xs ++ names_over rest
-each_names [] ms rest = refl
-each_names (x ∷ xs) ms rest = ap (λ l. x ∷ l) (each_names xs ms rest)
-
-abbrev got : {A : Type 0} → A → Option A → A
-got d None = d
-got d (Some a) = a
-
-some_is : {A : Type 0} → (a b : A) → Some a ≡ Some b → a ≡ b
-some_is a b e = ap (got a) e
-
-some_both : {A B C : Type 0} → (f : A → B → Option C) (p : Option A) (q : Option B) (c : C) → both f p q ≡ Some c → (a : A) × (b : B) × (p ≡ Some a) × (q ≡ Some b) × (f a b ≡ Some c)
-some_both f None q c e = absurd (grind (arith, e))
-some_both f (Some a) None c e = absurd (grind (arith, e))
-some_both f (Some a) (Some b) c e = (a, b, refl, refl, e)
-
-ranges_names : (bs : BoundTrees) (s : Scope) (over : List (Name × List Data)) → ranges bs s ≡ Some over → names_over over ≡ names_bound bs
-ranges_names no_bound s over e = ap names_over (sym (some_is _ _ e))
-ranges_names (more_bound xs r bs) s over e =
-    let b = some_both (λ ms rest. Some (over_each xs ms rest)) (option_and_then members_of (sem r s).value) (ranges bs s) over e in
-    ap names_over (sym (some_is _ _ b.4)) ∙ each_names xs b.0 b.1 ∙ ap (λ l. xs ++ l) (ranges_names bs s b.1 b.3)
+use Rattle.pgo_sections.proofs.Under.{names, long_choices, each_long, sets_names, values_names, values_before, ranges_names}
 
 pub all_first : (P : Name → Type 0) (xs ys : List Name) → All P (xs ++ ys) → All P xs
 all_first P [] ys h = tt

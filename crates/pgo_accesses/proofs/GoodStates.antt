@@ -37,7 +37,6 @@ use Rattle.pgo_meaning.specs.Parameters.{places_of}
 use Rattle.pgo_meaning.specs.Sect.{is_by_element, context_of}
 use Rattle.pgo_meaning.specs.System.{globals_in, member_of, owned, owned_by, resource_of, system_of}
 use Rattle.pgo_meaning.proofs.SystemStates.{bound_kind, states_same}
-use Rattle.pgo_meaning.proofs.Trees.{keys_map}
 use Rattle.pgo_sections.specs.Among.{is_among}
 use Rattle.pgo_sections.specs.Code.{Whole}
 use Rattle.pgo_sections.specs.Context.{Context, part_at}
@@ -49,7 +48,7 @@ use Rattle.pgo_workers.proofs.Components.{index_self}
 use Rattle.pgo_workers.proofs.LayoutChanges.{component_there, own_name_behind, own_name_here}
 use Rattle.pgo_accesses.specs.Runnable.{Runnable}
 use Rattle.pgo_accesses.proofs.Bindings.{number_there, number_at, among_is, places_whole, own_among}
-use Rattle.pgo_accesses.proofs.Ending.{Once, HasPart, EachPart, Start, shallow_at}
+use Rattle.pgo_accesses.proofs.Ending.{Once, in_keys, HasPart, EachPart, Start, shallow_at}
 use Rattle.pgo_accesses.proofs.SectionTrees.{component_in}
 use Rattle.pgo_accesses.proofs.Parts.{size_is, lookup_low, of_le, not_less}
 use Rattle.pgo_accesses.specs.Accesses as accesses
@@ -179,14 +178,6 @@ contained_nth v (x ∷ xs) h = go (same_data v x) refl h (λ e. contained_nth v 
     go : (b : Bool) → same_data v x ≡ b → (if b then true else contains v xs) ≡ true → (contains v xs ≡ true → (n : ℕ) × (nth xs n ≡ Some v)) → (n : ℕ) × (nth (x ∷ xs) n ≡ Some v)
     go true e h ih = (0, ap Some (sym (same_of v x e)))
     go false e h ih = let r = ih h in (suc r.0, r.1)
-
-pub looked_key : (i v : Data) (l : List (Data × Data)) → lookup i l ≡ Some v → contains i (keys l) ≡ true
-looked_key i v [] h = absurd (grind (arith, h))
-looked_key i v (p ∷ l) h = go (same_data i p.0) h (λ e. looked_key i v l e)
-  where
-    go : (b : Bool) → (if b then Some p.1 else lookup i l) ≡ Some v → (lookup i l ≡ Some v → contains i (keys l) ≡ true) → (if b then true else contains i (keys l)) ≡ true
-    go true h ih = refl
-    go false h ih = ih h
 
 -- an own name is of an owner with the identifier
 pub named_from : (x : Name) (id : Data) (os : List Owned) → is_own_name x (own_names id os) ≡ true → (o : Owned) × IsAmong o os × (x ≡ o.variable)
@@ -476,7 +467,7 @@ module _ (b : Bound) (R : Runnable b) where
     start = record {
       entries = λ p h. found_among p.0 p.1 s (subst AreDifferent (sym on_domains.state.variables) R.differ) h;
       shallow = good.shallow;
-      there = λ x h. closing.found_among s x (ap (is_among x) (keys_map s ∙ on_domains.state.variables) ∙ among_true x (variables_of b.spec) (in_variables x (among_is x globals h)));
+      there = λ x h. closing.found_among s x (ap (is_among x) (on_domains.state.variables) ∙ among_true x (variables_of b.spec) (in_variables x (among_is x globals h)));
       parts = each_part (pc ∷ own_list) part_of;
       place = (or_nothing (part_at pc (id_of i) s), find_own k (id_of i) (pc ∷ own_list) s pc (own_name_here pc pc own_list refl));
       mine = λ x h.
@@ -513,7 +504,7 @@ module _ (b : Bound) (R : Runnable b) where
         go : (o : Option ℕ) → number_among y.resources (z, Some j) ≡ o → (l : Option Data) → lookup j (graph E.pairs) ≡ l → Matches o l values
         go None e None f = tt
         go None e (Some v) f =
-            let r = E.index j (looked_key j v (graph E.pairs) f) in
+            let r = E.index j (in_keys j v (graph E.pairs) f) in
             let n = number_of r.0 r.1 z (Some j) r.2 r.3 r.4 in
             let z : None ≡ Some n.0 = sym e ∙ n.1 in absurd (grind (arith, z))
         go (Some n) e None f = let z : None ≡ Some (values n) = sym f ∙ sym at ∙ value_at (z, Some j) n e in absurd (grind (arith, z))

@@ -31,7 +31,7 @@ use Rattle.pgo_sections.specs.Context.{part_at}
 use Rattle.pgo_workers.specs.Walk as walks
 use Rattle.pgo_workers.specs.Walk.{Walk, Goes, Sticks, visits, ending, final}
 use Rattle.pgo_workers.specs.Worlds as worlds
-use Rattle.pgo_workers.specs.Worlds.{Layout, layout_of, or_nothing, own_at, own_in, names_at, component_at, is_own_name}
+use Rattle.pgo_workers.specs.Worlds.{Layout, layout_of, or_nothing, own_at, own_in, names_at, is_own_name}
 use Rattle.pgo_workers.proofs.LayoutChanges.{component_there, own_name_behind, own_name_here, nth_there}
 use Rattle.pgo_accesses.specs.Accesses.{own_next}
 use Rattle.pgo_accesses.specs.Frame.{AgreeOn, SameEnd}
@@ -40,6 +40,7 @@ use Rattle.pgo_accesses.specs.Runnable.{Runnable, IsRunState}
 use Rattle.pgo_accesses.proofs.Frames.{same_front, same_walk}
 use Rattle.pgo_accesses.proofs.GoodStates as good_states
 use Rattle.pgo_accesses.proofs.GoodStates.{among_true}
+use Rattle.pgo_accesses.proofs.Parts.{is_less}
 use Rattle.pgo_accesses.proofs.Programs.{own_start, own_is, place_is, code_here, sect_is, trace_is, stuck_is, next_is, has_code}
 use Rattle.pgo_accesses.proofs.Related.{IsResource}
 use Rattle.pgo_accesses.proofs.SectionTrees.{Left}
@@ -132,9 +133,6 @@ module _ (b : Bound) (R : Runnable b) (s : Vars) (good : IsSystemState (system_o
       record { end = n.0; is = n.1; instance = i; at = at_k; code = c.0; at_code = c.1; left = n.2; own = left_own k i at_k o h n.0 n.2; values = left_value k i at_k o h n.0 n.2 }
 
 -- ---- an instance that isn't done has a section
-
-is_less : (m n : ℕ) → m < n → nat_lt m n ≡ true
-is_less m n h = grind (arith, h)
 
 pub instance_there : (b : Bound) (k : ℕ) → k < length (map member_of b.instances) → (i : Instance) × (nth b.instances k ≡ Some i)
 instance_there b k h = nth_there b.instances k (sym (ap (nat_lt k) (good_states.map_length member_of b.instances)) ∙ is_less k (length (map member_of b.instances)) h)

@@ -26,7 +26,7 @@ of_gt m n h = grind (arith, h)
 pub not_less : (m n : ℕ) → n ≤ m → nat_lt m n ≡ false
 not_less m n h = grind (arith, h)
 
-is_less : (m n : ℕ) → m < n → nat_lt m n ≡ true
+pub is_less : (m n : ℕ) → m < n → nat_lt m n ≡ true
 is_less m n h = grind (arith, h)
 
 at_most : (m n : ℕ) → nat_lt m n ≡ false → n ≤ m

@@ -381,13 +381,13 @@ module _ (b : Bound) (R : Runnable b) (s : Vars) (good : IsSystemState (system_o
 
   there_at : (v : Vars) → map (λ p. p.0) v ≡ variables_of b.spec → (x : Name) → IsAmong x (variables_of b.spec) → (a : Data) × (find x v ≡ Some a)
   there_at v e x m =
-      Rattle.pgo_sections.proofs.Closing.found_among v x (ap (is_among x) (Rattle.pgo_meaning.proofs.Trees.keys_map v ∙ e) ∙ among_true x (variables_of b.spec) m)
+      Rattle.pgo_sections.proofs.Closing.found_among v x (ap (is_among x) (e) ∙ among_true x (variables_of b.spec) m)
 
   names_s : map (λ p. p.0) s ≡ variables_of b.spec
   names_s = ((states_same b s R.sound R.globals).0 good).state.variables
 
   names_t : map (λ p. p.0) t ≡ variables_of b.spec
-  names_t = sym (Rattle.pgo_meaning.proofs.Trees.keys_map t) ∙ E.left.names ∙ Rattle.pgo_meaning.proofs.Trees.keys_map s ∙ names_s
+  names_t = E.left.names ∙ names_s
 
   names_u : map (λ p. p.0) u ≡ variables_of b.spec
   names_u = patched_names L layout k s has made is_of_k ∙ names_s

@@ -16,10 +16,11 @@ use Rattle.pgo_bound.specs.State.{id_of, kind_in}
 use Rattle.pgo_meaning.specs.Parameters.{places_of}
 use Rattle.pgo_meaning.specs.Sect.{code_at, is_by_element}
 use Rattle.pgo_meaning.specs.System.{system_of}
+use Rattle.pgo_workers.specs.Programs as workers
 use Rattle.pgo_workers.specs.Walk.{Own, Walk}
 use Rattle.pgo_workers.specs.Worker.{Program}
 use Rattle.pgo_workers.specs.View.{World}
-use Rattle.pgo_workers.specs.Worlds.{layout_of, effect_of, world_of}
+use Rattle.pgo_workers.specs.Worlds.{layout_of, world_of}
 use Rattle.pgo_accesses.specs.Accesses.{Attempt, accesses_of, no_value}
 
 abbrev pub attempt_of : Bound → Instance → Own → Words → Attempt
@@ -45,19 +46,9 @@ tree_of b seed k a own = tree_with b (words_of (Seeded seed k a)) k own
 abbrev pub is_done : Own → Bool
 is_done o = core.is_place done (find pc o)
 
+-- what the workers of a bound specification run
 abbrev pub program_of : Bound → core.Settings → Program Vars Effect
-program_of b settings = let r = core.rules_of (system_of b) settings in record {
-  tree = tree_of b settings.seed;
-  is_done = λ k o. is_done o;
-  effect = effect_of (layout_of (system_of b));
-  instances = r.instances;
-  sect = r.sect;
-  at_done = r.at_done;
-  between = r.between;
-  steps = settings.steps;
-  attempts = settings.attempts;
-  fails = r.fails;
-}
+program_of b settings = workers.program_of (system_of b) (tree_of b) settings
 
 -- the states and entries of a bound specification
 abbrev pub world_at : Bound → World Vars Effect

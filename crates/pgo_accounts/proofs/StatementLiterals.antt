@@ -6,8 +6,8 @@ use Rattle.pgo_lexer.specs.declared.symbol.Symbol.{Symbol}
 use Rattle.pgo_lexer.specs.declared.symbol.Symbol.TheVariants as symbol
 use Rattle.pgo_lexer.specs.declared.token.Lexeme.{Lexeme}
 use Rattle.pgo_expr_read.specs.Lookahead.{tokens_of}
-use Rattle.pgo_mpcal_read.specs.Leaves.{IsExpression, IsRange, Behind, Items, InBrackets, Row}
-use Rattle.pgo_mpcal_read.specs.Leaves as leaf
+use Rattle.pgo_mpcal_read.specs.Elements.{IsExpression, IsRange, Behind, Items, InBrackets, Row}
+use Rattle.pgo_mpcal_read.specs.Elements as elements
 use Rattle.pgo_mpcal_read.specs.Statements.{IsStep, IsLeft, IsAssignment, IsOrigin, IsWithName, Spelled, IsBranch, ElseIfs, Ors, IsLabeled, Rows, IsBody}
 use Rattle.pgo_mpcal_read.specs.Statements as m
 use Rattle.pgo_syntax.specs.Statement.{Statement, statements, labeled, guarded}
@@ -45,21 +45,21 @@ range {xs} {e} d h = fits_range d.range (small_of xs h)
 
 module _ {A : Type 0} (Item : List Lexeme → A → Type 0) (Q : A → Type 0) (item : (xs : List Lexeme) (a : A) → Item xs a → AreSmall xs → Q a) where
   pub all_behind : (v : Symbol) (xs : List Lexeme) (as' : List A) → Behind Item v xs as' → AreSmall xs → AllByRecursion Q as'
-  all_behind v xs as' leaf.no_more h = tt
-  all_behind v xs as' (leaf.one_more {xs = ys} {ys = zs} {a = a} {as' = bs} i r) h =
+  all_behind v xs as' elements.no_more h = tt
+  all_behind v xs as' (elements.one_more {xs = ys} {ys = zs} {a = a} {as' = bs} i r) h =
       let q = cut ys zs h.1 in (item ys a i q.0, all_behind v zs bs r q.1)
 
   pub all_items : (v : Symbol) (xs : List Lexeme) (as' : List A) → Items Item v xs as' → AreSmall xs → AllByRecursion Q as'
-  all_items v xs as' (leaf.items {xs = ys} {ys = zs} {a = a} {as' = bs} i r) h =
+  all_items v xs as' (elements.items {xs = ys} {ys = zs} {a = a} {as' = bs} i r) h =
       let q = cut ys zs h in (item ys a i q.0, all_behind v zs bs r q.1)
 
   pub all_in_brackets : (xs : List Lexeme) (as' : List A) → InBrackets Item xs as' → AreSmall xs → AllByRecursion Q as'
-  all_in_brackets xs as' leaf.empty h = tt
-  all_in_brackets xs as' (leaf.some c {xs = ys} {as' = bs} i) h = all_items symbol.Comma ys bs i (cut ys _ h.1).0
+  all_in_brackets xs as' elements.empty h = tt
+  all_in_brackets xs as' (elements.some c {xs = ys} {as' = bs} i) h = all_items symbol.Comma ys bs i (cut ys _ h.1).0
 
   pub all_in_row : (xs : List Lexeme) (as' : List A) → Row Item xs as' → AreSmall xs → AllByRecursion Q as'
-  all_in_row xs as' leaf.nothing h = tt
-  all_in_row xs as' (leaf.another {xs = ys} {ys = zs} {a = a} {as' = bs} i r) h =
+  all_in_row xs as' elements.nothing h = tt
+  all_in_row xs as' (elements.another {xs = ys} {ys = zs} {a = a} {as' = bs} i r) h =
       let q = cut ys zs h in (item ys a i q.0, all_in_row zs bs r q.1)
 
 -- ---- assignments and names of a `with`

@@ -1,5 +1,5 @@
 -- Code that is well formed over more names is so over fewer.
-use Rattle.std.proofs.Common.{◌≡◌, true, false, List, [], ◌∷◌, Option, Some, None, inl, inr}
+use Rattle.std.proofs.Common.{◌≡◌, true, false, List, [], ◌∷◌, Some, inl, inr}
 use Rattle.std.specs.Prelude.{◌⊎◌}
 use Rattle.pgo_base.specs.Lookup.{Name, find}
 use Rattle.pgo_base.specs.Tree.{Tree, name, primed, number, text, truth, at, word, unary, binary, product, cond_of, case_of, case_other, let_in, quantified, choose, tuple, set_of, filter_of, image, fun_of, fun_set, record_of, record_set, except, index, field, call, unchanged, Trees, no_trees, more_trees, NamedTrees, no_named, more_named, TreePairs, no_arms, more_arms, BoundTrees, no_bound, more_bound, PathTrees, no_paths, more_paths}
@@ -8,7 +8,7 @@ use Rattle.pgo_sections.specs.Code.{Place, Code, Empty, Skip, Let, Pick, Become,
 use Rattle.pgo_sections.specs.Among.{is_among}
 use Rattle.pgo_sections.specs.Closed.{Apart, AreClosed}
 use Rattle.pgo_sections.specs.Plain.{All, Plain, PlainAll, PlainArms, PlainFields, PlainLet, PlainBound, PlainPaths}
-use Rattle.pgo_sections.specs.WellFormed.{Bindable, Alone, Applied, PlainTree, KnownIndex, PlainCode, PlainCodes}
+use Rattle.pgo_sections.specs.WellFormed.{Bindable, Alone, Applied, PlainTree, PlainCode, PlainCodes}
 
 module _ (N C B N' C' B' : Name → Type 0) (fn : (x : Name) → N x → N' x) (fc : (x : Name) → C x → C' x) (fb : (x : Name) → B x → B' x) where
   all_weaker : (xs : List Name) → All B xs → All B' xs
@@ -81,10 +81,6 @@ module _ (big small : List Name) (fewer : (x : Name) → is_among x big ≡ fals
       go x (inr (inl p)) = inr (inl p)
       go x (inr (inr n)) = inr (inr (fewer x n))
 
-  index_fewer : (ws : List Name) (i : Option Name) → KnownIndex big ws i → KnownIndex small ws i
-  index_fewer ws None h = tt
-  index_fewer ws (Some i) h = h
-
   mutual
     pub code_fewer : (gs : List Name) (ps : List (Name × Place)) (ws : List Name) (c : Code) → PlainCode big gs ps ws c → PlainCode small gs ps ws c
     code_fewer gs ps ws Empty h = tt
@@ -101,8 +97,8 @@ module _ (big small : List Name) (fewer : (x : Name) → is_among x big ≡ fals
     code_fewer gs ps ws (Seq c d) h = (code_fewer gs ps ws c h.0, code_fewer gs ps ws d h.1)
     code_fewer gs ps ws (Goto l) h = tt
     code_fewer gs ps ws (Yield e) h = plain_fewer ps ws e h
-    code_fewer gs ps ws (Read w g i m c) h = (h.0, index_fewer ws i h.1, code_fewer (content_name ∷ []) (content_places) [] m h.2, code_fewer gs ps (w ∷ ws) c h.3)
-    code_fewer gs ps ws (Write g i w m) h = (h.0, index_fewer ws i h.1, h.2, code_fewer (content_name ∷ []) (content_places) (value_name ∷ []) m h.3)
+    code_fewer gs ps ws (Read w g i m c) h = (h.0, h.1, code_fewer (content_name ∷ []) (content_places) [] m h.2, code_fewer gs ps (w ∷ ws) c h.3)
+    code_fewer gs ps ws (Write g i w m) h = (h.0, h.1, h.2, code_fewer (content_name ∷ []) (content_places) (value_name ∷ []) m h.3)
 
     codes_fewer : (gs : List Name) (ps : List (Name × Place)) (ws : List Name) (cs : Codes) → PlainCodes big gs ps ws cs → PlainCodes small gs ps ws cs
     codes_fewer gs ps ws no_codes h = tt

@@ -215,7 +215,7 @@ module _ (vs gs : List Name) (st : Setting) (by : Name → Bool) (N : List Name 
     parts_plain ws (Index i ∷ ps) h = ((h.1, inl h.0), parts_plain ws ps h.2)
     parts_plain ws (Field x ∷ ps) h = (tt, parts_plain ws ps h)
 
-    index_there : (ws : List Name) (ps : List Part) → PartsIn ws ps → KnownIndex vs ws (index_of ps)
+    index_there : (ws : List Name) (ps : List Part) → PartsIn ws ps → KnownIndex ws (index_of ps)
     index_there ws [] h = tt
     index_there ws (Index i ∷ []) h = h.0
     index_there ws (Index i ∷ (p ∷ ps)) h = tt

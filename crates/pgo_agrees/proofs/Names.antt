@@ -5,10 +5,10 @@ use Rattle.pgo_base.specs.Lookup.{Name, same_name}
 use Rattle.pgo_model.specs.Names.{same_name-not}
 use Rattle.pgo_model.specs.Written.{written}
 use Rattle.pgo_scope.specs.Underscores.{has_double}
-use Rattle.pgo_sections.specs.PlainTest.{is_digit_code, all_digit_codes, digits_behind, looks_made}
+use Rattle.pgo_sections.specs.PlainTest.{digits_behind, looks_made}
 use Rattle.pgo_sections.specs.WellFormed.{NotMade}
 use Rattle.pgo_sections.proofs.PlainTest.{not_made}
-use Rattle.pgo_model.specs.ValueText.{is_letter, all_word_bytes, has_letter, is_identifier, is_one_of, reserved_words}
+use Rattle.pgo_model.specs.ValueText.{is_digit, all_digits, is_letter, all_word_bytes, has_letter, is_identifier, is_one_of, reserved_words}
 
 pub or_left : (a b : Bool) → a || b ≡ false → a ≡ false
 or_left true b h = absurd (cc)
@@ -49,7 +49,7 @@ looks_single [] h = refl
 looks_single (b ∷ []) h = one_mark (nat_eq b 95)
 looks_single (b ∷ c ∷ cs) h =
     let two = nat_eq b 95 && nat_eq c 95 in
-    two_marks (nat_eq b 95) (nat_eq c 95) (all_digit_codes cs) (looks_made (c ∷ cs)) (or_left two (has_double (c ∷ cs)) h) (looks_single (c ∷ cs) (or_right two (has_double (c ∷ cs)) h))
+    two_marks (nat_eq b 95) (nat_eq c 95) (all_digits cs) (looks_made (c ∷ cs)) (or_left two (has_double (c ∷ cs)) h) (looks_single (c ∷ cs) (or_right two (has_double (c ∷ cs)) h))
 
 pub single : (x : Name) → has_double x ≡ false → NotMade x
 single x h = not_made x (looks_single x h)
@@ -69,7 +69,7 @@ identifier_bytes x h =
 at_least : (a b : ℕ) → nat_le a b ≡ true → a ≤ b
 at_least a b h = grind (arith, h)
 
-no_digit : (b : ℕ) → is_letter b ≡ true → is_digit_code b ≡ false
+no_digit : (b : ℕ) → is_letter b ≡ true → is_digit b ≡ false
 no_digit b h = go (nat_le 65 b) (nat_le 97 b) (nat_le b 57) refl refl refl h
   where
     go : (p q r : Bool) → nat_le 65 b ≡ p → nat_le 97 b ≡ q → nat_le b 57 ≡ r → (p && nat_le b 90) || (q && nat_le b 122) ≡ true → nat_le 48 b && r ≡ false
@@ -78,17 +78,17 @@ no_digit b h = go (nat_le 65 b) (nat_le 97 b) (nat_le b 57) refl refl refl h
     go false true true e f g k = absurd (let i = at_least 97 b f in let j = at_least b 57 g in omega (arith, i, j))
     go false false true e f g k = absurd (cc)
 
-letter_ends : (x : Name) → has_letter x ≡ true → all_digit_codes x ≡ false
+letter_ends : (x : Name) → has_letter x ≡ true → all_digits x ≡ false
 letter_ends [] h = absurd (cc)
 letter_ends (b ∷ bs) h = go (is_letter b) refl h (letter_ends bs)
   where
-    go : (c : Bool) → is_letter b ≡ c → c || has_letter bs ≡ true → (has_letter bs ≡ true → all_digit_codes bs ≡ false) → is_digit_code b && all_digit_codes bs ≡ false
-    go true e k more = ap (λ d. d && all_digit_codes bs) (no_digit b e)
-    go false e k more = and_false (is_digit_code b) (all_digit_codes bs) (more k)
+    go : (c : Bool) → is_letter b ≡ c → c || has_letter bs ≡ true → (has_letter bs ≡ true → all_digits bs ≡ false) → is_digit b && all_digits bs ≡ false
+    go true e k more = ap (λ d. d && all_digits bs) (no_digit b e)
+    go false e k more = and_false (is_digit b) (all_digits bs) (more k)
 
-digits_end : (ys x : Name) → has_letter x ≡ true → all_digit_codes (ys ++ x) ≡ false
+digits_end : (ys x : Name) → has_letter x ≡ true → all_digits (ys ++ x) ≡ false
 digits_end [] x h = letter_ends x h
-digits_end (y ∷ ys) x h = and_false (is_digit_code y) (all_digit_codes (ys ++ x)) (digits_end ys x h)
+digits_end (y ∷ ys) x h = and_false (is_digit y) (all_digits (ys ++ x)) (digits_end ys x h)
 
 mark_is : (b : ℕ) → nat_eq b 95 ≡ true → is_letter b ≡ false
 mark_is b h = let e : b ≡ 95 = grind (arith, h) in ap is_letter e
@@ -97,13 +97,13 @@ no_digits_behind : (x : Name) → has_letter x ≡ true → digits_behind x ≡ 
 no_digits_behind [] h = refl
 no_digits_behind (c ∷ cs) h = go (nat_eq c 95) refl
   where
-    go : (d : Bool) → nat_eq c 95 ≡ d → d && all_digit_codes cs ≡ false
+    go : (d : Bool) → nat_eq c 95 ≡ d → d && all_digits cs ≡ false
     go true e = letter_ends cs (ap (λ l. l || has_letter cs) (sym (mark_is c e)) ∙ h)
     go false e = refl
 
 behind_ends : (ys x : Name) → has_letter x ≡ true → digits_behind (ys ++ x) ≡ false
 behind_ends [] x h = no_digits_behind x h
-behind_ends (y ∷ ys) x h = and_false (nat_eq y 95) (all_digit_codes (ys ++ x)) (digits_end ys x h)
+behind_ends (y ∷ ys) x h = and_false (nat_eq y 95) (all_digits (ys ++ x)) (digits_end ys x h)
 
 looks_behind : (ys x : Name) → has_double x ≡ false → has_letter x ≡ true → looks_made (ys ++ x) ≡ false
 looks_behind [] x d h = looks_single x d

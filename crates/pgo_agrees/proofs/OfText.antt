@@ -15,8 +15,8 @@ use Rattle.pgo_lexer.specs.declared.token.Token.TheVariants as t
 use Rattle.pgo_spec_text.specs.SpecText.{Cut, is_allowed}
 use Rattle.pgo_spec_text.specs.SpecText as text
 use Rattle.pgo_expr_read.specs.Lookahead.{tokens_of}
-use Rattle.pgo_mpcal_read.specs.Leaves.{IsName, Ended}
-use Rattle.pgo_mpcal_read.specs.Leaves as leaf
+use Rattle.pgo_mpcal_read.specs.Elements.{IsName, Ended}
+use Rattle.pgo_mpcal_read.specs.Elements as elements
 use Rattle.pgo_mpcal_read.specs.Spells.{IsHeader, IsPart, declarations_of, SpellsTokens}
 use Rattle.pgo_mpcal_read.specs.Spells as spells
 use Rattle.pgo_mpcal_read.specs.Texts.{SpellsSpec}
@@ -148,7 +148,7 @@ parameter_of b xs p unit.value_parameter h = h.0.0
 parameter_of b xs p (unit.ref_parameter e) h = h.1.0.0
 
 name_of : (b : Bool) (xs : List Lexeme) (p : PlacedName) → IsName xs p → AllOk b xs → MacroParameterOfText p
-name_of b xs p leaf.name h = h.0.0
+name_of b xs p elements.name h = h.0.0
 
 -- ---- units
 

@@ -1,17 +1,12 @@
 -- The names in scope as they lie in memory, as a list.
-use Rattle.std.specs.Prelude.{ℕ, zero, suc, List, [], ◌∷◌, map, Option, Some, None, option_map}
+use Rattle.std.specs.Prelude.{ℕ, List, [], ◌∷◌, map, Option, option_map}
 use Rattle.pgo_base.specs.Data.{Data}
+use Rattle.pgo_base.specs.Lookup.{nth}
 use Rattle.pgo_base.specs.View.{data_of}
 use Rattle.pgo_base.specs.declared.bindings.Link.{Link}
 use Rattle.pgo_base.specs.declared.bindings.Link.TheVariants.{Empty, More, Named, Bound}
 use Rattle.pgo_base.specs.declared.bindings.NamedValue.{NamedValue}
 use Rattle.pgo_base.specs.declared.bindings.BoundName.{BoundName}
-
--- the one at this place, from 0
-abbrev pub nth : {A : Type 0} → List A → ℕ → Option A
-nth [] n = None
-nth (x ∷ xs) zero = Some x
-nth (x ∷ xs) (suc n) = nth xs n
 
 -- each of these before the others, the last one first
 abbrev pub onto : {A : Type 0} → List A → List A → List A

@@ -1,8 +1,8 @@
 // The names in scope.
 ghost use Rattle.std.specs.Prelude.{◌≡◌, [], ◌∷◌, map, option_map};
 ghost use Rattle.pgo_base.specs.View.{data_of};
-ghost use Rattle.pgo_base.specs.Lookup.{find};
-ghost use Rattle.pgo_base.specs.BindingsView.{nth, onto, named_view, bound_view};
+ghost use Rattle.pgo_base.specs.Lookup.{find, nth};
+ghost use Rattle.pgo_base.specs.BindingsView.{onto, named_view, bound_view};
 
 use crate::text::Text;
 use crate::value::{Set, Value};

@@ -147,7 +147,8 @@ fn answered(alloc: Global, spec: &Spec, consts: &Consts) -> Result<Bound, BindEr
 /// The first rule in the order of `BindError`'s variants that the specification breaks is answered, at its first place in
 /// the text. Nothing is asked of the specification; where names in it mean nothing, what the answer says is of no use.
 ///
-/// Of a constant that is given several times the last value counts. `NoMemory` comes where there is no memory.
+/// Of a constant that is given several times the last value counts. `NoMemory` comes where there is no memory, or where an
+/// expression that is evaluated opens more than 640 levels.
 ///
 /// - `answers`: the bound system comes exactly where nothing is refused, and each other answer is the refusal.
 /// - `declared`: the start is a declared one, where the specification's names are as they must be.

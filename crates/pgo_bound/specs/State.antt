@@ -1,11 +1,12 @@
 -- When a list of variables with values is a state of a bound specification, and when it has the domains of the start.
-use Rattle.std.specs.Prelude.{◌≡◌, ℕ, false, if◌then◌else◌, IsTrue, List, [], ◌∷◌, ◌++◌, map, filter, Option, Some, None}
-use Rattle.std.specs.List.{AllByRecursion, filter_map, flat_map}
+use Rattle.std.specs.Prelude.{◌≡◌, ℕ, if◌then◌else◌, IsTrue, List, [], ◌∷◌, ◌++◌, map, filter, Option, Some, None}
+use Rattle.std.specs.List.{filter_map, flat_map}
 use Rattle.pgo_base.specs.Data.{Data, function, Pairs}
 use Rattle.pgo_base.specs.View.{data_of}
 use Rattle.pgo_base.specs.Sets.{in_order}
 use Rattle.pgo_base.specs.Lookup.{Name, Vars, same_name, find}
 use Rattle.pgo_model.specs.Machine.{nth}
+pub use Rattle.pgo_model.specs.Names.{AreDifferent}
 use Rattle.pgo_model.specs.State.{AllValues, is_shallow}
 use Rattle.pgo_model.specs.Variables.{IsFunctionOn, HasOneDomain}
 use Rattle.pgo_model.specs.Written.{pc, written}
@@ -23,11 +24,6 @@ use Rattle.pgo_syntax.specs.declared.spec.Spec.{Spec}
 use Rattle.pgo_bound.specs.declared.kinds.Kind.{Kind}
 use Rattle.pgo_bound.specs.declared.kinds.Kind.TheVariants.{ByElement}
 use Rattle.pgo_bound.specs.Runs.{handed_from, archetype_named, kind_of_extents}
-
--- no two of these names are one
-abbrev pub AreDifferent : List Name → Type 0
-AreDifferent [] = Unit {0}
-AreDifferent (x ∷ xs) = AllByRecursion (λ y. same_name x y ≡ false) xs × AreDifferent xs
 
 -- the parameter's name, where it is handed a value
 abbrev pub value_name : Name → Argument → Option Name

@@ -3,8 +3,8 @@ use Rattle.std.proofs.Common.{◌≡◌, ℕ, zero, suc, ◌<◌, ◌≤◌, ◌
 use Rattle.std.proofs.lemmas.List.{length-drop}
 use Rattle.std.specs.Prelude.{true, false, Option, Some, None}
 use Rattle.pgo_base.specs.Data.{Data}
-use Rattle.pgo_base.specs.Lookup.{Names}
-use Rattle.pgo_base.specs.BindingsView.{onto, nth, bound_view}
+use Rattle.pgo_base.specs.Lookup.{Names, nth}
+use Rattle.pgo_base.specs.BindingsView.{onto, bound_view}
 use Rattle.pgo_base.specs.declared.bindings.BoundName.{BoundName}
 use Rattle.pgo_model.specs.Operators.{put, spread, choices}
 use Rattle.pgo_model.specs.Val.{name_values, names_over}

@@ -2,7 +2,7 @@
 use Rattle.std.proofs.Common.{◌≡◌, ℕ, ◌<◌, ◌≤◌, ◌+◌, List, [], ◌∷◌, ◌++◌, length, map, drop, get_or, refl, ap, sym, ◌∙◌, arith, add-one, drop-cons, append_assoc, subst}
 use Rattle.std.specs.Prelude.{Some}
 use Rattle.pgo_base.specs.View.{data_of}
-use Rattle.pgo_base.specs.BindingsView.{nth}
+use Rattle.pgo_base.specs.Lookup.{nth}
 use Rattle.pgo_base.specs.declared.bindings.BoundName.{BoundName}
 use Rattle.pgo_base.specs.declared.value.Value.{Value}
 use Rattle.pgo_model.specs.Operators.{sequence}

@@ -24,7 +24,7 @@ use Rattle.pgo_execute.specs.Schedules.{Schedule}
 
 -- a text that is refused when it is judged has no expansion
 pub refused : (text : List ℕ) (consts : List (Name × Data)) (e : Rejection) → Answers text consts (Err e) → GivesExpansion text consts (Err e)
-refused text consts e (answers.syntax offset none) = answers.syntax offset none
+refused text consts e (answers.syntax offset within none) = answers.syntax offset within none
 refused text consts e (answers.spelled s r sp only j) = answers.spelled s (Err e) sp only (answers.judged e j)
 refused text consts e answers.no_memory = answers.no_memory
 

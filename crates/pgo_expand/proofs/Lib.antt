@@ -2,3 +2,4 @@ mod Heights
 mod AllNames
 mod Measuring
 mod Sequence
+mod LeastLaws

@@ -61,7 +61,7 @@ labels_are vs gs l h ts c e =
 
 -- ---- processes
 
-nodes_in-append : (xs ys : List (Name × Expansion)) → nodes_in (xs ++ ys) ≡ nodes_in xs + nodes_in ys
+pub nodes_in-append : (xs ys : List (Name × Expansion)) → nodes_in (xs ++ ys) ≡ nodes_in xs + nodes_in ys
 nodes_in-append [] ys = omega arith
 nodes_in-append (x ∷ xs) ys = omega (arith, nodes_in-append xs ys)
 

@@ -11,6 +11,7 @@ ghost use Rattle.pgo_measure.specs.Heights.{capped};
 
 use crate::errors::ExpandStop;
 use crate::heads::heads_height;
+use crate::least::is_wide;
 use crate::measure::{Left, Names, behind_all};
 use crate::names::{globals, variables};
 use crate::own::own_of;
@@ -58,6 +59,9 @@ fn height_within(
     requires globals { names.now.globals.items ≡ globals_of spec.now }
     ensures { IfOk result (λ o. o ≡ option_map (λ m. capped (module_height spec.now)) (left_after most_nodes (nodes_in (trees_of spec.now)))) }
 {
+    if is_wide(alloc, spec)? {
+        return Ok(None);
+    }
     let height = heads_height(alloc, spec, own)?;
     let left = Left {
         nodes: 1_048_576,

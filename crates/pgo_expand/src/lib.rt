@@ -5,6 +5,7 @@ pub mod errors;
 pub mod expand;
 mod heads;
 mod labels;
+mod least;
 mod measure;
 mod names;
 mod own;

@@ -21,7 +21,7 @@ use Rattle.pgo_expr_read.specs.Lookahead.{tokens_of, has_mapped}
 use Rattle.pgo_expr_read.specs.Reading.{MakesAs, Outcome, all, all_of, all_plain, expr, made}
 use Rattle.pgo_expr_read.specs.Spells.{Spells, Spelled}
 use Rattle.pgo_expr_read.specs.Texts.{SpellsText, IsOrNoMemory, most_tokens}
-use Rattle.pgo_expr_read.proofs.Parts.{if_some}
+use Rattle.pgo_expr_read.proofs.Steps.{if_some}
 use Rattle.pgo_expr_read.proofs.Sound.{sound}
 use Rattle.pgo_expr_read.proofs.Reach.{whole, inside}
 use Rattle.pgo_expr_read.proofs.Complete.{reach}

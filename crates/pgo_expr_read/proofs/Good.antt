@@ -2,23 +2,25 @@
 use Rattle.std.proofs.Common.{◌≡◌, ℕ, zero, suc, ◌+◌, ◌≤◌, max, Bool, true, false, List, [], ◌∷◌, ◌++◌, length, Some, None, refl, ap, sym, ◌∙◌, subst, arith, cond}
 use Rattle.std.proofs.lemmas.List.{append_assoc, append-nil}
 use Rattle.pgo_base.specs.Tree.{Tree}
+use Rattle.pgo_lexer.specs.declared.symbol.Symbol.TheVariants as sign
 use Rattle.pgo_lexer.specs.declared.token.Token.{Token}
 use Rattle.pgo_lexer.specs.declared.token.Token.TheVariants as t
-use Rattle.pgo_expr_read.specs.declared.sign.Sign.TheVariants as sign
 use Rattle.pgo_expr_read.specs.declared.table.Form.{Form}
+use Rattle.pgo_expr_read.specs.declared.lists.Between.{Between}
+use Rattle.pgo_expr_read.specs.declared.lists.Between.TheVariants as separator
 use Rattle.pgo_expr_read.specs.declared.read.Ending.{Ending}
 use Rattle.pgo_expr_read.specs.declared.read.Read.{Read}
-use Rattle.pgo_expr_read.specs.Signs.{token}
 use Rattle.pgo_expr_read.specs.Lookahead.{sees}
 use Rattle.pgo_expr_read.specs.Heights.{height}
-use Rattle.pgo_expr_read.specs.Kinds.{Kind, Thing, Name, between, may_follow, is_case}
+use Rattle.pgo_expr_read.specs.Kinds.{Kind, Thing, Name, between, between_of, tokens_between, may_follow, is_case}
 use Rattle.pgo_expr_read.specs.Kinds as kind
 use Rattle.pgo_expr_read.specs.Table.{form_low}
 use Rattle.pgo_expr_read.specs.Spells.{Spelled, Range, Item, Behind, Items, prefix_token, operator_token, more_names, applied, extended, product_of_two, infix_of, joined, opened}
 use Rattle.pgo_expr_read.specs.Spells as s
-use Rattle.pgo_expr_read.specs.Reading.{◌>>=◌, ◌>>◌, Parser, Outcome, and_then, pure, give_at, expect, name, raised, pushed, one_of, folded, goes, pass, more_at, one_more, listed_at, listed, one_more_name, names}
+use Rattle.pgo_expr_read.specs.Reading.{◌>>=◌, ◌>>◌, Parser, Outcome, and_then, pure, give_at, expect, name, raised, pushed, one_of, folded, goes, pass, pass_at, more_at, one_more, listed_at, listed, one_more_name, names}
 use Rattle.pgo_expr_read.proofs.Measures.{thing_height, things_height}
-use Rattle.pgo_expr_read.proofs.Parts.{bind_then, give_some, some_pair, raised_some, expect_some, name_some}
+use Rattle.pgo_expr_read.proofs.Steps.{bind_then, some_pair}
+use Rattle.pgo_expr_read.proofs.Parts.{give_some, raised_some, expect_some, list_next_some, name_some}
 
 -- a front of the tokens spells what was read, and the rest follows
 pub record Good (limit : ℕ) (i : List Token) (r : Read Tree) (rest : List Token) : Type 0 where
@@ -96,7 +98,7 @@ names_by true n acc i res rest go got =
     let g = go next j got in
     record {
       others = x ∷ g.others;
-      split = expect_some sign.Comma i u i1 hc ∙ ap (λ k. token sign.Comma ∷ k) (name_some i1 x i2 hx ∙ ap (λ k. t.Name x ∷ k) (q.1 ∙ g.split));
+      split = expect_some sign.Comma i u i1 hc ∙ ap (λ k. t.Symbol sign.Comma ∷ k) (name_some i1 x i2 hx ∙ ap (λ k. t.Name x ∷ k) (q.1 ∙ g.split));
       is = g.is ∙ ap (λ k. k ++ g.others) (sym q.0) ∙ append_assoc acc (x ∷ []) g.others;
     })))
 names_by false n acc i res rest go got = names_end acc res i rest got
@@ -114,15 +116,12 @@ sound_names i xs rest got =
     record { first = x; others = g.others; split = name_some i x i1 hx ∙ ap (λ k. t.Name x ∷ k) g.split; is = g.is })
 
 -- what stands between two items
-pass_some : (k : Kind) (i : List Token) (u : Unit {0}) (j : List Token) → pass k i ≡ Some (u, j) → i ≡ between k ++ j
-pass_some kind.tree i u j got = expect_some sign.Comma i u j got
-pass_some kind.item i u j got = expect_some sign.ListNext i u j got
-pass_some kind.binder i u j got = expect_some sign.Comma i u j got
-pass_some (kind.field v) i u j got = expect_some sign.Comma i u j got
-pass_some kind.definition i u j got = (some_pair _ _ _ _ got).1
-pass_some kind.arm i u j got = expect_some sign.Arm i u j got
-pass_some kind.step i u j got = (some_pair _ _ _ _ got).1
-pass_some kind.update i u j got = expect_some sign.Comma i u j got
+passed : (b : Between) (i : List Token) (u : Unit {0}) (j : List Token) → pass_at b i ≡ Some (u, j) → i ≡ tokens_between b ++ j
+passed separator.Comma i u j got = expect_some sign.Comma i u j got
+passed separator.Arm i u j got = expect_some sign.Box i u j got
+passed separator.ListNext i u j got = list_next_some i u j got
+passed separator.Name i u j got = (some_pair _ _ _ _ got).1
+passed separator.Step i u j got = (some_pair _ _ _ _ got).1
 
 -- ---- lists, of items that are spelled
 
@@ -150,7 +149,7 @@ module _ (k : Kind) (it : Parser (Read (Thing k))) (sound_it : (i : List Token) 
         front = g.front;
         thing = r.tree;
         last = r.ending;
-        split = pass_some k i u i1 hp ∙ ap (λ j. between k ++ j) (g.split ∙ ap (λ j. g.front ++ j) q.1);
+        split = passed (between_of k) i u i1 hp ∙ ap (λ j. between k ++ j) (g.split ∙ ap (λ j. g.front ++ j) q.1);
         item = g.item;
         ending = sym (ap (λ (x : Read (List (Thing k))). x.ending) q.0);
         tree = sym (ap (λ (x : Read (List (Thing k))). x.tree) q.0);

@@ -1,5 +1,5 @@
 -- How what is spelled begins.
-use Rattle.std.proofs.Common.{◌≡◌, Bool, true, false, ◌&&◌, List, [], ◌∷◌, ◌++◌, None, refl, ap, cond, nat_eq}
+use Rattle.std.proofs.Common.{◌≡◌, Bool, true, false, ◌&&◌, List, [], ◌∷◌, ◌++◌, None, refl, ap, cond}
 use Rattle.pgo_base.specs.declared.expr.Infix.TheVariants as op
 use Rattle.pgo_base.specs.declared.expr.Prefix.{Prefix}
 use Rattle.pgo_base.specs.declared.expr.Prefix.TheVariants as pre
@@ -9,17 +9,16 @@ use Rattle.pgo_lexer.specs.declared.symbol.Bracket.TheVariants as b
 use Rattle.pgo_lexer.specs.declared.symbol.Symbol.TheVariants as y
 use Rattle.pgo_lexer.specs.declared.token.Token.{Token}
 use Rattle.pgo_lexer.specs.declared.token.Token.TheVariants as t
-use Rattle.pgo_expr_read.specs.declared.sign.Sign.TheVariants as sign
 use Rattle.pgo_expr_read.specs.declared.table.Operator.{Operator}
 use Rattle.pgo_expr_read.specs.declared.table.Operator.TheVariants as operator
 use Rattle.pgo_expr_read.specs.declared.table.Form.{Form}
 use Rattle.pgo_expr_read.specs.declared.lookahead.Square.TheVariants as square
 use Rattle.pgo_expr_read.specs.declared.read.Ending.{Ending}
-use Rattle.pgo_expr_read.specs.Signs.{token, code, code_of}
 use Rattle.pgo_expr_read.specs.Lookahead.{sees, begins_binder, form_of_square, form_of_second, square_of, is_name, endless, endless_of}
 use Rattle.pgo_expr_read.specs.Kinds.{Name}
 use Rattle.pgo_expr_read.specs.Spells.{Spelled, Range, Item, Behind, Items, prefix_token, operator_token, more_names, applied, extended, product_of_two, infix_of, joined, opened}
 use Rattle.pgo_expr_read.specs.Spells as s
+use Rattle.pgo_expr_read.specs.Signs.{is_sign}
 
 -- may begin an expression, and is no name
 abbrev pub begins : Token → Bool
@@ -90,9 +89,9 @@ starts (s.parens d) = other refl
 starts (s.junction d m) = other refl
 starts (s.unary {p = p} h d) = other (prefix_begins p)
 starts (s.operation {op = o} {ys = ys} h l d d') = more_of (operator_token o) ys (behind_operator o) (starts d)
-starts (s.member k h m d) = more_of (token sign.In) (k ∷ []) refl (starts d)
-starts (s.index {ys = ys} h d m) = more_of (token sign.SquareOpen) (ys ++ (token sign.SquareClose ∷ [])) refl (starts d)
-starts (s.select {x = x} h d) = more_of (token sign.Dot) (t.Name x ∷ []) refl (starts d)
+starts (s.member k h m d) = more_of (t.Symbol (y.Infix op.In)) (k ∷ []) refl (starts d)
+starts (s.index {ys = ys} h d m) = more_of (t.Symbol (y.Open b.Square)) (ys ++ (t.Symbol (y.Close b.Square) ∷ [])) refl (starts d)
+starts (s.select {x = x} h d) = more_of (t.Symbol y.Dot) (t.Name x ∷ []) refl (starts d)
 starts (s.call m) = longer refl
 starts s.no_tuple = other refl
 starts (s.tuple m) = other refl
@@ -117,9 +116,9 @@ starts (s.let_in m d) = other refl
 pub record Facts (k : Token) : Type 0 where
   pub name : is_name k ≡ false
   pub endless : endless_of k ≡ None
-  pub angle : nat_eq (code_of k) (code sign.AngleClose) ≡ false
-  pub curly : nat_eq (code_of k) (code sign.CurlyClose) ≡ false
-  pub last : nat_eq (code_of k) (code sign.Other) ≡ false
+  pub angle : is_sign (y.Close b.Angle) k ≡ false
+  pub curly : is_sign (y.Close b.Curly) k ≡ false
+  pub last : is_sign y.Other k ≡ false
 
 pub facts : (k : Token) → begins k ≡ true → Facts k
 facts (t.Number n) h = record { name = refl; endless = refl; angle = refl; curly = refl; last = refl }
@@ -149,28 +148,28 @@ not_endless rest alone = refl
 not_endless rest (longer b) = refl
 not_endless rest (other {k = k} b) = (facts k b).endless
 
-pub not_angle : {ts : List Token} (rest : List Token) → Starts ts → sees sign.AngleClose (ts ++ rest) ≡ false
+pub not_angle : {ts : List Token} (rest : List Token) → Starts ts → sees (y.Close b.Angle) (ts ++ rest) ≡ false
 not_angle rest alone = refl
 not_angle rest (longer b) = refl
 not_angle rest (other {k = k} b) = (facts k b).angle
 
-pub not_curly : {ts : List Token} (rest : List Token) → Starts ts → sees sign.CurlyClose (ts ++ rest) ≡ false
+pub not_curly : {ts : List Token} (rest : List Token) → Starts ts → sees (y.Close b.Curly) (ts ++ rest) ≡ false
 not_curly rest alone = refl
 not_curly rest (longer b) = refl
 not_curly rest (other {k = k} b) = (facts k b).curly
 
-pub not_other : {ts : List Token} (rest : List Token) → Starts ts → sees sign.Other (ts ++ rest) ≡ false
+pub not_other : {ts : List Token} (rest : List Token) → Starts ts → sees y.Other (ts ++ rest) ≡ false
 not_other rest alone = refl
 not_other rest (longer b) = refl
 not_other rest (other {k = k} b) = (facts k b).last
 
 -- a front that begins with no name and `\in`, before another token than `\in`
-pub not_binder : {ts : List Token} (rest : List Token) → Starts ts → begins_binder ts ≡ false → sees sign.In rest ≡ false → begins_binder (ts ++ rest) ≡ false
+pub not_binder : {ts : List Token} (rest : List Token) → Starts ts → begins_binder ts ≡ false → sees (y.Infix op.In) rest ≡ false → begins_binder (ts ++ rest) ≡ false
 not_binder rest alone h m = m
 not_binder rest (longer b) h m = h
-not_binder rest (other {k = k} {ts = ts} b) h m = ap (λ z. z && sees sign.In (ts ++ rest)) (facts k b).name
+not_binder rest (other {k = k} {ts = ts} b) h m = ap (λ z. z && sees (y.Infix op.In) (ts ++ rest)) (facts k b).name
 
-other_square_of : (k : Token) → stands_behind k ≡ true → nat_eq (code_of k) (code sign.In) ≡ false → square_of k ≡ square.Other
+other_square_of : (k : Token) → stands_behind k ≡ true → is_sign (y.Infix op.In) k ≡ false → square_of k ≡ square.Other
 other_square_of (t.Symbol (y.Infix op.In)) b h = cc
 other_square_of (t.Symbol y.MapsTo) b h = cc
 other_square_of (t.Symbol y.Colon) b h = cc

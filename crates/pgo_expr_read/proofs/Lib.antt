@@ -1,5 +1,6 @@
 pub mod Laws
 pub mod Signs
+pub mod Steps
 pub mod Products
 pub mod Lengths
 pub mod Parts

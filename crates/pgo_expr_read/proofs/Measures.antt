@@ -2,7 +2,7 @@
 use Rattle.std.proofs.Common.{◌≡◌, ℕ, suc, ◌-◌, max, List, [], ◌∷◌, refl, ap, arith}
 use Rattle.pgo_base.specs.Tree.{Tree, Trees, no_trees, more_trees, trees, bound, named, arms, paths}
 use Rattle.pgo_base.specs.Tree as e
-use Rattle.pgo_expr_read.specs.declared.sign.Sign.{Sign}
+use Rattle.pgo_lexer.specs.declared.symbol.Symbol.{Symbol}
 use Rattle.pgo_expr_read.specs.Heights.{height, trees_height, named_height, arms_height, bound_height, paths_height}
 use Rattle.pgo_expr_read.specs.Kinds.{Kind, Thing, Name}
 use Rattle.pgo_expr_read.specs.Kinds as kind
@@ -35,7 +35,7 @@ pub of_bound : (as' : List (List Name × Tree)) → bound_height (bound as') ≡
 of_bound [] = refl
 of_bound (a ∷ as') = ap (λ x. max (height a.1) x) (of_bound as')
 
-pub of_fields : (v : Sign) (as' : List (Name × Tree)) → named_height (named as') ≡ things_height (kind.field v) as'
+pub of_fields : (v : Symbol) (as' : List (Name × Tree)) → named_height (named as') ≡ things_height (kind.field v) as'
 of_fields v [] = refl
 of_fields v (a ∷ as') = ap (λ x. max (height a.1) x) (of_fields v as')
 

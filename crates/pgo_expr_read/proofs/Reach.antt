@@ -7,10 +7,9 @@ use Rattle.pgo_base.specs.Tree.{Tree, no_trees, trees, bound, named, arms, paths
 use Rattle.pgo_base.specs.Tree as e
 use Rattle.pgo_lexer.specs.declared.symbol.Bracket.TheVariants as b
 use Rattle.pgo_lexer.specs.declared.symbol.Symbol.TheVariants as y
+use Rattle.pgo_lexer.specs.declared.symbol.Symbol.{Symbol}
 use Rattle.pgo_lexer.specs.declared.token.Token.{Token}
 use Rattle.pgo_lexer.specs.declared.token.Token.TheVariants as t
-use Rattle.pgo_expr_read.specs.declared.sign.Sign.{Sign}
-use Rattle.pgo_expr_read.specs.declared.sign.Sign.TheVariants as sign
 use Rattle.pgo_expr_read.specs.declared.table.Operator.{Operator}
 use Rattle.pgo_expr_read.specs.declared.table.Operator.TheVariants as operator
 use Rattle.pgo_expr_read.specs.declared.table.Form.{Form}
@@ -19,22 +18,24 @@ use Rattle.pgo_expr_read.specs.declared.lookahead.Next.{Next}
 use Rattle.pgo_expr_read.specs.declared.lookahead.Next.TheVariants as next
 use Rattle.pgo_expr_read.specs.declared.lookahead.Opener.{Opener}
 use Rattle.pgo_expr_read.specs.declared.lookahead.Opener.TheVariants as opener
+use Rattle.pgo_expr_read.specs.declared.lists.Between.{Between}
+use Rattle.pgo_expr_read.specs.declared.lists.Between.TheVariants as separator
 use Rattle.pgo_expr_read.specs.declared.read.Ending.{Ending}
 use Rattle.pgo_expr_read.specs.declared.read.Ending.TheVariants as ending
 use Rattle.pgo_expr_read.specs.declared.read.Read.{Read}
-use Rattle.pgo_expr_read.specs.Signs.{token}
 use Rattle.pgo_expr_read.specs.Lookahead as look
 use Rattle.pgo_expr_read.specs.Lookahead.{sees, sees_name, sees_arm, begins_binder, form_of_square, form_of_second, square_of, is_name, endless, endless_of, opener_of, next_of}
 use Rattle.pgo_expr_read.specs.Heights.{height}
-use Rattle.pgo_expr_read.specs.Kinds.{Kind, Thing, Name, between, may_follow, is_case}
+use Rattle.pgo_expr_read.specs.Kinds.{Kind, Name, tokens_between, is_case}
 use Rattle.pgo_expr_read.specs.Kinds as kind
 use Rattle.pgo_expr_read.specs.Table.{low, takes_left, form_low}
 use Rattle.pgo_expr_read.specs.Spells.{Spelled, Range, Item, Behind, Items, prefix_token, operator_token, more_names, applied, extended, product_of_two, infix_of, joined, opened}
 use Rattle.pgo_expr_read.specs.Spells as s
-use Rattle.pgo_expr_read.specs.Reading.{Parser, Outcome, and_then, pure, give_at, skip, past, expect, made, raised, is_closed, goes_on, on_opener, openers, folded, goes, pass, one_more_name, names, primary, operation, turn, more, all_more, close_by, close, closes, level, expr}
+use Rattle.pgo_expr_read.specs.Reading.{Parser, Outcome, and_then, pure, give_at, skip, past, expect, made, raised, is_closed, goes_on, on_opener, openers, folded, pass_at, one_more_name, names, primary, operation, turn, more, all_more, close_by, close, closes, level, expr}
 use Rattle.pgo_expr_read.specs.Fronts.{Ended}
-use Rattle.pgo_expr_read.proofs.Parts.{bind_some, some_pair, past_unseen}
-use Rattle.pgo_expr_read.proofs.Signs.{sees_own}
+use Rattle.pgo_expr_read.proofs.Steps.{some_pair, next_step, fold_ends, fold_goes}
+use Rattle.pgo_expr_read.proofs.Parts.{bind_some, past_unseen}
+use Rattle.pgo_expr_read.proofs.Signs.{own_sign}
 
 -- what is read of these tokens
 abbrev pub read : Form → Ending → Tree → Read Tree
@@ -67,12 +68,9 @@ Reaches f o front a = (l least : ℕ) (rest : List Token) → height a ≤ suc l
 
 -- ---- single steps
 
-pub next_step : {A B : Type 0} (o : Outcome A) (f : A → Parser B) (a : A) (i : List Token) (y : Outcome B) → o ≡ Some (a, i) → f a i ≡ y → and_then o f ≡ y
-next_step o f a i y e g = ap (λ z. and_then z f) e ∙ g
-
-pub expect_gives : (v : Sign) (i : List Token) → expect v (token v ∷ i) ≡ Some (tt, i)
+pub expect_gives : (v : Symbol) (i : List Token) → expect v (t.Symbol v ∷ i) ≡ Some (tt, i)
 unfolding expect
-expect_gives v i = ap (λ b. cond b (Some (tt, i)) None) (sees_own v i)
+expect_gives v i = ap (λ b. cond b (Some (tt, i)) None) (own_sign v)
 
 pub raised_gives : (limit : ℕ) (f : Form) (o : Ending) (h : ℕ) (a : Tree) → h + 1 ≡ height a → height a ≤ limit → raised limit f o h a ≡ Some (read f o a)
 unfolding raised
@@ -83,7 +81,7 @@ raised_gives limit f o h a same low =
 pub node_gives : (limit : ℕ) (f : Form) (o : Ending) (h : ℕ) (a : Tree) (i : List Token) → h + 1 ≡ height a → height a ≤ limit → give_at (raised limit f o h a) i ≡ Some (read f o a, i)
 node_gives limit f o h a i same low = ap (λ z. give_at z i) (raised_gives limit f o h a same low)
 
-pub eat_false : {B : Type 0} (v : Sign) (p q : Parser B) (i : List Token) → sees v i ≡ false → (cond {A = Parser B} (sees v i) p q) (past v i) ≡ q i
+pub eat_false : {B : Type 0} (v : Symbol) (p q : Parser B) (i : List Token) → sees v i ≡ false → (cond {A = Parser B} (sees v i) p q) (past v i) ≡ q i
 eat_false {B} v p q i h = ap (λ b. (cond {A = Parser B} b p q) (past v i)) h ∙ ap q (past_unseen v i h)
 
 leb_false : (a b : ℕ) → b < a → nat_le a b ≡ false
@@ -215,7 +213,7 @@ at_first l least f o front a rest other m got = record {
 -- ---- what opens without a node
 
 abbrev pub opener_token : Opener → Token
-opener_token opener.Round = token sign.RoundOpen
+opener_token opener.Round = t.Symbol (y.Open b.Round)
 opener_token (opener.List op) = t.ListOpen op
 
 opens_token : (o : Opener) (i : List Token) → openers (length (opener_token o ∷ i)) [] (opener_token o ∷ i) ≡ openers (length i) (o ∷ []) i
@@ -264,38 +262,22 @@ unroll limit ex least o i r j s rest low got closing =
 
 -- ---- lists
 
-pub fold_zero : {A : Type 0} (goes : List Token → Bool) (more : A → Parser A) (acc : A) (i : List Token) → folded goes more zero acc i ≡ Some (acc, i)
-unfolding folded
-fold_zero goes more acc i = refl
-
-pub fold_ends : {A : Type 0} (goes : List Token → Bool) (more : A → Parser A) (n : ℕ) (acc : A) (i : List Token) → goes i ≡ false → folded goes more n acc i ≡ Some (acc, i)
-unfolding folded
-fold_ends goes more zero acc i h = refl
-fold_ends goes more (suc n) acc i h = ap (λ b. cond b (and_then (more acc i) (folded goes more n)) (Some (acc, i))) h
-
-pub fold_goes : {A : Type 0} (goes : List Token → Bool) (more : A → Parser A) (n : ℕ) (acc next : A) (i j : List Token) → goes i ≡ true → more acc i ≡ Some (next, j) → folded goes more (suc n) acc i ≡ folded goes more n next j
-unfolding folded
-fold_goes goes more n acc next i j h got = ap (λ b. cond b (and_then (more acc i) (folded goes more n)) (Some (acc, i))) h ∙ ap (λ z. and_then z (folded goes more n)) got
-
-more_names_give : (n : ℕ) (done xs : List Name) (rest : List Token) → sees sign.Comma rest ≡ false → length (more_names xs) ≤ n → folded (sees sign.Comma) one_more_name n done (more_names xs ++ rest) ≡ Some (done ++ xs, rest)
+more_names_give : (n : ℕ) (done xs : List Name) (rest : List Token) → sees y.Comma rest ≡ false → length (more_names xs) ≤ n → folded (sees y.Comma) one_more_name n done (more_names xs ++ rest) ≡ Some (done ++ xs, rest)
 unfolding one_more_name
-more_names_give n done [] rest h l = fold_ends (sees sign.Comma) one_more_name n done rest h ∙ ap (λ z. Some (z, rest)) (sym (append-nil done))
+more_names_give n done [] rest h l = fold_ends (sees y.Comma) one_more_name n done rest h ∙ ap (λ z. Some (z, rest)) (sym (append-nil done))
 more_names_give zero done (x ∷ xs) rest h l = absurd (omega (arith, l))
 more_names_give (suc n) done (x ∷ xs) rest h l =
-    fold_goes (sees sign.Comma) one_more_name n done (done ++ x ∷ []) (token sign.Comma ∷ (t.Name x ∷ (more_names xs ++ rest))) (more_names xs ++ rest) refl (next_step _ _ _ _ _ (expect_gives sign.Comma (t.Name x ∷ (more_names xs ++ rest))) refl)
+    fold_goes (sees y.Comma) one_more_name n done (done ++ x ∷ []) (t.Symbol y.Comma ∷ (t.Name x ∷ (more_names xs ++ rest))) (more_names xs ++ rest) refl (next_step _ _ _ _ _ (expect_gives y.Comma (t.Name x ∷ (more_names xs ++ rest))) refl)
     ∙ more_names_give n (done ++ x ∷ []) xs rest h (omega (arith, l))
     ∙ ap (λ z. Some (z, rest)) (append_assoc done (x ∷ []) xs)
 
-pub names_give : (x : Name) (xs : List Name) (rest : List Token) → sees sign.Comma rest ≡ false → names (s.names x xs ++ rest) ≡ Some (x ∷ xs, rest)
+pub names_give : (x : Name) (xs : List Name) (rest : List Token) → sees y.Comma rest ≡ false → names (s.names x xs ++ rest) ≡ Some (x ∷ xs, rest)
 unfolding names
 names_give x xs rest h = more_names_give (length (more_names xs ++ rest)) (x ∷ []) xs rest h (omega (arith, length-append (more_names xs) rest))
 
-pub pass_gives : (k : Kind) (i : List Token) → pass k (between k ++ i) ≡ Some (tt, i)
-pass_gives kind.tree i = expect_gives sign.Comma i
-pass_gives kind.item i = expect_gives sign.ListNext i
-pass_gives kind.binder i = expect_gives sign.Comma i
-pass_gives (kind.field v) i = expect_gives sign.Comma i
-pass_gives kind.definition i = refl
-pass_gives kind.arm i = expect_gives sign.Arm i
-pass_gives kind.step i = refl
-pass_gives kind.update i = expect_gives sign.Comma i
+pub pass_gives : (b : Between) (i : List Token) → pass_at b (tokens_between b ++ i) ≡ Some (tt, i)
+pass_gives separator.Comma i = expect_gives y.Comma i
+pass_gives separator.Arm i = expect_gives y.Box i
+pass_gives separator.ListNext i = refl
+pass_gives separator.Name i = refl
+pass_gives separator.Step i = refl

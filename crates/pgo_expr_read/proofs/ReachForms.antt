@@ -9,11 +9,11 @@ use Rattle.pgo_base.specs.declared.expr.Word.{Word}
 use Rattle.pgo_base.specs.declared.expr.Word.TheVariants as w
 use Rattle.pgo_base.specs.Tree.{Tree, no_trees, trees, bound, named, arms, paths}
 use Rattle.pgo_base.specs.Tree as e
+use Rattle.pgo_lexer.specs.declared.symbol.Bracket.TheVariants as bracket
 use Rattle.pgo_lexer.specs.declared.symbol.Symbol.TheVariants as y
+use Rattle.pgo_lexer.specs.declared.symbol.Symbol.{Symbol}
 use Rattle.pgo_lexer.specs.declared.token.Token.{Token}
 use Rattle.pgo_lexer.specs.declared.token.Token.TheVariants as t
-use Rattle.pgo_expr_read.specs.declared.sign.Sign.{Sign}
-use Rattle.pgo_expr_read.specs.declared.sign.Sign.TheVariants as sign
 use Rattle.pgo_expr_read.specs.declared.table.Operator.{Operator}
 use Rattle.pgo_expr_read.specs.declared.table.Operator.TheVariants as operator
 use Rattle.pgo_expr_read.specs.declared.table.Form.{Form}
@@ -23,7 +23,6 @@ use Rattle.pgo_expr_read.specs.declared.lookahead.Next.TheVariants as next
 use Rattle.pgo_expr_read.specs.declared.read.Ending.{Ending}
 use Rattle.pgo_expr_read.specs.declared.read.Ending.TheVariants as ending
 use Rattle.pgo_expr_read.specs.declared.read.Read.{Read}
-use Rattle.pgo_expr_read.specs.Signs.{token, code, code_of}
 use Rattle.pgo_expr_read.specs.Lookahead as look
 use Rattle.pgo_expr_read.specs.Lookahead.{sees, sees_name, sees_arm, begins_binder, form_of_square, form_of_second, square_of, is_name, endless, endless_of, opener_of, next_of}
 use Rattle.pgo_expr_read.specs.Heights.{height}
@@ -32,10 +31,12 @@ use Rattle.pgo_expr_read.specs.Kinds as kind
 use Rattle.pgo_expr_read.specs.Table.{low, takes_left, form_low, right_least, prefix_least}
 use Rattle.pgo_expr_read.specs.Spells.{Spelled, Items, prefix_token, operator_token, applied}
 use Rattle.pgo_expr_read.specs.Reading.{Parser, and_then, pure, give_at, past, part, is_closed, ends_closed, goes_on, left_height, index_height, leaf, plain_name, range_by, range, prefixed, call, named_form, leaf_at, text_form, primary, right, operation, indexed, selected, turn, more, level, expr}
+use Rattle.pgo_expr_read.specs.Signs.{is_sign}
 use Rattle.pgo_expr_read.proofs.Measures.{things_height, of_trees}
-use Rattle.pgo_expr_read.proofs.Reach.{read, Quiet, Stops, Comes, Reaches, next_step, expect_gives, node_gives, eat_false, tall, whole, at_first}
+use Rattle.pgo_expr_read.proofs.Steps.{next_step}
+use Rattle.pgo_expr_read.proofs.Reach.{read, Quiet, Stops, Comes, Reaches, expect_gives, node_gives, eat_false, tall, whole, at_first}
 use Rattle.pgo_expr_read.proofs.Heads.{starts, not_endless}
-use Rattle.pgo_expr_read.proofs.Signs.{token_of_code}
+use Rattle.pgo_expr_read.proofs.Signs.{token_of_sign}
 use Rattle.pgo_expr_read.proofs.Laws.{low-high, high-small, prefix-small, left_level, right_stops, right_takes, prefix_stops, prefix_takes}
 use Rattle.pgo_expr_read.proofs.Sound.{applied_height}
 use Rattle.pgo_expr_read.proofs.ReachLists.{ReachesItems}
@@ -76,40 +77,40 @@ reach_value l least rest h low q = reach_leaf (t.Symbol y.Value) (e.name value_n
 
 -- ---- names
 
-tight_by : (v : Sign) (f : Form) (o : Ending) (k : Token) (rest : List Token) (c : Bool) → nat_eq (code_of k) (code v) ≡ c → next_of (token v) ≡ next.Tight → Quiet f o (next_of k) → nat_eq (code_of k) (code v) ≡ false
+tight_by : (v : Symbol) (f : Form) (o : Ending) (k : Token) (rest : List Token) (c : Bool) → is_sign v k ≡ c → next_of (t.Symbol v) ≡ next.Tight → Quiet f o (next_of k) → is_sign v k ≡ false
 tight_by v f o k rest false h t q = h
 tight_by v f o k rest true h t q =
     let P : Token → Type 0 = λ z. Quiet f o (next_of z) in
     let Q : Next → Type 0 = λ z. Quiet f o z in
-    absurd (subst Q t (subst P (token_of_code v k h) q))
+    absurd (subst Q t (subst P (token_of_sign v k h) q))
 
-not_tight : (f : Form) (o : Ending) (rest : List Token) → Quiet f o (look.after rest) → (sees sign.RoundOpen rest ≡ false) × (sees sign.Prime rest ≡ false)
+not_tight : (f : Form) (o : Ending) (rest : List Token) → Quiet f o (look.after rest) → (sees (y.Open bracket.Round) rest ≡ false) × (sees y.Prime rest ≡ false)
 not_tight f o [] q = (refl, refl)
-not_tight f o (k ∷ rest) q = (tight_by sign.RoundOpen f o k rest (nat_eq (code_of k) (code sign.RoundOpen)) refl refl q, tight_by sign.Prime f o k rest (nat_eq (code_of k) (code sign.Prime)) refl refl q)
+not_tight f o (k ∷ rest) q = (tight_by (y.Open bracket.Round) f o k rest (is_sign (y.Open bracket.Round) k) refl refl q, tight_by y.Prime f o k rest (is_sign y.Prime k) refl refl q)
 
 pub reach_name : {x : Name} → Reaches form.Closed ending.Closed (t.Name x ∷ []) (e.name x)
 unfolding primary named_form plain_name leaf
 reach_name {x} l least rest h low q =
     let n = not_tight form.Closed ending.Closed rest q in
     at_first l least form.Closed ending.Closed (t.Name x ∷ []) (e.name x) rest refl low
-    (eat_false sign.RoundOpen (call (suc l) (expr l) x) (plain_name (suc l) (expr l) x) rest n.0
-    ∙ eat_false sign.Prime (leaf (suc l) (expr l) (e.primed x)) (leaf (suc l) (expr l) (e.name x)) rest n.1
+    (eat_false (y.Open bracket.Round) (call (suc l) (expr l) x) (plain_name (suc l) (expr l) x) rest n.0
+    ∙ eat_false y.Prime (leaf (suc l) (expr l) (e.primed x)) (leaf (suc l) (expr l) (e.name x)) rest n.1
     ∙ node_gives (suc l) form.Closed ending.Closed 0 (e.name x) rest refl (omega arith))
 
-pub reach_primed : {x : Name} → Reaches form.Closed ending.Closed (t.Name x ∷ (token sign.Prime ∷ [])) (e.primed x)
+pub reach_primed : {x : Name} → Reaches form.Closed ending.Closed (t.Name x ∷ (t.Symbol y.Prime ∷ [])) (e.primed x)
 unfolding primary named_form plain_name leaf past
-reach_primed {x} l least rest h low q = at_first l least form.Closed ending.Closed (t.Name x ∷ (token sign.Prime ∷ [])) (e.primed x) rest refl low (node_gives (suc l) form.Closed ending.Closed 0 (e.primed x) rest refl (omega arith))
+reach_primed {x} l least rest h low q = at_first l least form.Closed ending.Closed (t.Name x ∷ (t.Symbol y.Prime ∷ [])) (e.primed x) rest refl low (node_gives (suc l) form.Closed ending.Closed 0 (e.primed x) rest refl (omega arith))
 
-pub reach_call : {x : Name} {u : Ending} {ts : List Token} {as' : List Tree} → Items kind.tree u ts as' → ReachesItems kind.tree u ts as' → Reaches form.Closed ending.Closed (t.Name x ∷ (token sign.RoundOpen ∷ (ts ++ (token sign.RoundClose ∷ [])))) (e.call x (trees as'))
+pub reach_call : {x : Name} {u : Ending} {ts : List Token} {as' : List Tree} → Items kind.tree u ts as' → ReachesItems kind.tree u ts as' → Reaches form.Closed ending.Closed (t.Name x ∷ (t.Symbol (y.Open bracket.Round) ∷ (ts ++ (t.Symbol (y.Close bracket.Round) ∷ [])))) (e.call x (trees as'))
 unfolding primary named_form call past
 reach_call {x} {u} {ts} {as'} d m l least rest h low q =
     let up = of_trees as' in
     let hm : things_height kind.tree as' ≤ l = omega (arith, h, up) in
-    let flat : (ts ++ (token sign.RoundClose ∷ [])) ++ rest ≡ (ts ++ (token sign.RoundClose ∷ rest)) = simp append_assoc in
+    let flat : (ts ++ (t.Symbol (y.Close bracket.Round) ∷ [])) ++ rest ≡ (ts ++ (t.Symbol (y.Close bracket.Round) ∷ rest)) = simp append_assoc in
     at_first l least form.Closed ending.Closed _ (e.call x (trees as')) rest refl low
-    (ap (λ i. named_form (suc l) (expr l) (t.Name x ∷ (token sign.RoundOpen ∷ i))) flat
-    ∙ next_step _ _ _ _ _ (m l (token sign.RoundClose ∷ rest) hm refl tt)
-    (next_step _ _ _ _ _ (expect_gives sign.RoundClose rest)
+    (ap (λ i. named_form (suc l) (expr l) (t.Name x ∷ (t.Symbol (y.Open bracket.Round) ∷ i))) flat
+    ∙ next_step _ _ _ _ _ (m l (t.Symbol (y.Close bracket.Round) ∷ rest) hm refl tt)
+    (next_step _ _ _ _ _ (expect_gives (y.Close bracket.Round) rest)
     (node_gives (suc l) form.Closed ending.Closed (things_height kind.tree as') (e.call x (trees as')) rest (omega (arith, up)) h)))
 
 -- ---- operators
@@ -218,7 +219,7 @@ reach_operation {op} {f} {g} {u} {xs} {ys} {a} {c} takes high d d' r r' l least 
     (node_gives (suc l) (form.Operation op) u (max (left_height op f (height a)) (height c)) (applied op f a c) rest up h))
 
 pub reach_member : (k : Token) {v : Word} {f : Form} {xs : List Token} {a : Tree} → takes_left (operator.Infix op.In) f ≡ true → endless_of k ≡ Some v → Reaches f ending.Closed xs a
-    → Reaches (form.Operation (operator.Infix op.In)) ending.Closed (xs ++ (token sign.In ∷ (k ∷ []))) (e.binary op.In a (e.word v))
+    → Reaches (form.Operation (operator.Infix op.In)) ending.Closed (xs ++ (t.Symbol (y.Infix op.In) ∷ (k ∷ []))) (e.binary op.In a (e.word v))
 unfolding operation right range leaf
 reach_member k {v} {f} {xs} {a} takes is r l least rest h low q =
     let ha : height a ≤ suc l = omega (arith, h) in
@@ -263,35 +264,35 @@ index_below a (x ∷ []) l h = omega (arith, h)
 index_below a (x ∷ (z ∷ bs)) l h = let up = of_trees bs in omega (arith, h, up)
 
 pub reach_index : {f : Form} {u : Ending} {xs ys : List Token} {a : Tree} {bs : List Tree} → 32 ≤ form_low f → Items kind.tree u ys bs → Reaches f ending.Closed xs a → ReachesItems kind.tree u ys bs
-    → Reaches form.Closed ending.Closed (xs ++ (token sign.SquareOpen ∷ (ys ++ (token sign.SquareClose ∷ [])))) (e.index a (trees bs))
+    → Reaches form.Closed ending.Closed (xs ++ (t.Symbol (y.Open bracket.Square) ∷ (ys ++ (t.Symbol (y.Close bracket.Square) ∷ [])))) (e.index a (trees bs))
 unfolding turn indexed
 reach_index {f} {u} {xs} {ys} {a} {bs} high d r m l least rest h low q =
     let up = of_trees bs in
     let g = index_gives (suc l) bs u a h in
     let ha : height a ≤ suc l = omega (arith, h) in
     let hm : things_height kind.tree bs ≤ l = index_below a bs l h in
-    let flat : (xs ++ (token sign.SquareOpen ∷ (ys ++ (token sign.SquareClose ∷ [])))) ++ rest ≡ xs ++ (token sign.SquareOpen ∷ (ys ++ (token sign.SquareClose ∷ rest))) = simp append_assoc in
-    let k = r l least (token sign.SquareOpen ∷ (ys ++ (token sign.SquareClose ∷ rest))) ha (omega (arith, low, high)) (refl, high) in
-    let got : indexed (suc l) (expr l) (read f ending.Closed a) (token sign.SquareOpen ∷ (ys ++ (token sign.SquareClose ∷ rest))) ≡ Some (read form.Closed ending.Closed (e.index a (trees bs)), rest) =
-    next_step _ _ _ _ _ (m l (token sign.SquareClose ∷ rest) hm refl tt)
-    (next_step _ _ _ _ _ (expect_gives sign.SquareClose rest)
+    let flat : (xs ++ (t.Symbol (y.Open bracket.Square) ∷ (ys ++ (t.Symbol (y.Close bracket.Square) ∷ [])))) ++ rest ≡ xs ++ (t.Symbol (y.Open bracket.Square) ∷ (ys ++ (t.Symbol (y.Close bracket.Square) ∷ rest))) = simp append_assoc in
+    let k = r l least (t.Symbol (y.Open bracket.Square) ∷ (ys ++ (t.Symbol (y.Close bracket.Square) ∷ rest))) ha (omega (arith, low, high)) (refl, high) in
+    let got : indexed (suc l) (expr l) (read f ending.Closed a) (t.Symbol (y.Open bracket.Square) ∷ (ys ++ (t.Symbol (y.Close bracket.Square) ∷ rest))) ≡ Some (read form.Closed ending.Closed (e.index a (trees bs)), rest) =
+    next_step _ _ _ _ _ (m l (t.Symbol (y.Close bracket.Square) ∷ rest) hm refl tt)
+    (next_step _ _ _ _ _ (expect_gives (y.Close bracket.Square) rest)
     (next_step _ _ _ _ _ (ap (λ z. give_at z rest) g.1)
     (node_gives (suc l) form.Closed ending.Closed (max (height a) g.0) (e.index a (trees bs)) rest g.2 h))) in
-    let turned : turn (suc l) (expr l) least (read f ending.Closed a) (token sign.SquareOpen ∷ (ys ++ (token sign.SquareClose ∷ rest))) ≡ Some ((read form.Closed ending.Closed (e.index a (trees bs)), true), rest) =
-    ap (λ b. cond b (and_then (indexed (suc l) (expr l) (read f ending.Closed a) (token sign.SquareOpen ∷ (ys ++ (token sign.SquareClose ∷ rest)))) (λ r. pure (r, true))) (Some ((read f ending.Closed a, false), token sign.SquareOpen ∷ (ys ++ (token sign.SquareClose ∷ rest))))) (ends_closed_gives (read f ending.Closed a) refl high)
+    let turned : turn (suc l) (expr l) least (read f ending.Closed a) (t.Symbol (y.Open bracket.Square) ∷ (ys ++ (t.Symbol (y.Close bracket.Square) ∷ rest))) ≡ Some ((read form.Closed ending.Closed (e.index a (trees bs)), true), rest) =
+    ap (λ b. cond b (and_then (indexed (suc l) (expr l) (read f ending.Closed a) (t.Symbol (y.Open bracket.Square) ∷ (ys ++ (t.Symbol (y.Close bracket.Square) ∷ rest)))) (λ r. pure (r, true))) (Some ((read f ending.Closed a, false), t.Symbol (y.Open bracket.Square) ∷ (ys ++ (t.Symbol (y.Close bracket.Square) ∷ rest))))) (ends_closed_gives (read f ending.Closed a) refl high)
     ∙ ap (λ z. and_then z (λ r. pure (r, true))) got in
-    let taking = taken (suc l) (expr l) least k.turns (read f ending.Closed a) (token sign.SquareOpen ∷ (ys ++ (token sign.SquareClose ∷ rest))) (read form.Closed ending.Closed (e.index a (trees bs))) rest turned (omega (arith, length-append ys (token sign.SquareClose ∷ rest))) k.enough in
+    let taking = taken (suc l) (expr l) least k.turns (read f ending.Closed a) (t.Symbol (y.Open bracket.Square) ∷ (ys ++ (t.Symbol (y.Close bracket.Square) ∷ rest))) (read form.Closed ending.Closed (e.index a (trees bs))) rest turned (omega (arith, length-append ys (t.Symbol (y.Close bracket.Square) ∷ rest))) k.enough in
     record { turns = taking.0; enough = taking.1; comes = ap (λ i. level (suc l) (expr l) least i) flat ∙ k.comes ∙ taking.2 }
 
-pub reach_select : {f : Form} {xs : List Token} {a : Tree} {x : Name} → 32 ≤ form_low f → Reaches f ending.Closed xs a → Reaches form.Closed ending.Closed (xs ++ (token sign.Dot ∷ (t.Name x ∷ []))) (e.field a x)
+pub reach_select : {f : Form} {xs : List Token} {a : Tree} {x : Name} → 32 ≤ form_low f → Reaches f ending.Closed xs a → Reaches form.Closed ending.Closed (xs ++ (t.Symbol y.Dot ∷ (t.Name x ∷ []))) (e.field a x)
 unfolding turn selected
 reach_select {f} {xs} {a} {x} high r l least rest h low q =
     let ha : height a ≤ suc l = omega (arith, h) in
-    let k = r l least (token sign.Dot ∷ (t.Name x ∷ rest)) ha (omega (arith, low, high)) (refl, high) in
-    let got : selected (suc l) (expr l) (read f ending.Closed a) (token sign.Dot ∷ (t.Name x ∷ rest)) ≡ Some (read form.Closed ending.Closed (e.field a x), rest) =
+    let k = r l least (t.Symbol y.Dot ∷ (t.Name x ∷ rest)) ha (omega (arith, low, high)) (refl, high) in
+    let got : selected (suc l) (expr l) (read f ending.Closed a) (t.Symbol y.Dot ∷ (t.Name x ∷ rest)) ≡ Some (read form.Closed ending.Closed (e.field a x), rest) =
     node_gives (suc l) form.Closed ending.Closed (height a) (e.field a x) rest (omega arith) h in
-    let turned : turn (suc l) (expr l) least (read f ending.Closed a) (token sign.Dot ∷ (t.Name x ∷ rest)) ≡ Some ((read form.Closed ending.Closed (e.field a x), true), rest) =
-    ap (λ b. cond b (and_then (selected (suc l) (expr l) (read f ending.Closed a) (token sign.Dot ∷ (t.Name x ∷ rest))) (λ r. pure (r, true))) (Some ((read f ending.Closed a, false), token sign.Dot ∷ (t.Name x ∷ rest)))) (ends_closed_gives (read f ending.Closed a) refl high)
+    let turned : turn (suc l) (expr l) least (read f ending.Closed a) (t.Symbol y.Dot ∷ (t.Name x ∷ rest)) ≡ Some ((read form.Closed ending.Closed (e.field a x), true), rest) =
+    ap (λ b. cond b (and_then (selected (suc l) (expr l) (read f ending.Closed a) (t.Symbol y.Dot ∷ (t.Name x ∷ rest))) (λ r. pure (r, true))) (Some ((read f ending.Closed a, false), t.Symbol y.Dot ∷ (t.Name x ∷ rest)))) (ends_closed_gives (read f ending.Closed a) refl high)
     ∙ ap (λ z. and_then z (λ r. pure (r, true))) got in
-    let taking = taken (suc l) (expr l) least k.turns (read f ending.Closed a) (token sign.Dot ∷ (t.Name x ∷ rest)) (read form.Closed ending.Closed (e.field a x)) rest turned (omega arith) k.enough in
-    record { turns = taking.0; enough = taking.1; comes = ap (λ i. level (suc l) (expr l) least i) (append_assoc xs (token sign.Dot ∷ (t.Name x ∷ [])) rest) ∙ k.comes ∙ taking.2 }
+    let taking = taken (suc l) (expr l) least k.turns (read f ending.Closed a) (t.Symbol y.Dot ∷ (t.Name x ∷ rest)) (read form.Closed ending.Closed (e.field a x)) rest turned (omega arith) k.enough in
+    record { turns = taking.0; enough = taking.1; comes = ap (λ i. level (suc l) (expr l) least i) (append_assoc xs (t.Symbol y.Dot ∷ (t.Name x ∷ [])) rest) ∙ k.comes ∙ taking.2 }

@@ -1,14 +1,16 @@
 -- What is spelled is read: items and lists.
 use Rattle.std.proofs.Common.{◌≡◌, ℕ, zero, suc, ◌+◌, ◌<◌, ◌≤◌, max, true, false, not, List, [], ◌∷◌, ◌++◌, length, Some, None, refl, ap, sym, ◌∙◌, subst, arith, cond}
 use Rattle.std.proofs.lemmas.List.{append_assoc, append-nil, length-append}
+use Rattle.pgo_base.specs.declared.expr.Infix.TheVariants as op
 use Rattle.pgo_base.specs.declared.expr.Word.{Word}
 use Rattle.pgo_base.specs.Tree.{Tree, no_trees, trees, bound, named, arms, paths}
 use Rattle.pgo_base.specs.Tree as e
+use Rattle.pgo_lexer.specs.declared.symbol.Bracket.TheVariants as bracket
 use Rattle.pgo_lexer.specs.declared.symbol.Junction.{Junction}
+use Rattle.pgo_lexer.specs.declared.symbol.Symbol.TheVariants as sign
+use Rattle.pgo_lexer.specs.declared.symbol.Symbol.{Symbol}
 use Rattle.pgo_lexer.specs.declared.token.Token.{Token}
 use Rattle.pgo_lexer.specs.declared.token.Token.TheVariants as t
-use Rattle.pgo_expr_read.specs.declared.sign.Sign.{Sign}
-use Rattle.pgo_expr_read.specs.declared.sign.Sign.TheVariants as sign
 use Rattle.pgo_expr_read.specs.declared.table.Form.{Form}
 use Rattle.pgo_expr_read.specs.declared.table.Form.TheVariants as form
 use Rattle.pgo_expr_read.specs.declared.lookahead.Next.{Next}
@@ -17,11 +19,10 @@ use Rattle.pgo_expr_read.specs.declared.lookahead.Opener.TheVariants as opener
 use Rattle.pgo_expr_read.specs.declared.read.Ending.{Ending}
 use Rattle.pgo_expr_read.specs.declared.read.Ending.TheVariants as ending
 use Rattle.pgo_expr_read.specs.declared.read.Read.{Read}
-use Rattle.pgo_expr_read.specs.Signs.{token}
 use Rattle.pgo_expr_read.specs.Lookahead as look
-use Rattle.pgo_expr_read.specs.Lookahead.{sees, sees_name, sees_arm, begins_binder, form_of_square, form_of_second, square_of, is_name, endless, endless_of, opener_of, next_of}
+use Rattle.pgo_expr_read.specs.Lookahead.{sees, sees_list_next, sees_name, sees_arm, begins_binder, form_of_square, form_of_second, square_of, is_name, endless, endless_of, opener_of, next_of}
 use Rattle.pgo_expr_read.specs.Heights.{height}
-use Rattle.pgo_expr_read.specs.Kinds.{Kind, Thing, Name, between, may_follow, is_case}
+use Rattle.pgo_expr_read.specs.Kinds.{Kind, Thing, Name, between, between_of, may_follow}
 use Rattle.pgo_expr_read.specs.Kinds as kind
 use Rattle.pgo_expr_read.specs.Table.{low}
 use Rattle.pgo_expr_read.specs.Spells.{Spelled, Range, Item, Behind, Items, prefix_token, operator_token, more_names, applied, extended, product_of_two, infix_of, joined, opened}
@@ -29,7 +30,8 @@ use Rattle.pgo_expr_read.specs.Spells as s
 use Rattle.pgo_expr_read.specs.Reading.{◌>>=◌, ◌>>◌, Parser, Outcome, pure, past, made, part, pushed, joins, folded, goes, pass, more_at, one_more, listed_at, leaf, field_step, index_step, range_by, range, binder, field, arm, step, update, item, items, one_more_joined, close_by, level, expr}
 use Rattle.pgo_expr_read.specs.Fronts.{Ended}
 use Rattle.pgo_expr_read.proofs.Measures.{thing_height, things_height, of_steps}
-use Rattle.pgo_expr_read.proofs.Reach.{read, Quiet, Stops, Reaches, next_step, expect_gives, node_gives, stops, inside, unroll, fold_ends, fold_goes, names_give, pass_gives}
+use Rattle.pgo_expr_read.proofs.Steps.{next_step, fold_ends, fold_goes}
+use Rattle.pgo_expr_read.proofs.Reach.{read, Quiet, Stops, Reaches, expect_gives, node_gives, stops, inside, unroll, names_give, pass_gives}
 use Rattle.pgo_expr_read.proofs.Heads.{starts, not_endless, not_other}
 
 -- what follows a list or an item of it
@@ -54,7 +56,7 @@ ReachesItems k u front as' = (l : ℕ) (rest : List Token) → things_height k a
 -- further items of a junction list
 abbrev pub ReachesJoined : List Token → List Tree → Type 0
 ReachesJoined front bs = (l n : ℕ) (op : Junction) (a : Tree) (rest : List Token) → height (joined op a bs) ≤ suc l → length front ≤ n
-    → folded (sees sign.ListNext) (one_more_joined (suc l) (expr l) op) n (read form.Closed ending.Closed a) (front ++ (token sign.ListClose ∷ rest)) ≡ Some (read form.Closed ending.Closed (joined op a bs), token sign.ListClose ∷ rest)
+    → folded sees_list_next (one_more_joined (suc l) (expr l) op) n (read form.Closed ending.Closed a) (front ++ (t.ListClose ∷ rest)) ≡ Some (read form.Closed ending.Closed (joined op a bs), t.ListClose ∷ rest)
 
 -- ---- sets that names are bound over
 
@@ -80,65 +82,65 @@ reach_tree {f} {o} {ts} {a} r l rest h ends = (f, inside f o ts a r l rest h end
 pub reach_item : {f : Form} {o : Ending} {ts : List Token} {a : Tree} → Reaches f o ts a → ReachesItem kind.item o ts a
 reach_item {f} {o} {ts} {a} r l rest h ends = (f, inside f o ts a r l rest h ends)
 
-pub reach_binder : {x : Name} {xs : List Name} {ts : List Token} {a : Tree} → Range ts a → ReachesRange ts a → ReachesItem kind.binder ending.Closed (s.names x xs ++ (token sign.In ∷ ts)) (x ∷ xs, a)
+pub reach_binder : {x : Name} {xs : List Name} {ts : List Token} {a : Tree} → Range ts a → ReachesRange ts a → ReachesItem kind.binder ending.Closed (s.names x xs ++ (t.Symbol (sign.Infix op.In) ∷ ts)) (x ∷ xs, a)
 unfolding binder
 reach_binder {x} {xs} {ts} {a} d r l rest h ends =
     let g = r l rest h ends in
-    let flat : (s.names x xs ++ (token sign.In ∷ ts)) ++ rest ≡ s.names x xs ++ (token sign.In ∷ (ts ++ rest)) = append_assoc (s.names x xs) (token sign.In ∷ ts) rest in (
+    let flat : (s.names x xs ++ (t.Symbol (sign.Infix op.In) ∷ ts)) ++ rest ≡ s.names x xs ++ (t.Symbol (sign.Infix op.In) ∷ (ts ++ rest)) = append_assoc (s.names x xs) (t.Symbol (sign.Infix op.In) ∷ ts) rest in (
       form.Closed,
       ap (λ i. binder (suc l) (expr l) i) flat
-          ∙ next_step _ _ _ _ _ (names_give x xs (token sign.In ∷ (ts ++ rest)) refl)
-          (next_step _ _ _ _ _ (expect_gives sign.In (ts ++ rest))
+          ∙ next_step _ _ _ _ _ (names_give x xs (t.Symbol (sign.Infix op.In) ∷ (ts ++ rest)) refl)
+          (next_step _ _ _ _ _ (expect_gives (sign.Infix op.In) (ts ++ rest))
           (next_step _ _ _ _ _ g.2 refl)),
     )
 
-pub reach_field : (v : Sign) {x : Name} {f : Form} {o : Ending} {ts : List Token} {a : Tree} → Reaches f o ts a → ReachesItem (kind.field v) o (t.Name x ∷ (token v ∷ ts)) (x, a)
+pub reach_field : (v : Symbol) {x : Name} {f : Form} {o : Ending} {ts : List Token} {a : Tree} → Reaches f o ts a → ReachesItem (kind.field v) o (t.Name x ∷ (t.Symbol v ∷ ts)) (x, a)
 unfolding field
 reach_field v {x} {f} {o} {ts} {a} r l rest h ends =
     (form.Closed, next_step _ _ _ _ _ (expect_gives v (ts ++ rest)) (next_step _ _ _ _ _ (inside f o ts a r l rest h ends) refl))
 
-pub reach_definition : {x : Name} {f : Form} {o : Ending} {ts : List Token} {a : Tree} → Reaches f o ts a → ReachesItem kind.definition o (t.Name x ∷ (token sign.Defines ∷ ts)) (x, a)
+pub reach_definition : {x : Name} {f : Form} {o : Ending} {ts : List Token} {a : Tree} → Reaches f o ts a → ReachesItem kind.definition o (t.Name x ∷ (t.Symbol sign.Defines ∷ ts)) (x, a)
 unfolding field
 reach_definition {x} {f} {o} {ts} {a} r l rest h ends =
     (form.Closed, next_step _ _ _ _ _ (expect_gives sign.Defines (ts ++ rest)) (next_step _ _ _ _ _ (inside f o ts a r l rest h ends) refl))
 
-pub reach_arm : {f g : Form} {o u : Ending} {xs ys : List Token} {a c : Tree} → Reaches f o xs a → Reaches g u ys c → ReachesItem kind.arm u (xs ++ (token sign.Arrow ∷ ys)) (a, c)
+pub reach_arm : {f g : Form} {o u : Ending} {xs ys : List Token} {a c : Tree} → Reaches f o xs a → Reaches g u ys c → ReachesItem kind.arm u (xs ++ (t.Symbol sign.Arrow ∷ ys)) (a, c)
 unfolding arm
 reach_arm {f} {g} {o} {u} {xs} {ys} {a} {c} r r' l rest h ends =
     let ha : height a ≤ l = omega (arith, h) in
     let hc : height c ≤ l = omega (arith, h) in (
       form.Closed,
-      ap (λ i. arm (suc l) (expr l) i) (append_assoc xs (token sign.Arrow ∷ ys) rest)
-          ∙ next_step _ _ _ _ _ (inside f o xs a r l (token sign.Arrow ∷ (ys ++ rest)) ha tt)
+      ap (λ i. arm (suc l) (expr l) i) (append_assoc xs (t.Symbol sign.Arrow ∷ ys) rest)
+          ∙ next_step _ _ _ _ _ (inside f o xs a r l (t.Symbol sign.Arrow ∷ (ys ++ rest)) ha tt)
           (next_step _ _ _ _ _ (expect_gives sign.Arrow (ys ++ rest))
           (next_step _ _ _ _ _ (inside g u ys c r' l rest hc ends) refl)),
     )
 
-pub reach_index_step : {f : Form} {o : Ending} {ts : List Token} {a : Tree} → Reaches f o ts a → ReachesItem kind.step ending.Closed (token sign.SquareOpen ∷ (ts ++ (token sign.SquareClose ∷ []))) a
+pub reach_index_step : {f : Form} {o : Ending} {ts : List Token} {a : Tree} → Reaches f o ts a → ReachesItem kind.step ending.Closed (t.Symbol (sign.Open bracket.Square) ∷ (ts ++ (t.Symbol (sign.Close bracket.Square) ∷ []))) a
 unfolding step index_step past
 reach_index_step {f} {o} {ts} {a} r l rest h ends = (
   form.Closed,
-  ap (λ i. step (suc l) (expr l) (token sign.SquareOpen ∷ i)) (append_assoc ts (token sign.SquareClose ∷ []) rest)
-      ∙ next_step _ _ _ _ _ (expect_gives sign.SquareOpen (ts ++ (token sign.SquareClose ∷ rest)))
-      (next_step _ _ _ _ _ (inside f o ts a r l (token sign.SquareClose ∷ rest) h tt)
-      (next_step _ _ _ _ _ (expect_gives sign.SquareClose rest) refl)),
+  ap (λ i. step (suc l) (expr l) (t.Symbol (sign.Open bracket.Square) ∷ i)) (append_assoc ts (t.Symbol (sign.Close bracket.Square) ∷ []) rest)
+      ∙ next_step _ _ _ _ _ (expect_gives (sign.Open bracket.Square) (ts ++ (t.Symbol (sign.Close bracket.Square) ∷ rest)))
+      (next_step _ _ _ _ _ (inside f o ts a r l (t.Symbol (sign.Close bracket.Square) ∷ rest) h tt)
+      (next_step _ _ _ _ _ (expect_gives (sign.Close bracket.Square) rest) refl)),
 )
 
-pub reach_field_step : {x : Name} → ReachesItem kind.step ending.Closed (token sign.Dot ∷ (t.Name x ∷ [])) (e.text x)
+pub reach_field_step : {x : Name} → ReachesItem kind.step ending.Closed (t.Symbol sign.Dot ∷ (t.Name x ∷ [])) (e.text x)
 unfolding step field_step past
 reach_field_step {x} l rest h ends = (form.Closed, refl)
 
-pub reach_update : {f : Form} {o u : Ending} {xs ys : List Token} {as' : List Tree} {a : Tree} → Items kind.step u xs as' → ReachesItems kind.step u xs as' → Reaches f o ys a → ReachesItem kind.update o (token sign.Bang ∷ (xs ++ (token sign.Equal ∷ ys))) (as', a)
+pub reach_update : {f : Form} {o u : Ending} {xs ys : List Token} {as' : List Tree} {a : Tree} → Items kind.step u xs as' → ReachesItems kind.step u xs as' → Reaches f o ys a → ReachesItem kind.update o (t.Symbol sign.Bang ∷ (xs ++ (t.Symbol (sign.Infix op.Equal) ∷ ys))) (as', a)
 unfolding update
 reach_update {f} {o} {u} {xs} {ys} {as'} {a} d m r l rest h ends =
     let up = of_steps as' in
     let hp : things_height kind.step as' ≤ l = omega (arith, h, up) in
     let ha : height a ≤ l = omega (arith, h) in (
       form.Closed,
-      ap (λ i. update (suc l) (expr l) (token sign.Bang ∷ i)) (append_assoc xs (token sign.Equal ∷ ys) rest)
-          ∙ next_step _ _ _ _ _ (expect_gives sign.Bang (xs ++ (token sign.Equal ∷ (ys ++ rest))))
-          (next_step _ _ _ _ _ (m l (token sign.Equal ∷ (ys ++ rest)) hp refl tt)
-          (next_step _ _ _ _ _ (expect_gives sign.Equal (ys ++ rest))
+      ap (λ i. update (suc l) (expr l) (t.Symbol sign.Bang ∷ i)) (append_assoc xs (t.Symbol (sign.Infix op.Equal) ∷ ys) rest)
+          ∙ next_step _ _ _ _ _ (expect_gives sign.Bang (xs ++ (t.Symbol (sign.Infix op.Equal) ∷ (ys ++ rest))))
+          (next_step _ _ _ _ _ (m l (t.Symbol (sign.Infix op.Equal) ∷ (ys ++ rest)) hp refl tt)
+          (next_step _ _ _ _ _ (expect_gives (sign.Infix op.Equal) (ys ++ rest))
           (next_step _ _ _ _ _ (inside f o ys a r l rest ha ends)
           (ap (λ z. Some (part o (max z (height a)) (as', a), rest)) (sym up))))),
     )
@@ -164,7 +166,7 @@ goes_item rest (s.item d) = refl
 goes_item rest (s.binder r) = refl
 goes_item rest (s.field d) = refl
 goes_item rest (s.definition d) = refl
-goes_item rest (s.arm {xs = xs} {ys = ys} d d') = ap not (ap (λ i. sees sign.Other i) (append_assoc xs (token sign.Arrow ∷ ys) rest) ∙ not_other (token sign.Arrow ∷ (ys ++ rest)) (starts d))
+goes_item rest (s.arm {xs = xs} {ys = ys} d d') = ap not (ap (λ i. sees sign.Other i) (append_assoc xs (t.Symbol sign.Arrow ∷ ys) rest) ∙ not_other (t.Symbol sign.Arrow ∷ (ys ++ rest)) (starts d))
 goes_item rest (s.index_step d) = refl
 goes_item rest s.field_step = refl
 goes_item rest (s.update m d) = refl
@@ -195,7 +197,7 @@ one_more_gives : (k : Kind) (it : Parser (Read (Thing k))) (o u : Ending) (f : F
 unfolding more_at
 one_more_gives k it o u f h m xs a i rest may got =
     ap (λ b. (cond {A = Parser (Read (List (Thing k)))} b (pass k >> (it >>= (λ r. pure (pushed (part o h xs) r)))) (λ i. None)) (between k ++ i)) may
-    ∙ next_step _ _ _ _ _ (pass_gives k i) (next_step _ _ _ _ _ got refl)
+    ∙ next_step _ _ _ _ _ (pass_gives (between_of k) i) (next_step _ _ _ _ _ got refl)
 
 pub reach_none : (k : Kind) (o : Ending) → ReachesBehind k o o [] []
 reach_none k o l n h xs rest hs ln g ends =
@@ -237,56 +239,56 @@ joined_below limit op a [] h = h
 joined_below limit op a (c ∷ bs) h = let inner = joined_below limit op (e.binary (infix_of op) a c) bs h in omega (arith, inner)
 
 pub reach_joined_none : ReachesJoined [] []
-reach_joined_none l n op a rest h ln = fold_ends (sees sign.ListNext) (one_more_joined (suc l) (expr l) op) n (read form.Closed ending.Closed a) (token sign.ListClose ∷ rest) refl
+reach_joined_none l n op a rest h ln = fold_ends sees_list_next (one_more_joined (suc l) (expr l) op) n (read form.Closed ending.Closed a) (t.ListClose ∷ rest) refl
 
-item_ended : {o u : Ending} {ys : List Token} {bs : List Tree} (rest : List Token) → Behind kind.item o u ys bs → look.after (ys ++ (token sign.ListClose ∷ rest)) ≡ next.End
+item_ended : {o u : Ending} {ys : List Token} {bs : List Tree} (rest : List Token) → Behind kind.item o u ys bs → look.after (ys ++ (t.ListClose ∷ rest)) ≡ next.End
 item_ended rest s.none = refl
 item_ended rest (s.one_more m d b) = refl
 
-pub reach_joined_more : {f : Form} {o u : Ending} {xs ys : List Token} {c : Tree} {bs : List Tree} → Reaches f o xs c → Behind kind.item o u ys bs → ReachesJoined ys bs → ReachesJoined (token sign.ListNext ∷ (xs ++ ys)) (c ∷ bs)
+pub reach_joined_more : {f : Form} {o u : Ending} {xs ys : List Token} {c : Tree} {bs : List Tree} → Reaches f o xs c → Behind kind.item o u ys bs → ReachesJoined ys bs → ReachesJoined (t.ListNext ∷ (xs ++ ys)) (c ∷ bs)
 unfolding one_more_joined joins
 reach_joined_more r b m l zero op a rest h ln = absurd (omega (arith, ln))
 reach_joined_more {f} {o} {u} {xs} {ys} {c} {bs} r b m l (suc n) op a rest h ln =
     let inner = joined_below (suc l) op (e.binary (infix_of op) a c) bs h in
     let hc : height c ≤ l = omega (arith, inner) in
-    let ends : Ended o (look.after (ys ++ (token sign.ListClose ∷ rest))) = ended o _ (item_ended rest b) in
+    let ends : Ended o (look.after (ys ++ (t.ListClose ∷ rest))) = ended o _ (item_ended rest b) in
     let up : max (height a) (height c) + 1 ≡ height (e.binary (infix_of op) a c) = omega arith in
-    ap (λ i. folded (sees sign.ListNext) (one_more_joined (suc l) (expr l) op) (suc n) (read form.Closed ending.Closed a) (token sign.ListNext ∷ i)) (append_assoc xs ys (token sign.ListClose ∷ rest))
-    ∙ fold_goes (sees sign.ListNext) (one_more_joined (suc l) (expr l) op) n (read form.Closed ending.Closed a) (read form.Closed ending.Closed (e.binary (infix_of op) a c)) (token sign.ListNext ∷ (xs ++ (ys ++ (token sign.ListClose ∷ rest)))) (ys ++ (token sign.ListClose ∷ rest)) refl
-    (next_step _ _ _ _ _ (expect_gives sign.ListNext (xs ++ (ys ++ (token sign.ListClose ∷ rest)))) (next_step _ _ _ _ _ (inside f o xs c r l (ys ++ (token sign.ListClose ∷ rest)) hc ends) (node_gives (suc l) form.Closed ending.Closed _ (e.binary (infix_of op) a c) (ys ++ (token sign.ListClose ∷ rest)) up inner)))
+    ap (λ i. folded sees_list_next (one_more_joined (suc l) (expr l) op) (suc n) (read form.Closed ending.Closed a) (t.ListNext ∷ i)) (append_assoc xs ys (t.ListClose ∷ rest))
+    ∙ fold_goes sees_list_next (one_more_joined (suc l) (expr l) op) n (read form.Closed ending.Closed a) (read form.Closed ending.Closed (e.binary (infix_of op) a c)) (t.ListNext ∷ (xs ++ (ys ++ (t.ListClose ∷ rest)))) (ys ++ (t.ListClose ∷ rest)) refl
+    (next_step _ _ _ _ _ (inside f o xs c r l (ys ++ (t.ListClose ∷ rest)) hc ends) (node_gives (suc l) form.Closed ending.Closed _ (e.binary (infix_of op) a c) (ys ++ (t.ListClose ∷ rest)) up inner))
     ∙ m l n op (e.binary (infix_of op) a c) rest h (omega (arith, ln, length-append xs ys))
 
 close_list : (l : ℕ) (op : Junction) (f : Form) (o : Ending) (a : Tree) (ys : List Token) (bs : List Tree) (rest : List Token) → ReachesJoined ys bs → height (joined op a bs) ≤ suc l
-    → close_by (suc l) (expr l) (opener.List op) (read f o a) (ys ++ (token sign.ListClose ∷ rest)) ≡ Some (read form.Closed ending.Closed (joined op a bs), rest)
+    → close_by (suc l) (expr l) (opener.List op) (read f o a) (ys ++ (t.ListClose ∷ rest)) ≡ Some (read form.Closed ending.Closed (joined op a bs), rest)
 close_list l op f o a ys bs rest m h =
-    next_step _ _ _ _ _ (m l (length (ys ++ (token sign.ListClose ∷ rest))) op a rest h (omega (arith, length-append ys (token sign.ListClose ∷ rest))))
-    (next_step _ _ _ _ _ (expect_gives sign.ListClose rest) refl)
+    next_step _ _ _ _ _ (m l (length (ys ++ (t.ListClose ∷ rest))) op a rest h (omega (arith, length-append ys (t.ListClose ∷ rest))))
+    refl
 
 pub reach_junction : (op : Junction) {f : Form} {o u : Ending} {xs ys : List Token} {a : Tree} {bs : List Tree} → Behind kind.item o u ys bs → Reaches f o xs a → ReachesJoined ys bs
-    → Reaches form.Closed ending.Closed (t.ListOpen op ∷ (xs ++ (ys ++ (token sign.ListClose ∷ [])))) (joined op a bs)
+    → Reaches form.Closed ending.Closed (t.ListOpen op ∷ (xs ++ (ys ++ (t.ListClose ∷ [])))) (joined op a bs)
 reach_junction op {f} {o} {u} {xs} {ys} {a} {bs} b r m l least rest h low q =
     let first = joined_below (suc l) op a bs h in
-    let j = ys ++ (token sign.ListClose ∷ rest) in
+    let j = ys ++ (t.ListClose ∷ rest) in
     let P : Next → Type 0 = λ x. Quiet f o x in
     let Q : Next → Type 0 = λ x. Stops 0 x in
     let ends = item_ended rest b in
-    let c = r l 0 (ys ++ (token sign.ListClose ∷ rest)) first (omega arith) (subst P (sym ends) tt) in
-    let is = c.comes ∙ stops (suc l) (expr l) 0 c.turns (read f o a) (ys ++ (token sign.ListClose ∷ rest)) (subst Q (sym ends) tt) in
-    let flat : (xs ++ (ys ++ (token sign.ListClose ∷ []))) ++ rest ≡ xs ++ (ys ++ (token sign.ListClose ∷ rest)) = simp append_assoc in
+    let c = r l 0 (ys ++ (t.ListClose ∷ rest)) first (omega arith) (subst P (sym ends) tt) in
+    let is = c.comes ∙ stops (suc l) (expr l) 0 c.turns (read f o a) (ys ++ (t.ListClose ∷ rest)) (subst Q (sym ends) tt) in
+    let flat : (xs ++ (ys ++ (t.ListClose ∷ []))) ++ rest ≡ xs ++ (ys ++ (t.ListClose ∷ rest)) = simp append_assoc in
     record {
       turns = length rest;
       enough = omega arith;
       comes = ap (λ i. level (suc l) (expr l) least (t.ListOpen op ∷ i)) flat
-          ∙ unroll (suc l) (expr l) least (opener.List op) (xs ++ (ys ++ (token sign.ListClose ∷ rest))) (read f o a) (ys ++ (token sign.ListClose ∷ rest)) (read form.Closed ending.Closed (joined op a bs)) rest low is (close_list l op f o a ys bs rest m h);
+          ∙ unroll (suc l) (expr l) least (opener.List op) (xs ++ (ys ++ (t.ListClose ∷ rest))) (read f o a) (ys ++ (t.ListClose ∷ rest)) (read form.Closed ending.Closed (joined op a bs)) rest low is (close_list l op f o a ys bs rest m h);
     }
 
-pub reach_parens : {f : Form} {o : Ending} {ts : List Token} {a : Tree} → Reaches f o ts a → Reaches form.Closed ending.Closed (token sign.RoundOpen ∷ (ts ++ (token sign.RoundClose ∷ []))) a
+pub reach_parens : {f : Form} {o : Ending} {ts : List Token} {a : Tree} → Reaches f o ts a → Reaches form.Closed ending.Closed (t.Symbol (sign.Open bracket.Round) ∷ (ts ++ (t.Symbol (sign.Close bracket.Round) ∷ []))) a
 reach_parens {f} {o} {ts} {a} r l least rest h low q =
-    let c = r l 0 (token sign.RoundClose ∷ rest) h (omega arith) tt in
-    let is = c.comes ∙ stops (suc l) (expr l) 0 c.turns (read f o a) (token sign.RoundClose ∷ rest) tt in
+    let c = r l 0 (t.Symbol (sign.Close bracket.Round) ∷ rest) h (omega arith) tt in
+    let is = c.comes ∙ stops (suc l) (expr l) 0 c.turns (read f o a) (t.Symbol (sign.Close bracket.Round) ∷ rest) tt in
     record {
       turns = length rest;
       enough = omega arith;
-      comes = ap (λ i. level (suc l) (expr l) least (token sign.RoundOpen ∷ i)) (append_assoc ts (token sign.RoundClose ∷ []) rest)
-          ∙ unroll (suc l) (expr l) least opener.Round (ts ++ (token sign.RoundClose ∷ rest)) (read f o a) (token sign.RoundClose ∷ rest) (read form.Closed ending.Closed a) rest low is (next_step _ _ _ _ _ (expect_gives sign.RoundClose rest) refl);
+      comes = ap (λ i. level (suc l) (expr l) least (t.Symbol (sign.Open bracket.Round) ∷ i)) (append_assoc ts (t.Symbol (sign.Close bracket.Round) ∷ []) rest)
+          ∙ unroll (suc l) (expr l) least opener.Round (ts ++ (t.Symbol (sign.Close bracket.Round) ∷ rest)) (read f o a) (t.Symbol (sign.Close bracket.Round) ∷ rest) (read form.Closed ending.Closed a) rest low is (next_step _ _ _ _ _ (expect_gives (sign.Close bracket.Round) rest) refl);
     }

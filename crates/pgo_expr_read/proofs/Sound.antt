@@ -11,7 +11,6 @@ use Rattle.pgo_lexer.specs.declared.symbol.Junction.{Junction}
 use Rattle.pgo_lexer.specs.declared.symbol.Symbol.TheVariants as y
 use Rattle.pgo_lexer.specs.declared.token.Token.{Token}
 use Rattle.pgo_lexer.specs.declared.token.Token.TheVariants as t
-use Rattle.pgo_expr_read.specs.declared.sign.Sign.TheVariants as sign
 use Rattle.pgo_expr_read.specs.declared.table.Operator.{Operator}
 use Rattle.pgo_expr_read.specs.declared.table.Operator.TheVariants as operator
 use Rattle.pgo_expr_read.specs.declared.table.Form.{Form}
@@ -21,17 +20,17 @@ use Rattle.pgo_expr_read.specs.declared.lookahead.Opener.TheVariants as opener
 use Rattle.pgo_expr_read.specs.declared.read.Ending.{Ending}
 use Rattle.pgo_expr_read.specs.declared.read.Ending.TheVariants as ending
 use Rattle.pgo_expr_read.specs.declared.read.Read.{Read}
-use Rattle.pgo_expr_read.specs.Signs.{token}
-use Rattle.pgo_expr_read.specs.Lookahead.{sees, endless_of, opener_of}
+use Rattle.pgo_expr_read.specs.Lookahead.{sees_list_next, endless_of, opener_of}
 use Rattle.pgo_expr_read.specs.Heights.{height}
 use Rattle.pgo_expr_read.specs.Kinds.{Kind, Thing, Name, between, may_follow, is_case}
 use Rattle.pgo_expr_read.specs.Kinds as kind
 use Rattle.pgo_expr_read.specs.Table.{low, takes_left, form_low, right_least}
 use Rattle.pgo_expr_read.specs.Spells.{Spelled, Range, Item, Behind, Items, prefix_token, operator_token, more_names, applied, extended, product_of_two, infix_of, joined, opened}
 use Rattle.pgo_expr_read.specs.Spells as s
-use Rattle.pgo_expr_read.specs.Reading.{Parser, Outcome, and_then, pure, give_at, expect, name, text, raised, closed, ends_closed, goes_on, joins, left_height, index_height, on_opener, openers, folded, goes, leaf, range_by, range, items, primary, right, operation, indexed, selected, turn, more, all_more, one_more_joined, close_by, close, closes, level, expr}
+use Rattle.pgo_expr_read.specs.Reading.{Parser, Outcome, and_then, pure, give_at, expect, list_next, list_close, name, text, raised, closed, ends_closed, goes_on, joins, left_height, index_height, on_opener, openers, folded, goes, leaf, range_by, range, items, primary, right, operation, indexed, selected, turn, more, all_more, one_more_joined, close_by, close, closes, level, expr}
 use Rattle.pgo_expr_read.proofs.Measures.{things_height, of_trees}
-use Rattle.pgo_expr_read.proofs.Parts.{bind_then, give_some, some_pair, if_some, both, closed_ending, raised_some, expect_some, name_some}
+use Rattle.pgo_expr_read.proofs.Steps.{bind_then, some_pair, if_some}
+use Rattle.pgo_expr_read.proofs.Parts.{give_some, both, closed_ending, raised_some, expect_some, list_next_some, list_close_some, name_some}
 use Rattle.std.proofs.lemmas.Bool.{eqb-true, eq-eqb}
 use Rattle.pgo_expr_read.proofs.Measures.{two_high, extended_high}
 use Rattle.pgo_expr_read.proofs.Laws.{low-high, high-small, prefix-small}
@@ -75,7 +74,7 @@ index_high limit all h got is a = index_by (nat_eq (length all.tree) 1) all.tree
 -- ---- openers
 
 abbrev pub opener_token : Opener → Token
-opener_token opener.Round = token sign.RoundOpen
+opener_token opener.Round = t.Symbol (y.Open b.Round)
 opener_token (opener.List op) = t.ListOpen op
 
 -- the tokens with these openers in front of them, the innermost first
@@ -159,30 +158,30 @@ module _ (limit below : ℕ) (ex : ℕ → Parser (Read Tree)) (S : Sound below 
         form_of_node _ _ _ _ _ r rest got,
       ))
 
-  sound_indexed : (text : List Token) (left : Read Tree) (i : List Token) (r : Read Tree) (rest : List Token) → indexed limit ex left (token sign.SquareOpen ∷ i) ≡ Some (r, rest) → left.ending ≡ ending.Closed → 32 ≤ form_low left.form → Good limit text left (token sign.SquareOpen ∷ i) → Turned text form.Closed r rest
+  sound_indexed : (text : List Token) (left : Read Tree) (i : List Token) (r : Read Tree) (rest : List Token) → indexed limit ex left (t.Symbol (y.Open b.Square) ∷ i) ≡ Some (r, rest) → left.ending ≡ ending.Closed → 32 ≤ form_low left.form → Good limit text left (t.Symbol (y.Open b.Square) ∷ i) → Turned text form.Closed r rest
   unfolding indexed
   sound_indexed text left i r rest got ends high l =
       bind_then (items limit ex kind.tree i) _ _ _ got (λ all i1 ha got.
       let g = sound_items limit below ex S kind.tree i all i1 ha in
-      bind_then (expect sign.SquareClose i1) _ _ _ got (λ u i2 hc got.
+      bind_then (expect (y.Close b.Square) i1) _ _ _ got (λ u i2 hc got.
       bind_then (give_at (index_height limit all) i2) _ _ _ got (λ h i3 hh got.
       let q = give_some (index_height limit all) i2 h i3 hh in
       let P : Ending → Type 0 = λ b. Spelled left.form b l.front left.tree in
       let up = index_high limit all h q.0 g.height left.tree in (
-        good_raised limit form.Closed ending.Closed _ _ r (l.front ++ (token sign.SquareOpen ∷ (g.front ++ (token sign.SquareClose ∷ [])))) text i3 rest got
-            ((l.split ∙ ap (λ z. l.front ++ (token sign.SquareOpen ∷ z)) (g.split ∙ ap (λ z. g.front ++ z) (expect_some sign.SquareClose i1 u i2 hc ∙ ap (λ z. token sign.SquareClose ∷ z) q.1))) ∙ simp append_assoc)
+        good_raised limit form.Closed ending.Closed _ _ r (l.front ++ (t.Symbol (y.Open b.Square) ∷ (g.front ++ (t.Symbol (y.Close b.Square) ∷ [])))) text i3 rest got
+            ((l.split ∙ ap (λ z. l.front ++ (t.Symbol (y.Open b.Square) ∷ z)) (g.split ∙ ap (λ z. g.front ++ z) (expect_some (y.Close b.Square) i1 u i2 hc ∙ ap (λ z. t.Symbol (y.Close b.Square) ∷ z) q.1))) ∙ simp append_assoc)
             (s.index high (subst P ends l.spelled) g.items)
             (omega (arith, l.height, up)),
         form_of_node _ _ _ _ _ r rest got,
       ))))
 
-  sound_selected : (text : List Token) (left : Read Tree) (i : List Token) (r : Read Tree) (rest : List Token) → selected limit ex left (token sign.Dot ∷ i) ≡ Some (r, rest) → left.ending ≡ ending.Closed → 32 ≤ form_low left.form → Good limit text left (token sign.Dot ∷ i) → Turned text form.Closed r rest
+  sound_selected : (text : List Token) (left : Read Tree) (i : List Token) (r : Read Tree) (rest : List Token) → selected limit ex left (t.Symbol y.Dot ∷ i) ≡ Some (r, rest) → left.ending ≡ ending.Closed → 32 ≤ form_low left.form → Good limit text left (t.Symbol y.Dot ∷ i) → Turned text form.Closed r rest
   unfolding selected
   sound_selected text left i r rest got ends high l =
       bind_then (name i) _ _ _ got (λ x i1 hx got.
       let P : Ending → Type 0 = λ b. Spelled left.form b l.front left.tree in (
-        good_raised limit form.Closed ending.Closed _ _ r (l.front ++ (token sign.Dot ∷ (t.Name x ∷ []))) text i1 rest got
-            ((l.split ∙ ap (λ z. l.front ++ (token sign.Dot ∷ z)) (name_some i x i1 hx)) ∙ simp append_assoc)
+        good_raised limit form.Closed ending.Closed _ _ r (l.front ++ (t.Symbol y.Dot ∷ (t.Name x ∷ []))) text i1 rest got
+            ((l.split ∙ ap (λ z. l.front ++ (t.Symbol y.Dot ∷ z)) (name_some i x i1 hx)) ∙ simp append_assoc)
             (s.select high (subst P ends l.spelled))
             (omega (arith, l.height)),
         form_of_node _ _ _ _ _ r rest got,
@@ -230,18 +229,18 @@ module _ (limit below : ℕ) (ex : ℕ → Parser (Read Tree)) (S : Sound below 
   sound_operator text least left op i p rest false goes got l enough = stays text least left (operator_token op ∷ i) p rest got l enough
 
   sound_index : (text : List Token) (least : ℕ) (left : Read Tree) (i : List Token) (p : Read Tree × Bool) (rest : List Token) (c : Bool) → ends_closed left ≡ c
-      → cond c (and_then (indexed limit ex left (token sign.SquareOpen ∷ i)) (λ r. pure (r, true))) (Some ((left, false), token sign.SquareOpen ∷ i)) ≡ Some (p, rest) → Good limit text left (token sign.SquareOpen ∷ i) → least ≤ form_low left.form → least ≤ 32 → Left text least p.0 rest
+      → cond c (and_then (indexed limit ex left (t.Symbol (y.Open b.Square) ∷ i)) (λ r. pure (r, true))) (Some ((left, false), t.Symbol (y.Open b.Square) ∷ i)) ≡ Some (p, rest) → Good limit text left (t.Symbol (y.Open b.Square) ∷ i) → least ≤ form_low left.form → least ≤ 32 → Left text least p.0 rest
   sound_index text least left i p rest true goes got l enough small =
       let g = ends_closed_true left goes in
-      turned text least form.Closed (indexed limit ex left (token sign.SquareOpen ∷ i)) p rest got (λ r j is. sound_indexed text left i r j is g.0 g.1 l) small
-  sound_index text least left i p rest false goes got l enough small = stays text least left (token sign.SquareOpen ∷ i) p rest got l enough
+      turned text least form.Closed (indexed limit ex left (t.Symbol (y.Open b.Square) ∷ i)) p rest got (λ r j is. sound_indexed text left i r j is g.0 g.1 l) small
+  sound_index text least left i p rest false goes got l enough small = stays text least left (t.Symbol (y.Open b.Square) ∷ i) p rest got l enough
 
   sound_select : (text : List Token) (least : ℕ) (left : Read Tree) (i : List Token) (p : Read Tree × Bool) (rest : List Token) (c : Bool) → ends_closed left ≡ c
-      → cond c (and_then (selected limit ex left (token sign.Dot ∷ i)) (λ r. pure (r, true))) (Some ((left, false), token sign.Dot ∷ i)) ≡ Some (p, rest) → Good limit text left (token sign.Dot ∷ i) → least ≤ form_low left.form → least ≤ 32 → Left text least p.0 rest
+      → cond c (and_then (selected limit ex left (t.Symbol y.Dot ∷ i)) (λ r. pure (r, true))) (Some ((left, false), t.Symbol y.Dot ∷ i)) ≡ Some (p, rest) → Good limit text left (t.Symbol y.Dot ∷ i) → least ≤ form_low left.form → least ≤ 32 → Left text least p.0 rest
   sound_select text least left i p rest true goes got l enough small =
       let g = ends_closed_true left goes in
-      turned text least form.Closed (selected limit ex left (token sign.Dot ∷ i)) p rest got (λ r j is. sound_selected text left i r j is g.0 g.1 l) small
-  sound_select text least left i p rest false goes got l enough small = stays text least left (token sign.Dot ∷ i) p rest got l enough
+      turned text least form.Closed (selected limit ex left (t.Symbol y.Dot ∷ i)) p rest got (λ r j is. sound_selected text left i r j is g.0 g.1 l) small
+  sound_select text least left i p rest false goes got l enough small = stays text least left (t.Symbol y.Dot ∷ i) p rest got l enough
 
   sound_turn : (text : List Token) (least : ℕ) (left : Read Tree) (i : List Token) (p : Read Tree × Bool) (rest : List Token) → least ≤ 32 → turn limit ex least left i ≡ Some (p, rest) → Good limit text left i → least ≤ form_low left.form → Left text least p.0 rest
   unfolding turn
@@ -291,12 +290,12 @@ module _ (limit below : ℕ) (ex : ℕ → Parser (Read Tree)) (S : Sound below 
       subst P q.0 (record { front = []; others = []; split = q.1; behind = λ o. (o, s.none); tree = refl; heights = λ h l. (h, l); forms = λ f o. (f, o) })
 
   joined_by : (c : Bool) (op : Junction) (n : ℕ) (acc : Read Tree) (i : List Token) (res : Read Tree) (rest : List Token)
-      → ((next : Read Tree) (j : List Token) → folded (sees sign.ListNext) (one_more_joined limit ex op) n next j ≡ Some (res, rest) → Joined op j next res rest)
-      → cond c (and_then (one_more_joined limit ex op acc i) (folded (sees sign.ListNext) (one_more_joined limit ex op) n)) (Some (acc, i)) ≡ Some (res, rest) → Joined op i acc res rest
+      → ((next : Read Tree) (j : List Token) → folded sees_list_next (one_more_joined limit ex op) n next j ≡ Some (res, rest) → Joined op j next res rest)
+      → cond c (and_then (one_more_joined limit ex op acc i) (folded sees_list_next (one_more_joined limit ex op) n)) (Some (acc, i)) ≡ Some (res, rest) → Joined op i acc res rest
   unfolding one_more_joined joins
   joined_by true op n acc i res rest go got =
       bind_then (one_more_joined limit ex op acc i) _ _ _ got (λ next j is got.
-      bind_then (expect sign.ListNext i) _ _ _ is (λ u i1 hu is.
+      bind_then (list_next i) _ _ _ is (λ u i1 hu is.
       bind_then (ex 0 i1) _ _ _ is (λ r i2 hr is.
       let g = (S 0 i1 r i2 hr).0 in
       let z = give_some _ _ _ _ is in
@@ -309,9 +308,9 @@ module _ (limit below : ℕ) (ex : ℕ → Parser (Read Tree)) (S : Sound below 
       let low : next.height ≤ limit = omega (arith, q.0, up) in
       let H : Tree → Type 0 = λ x. acc.height ≡ height acc.tree → next.height ≡ height x in
       record {
-        front = token sign.ListNext ∷ (g.front ++ m.front);
+        front = t.ListNext ∷ (g.front ++ m.front);
         others = r.tree ∷ m.others;
-        split = expect_some sign.ListNext i u i1 hu ∙ ap (λ k. token sign.ListNext ∷ k) (g.split ∙ ap (λ k. g.front ++ k) (z.1 ∙ m.split) ∙ sym (append_assoc g.front m.front rest));
+        split = list_next_some i u i1 hu ∙ ap (λ k. t.ListNext ∷ k) (g.split ∙ ap (λ k. g.front ++ k) (z.1 ∙ m.split) ∙ sym (append_assoc g.front m.front rest));
         behind = λ o. let b = m.behind r.ending in (b.0, s.one_more refl (s.item g.spelled) b.1);
         tree = m.tree ∙ ap (λ x. joined op x m.others) same;
         heights = λ h l. m.heights (subst H (sym same) (λ h. let k = g.height in omega (arith, h, k, up)) h) low;
@@ -319,21 +318,21 @@ module _ (limit below : ℕ) (ex : ℕ → Parser (Read Tree)) (S : Sound below 
       })))
   joined_by false op n acc i res rest go got = joined_end op acc res i rest got
 
-  sound_joined : (op : Junction) (n : ℕ) (acc : Read Tree) (i : List Token) (res : Read Tree) (rest : List Token) → folded (sees sign.ListNext) (one_more_joined limit ex op) n acc i ≡ Some (res, rest) → Joined op i acc res rest
+  sound_joined : (op : Junction) (n : ℕ) (acc : Read Tree) (i : List Token) (res : Read Tree) (rest : List Token) → folded sees_list_next (one_more_joined limit ex op) n acc i ≡ Some (res, rest) → Joined op i acc res rest
   unfolding folded
   sound_joined op zero acc i res rest got = joined_end op acc res i rest got
-  sound_joined op (suc n) acc i res rest got = joined_by (sees sign.ListNext i) op n acc i res rest (λ next j got. sound_joined op n next j res rest got) got
+  sound_joined op (suc n) acc i res rest got = joined_by (sees_list_next i) op n acc i res rest (λ next j got. sound_joined op n next j res rest got) got
 
   -- ---- what opens without a node
 
-  sound_parens : (text : List Token) (x : Read Tree) (i : List Token) (r : Read Tree) (rest : List Token) → close_by limit ex opener.Round x i ≡ Some (r, rest) → Good limit text x i → Good limit (token sign.RoundOpen ∷ text) r rest
+  sound_parens : (text : List Token) (x : Read Tree) (i : List Token) (r : Read Tree) (rest : List Token) → close_by limit ex opener.Round x i ≡ Some (r, rest) → Good limit text x i → Good limit (t.Symbol (y.Open b.Round) ∷ text) r rest
   sound_parens text x i r rest got g =
-      bind_then (expect sign.RoundClose i) _ _ _ got (λ u i1 hu got.
+      bind_then (expect (y.Close b.Round) i) _ _ _ got (λ u i1 hu got.
       let q = some_pair _ _ _ _ got in
-      let P : Read Tree → Type 0 = λ k. Good limit (token sign.RoundOpen ∷ text) k rest in
+      let P : Read Tree → Type 0 = λ k. Good limit (t.Symbol (y.Open b.Round) ∷ text) k rest in
       subst P q.0 (record {
-        front = token sign.RoundOpen ∷ (g.front ++ (token sign.RoundClose ∷ []));
-        split = ap (λ k. token sign.RoundOpen ∷ k) (g.split ∙ ap (λ k. g.front ++ k) (expect_some sign.RoundClose i u i1 hu ∙ ap (λ k. token sign.RoundClose ∷ k) q.1) ∙ sym (append_assoc g.front (token sign.RoundClose ∷ []) rest));
+        front = t.Symbol (y.Open b.Round) ∷ (g.front ++ (t.Symbol (y.Close b.Round) ∷ []));
+        split = ap (λ k. t.Symbol (y.Open b.Round) ∷ k) (g.split ∙ ap (λ k. g.front ++ k) (expect_some (y.Close b.Round) i u i1 hu ∙ ap (λ k. t.Symbol (y.Close b.Round) ∷ k) q.1) ∙ sym (append_assoc g.front (t.Symbol (y.Close b.Round) ∷ []) rest));
         spelled = s.parens g.spelled;
         height = g.height;
         within = g.within;
@@ -341,20 +340,20 @@ module _ (limit below : ℕ) (ex : ℕ → Parser (Read Tree)) (S : Sound below 
 
   sound_junction : (op : Junction) (text : List Token) (x : Read Tree) (i : List Token) (r : Read Tree) (rest : List Token) → close_by limit ex (opener.List op) x i ≡ Some (r, rest) → Good limit text x i → Good limit (t.ListOpen op ∷ text) r rest
   sound_junction op text x i r rest got g =
-      bind_then (folded (sees sign.ListNext) (one_more_joined limit ex op) (length i) (closed x) i) _ _ _ got (λ all i1 ha got.
+      bind_then (folded sees_list_next (one_more_joined limit ex op) (length i) (closed x) i) _ _ _ got (λ all i1 ha got.
       let m = sound_joined op (length i) (closed x) i all i1 ha in
-      bind_then (expect sign.ListClose i1) _ _ _ got (λ u i2 hu got.
+      bind_then (list_close i1) _ _ _ got (λ u i2 hu got.
       let q = some_pair _ _ _ _ got in
       let b = m.behind x.ending in
       let forms = m.forms refl refl in
       let heights = m.heights g.height g.within in
-      let P : Form → Type 0 = λ k. Spelled k all.ending (t.ListOpen op ∷ (g.front ++ (m.front ++ (token sign.ListClose ∷ [])))) all.tree in
-      let Q : Ending → Type 0 = λ k. Spelled form.Closed k (t.ListOpen op ∷ (g.front ++ (m.front ++ (token sign.ListClose ∷ [])))) all.tree in
-      let T : Tree → Type 0 = λ k. Spelled form.Closed ending.Closed (t.ListOpen op ∷ (g.front ++ (m.front ++ (token sign.ListClose ∷ [])))) k in
+      let P : Form → Type 0 = λ k. Spelled k all.ending (t.ListOpen op ∷ (g.front ++ (m.front ++ (t.ListClose ∷ [])))) all.tree in
+      let Q : Ending → Type 0 = λ k. Spelled form.Closed k (t.ListOpen op ∷ (g.front ++ (m.front ++ (t.ListClose ∷ [])))) all.tree in
+      let T : Tree → Type 0 = λ k. Spelled form.Closed ending.Closed (t.ListOpen op ∷ (g.front ++ (m.front ++ (t.ListClose ∷ [])))) k in
       let R : Read Tree → Type 0 = λ k. Good limit (t.ListOpen op ∷ text) k rest in
       subst R q.0 (record {
-        front = t.ListOpen op ∷ (g.front ++ (m.front ++ (token sign.ListClose ∷ [])));
-        split = ap (λ k. t.ListOpen op ∷ k) (g.split ∙ ap (λ k. g.front ++ k) (m.split ∙ ap (λ k. m.front ++ k) (expect_some sign.ListClose i1 u i2 hu ∙ ap (λ k. token sign.ListClose ∷ k) q.1)) ∙ simp append_assoc);
+        front = t.ListOpen op ∷ (g.front ++ (m.front ++ (t.ListClose ∷ [])));
+        split = ap (λ k. t.ListOpen op ∷ k) (g.split ∙ ap (λ k. g.front ++ k) (m.split ∙ ap (λ k. m.front ++ k) (list_close_some i1 u i2 hu ∙ ap (λ k. t.ListClose ∷ k) q.1)) ∙ simp append_assoc);
         spelled = subst P (sym forms.0) (subst Q (sym forms.1) (subst T (sym m.tree) (s.junction {op = op} g.spelled b.1)));
         height = heights.0;
         within = heights.1;

@@ -1,22 +1,11 @@
--- A recursion on a count of turns, beside a loop that counts up.
-use Rattle.std.proofs.Common.{◌≡◌, ℕ, suc, ◌+◌, ◌-◌, ◌<◌, ◌≤◌, ap, sym, ◌∙◌, subst, refl, arith, List, [], ◌∷◌, length, Some, None, Result, Err}
+-- Levels, and what is left to close, by a count of turns.
+use Rattle.std.proofs.Common.{◌≡◌, ℕ, suc, ◌-◌, ◌<◌, ap, sym, ◌∙◌, subst, refl, arith, List, [], ◌∷◌, length, Some, Result}
 use Rattle.pgo_base.specs.Tree.{Tree}
 use Rattle.pgo_lexer.specs.declared.token.Token.{Token}
 use Rattle.pgo_lexer.specs.declared.errors.TextStop.{TextStop}
-use Rattle.pgo_lexer.specs.declared.errors.TextStop.TheVariants.{Syntax, NoMemory}
 use Rattle.pgo_expr_read.specs.declared.lookahead.Opener.{Opener}
 use Rattle.pgo_expr_read.specs.declared.read.Read.{Read}
-use Rattle.pgo_expr_read.specs.Reading.{Parser, Outcome, IsSyntax, Reads, and_then, close, closes, level, expr}
-
-pub turn_more : {X : Type 0} {x : X} (f : ℕ → X) (n at : ℕ) → at < n → x ≡ f (n - at) → x ≡ f (suc (n - (at + 1)))
-turn_more f n at below e = let turn : n - at ≡ suc (n - (at + 1)) = omega arith in e ∙ ap f turn
-
-pub no_more : {X : Type 0} {x : X} (f : ℕ → X) (n at : ℕ) → n ≤ at → x ≡ f (n - at) → x ≡ f 0
-no_more f n at done e = let none : n - at ≡ 0 = omega arith in e ∙ ap f none
-
-pub syntax_err : {A : Type 0} (o : Outcome A) (new : List Token) (stop : TextStop) → IsSyntax stop → o ≡ None → Reads o (Err stop) new
-syntax_err o new (Syntax n) is e = e
-syntax_err o new NoMemory is e = absurd is
+use Rattle.pgo_expr_read.specs.Reading.{Parser, Outcome, Reads, and_then, close, closes, level, expr}
 
 reads_suc : (n least : ℕ) (i : List Token) (r : Result (Read Tree) TextStop) (new : List Token) → Reads (level (suc n) (expr n) least i) r new → Reads (expr (suc n) least i) r new
 unfolding expr

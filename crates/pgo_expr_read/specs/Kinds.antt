@@ -1,12 +1,14 @@
 -- The lists of the grammar: what their items stand for, and what stands between them.
 use Rattle.std.specs.Prelude.{ℕ, Bool, true, false, not, List, [], ◌∷◌, codes}
 use Rattle.pgo_base.specs.Tree.{Tree}
+use Rattle.pgo_lexer.specs.declared.symbol.Symbol.TheVariants as sign
+use Rattle.pgo_lexer.specs.declared.symbol.Symbol.{Symbol}
+use Rattle.pgo_lexer.specs.declared.token.Token.TheVariants as t
 use Rattle.pgo_lexer.specs.declared.token.Token.{Token}
-use Rattle.pgo_expr_read.specs.declared.sign.Sign.{Sign}
-use Rattle.pgo_expr_read.specs.declared.sign.Sign.TheVariants as sign
+use Rattle.pgo_expr_read.specs.declared.lists.Between.{Between}
+use Rattle.pgo_expr_read.specs.declared.lists.Between.TheVariants as separator
 use Rattle.pgo_expr_read.specs.declared.read.Ending.{Ending}
 use Rattle.pgo_expr_read.specs.declared.read.Ending.TheVariants as ending
-use Rattle.pgo_expr_read.specs.Signs.{token}
 
 abbrev pub Name : Type 0
 Name = List ℕ
@@ -24,7 +26,7 @@ pub data Kind : Type 0 where
   tree : Kind
   item : Kind
   binder : Kind
-  field : Sign → Kind
+  field : Symbol → Kind
   definition : Kind
   arm : Kind
   step : Kind
@@ -41,13 +43,23 @@ Thing arm = Tree × Tree
 Thing step = Tree
 Thing update = List Tree × Tree
 
--- what stands between two items
+-- what stands between two items, or else what a further item begins with
+abbrev pub between_of : Kind → Between
+between_of item = separator.ListNext
+between_of arm = separator.Arm
+between_of definition = separator.Name
+between_of step = separator.Step
+between_of _ = separator.Comma
+
+-- the tokens that stand between two items
+abbrev pub tokens_between : Between → List Token
+tokens_between separator.Comma = t.Symbol sign.Comma ∷ []
+tokens_between separator.Arm = t.Symbol sign.Box ∷ []
+tokens_between separator.ListNext = t.ListNext ∷ []
+tokens_between _ = []
+
 abbrev pub between : Kind → List Token
-between item = token sign.ListNext ∷ []
-between arm = token sign.Arm ∷ []
-between definition = []
-between step = []
-between _ = token sign.Comma ∷ []
+between k = tokens_between (between_of k)
 
 -- it ends in a CASE
 abbrev pub is_case : Ending → Bool
@@ -55,6 +67,9 @@ is_case ending.Case = true
 is_case _ = false
 
 -- another item may stand behind one that ends so: an arm of a CASE doesn't stand behind one that ends in a CASE
+abbrev pub follows : Between → Ending → Bool
+follows separator.Arm o = not (is_case o)
+follows _ o = true
+
 abbrev pub may_follow : Kind → Ending → Bool
-may_follow arm o = not (is_case o)
-may_follow _ o = true
+may_follow k o = follows (between_of k) o

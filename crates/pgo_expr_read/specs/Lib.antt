@@ -4,6 +4,7 @@ pub mod Lookahead
 pub mod Heights
 pub mod Kinds
 pub mod Spells
+pub mod Steps
 pub mod Parsers
 pub mod Reading
 pub mod Nests

@@ -1,5 +1,5 @@
 -- What the next tokens say of what may come.
-use Rattle.std.specs.Prelude.{Bool, true, false, not, ◌&&◌, ◌||◌, nat_eq, if◌then◌else◌, List, [], ◌∷◌, Option, Some, None}
+use Rattle.std.specs.Prelude.{Bool, true, false, not, ◌&&◌, ◌||◌, if◌then◌else◌, List, [], ◌∷◌, Option, Some, None}
 use Rattle.pgo_base.specs.declared.expr.Infix.TheVariants as op
 use Rattle.pgo_base.specs.declared.expr.Prefix.TheVariants as pre
 use Rattle.pgo_base.specs.declared.expr.Word.{Word}
@@ -11,8 +11,6 @@ use Rattle.pgo_lexer.specs.declared.token.Lexeme.{Lexeme}
 use Rattle.pgo_lexer.specs.declared.token.Token.{Token}
 use Rattle.pgo_lexer.specs.declared.token.Token.TheVariants as t
 use Rattle.pgo_expr_read.specs.declared.table.Operator.TheVariants as operator
-use Rattle.pgo_expr_read.specs.declared.sign.Sign.{Sign}
-use Rattle.pgo_expr_read.specs.declared.sign.Sign.TheVariants as sign
 use Rattle.pgo_expr_read.specs.declared.lookahead.Lead.{Lead}
 use Rattle.pgo_expr_read.specs.declared.lookahead.Lead.TheVariants as lead
 use Rattle.pgo_expr_read.specs.declared.lookahead.Opener.{Opener}
@@ -22,7 +20,7 @@ use Rattle.pgo_expr_read.specs.declared.lookahead.Next.TheVariants as next
 use Rattle.pgo_expr_read.specs.declared.lookahead.Square.{Square}
 use Rattle.pgo_expr_read.specs.declared.lookahead.Square.TheVariants as square
 use Rattle.pgo_expr_read.specs.Signs as signs
-use Rattle.pgo_expr_read.specs.Signs.{code, code_of}
+use Rattle.pgo_expr_read.specs.Signs.{is_sign}
 
 -- the tokens without their places
 abbrev pub tokens_of : List Lexeme → List Token
@@ -30,8 +28,13 @@ tokens_of [] = []
 tokens_of (l ∷ ls) = l.token ∷ tokens_of ls
 
 -- the next token is this sign
-abbrev pub sees : Sign → List Token → Bool
+abbrev pub sees : Symbol → List Token → Bool
 sees = signs.sees
+
+-- the next token is the mark between the items of a junction list
+abbrev pub sees_list_next : List Token → Bool
+sees_list_next (t.ListNext ∷ rest) = true
+sees_list_next _ = false
 
 abbrev pub next_of_symbol : Symbol → Next
 next_of_symbol (s.Infix op) = next.Operator (operator.Infix op)
@@ -132,12 +135,12 @@ has_mapped (token ∷ rest) = is_mapped token || has_mapped rest
 -- the first two tokens are a name and `\in`
 abbrev pub begins_binder : List Token → Bool
 begins_binder [] = false
-begins_binder (first ∷ rest) = is_name first && sees sign.In rest
+begins_binder (first ∷ rest) = is_name first && sees (s.Infix op.In) rest
 
 -- a guarded arm of a CASE is next
 abbrev pub sees_arm : List Token → Bool
 sees_arm [] = false
-sees_arm (first ∷ rest) = nat_eq (code_of first) (code sign.Arm) && not (sees sign.Other rest)
+sees_arm (first ∷ rest) = is_sign s.Box first && not (sees s.Other rest)
 
 abbrev pub endless_of : Token → Option Word
 endless_of (t.Symbol (s.Word w.Nat)) = Some w.Nat

@@ -1,14 +1,15 @@
 -- Readers as functions on lists of tokens: what they give, single tokens, what was read, and lists.
-use Rattle.std.specs.Prelude.{◌≡◌, ℕ, zero, suc, ◌+◌, ◌-◌, max, Bool, true, false, not, ◌&&◌, ◌||◌, if◌then◌else◌, nat_lt, nat_le, nat_eq, List, [], ◌∷◌, ◌++◌, length, Option, Some, None, Result, Ok, Err}
+use Rattle.std.specs.Prelude.{◌≡◌, ℕ, ◌+◌, ◌-◌, max, Bool, true, false, ◌&&◌, ◌||◌, if◌then◌else◌, nat_lt, nat_le, nat_eq, List, [], ◌∷◌, ◌++◌, length, Option, Some, None, Result, Ok, Err}
 use Rattle.pgo_base.specs.Tree.{Tree}
 use Rattle.pgo_base.specs.Tree as e
+use Rattle.pgo_lexer.specs.declared.symbol.Bracket.TheVariants as bracket
 use Rattle.pgo_lexer.specs.declared.symbol.Junction.{Junction}
+use Rattle.pgo_lexer.specs.declared.symbol.Symbol.TheVariants as sign
+use Rattle.pgo_lexer.specs.declared.symbol.Symbol.{Symbol}
 use Rattle.pgo_lexer.specs.declared.token.Token.{Token}
 use Rattle.pgo_lexer.specs.declared.token.Token.TheVariants as t
 use Rattle.pgo_lexer.specs.declared.errors.TextStop.{TextStop}
 use Rattle.pgo_lexer.specs.declared.errors.TextStop.TheVariants.{Syntax, NoMemory}
-use Rattle.pgo_expr_read.specs.declared.sign.Sign.{Sign}
-use Rattle.pgo_expr_read.specs.declared.sign.Sign.TheVariants as sign
 use Rattle.pgo_expr_read.specs.declared.table.Operator.{Operator}
 use Rattle.pgo_expr_read.specs.declared.table.Operator.TheVariants as operator
 use Rattle.pgo_expr_read.specs.declared.table.Form.{Form}
@@ -18,55 +19,26 @@ use Rattle.pgo_expr_read.specs.declared.lists.Between.TheVariants as between
 use Rattle.pgo_expr_read.specs.declared.read.Ending.{Ending}
 use Rattle.pgo_expr_read.specs.declared.read.Ending.TheVariants as ending
 use Rattle.pgo_expr_read.specs.declared.read.Read.{Read}
-use Rattle.pgo_expr_read.specs.Lookahead.{sees, sees_name, sees_arm}
-use Rattle.pgo_expr_read.specs.Kinds.{Kind, Thing, Name, may_follow, is_case}
-use Rattle.pgo_expr_read.specs.Kinds as kind
+use Rattle.pgo_expr_read.specs.Lookahead.{sees, sees_list_next, sees_name, sees_arm}
+use Rattle.pgo_expr_read.specs.Kinds.{Kind, Thing, Name, between_of, may_follow}
 use Rattle.pgo_expr_read.specs.Spells.{infix_of}
 use Rattle.pgo_expr_read.specs.Table.{low, takes_left, form_low}
+use Rattle.pgo_expr_read.specs.Steps as steps
+unfoldable pub use Rattle.pgo_expr_read.specs.Steps.{and_then, ◌>>=◌, ◌>>◌, pure, IsSyntax, Reads, Makes, skip, folded, all_folded}
 
 -- ---- parsers
 
 abbrev pub Outcome : Type 0 → Type 0
-Outcome A = Option (A × List Token)
+Outcome A = steps.Outcome Token A
 
 abbrev pub Parser : Type 0 → Type 0
-Parser A = List Token → Outcome A
-
-abbrev pub and_then : {A B : Type 0} → Outcome A → (A → Parser B) → Outcome B
-and_then (Some p) f = f p.0 p.1
-and_then None f = None
-
-infixl 10 ◌>>=◌
-abbrev pub ◌>>=◌ : {A B : Type 0} → Parser A → (A → Parser B) → Parser B
-p >>= f = λ i. and_then (p i) f
-
-infixl 10 ◌>>◌
-abbrev pub ◌>>◌ : {A B : Type 0} → Parser A → Parser B → Parser B
-p >> q = p >>= (λ _. q)
-
-abbrev pub pure : {A : Type 0} → A → Parser A
-pure a = λ i. Some (a, i)
+Parser A = steps.Parser Token A
 
 abbrev pub give_at : {A : Type 0} → Option A → Parser A
 give_at (Some a) i = Some (a, i)
 give_at None i = None
 
-abbrev pub IsSyntax : TextStop → Type 0
-IsSyntax (Syntax n) = Unit {0}
-IsSyntax NoMemory = ⊥
-
--- what a reader returns is what the function gives, unless memory runs out
-abbrev pub Reads : {A : Type 0} → Outcome A → Result A TextStop → List Token → Type 0
-Reads outcome (Ok a) new = outcome ≡ Some (a, new)
-Reads outcome (Err (Syntax n)) new = outcome ≡ None
-Reads outcome (Err NoMemory) new = Unit {0}
-
-abbrev pub Makes : {A : Type 0} → Option A → Result A TextStop → Type 0
-Makes outcome (Ok a) = outcome ≡ Some a
-Makes outcome (Err (Syntax n)) = outcome ≡ None
-Makes outcome (Err NoMemory) = Unit {0}
-
--- the same of a result that stands for what the function gives
+-- a result that stands for what the function gives, unless memory runs out
 abbrev pub MakesAs : {A B : Type 0} → (A → B) → Option B → Result A TextStop → Type 0
 MakesAs see outcome (Ok a) = outcome ≡ Some (see a)
 MakesAs see outcome (Err (Syntax n)) = outcome ≡ None
@@ -74,21 +46,27 @@ MakesAs see outcome (Err NoMemory) = Unit {0}
 
 -- ---- single tokens
 
-abbrev pub skip : List Token → List Token
-skip [] = []
-skip (token ∷ rest) = rest
-
 abbrev pub advance : Parser (Unit {0})
 advance = λ i. Some (tt, skip i)
 
-unfoldable pub past : Sign → List Token → List Token
+unfoldable pub past : Symbol → List Token → List Token
 past v i = if sees v i then skip i else i
 
-abbrev pub eat : Sign → Parser Bool
+abbrev pub eat : Symbol → Parser Bool
 eat v = λ i. Some (sees v i, past v i)
 
-unfoldable pub expect : Sign → Parser (Unit {0})
+unfoldable pub expect : Symbol → Parser (Unit {0})
 expect v = λ i. if sees v i then Some (tt, skip i) else None
+
+-- the mark between two items of a junction list
+abbrev pub list_next : Parser (Unit {0})
+list_next (t.ListNext ∷ rest) = Some (tt, rest)
+list_next _ = None
+
+-- the mark behind the last item
+abbrev pub list_close : Parser (Unit {0})
+list_close (t.ListClose ∷ rest) = Some (tt, rest)
+list_close _ = None
 
 abbrev pub name : Parser Name
 name (t.Name x ∷ rest) = Some (x, rest)
@@ -150,49 +128,30 @@ index_height limit all = if nat_eq (length all.tree) 1 then Some all.height else
 
 -- ---- lists
 
--- one more as long as it goes on
-unfoldable pub folded : {A : Type 0} → (List Token → Bool) → (A → Parser A) → (turns : ℕ) → A → Parser A
-folded goes more zero acc = pure acc
-folded goes more (suc n) acc = λ i. if goes i then and_then (more acc i) (folded goes more n) else Some (acc, i)
-
-abbrev pub all_folded : {A : Type 0} → (List Token → Bool) → (A → Parser A) → A → Parser A
-all_folded goes more acc = λ i. folded goes more (length i) acc i
-
 abbrev pub sees_step : List Token → Bool
-sees_step i = sees sign.SquareOpen i || sees sign.Dot i
+sees_step i = sees (sign.Open bracket.Square) i || sees sign.Dot i
 
 -- whether a list goes on
 abbrev pub goes_at : Between → List Token → Bool
 goes_at between.Comma = sees sign.Comma
 goes_at between.Arm = sees_arm
+goes_at between.ListNext = sees_list_next
 goes_at between.Name = sees_name
 goes_at between.Step = sees_step
 
 abbrev pub goes : Kind → List Token → Bool
-goes kind.item = sees sign.ListNext
-goes kind.arm = sees_arm
-goes kind.definition = sees_name
-goes kind.step = sees_step
-goes _ = sees sign.Comma
+goes k = goes_at (between_of k)
 
 -- what stands between two items
 abbrev pub pass_at : Between → Parser (Unit {0})
 pass_at between.Comma = expect sign.Comma
-pass_at between.Arm = expect sign.Arm
+pass_at between.Arm = expect sign.Box
+pass_at between.ListNext = list_next
 pass_at between.Name = pure tt
 pass_at between.Step = pure tt
 
 abbrev pub pass : Kind → Parser (Unit {0})
-pass kind.item = expect sign.ListNext
-pass kind.arm = expect sign.Arm
-pass kind.definition = pure tt
-pass kind.step = pure tt
-pass _ = expect sign.Comma
-
--- another item may stand behind one that ends so
-abbrev pub follows : Between → Ending → Bool
-follows between.Arm o = not (is_case o)
-follows _ o = true
+pass k = pass_at (between_of k)
 
 -- one more item of a list
 unfoldable pub more_at : {L A : Type 0} → (L → A → L) → (Ending → Bool) → Parser (Unit {0}) → Parser (Read A) → Read L → Parser (Read L)

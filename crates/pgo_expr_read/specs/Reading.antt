@@ -7,13 +7,14 @@ use Rattle.pgo_base.specs.declared.expr.Word.{Word}
 use Rattle.pgo_base.specs.declared.expr.Word.TheVariants as w
 use Rattle.pgo_base.specs.Tree.{Tree, Trees, no_trees, trees, bound, named, arms, paths}
 use Rattle.pgo_base.specs.Tree as e
+use Rattle.pgo_lexer.specs.declared.symbol.Bracket.TheVariants as bracket
 use Rattle.pgo_lexer.specs.declared.symbol.Junction.{Junction}
+use Rattle.pgo_lexer.specs.declared.symbol.Symbol.TheVariants as sign
+use Rattle.pgo_lexer.specs.declared.symbol.Symbol.{Symbol}
 use Rattle.pgo_lexer.specs.declared.token.Token.{Token}
 use Rattle.pgo_lexer.specs.declared.token.Token.TheVariants as t
 use Rattle.pgo_lexer.specs.declared.errors.TextStop.{TextStop}
 use Rattle.pgo_lexer.specs.declared.errors.TextStop.TheVariants.{Syntax, NoMemory}
-use Rattle.pgo_expr_read.specs.declared.sign.Sign.{Sign}
-use Rattle.pgo_expr_read.specs.declared.sign.Sign.TheVariants as sign
 use Rattle.pgo_expr_read.specs.declared.table.Operator.{Operator}
 use Rattle.pgo_expr_read.specs.declared.table.Operator.TheVariants as operator
 use Rattle.pgo_expr_read.specs.declared.table.Form.{Form}
@@ -30,12 +31,12 @@ use Rattle.pgo_expr_read.specs.declared.read.Ending.{Ending}
 use Rattle.pgo_expr_read.specs.declared.read.Ending.TheVariants as ending
 use Rattle.pgo_expr_read.specs.declared.read.Read.{Read}
 use Rattle.pgo_expr_read.specs.Lookahead as look
-use Rattle.pgo_expr_read.specs.Lookahead.{sees, sees_name, sees_arm, begins_binder, form_of_square, endless, has_mapped}
+use Rattle.pgo_expr_read.specs.Lookahead.{sees, sees_list_next, sees_name, sees_arm, begins_binder, form_of_square, endless, has_mapped}
 use Rattle.pgo_expr_read.specs.Kinds.{Kind, Thing, Name, variable_name, value_name, may_follow, is_case}
 use Rattle.pgo_expr_read.specs.Kinds as kind
 use Rattle.pgo_expr_read.specs.Spells.{applied, infix_of, opened}
 use Rattle.pgo_expr_read.specs.Table.{low, takes_left, form_low, right_least, prefix_least}
-unfoldable pub use Rattle.pgo_expr_read.specs.Parsers.{Outcome, Parser, and_then, ◌>>=◌, ◌>>◌, pure, give_at, IsSyntax, Reads, Makes, MakesAs, skip, advance, past, eat, expect, name, text, made, part, raised, closed, is_closed, ends_closed, goes_on, added, pushed, one_of, joins, left_height, index_height, folded, all_folded, sees_step, goes_at, goes, pass_at, pass, follows, more_at, one_more, behind, listed_at, listed, one_more_name, names}
+unfoldable pub use Rattle.pgo_expr_read.specs.Parsers.{Outcome, Parser, and_then, ◌>>=◌, ◌>>◌, pure, give_at, IsSyntax, Reads, Makes, MakesAs, skip, advance, past, eat, expect, list_next, list_close, name, text, made, part, raised, closed, is_closed, ends_closed, goes_on, added, pushed, one_of, joins, left_height, index_height, folded, all_folded, sees_step, goes_at, goes, pass_at, pass, more_at, one_more, behind, listed_at, listed, one_more_name, names}
 
 -- ---- what opens without a node
 
@@ -70,11 +71,11 @@ module _ (limit : ℕ) (ex : ℕ → Parser (Read Tree)) where
   unfoldable pub binder : Parser (Read (List Name × Tree))
   binder = do
     xs ← names
-    expect sign.In
+    expect (sign.Infix op.In)
     s ← range 0
     pure (part ending.Closed s.height (xs, s.tree))
 
-  unfoldable pub field : Sign → Parser (Read (Name × Tree))
+  unfoldable pub field : Symbol → Parser (Read (Name × Tree))
   field v = do
     x ← name
     expect v
@@ -95,9 +96,9 @@ module _ (limit : ℕ) (ex : ℕ → Parser (Read Tree)) where
 
   unfoldable pub index_step : Parser (Read Tree)
   index_step = do
-    expect sign.SquareOpen
+    expect (sign.Open bracket.Square)
     a ← ex 0
-    expect sign.SquareClose
+    expect (sign.Close bracket.Square)
     pure (part ending.Closed a.height a.tree)
 
   unfoldable pub step : Parser (Read Tree)
@@ -109,7 +110,7 @@ module _ (limit : ℕ) (ex : ℕ → Parser (Read Tree)) where
   update = do
     expect sign.Bang
     path ← listed kind.step step
-    expect sign.Equal
+    expect (sign.Infix op.Equal)
     a ← ex 0
     pure (part a.ending (max path.height a.height) (path.tree, a.tree))
 
@@ -137,7 +138,7 @@ module _ (limit : ℕ) (ex : ℕ → Parser (Read Tree)) where
   unfoldable pub call : Name → Parser (Read Tree)
   call x = do
     all ← items kind.tree
-    expect sign.RoundClose
+    expect (sign.Close bracket.Round)
     node ending.Closed all.height (e.call x (trees all.tree))
 
   unfoldable pub plain_name : Name → Parser (Read Tree)
@@ -148,43 +149,43 @@ module _ (limit : ℕ) (ex : ℕ → Parser (Read Tree)) where
   unfoldable pub named_form : Parser (Read Tree)
   named_form = do
     x ← name
-    is_call ← eat sign.RoundOpen
+    is_call ← eat (sign.Open bracket.Round)
     if is_call then call x else plain_name x
 
   unfoldable pub some_tuple : Parser (Read Tree)
   some_tuple = do
     all ← items kind.tree
-    expect sign.AngleClose
+    expect (sign.Close bracket.Angle)
     node ending.Closed all.height (e.tuple (trees all.tree))
 
   unfoldable pub tuple : Parser (Read Tree)
   tuple = do
     advance
-    is_empty ← eat sign.AngleClose
+    is_empty ← eat (sign.Close bracket.Angle)
     if is_empty then leaf (e.tuple no_trees) else some_tuple
 
   unfoldable pub filter : Parser (Read Tree)
   filter = do
     x ← name
-    expect sign.In
+    expect (sign.Infix op.In)
     s ← range 0
     expect sign.Colon
     p ← ex 0
-    expect sign.CurlyClose
+    expect (sign.Close bracket.Curly)
     node ending.Closed (max s.height p.height) (e.filter_of x s.tree p.tree)
 
   unfoldable pub image : Read Tree → Parser (Read Tree)
   image b = do
     x ← name
-    expect sign.In
+    expect (sign.Infix op.In)
     s ← range 0
-    expect sign.CurlyClose
+    expect (sign.Close bracket.Curly)
     node ending.Closed (max b.height s.height) (e.image b.tree x s.tree)
 
   unfoldable pub members : Read Tree → Parser (Read Tree)
   members first = do
     all ← behind kind.tree (ex 0) (one_of first)
-    expect sign.CurlyClose
+    expect (sign.Close bracket.Curly)
     node ending.Closed all.height (e.set_of (trees all.tree))
 
   unfoldable pub other_set : Parser (Read Tree)
@@ -199,7 +200,7 @@ module _ (limit : ℕ) (ex : ℕ → Parser (Read Tree)) where
   unfoldable pub set : Parser (Read Tree)
   set = do
     advance
-    is_empty ← eat sign.CurlyClose
+    is_empty ← eat (sign.Close bracket.Curly)
     if is_empty then leaf (e.set_of no_trees) else some_set
 
   unfoldable pub fun_of : Parser (Read Tree)
@@ -207,32 +208,32 @@ module _ (limit : ℕ) (ex : ℕ → Parser (Read Tree)) where
     bs ← items kind.binder
     expect sign.MapsTo
     a ← ex 0
-    expect sign.SquareClose
+    expect (sign.Close bracket.Square)
     node ending.Closed (max bs.height a.height) (e.fun_of (bound bs.tree) a.tree)
 
   unfoldable pub record_of : Parser (Read Tree)
   record_of = do
     all ← items (kind.field sign.MapsTo)
-    expect sign.SquareClose
+    expect (sign.Close bracket.Square)
     node ending.Closed all.height (e.record_of (named all.tree))
 
   unfoldable pub record_set : Parser (Read Tree)
   record_set = do
     all ← items (kind.field sign.Colon)
-    expect sign.SquareClose
+    expect (sign.Close bracket.Square)
     node ending.Closed all.height (e.record_set (named all.tree))
 
   unfoldable pub fun_set : Read Tree → Parser (Read Tree)
   fun_set a = do
     expect sign.Arrow
     b ← ex 0
-    expect sign.SquareClose
+    expect (sign.Close bracket.Square)
     node ending.Closed (max a.height b.height) (e.fun_set a.tree b.tree)
 
   unfoldable pub except : Read Tree → Parser (Read Tree)
   except a = do
     us ← items kind.update
-    expect sign.SquareClose
+    expect (sign.Close bracket.Square)
     node ending.Closed (max a.height us.height) (e.except a.tree (paths us.tree))
 
   unfoldable pub other_square : Parser (Read Tree)
@@ -264,7 +265,7 @@ module _ (limit : ℕ) (ex : ℕ → Parser (Read Tree)) where
   choose = do
     advance
     x ← name
-    expect sign.In
+    expect (sign.Infix op.In)
     s ← range 0
     expect sign.Colon
     p ← ex 0
@@ -294,7 +295,7 @@ module _ (limit : ℕ) (ex : ℕ → Parser (Read Tree)) where
   case_form = do
     advance
     gs ← items kind.arm
-    is_other ← eat sign.Arm
+    is_other ← eat sign.Box
     if is_other then case_other gs else node ending.Case gs.height (e.case_of (arms gs.tree))
 
   unfoldable pub let_in : Parser (Read Tree)
@@ -308,9 +309,9 @@ module _ (limit : ℕ) (ex : ℕ → Parser (Read Tree)) where
   unfoldable pub unchanged : Parser (Read Tree)
   unchanged = do
     advance
-    expect sign.AngleOpen
+    expect (sign.Open bracket.Angle)
     xs ← names
-    expect sign.AngleClose
+    expect (sign.Close bracket.Angle)
     leaf (e.unchanged xs)
 
   unfoldable pub leaf_at : Tree → Parser (Read Tree)
@@ -367,7 +368,7 @@ module _ (limit : ℕ) (ex : ℕ → Parser (Read Tree)) where
   indexed left = do
     advance
     all ← items kind.tree
-    expect sign.SquareClose
+    expect (sign.Close bracket.Square)
     h ← give_at (index_height limit all)
     node ending.Closed (max left.height h) (e.index left.tree (trees all.tree))
 
@@ -403,18 +404,18 @@ module _ (limit : ℕ) (ex : ℕ → Parser (Read Tree)) where
 
   unfoldable pub one_more_joined : Junction → Read Tree → Parser (Read Tree)
   one_more_joined op all = do
-    expect sign.ListNext
+    list_next
     r ← ex 0
     give_at (joins limit op all r)
 
   -- what is left of what was opened, behind its first expression
   abbrev pub close_by : Opener → Read Tree → Parser (Read Tree)
   close_by opener.Round s = do
-    expect sign.RoundClose
+    expect (sign.Close bracket.Round)
     pure (closed s)
   close_by (opener.List op) s = do
-    all ← all_folded (sees sign.ListNext) (one_more_joined op) (closed s)
-    expect sign.ListClose
+    all ← all_folded sees_list_next (one_more_joined op) (closed s)
+    list_close
     pure all
 
   unfoldable pub close : Opener → Read Tree → Parser (Read Tree)

@@ -9,20 +9,19 @@ use Rattle.pgo_base.specs.declared.expr.Word.{Word}
 use Rattle.pgo_base.specs.declared.expr.Word.TheVariants as w
 use Rattle.pgo_base.specs.Tree.{Tree, Trees, no_trees, more_trees, trees, bound, named, arms, paths}
 use Rattle.pgo_base.specs.Tree as e
+use Rattle.pgo_lexer.specs.declared.symbol.Bracket.TheVariants as bracket
 use Rattle.pgo_lexer.specs.declared.symbol.Junction.{Junction}
 use Rattle.pgo_lexer.specs.declared.symbol.Junction.TheVariants as j
 use Rattle.pgo_lexer.specs.declared.symbol.Symbol.TheVariants as s
+use Rattle.pgo_lexer.specs.declared.symbol.Symbol.{Symbol}
 use Rattle.pgo_lexer.specs.declared.token.Token.{Token}
 use Rattle.pgo_lexer.specs.declared.token.Token.TheVariants as t
-use Rattle.pgo_expr_read.specs.declared.sign.Sign.{Sign}
-use Rattle.pgo_expr_read.specs.declared.sign.Sign.TheVariants as sign
 use Rattle.pgo_expr_read.specs.declared.table.Operator.{Operator}
 use Rattle.pgo_expr_read.specs.declared.table.Operator.TheVariants as operator
 use Rattle.pgo_expr_read.specs.declared.table.Form.{Form}
 use Rattle.pgo_expr_read.specs.declared.table.Form.TheVariants as form
 use Rattle.pgo_expr_read.specs.declared.read.Ending.{Ending}
 use Rattle.pgo_expr_read.specs.declared.read.Ending.TheVariants as ending
-use Rattle.pgo_expr_read.specs.Signs.{token}
 use Rattle.pgo_expr_read.specs.Lookahead.{begins_binder, endless_of}
 use Rattle.pgo_expr_read.specs.Heights.{height}
 use Rattle.pgo_expr_read.specs.Kinds.{Kind, Thing, Name, variable_name, value_name, between, may_follow, is_case}
@@ -42,7 +41,7 @@ operator_token operator.Product = t.Symbol s.Product
 -- names, each behind a comma
 abbrev pub more_names : List Name → List Token
 more_names [] = []
-more_names (x ∷ xs) = token sign.Comma ∷ (t.Name x ∷ more_names xs)
+more_names (x ∷ xs) = t.Symbol s.Comma ∷ (t.Name x ∷ more_names xs)
 
 -- names with commas between them
 abbrev pub names : Name → List Name → List Token
@@ -94,7 +93,7 @@ mutual
   pub data Spelled : Form → Ending → List Token → Tree → Type 0 where
     -- names, numbers and other leaves
     name : {x : Name} → Spelled form.Closed ending.Closed (t.Name x ∷ []) (e.name x)
-    primed : {x : Name} → Spelled form.Closed ending.Closed (t.Name x ∷ (token sign.Prime ∷ [])) (e.primed x)
+    primed : {x : Name} → Spelled form.Closed ending.Closed (t.Name x ∷ (t.Symbol s.Prime ∷ [])) (e.primed x)
     number : {n : ℤ} → Spelled form.Closed ending.Closed (t.Number n ∷ []) (e.number n)
     text : {x : List ℕ} → Spelled form.Closed ending.Closed (t.Text x ∷ []) (e.text x)
     truth : {b : Bool} → Spelled form.Closed ending.Closed (t.Symbol (s.Truth b) ∷ []) (e.truth b)
@@ -105,9 +104,9 @@ mutual
     value : Spelled form.Closed ending.Closed (t.Symbol s.Value ∷ []) (e.name value_name)
     -- `(e)`, and junction lists
     parens : {f : Form} {o : Ending} {ts : List Token} {a : Tree} → Spelled f o ts a
-        → Spelled form.Closed ending.Closed (token sign.RoundOpen ∷ (ts ++ (token sign.RoundClose ∷ []))) a
+        → Spelled form.Closed ending.Closed (t.Symbol (s.Open bracket.Round) ∷ (ts ++ (t.Symbol (s.Close bracket.Round) ∷ []))) a
     junction : {op : Junction} {f : Form} {o u : Ending} {xs ys : List Token} {a : Tree} {bs : List Tree} → Spelled f o xs a → Behind kind.item o u ys bs
-        → Spelled form.Closed ending.Closed (t.ListOpen op ∷ (xs ++ (ys ++ (token sign.ListClose ∷ [])))) (joined op a bs)
+        → Spelled form.Closed ending.Closed (t.ListOpen op ∷ (xs ++ (ys ++ (t.ListClose ∷ [])))) (joined op a bs)
     -- operators. An operand is of a higher level, a left one may be of the same operator, where that groups from the left, and
     -- doesn't end in an open form. Nat, Int and STRING stand at the right of `\in`.
     unary : {p : Prefix} {f : Form} {o : Ending} {ts : List Token} {a : Tree} → prefix_least p ≤ form_low f → Spelled f o ts a
@@ -115,51 +114,51 @@ mutual
     operation : {op : Operator} {f g : Form} {o : Ending} {xs ys : List Token} {a b : Tree} → takes_left op f ≡ true → right_least op ≤ form_low g
         → Spelled f ending.Closed xs a → Spelled g o ys b → Spelled (form.Operation op) o (xs ++ (operator_token op ∷ ys)) (applied op f a b)
     member : {f : Form} (k : Token) {w : Word} {xs : List Token} {a : Tree} → takes_left (operator.Infix op.In) f ≡ true → endless_of k ≡ Some w
-        → Spelled f ending.Closed xs a → Spelled (form.Operation (operator.Infix op.In)) ending.Closed (xs ++ (token sign.In ∷ (k ∷ []))) (e.binary op.In a (e.word w))
+        → Spelled f ending.Closed xs a → Spelled (form.Operation (operator.Infix op.In)) ending.Closed (xs ++ (t.Symbol (s.Infix op.In) ∷ (k ∷ []))) (e.binary op.In a (e.word w))
     -- `f[a, b]`, `r.x` and `Op(a, b)`
     index : {f : Form} {u : Ending} {xs ys : List Token} {a : Tree} {bs : List Tree} → 32 ≤ form_low f → Spelled f ending.Closed xs a → Items kind.tree u ys bs
-        → Spelled form.Closed ending.Closed (xs ++ (token sign.SquareOpen ∷ (ys ++ (token sign.SquareClose ∷ [])))) (e.index a (trees bs))
+        → Spelled form.Closed ending.Closed (xs ++ (t.Symbol (s.Open bracket.Square) ∷ (ys ++ (t.Symbol (s.Close bracket.Square) ∷ [])))) (e.index a (trees bs))
     select : {f : Form} {xs : List Token} {a : Tree} {x : Name} → 32 ≤ form_low f → Spelled f ending.Closed xs a
-        → Spelled form.Closed ending.Closed (xs ++ (token sign.Dot ∷ (t.Name x ∷ []))) (e.field a x)
+        → Spelled form.Closed ending.Closed (xs ++ (t.Symbol s.Dot ∷ (t.Name x ∷ []))) (e.field a x)
     call : {x : Name} {u : Ending} {ts : List Token} {as' : List Tree} → Items kind.tree u ts as'
-        → Spelled form.Closed ending.Closed (t.Name x ∷ (token sign.RoundOpen ∷ (ts ++ (token sign.RoundClose ∷ [])))) (e.call x (trees as'))
+        → Spelled form.Closed ending.Closed (t.Name x ∷ (t.Symbol (s.Open bracket.Round) ∷ (ts ++ (t.Symbol (s.Close bracket.Round) ∷ [])))) (e.call x (trees as'))
     -- `<<..>>`, `{..}`. What stands first in a set isn't a name and `\in`: then it is a filter.
-    no_tuple : Spelled form.Closed ending.Closed (token sign.AngleOpen ∷ (token sign.AngleClose ∷ [])) (e.tuple no_trees)
+    no_tuple : Spelled form.Closed ending.Closed (t.Symbol (s.Open bracket.Angle) ∷ (t.Symbol (s.Close bracket.Angle) ∷ [])) (e.tuple no_trees)
     tuple : {u : Ending} {ts : List Token} {as' : List Tree} → Items kind.tree u ts as'
-        → Spelled form.Closed ending.Closed (token sign.AngleOpen ∷ (ts ++ (token sign.AngleClose ∷ []))) (e.tuple (trees as'))
-    no_set : Spelled form.Closed ending.Closed (token sign.CurlyOpen ∷ (token sign.CurlyClose ∷ [])) (e.set_of no_trees)
+        → Spelled form.Closed ending.Closed (t.Symbol (s.Open bracket.Angle) ∷ (ts ++ (t.Symbol (s.Close bracket.Angle) ∷ []))) (e.tuple (trees as'))
+    no_set : Spelled form.Closed ending.Closed (t.Symbol (s.Open bracket.Curly) ∷ (t.Symbol (s.Close bracket.Curly) ∷ [])) (e.set_of no_trees)
     set : {f : Form} {o u : Ending} {xs ys : List Token} {a : Tree} {bs : List Tree} → begins_binder xs ≡ false → Spelled f o xs a → Behind kind.tree o u ys bs
-        → Spelled form.Closed ending.Closed (token sign.CurlyOpen ∷ (xs ++ (ys ++ (token sign.CurlyClose ∷ [])))) (e.set_of (trees (a ∷ bs)))
+        → Spelled form.Closed ending.Closed (t.Symbol (s.Open bracket.Curly) ∷ (xs ++ (ys ++ (t.Symbol (s.Close bracket.Curly) ∷ [])))) (e.set_of (trees (a ∷ bs)))
     filter : {x : Name} {f : Form} {o : Ending} {xs ys : List Token} {a p : Tree} → Range xs a → Spelled f o ys p
-        → Spelled form.Closed ending.Closed (token sign.CurlyOpen ∷ (t.Name x ∷ (token sign.In ∷ (xs ++ (token sign.Colon ∷ (ys ++ (token sign.CurlyClose ∷ []))))))) (e.filter_of x a p)
+        → Spelled form.Closed ending.Closed (t.Symbol (s.Open bracket.Curly) ∷ (t.Name x ∷ (t.Symbol (s.Infix op.In) ∷ (xs ++ (t.Symbol s.Colon ∷ (ys ++ (t.Symbol (s.Close bracket.Curly) ∷ []))))))) (e.filter_of x a p)
     image : {x : Name} {f : Form} {o : Ending} {xs ys : List Token} {a b : Tree} → begins_binder xs ≡ false → Spelled f o xs b → Range ys a
-        → Spelled form.Closed ending.Closed (token sign.CurlyOpen ∷ (xs ++ (token sign.Colon ∷ (t.Name x ∷ (token sign.In ∷ (ys ++ (token sign.CurlyClose ∷ []))))))) (e.image b x a)
+        → Spelled form.Closed ending.Closed (t.Symbol (s.Open bracket.Curly) ∷ (xs ++ (t.Symbol s.Colon ∷ (t.Name x ∷ (t.Symbol (s.Infix op.In) ∷ (ys ++ (t.Symbol (s.Close bracket.Curly) ∷ []))))))) (e.image b x a)
     -- `[..]`. What stands first before `->` or EXCEPT isn't a name and `\in`.
     fun_of : {f : Form} {o u : Ending} {xs ys : List Token} {bs : List (List Name × Tree)} {a : Tree} → Items kind.binder u xs bs → Spelled f o ys a
-        → Spelled form.Closed ending.Closed (token sign.SquareOpen ∷ (xs ++ (token sign.MapsTo ∷ (ys ++ (token sign.SquareClose ∷ []))))) (e.fun_of (bound bs) a)
+        → Spelled form.Closed ending.Closed (t.Symbol (s.Open bracket.Square) ∷ (xs ++ (t.Symbol s.MapsTo ∷ (ys ++ (t.Symbol (s.Close bracket.Square) ∷ []))))) (e.fun_of (bound bs) a)
     fun_set : {f g : Form} {o u : Ending} {xs ys : List Token} {a b : Tree} → begins_binder xs ≡ false → Spelled f o xs a → Spelled g u ys b
-        → Spelled form.Closed ending.Closed (token sign.SquareOpen ∷ (xs ++ (token sign.Arrow ∷ (ys ++ (token sign.SquareClose ∷ []))))) (e.fun_set a b)
-    record_of : {u : Ending} {xs : List Token} {ds : List (Name × Tree)} → Items (kind.field sign.MapsTo) u xs ds
-        → Spelled form.Closed ending.Closed (token sign.SquareOpen ∷ (xs ++ (token sign.SquareClose ∷ []))) (e.record_of (named ds))
-    record_set : {u : Ending} {xs : List Token} {ds : List (Name × Tree)} → Items (kind.field sign.Colon) u xs ds
-        → Spelled form.Closed ending.Closed (token sign.SquareOpen ∷ (xs ++ (token sign.SquareClose ∷ []))) (e.record_set (named ds))
+        → Spelled form.Closed ending.Closed (t.Symbol (s.Open bracket.Square) ∷ (xs ++ (t.Symbol s.Arrow ∷ (ys ++ (t.Symbol (s.Close bracket.Square) ∷ []))))) (e.fun_set a b)
+    record_of : {u : Ending} {xs : List Token} {ds : List (Name × Tree)} → Items (kind.field s.MapsTo) u xs ds
+        → Spelled form.Closed ending.Closed (t.Symbol (s.Open bracket.Square) ∷ (xs ++ (t.Symbol (s.Close bracket.Square) ∷ []))) (e.record_of (named ds))
+    record_set : {u : Ending} {xs : List Token} {ds : List (Name × Tree)} → Items (kind.field s.Colon) u xs ds
+        → Spelled form.Closed ending.Closed (t.Symbol (s.Open bracket.Square) ∷ (xs ++ (t.Symbol (s.Close bracket.Square) ∷ []))) (e.record_set (named ds))
     except : {f : Form} {o u : Ending} {xs ys : List Token} {a : Tree} {us : List (List Tree × Tree)} → begins_binder xs ≡ false → Spelled f o xs a → Items kind.update u ys us
-        → Spelled form.Closed ending.Closed (token sign.SquareOpen ∷ (xs ++ (token sign.Except ∷ (ys ++ (token sign.SquareClose ∷ []))))) (e.except a (paths us))
+        → Spelled form.Closed ending.Closed (t.Symbol (s.Open bracket.Square) ∷ (xs ++ (t.Symbol s.Except ∷ (ys ++ (t.Symbol (s.Close bracket.Square) ∷ []))))) (e.except a (paths us))
     unchanged : {x : Name} {xs : List Name}
-        → Spelled form.Closed ending.Closed (t.Symbol s.Unchanged ∷ (token sign.AngleOpen ∷ (names x xs ++ (token sign.AngleClose ∷ [])))) (e.unchanged (x ∷ xs))
+        → Spelled form.Closed ending.Closed (t.Symbol s.Unchanged ∷ (t.Symbol (s.Open bracket.Angle) ∷ (names x xs ++ (t.Symbol (s.Close bracket.Angle) ∷ [])))) (e.unchanged (x ∷ xs))
     -- open forms
     quantified : {q : Quantifier} {f : Form} {o u : Ending} {xs ys : List Token} {bs : List (List Name × Tree)} {p : Tree} → Items kind.binder u xs bs → Spelled f o ys p
-        → Spelled form.Closed (opened o) (t.Symbol (s.Quantifier q) ∷ (xs ++ (token sign.Colon ∷ ys))) (e.quantified q (bound bs) p)
+        → Spelled form.Closed (opened o) (t.Symbol (s.Quantifier q) ∷ (xs ++ (t.Symbol s.Colon ∷ ys))) (e.quantified q (bound bs) p)
     choose : {x : Name} {f : Form} {o : Ending} {xs ys : List Token} {a p : Tree} → Range xs a → Spelled f o ys p
-        → Spelled form.Closed (opened o) (t.Symbol s.Choose ∷ (t.Name x ∷ (token sign.In ∷ (xs ++ (token sign.Colon ∷ ys))))) (e.choose x a p)
+        → Spelled form.Closed (opened o) (t.Symbol s.Choose ∷ (t.Name x ∷ (t.Symbol (s.Infix op.In) ∷ (xs ++ (t.Symbol s.Colon ∷ ys))))) (e.choose x a p)
     cond_of : {f g h : Form} {o u v : Ending} {xs ys zs : List Token} {a b c : Tree} → Spelled f o xs a → Spelled g u ys b → Spelled h v zs c
-        → Spelled form.Closed (opened v) (t.Symbol s.If ∷ (xs ++ (token sign.Then ∷ (ys ++ (token sign.Else ∷ zs))))) (e.cond_of a b c)
+        → Spelled form.Closed (opened v) (t.Symbol s.If ∷ (xs ++ (t.Symbol s.Then ∷ (ys ++ (t.Symbol s.Else ∷ zs))))) (e.cond_of a b c)
     case_of : {u : Ending} {xs : List Token} {gs : List (Tree × Tree)} → Items kind.arm u xs gs
         → Spelled form.Closed ending.Case (t.Symbol s.Case ∷ xs) (e.case_of (arms gs))
     case_other : {f : Form} {o u : Ending} {xs ys : List Token} {gs : List (Tree × Tree)} {a : Tree} → is_case u ≡ false → Items kind.arm u xs gs → Spelled f o ys a
-        → Spelled form.Closed ending.Case (t.Symbol s.Case ∷ (xs ++ (token sign.Arm ∷ (token sign.Other ∷ (token sign.Arrow ∷ ys))))) (e.case_other (arms gs) a)
+        → Spelled form.Closed ending.Case (t.Symbol s.Case ∷ (xs ++ (t.Symbol s.Box ∷ (t.Symbol s.Other ∷ (t.Symbol s.Arrow ∷ ys))))) (e.case_other (arms gs) a)
     let_in : {f : Form} {o u : Ending} {xs ys : List Token} {ds : List (Name × Tree)} {a : Tree} → Items kind.definition u xs ds → Spelled f o ys a
-        → Spelled form.Closed (opened o) (t.Symbol s.Let ∷ (xs ++ (token sign.LetIn ∷ ys))) (e.let_in (named ds) a)
+        → Spelled form.Closed (opened o) (t.Symbol s.Let ∷ (xs ++ (t.Symbol s.LetIn ∷ ys))) (e.let_in (named ds) a)
 
   pub data Range : List Token → Tree → Type 0 where
     any : {f : Form} {o : Ending} {ts : List Token} {a : Tree} → Spelled f o ts a → Range ts a
@@ -168,14 +167,14 @@ mutual
   pub data Item : (k : Kind) → Ending → List Token → Thing k → Type 0 where
     tree : {f : Form} {o : Ending} {ts : List Token} {a : Tree} → Spelled f o ts a → Item kind.tree o ts a
     item : {f : Form} {o : Ending} {ts : List Token} {a : Tree} → Spelled f o ts a → Item kind.item o ts a
-    binder : {x : Name} {xs : List Name} {ts : List Token} {a : Tree} → Range ts a → Item kind.binder ending.Closed (names x xs ++ (token sign.In ∷ ts)) (x ∷ xs, a)
-    field : {x : Name} {v : Sign} {f : Form} {o : Ending} {ts : List Token} {a : Tree} → Spelled f o ts a → Item (kind.field v) o (t.Name x ∷ (token v ∷ ts)) (x, a)
-    definition : {x : Name} {f : Form} {o : Ending} {ts : List Token} {a : Tree} → Spelled f o ts a → Item kind.definition o (t.Name x ∷ (token sign.Defines ∷ ts)) (x, a)
-    arm : {f g : Form} {o u : Ending} {xs ys : List Token} {a b : Tree} → Spelled f o xs a → Spelled g u ys b → Item kind.arm u (xs ++ (token sign.Arrow ∷ ys)) (a, b)
-    index_step : {f : Form} {o : Ending} {ts : List Token} {a : Tree} → Spelled f o ts a → Item kind.step ending.Closed (token sign.SquareOpen ∷ (ts ++ (token sign.SquareClose ∷ []))) a
-    field_step : {x : Name} → Item kind.step ending.Closed (token sign.Dot ∷ (t.Name x ∷ [])) (e.text x)
+    binder : {x : Name} {xs : List Name} {ts : List Token} {a : Tree} → Range ts a → Item kind.binder ending.Closed (names x xs ++ (t.Symbol (s.Infix op.In) ∷ ts)) (x ∷ xs, a)
+    field : {x : Name} {v : Symbol} {f : Form} {o : Ending} {ts : List Token} {a : Tree} → Spelled f o ts a → Item (kind.field v) o (t.Name x ∷ (t.Symbol v ∷ ts)) (x, a)
+    definition : {x : Name} {f : Form} {o : Ending} {ts : List Token} {a : Tree} → Spelled f o ts a → Item kind.definition o (t.Name x ∷ (t.Symbol s.Defines ∷ ts)) (x, a)
+    arm : {f g : Form} {o u : Ending} {xs ys : List Token} {a b : Tree} → Spelled f o xs a → Spelled g u ys b → Item kind.arm u (xs ++ (t.Symbol s.Arrow ∷ ys)) (a, b)
+    index_step : {f : Form} {o : Ending} {ts : List Token} {a : Tree} → Spelled f o ts a → Item kind.step ending.Closed (t.Symbol (s.Open bracket.Square) ∷ (ts ++ (t.Symbol (s.Close bracket.Square) ∷ []))) a
+    field_step : {x : Name} → Item kind.step ending.Closed (t.Symbol s.Dot ∷ (t.Name x ∷ [])) (e.text x)
     update : {f : Form} {o u : Ending} {xs ys : List Token} {as' : List Tree} {a : Tree} → Items kind.step u xs as' → Spelled f o ys a
-        → Item kind.update o (token sign.Bang ∷ (xs ++ (token sign.Equal ∷ ys))) (as', a)
+        → Item kind.update o (t.Symbol s.Bang ∷ (xs ++ (t.Symbol (s.Infix op.Equal) ∷ ys))) (as', a)
 
   pub data Behind : (k : Kind) → Ending → Ending → List Token → List (Thing k) → Type 0 where
     none : {k : Kind} {o : Ending} → Behind k o o [] []

@@ -8,8 +8,7 @@ ghost use Rattle.pgo_expr_read.specs.Reading.{Reads};
 use crate::lookahead::{
     Lead, Next, Opener, Square, form_of_second, is_name, lead_of_symbol, next_of_symbol, sees,
 };
-use crate::sign::Sign;
-use pgo_base::expr::Word;
+use pgo_base::expr::{Infix, Word};
 use pgo_base::text::Text;
 use pgo_lexer::errors::TextStop;
 use pgo_lexer::symbol::{Bracket, Symbol};
@@ -135,7 +134,7 @@ impl<'a> Cursor<'a> {
     {
         match self.rest {
             [] => false,
-            [first, behind @ ..] => is_name(&first.token) && sees(behind, Sign::In),
+            [first, behind @ ..] => is_name(&first.token) && sees(behind, Symbol::Infix(Infix::In)),
         }
     }
 
@@ -155,10 +154,23 @@ impl<'a> Cursor<'a> {
     }
 
     /// Whether this sign is next.
-    pub fn sees(&self, sign: Sign) -> bool
+    pub fn sees(&self, sign: Symbol) -> bool
         ensures { result ≡ look.sees sign self.now }
     {
         sees(self.rest, sign)
+    }
+
+    /// Whether the mark between the items of a junction list is next.
+    pub fn sees_list_next(&self) -> bool
+        ensures { result ≡ look.sees_list_next self.now }
+    {
+        match self.rest {
+            [] => false,
+            [lexeme, ..] => match &lexeme.token {
+                Token::ListNext => true,
+                _ => false,
+            },
+        }
     }
 
     /// Whether a name is next.
@@ -177,7 +189,7 @@ impl<'a> Cursor<'a> {
     {
         match self.rest {
             [] => false,
-            [_, behind @ ..] => self.sees(Sign::Arm) && !sees(behind, Sign::Other),
+            [_, behind @ ..] => self.sees(Symbol::Box) && !sees(behind, Symbol::Other),
         }
     }
 
@@ -193,7 +205,7 @@ impl<'a> Cursor<'a> {
 
     /// Goes past this sign if it is next, and tells whether it was.
     #[tactic(auto, unfolding(crate::specs::Reading::past))]
-    pub fn eat(&mut self, sign: Sign) -> bool
+    pub fn eat(&mut self, sign: Symbol) -> bool
         ensures found { result ≡ look.sees sign self.old }
         ensures after { self.new ≡ spec.past sign self.old }
     {
@@ -206,13 +218,45 @@ impl<'a> Cursor<'a> {
 
     /// Goes past this sign, which must be next.
     #[tactic(auto, unfolding(crate::specs::Reading::expect, crate::specs::Reading::past))]
-    pub fn expect(&mut self, sign: Sign) -> Result<(), TextStop>
+    pub fn expect(&mut self, sign: Symbol) -> Result<(), TextStop>
         ensures { Reads (spec.expect sign self.old) result self.new }
     {
         if self.eat(sign) {
             Ok(())
         } else {
             Err(self.refuse())
+        }
+    }
+
+    /// Goes past the mark between two items of a junction list, which must be next.
+    pub fn list_next(&mut self) -> Result<(), TextStop>
+        ensures { Reads (spec.list_next self.old) result self.new }
+    {
+        match self.rest {
+            [] => Err(self.refuse()),
+            [lexeme, rest @ ..] => match &lexeme.token {
+                Token::ListNext => {
+                    self.rest = rest;
+                    Ok(())
+                }
+                _ => Err(self.refuse()),
+            },
+        }
+    }
+
+    /// Goes past the mark behind the last item of a junction list, which must be next.
+    pub fn list_close(&mut self) -> Result<(), TextStop>
+        ensures { Reads (spec.list_close self.old) result self.new }
+    {
+        match self.rest {
+            [] => Err(self.refuse()),
+            [lexeme, rest @ ..] => match &lexeme.token {
+                Token::ListClose => {
+                    self.rest = rest;
+                    Ok(())
+                }
+                _ => Err(self.refuse()),
+            },
         }
     }
 

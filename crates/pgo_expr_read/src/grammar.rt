@@ -11,11 +11,11 @@ use crate::cursor::Cursor;
 use crate::lists::{Between, OneExpr, OneField, is_case, names, pushed};
 use crate::lookahead::{Lead, Square};
 use crate::read::{Ending, Read, part};
-use crate::sign::Sign;
 use crate::table::{Form, prefix_least};
-use pgo_base::expr::{Arms, Expr, Exprs, Named, Prefix, Quantifier, Sub, Word};
+use pgo_base::expr::{Arms, Expr, Exprs, Infix, Named, Prefix, Quantifier, Sub, Word};
 use pgo_base::text::Text;
 use pgo_lexer::errors::TextStop;
+use pgo_lexer::symbol::{Bracket, Symbol};
 use std::alloc::Global;
 
 /// The rules that hold expressions take the reader of those as a parameter, so that each is proved by itself.
@@ -132,7 +132,7 @@ impl<F: Fn(Global, &mut Cursor<'_>, u32, u8) -> Result<Read<Sub>, TextStop>> Gra
         ensures { Reads (spec.call self.now.limit (spec.expr self.now.below) name cursor.old) result cursor.new }
     {
         let all = self.trees(cursor)?;
-        cursor.expect(Sign::RoundClose)?;
+        cursor.expect(Symbol::Close(Bracket::Round))?;
         self.node(
             cursor,
             Ending::Closed,
@@ -148,10 +148,10 @@ impl<F: Fn(Global, &mut Cursor<'_>, u32, u8) -> Result<Read<Sub>, TextStop>> Gra
         ensures { Reads (spec.named_form self.now.limit (spec.expr self.now.below) cursor.old) result cursor.new }
     {
         let name = cursor.name(self.alloc)?;
-        if cursor.eat(Sign::RoundOpen) {
+        if cursor.eat(Symbol::Open(Bracket::Round)) {
             return self.call(cursor, name);
         }
-        if cursor.eat(Sign::Prime) {
+        if cursor.eat(Symbol::Prime) {
             return self.leaf(cursor, Expr::Primed(name));
         }
         self.leaf(cursor, Expr::Name(name))
@@ -164,11 +164,11 @@ impl<F: Fn(Global, &mut Cursor<'_>, u32, u8) -> Result<Read<Sub>, TextStop>> Gra
         ensures { Reads (spec.tuple self.now.limit (spec.expr self.now.below) cursor.old) result cursor.new }
     {
         cursor.skip();
-        if cursor.eat(Sign::AngleClose) {
+        if cursor.eat(Symbol::Close(Bracket::Angle)) {
             return self.leaf(cursor, Expr::Tuple(Exprs::new(self.alloc)));
         }
         let all = self.trees(cursor)?;
-        cursor.expect(Sign::AngleClose)?;
+        cursor.expect(Symbol::Close(Bracket::Angle))?;
         self.node(cursor, Ending::Closed, all.height, Expr::Tuple(all.tree))
     }
 
@@ -179,11 +179,11 @@ impl<F: Fn(Global, &mut Cursor<'_>, u32, u8) -> Result<Read<Sub>, TextStop>> Gra
         ensures { Reads (spec.filter self.now.limit (spec.expr self.now.below) cursor.old) result cursor.new }
     {
         let name = cursor.name(self.alloc)?;
-        cursor.expect(Sign::In)?;
+        cursor.expect(Symbol::Infix(Infix::In))?;
         let set = self.range(cursor, 0)?;
-        cursor.expect(Sign::Colon)?;
+        cursor.expect(Symbol::Colon)?;
         let p = self.expr(cursor, 0)?;
-        cursor.expect(Sign::CurlyClose)?;
+        cursor.expect(Symbol::Close(Bracket::Curly))?;
         let height = set.height.max(p.height);
         self.node(
             cursor,
@@ -200,9 +200,9 @@ impl<F: Fn(Global, &mut Cursor<'_>, u32, u8) -> Result<Read<Sub>, TextStop>> Gra
         ensures { Reads (spec.image self.now.limit (spec.expr self.now.below) b cursor.old) result cursor.new }
     {
         let name = cursor.name(self.alloc)?;
-        cursor.expect(Sign::In)?;
+        cursor.expect(Symbol::Infix(Infix::In))?;
         let set = self.range(cursor, 0)?;
-        cursor.expect(Sign::CurlyClose)?;
+        cursor.expect(Symbol::Close(Bracket::Curly))?;
         let height = b.height.max(set.height);
         self.node(
             cursor,
@@ -221,7 +221,7 @@ impl<F: Fn(Global, &mut Cursor<'_>, u32, u8) -> Result<Read<Sub>, TextStop>> Gra
         let none = part(Ending::Closed, 0, Exprs::new(self.alloc));
         let one = pushed::<OneExpr>(none, first)?;
         let all = self.behind(cursor, &OneExpr, Between::Comma, one)?;
-        cursor.expect(Sign::CurlyClose)?;
+        cursor.expect(Symbol::Close(Bracket::Curly))?;
         self.node(cursor, Ending::Closed, all.height, Expr::SetOf(all.tree))
     }
 
@@ -232,7 +232,7 @@ impl<F: Fn(Global, &mut Cursor<'_>, u32, u8) -> Result<Read<Sub>, TextStop>> Gra
         ensures { Reads (spec.other_set self.now.limit (spec.expr self.now.below) cursor.old) result cursor.new }
     {
         let first = self.expr(cursor, 0)?;
-        if cursor.eat(Sign::Colon) {
+        if cursor.eat(Symbol::Colon) {
             self.image(cursor, first)
         } else {
             self.members(cursor, first)
@@ -246,7 +246,7 @@ impl<F: Fn(Global, &mut Cursor<'_>, u32, u8) -> Result<Read<Sub>, TextStop>> Gra
         ensures { Reads (spec.set self.now.limit (spec.expr self.now.below) cursor.old) result cursor.new }
     {
         cursor.skip();
-        if cursor.eat(Sign::CurlyClose) {
+        if cursor.eat(Symbol::Close(Bracket::Curly)) {
             return self.leaf(cursor, Expr::SetOf(Exprs::new(self.alloc)));
         }
         if cursor.begins_binder() {
@@ -263,9 +263,9 @@ impl<F: Fn(Global, &mut Cursor<'_>, u32, u8) -> Result<Read<Sub>, TextStop>> Gra
         ensures { Reads (spec.fun_of self.now.limit (spec.expr self.now.below) cursor.old) result cursor.new }
     {
         let binders = self.binders(cursor)?;
-        cursor.expect(Sign::MapsTo)?;
+        cursor.expect(Symbol::MapsTo)?;
         let a = self.expr(cursor, 0)?;
-        cursor.expect(Sign::SquareClose)?;
+        cursor.expect(Symbol::Close(Bracket::Square))?;
         let height = binders.height.max(a.height);
         self.node(
             cursor,
@@ -283,11 +283,11 @@ impl<F: Fn(Global, &mut Cursor<'_>, u32, u8) -> Result<Read<Sub>, TextStop>> Gra
     {
         let all = self.items(
             cursor,
-            &OneField(Sign::MapsTo),
+            &OneField(Symbol::MapsTo),
             Between::Comma,
             Named::new(self.alloc),
         )?;
-        cursor.expect(Sign::SquareClose)?;
+        cursor.expect(Symbol::Close(Bracket::Square))?;
         self.node(cursor, Ending::Closed, all.height, Expr::Record(all.tree))
     }
 
@@ -299,11 +299,11 @@ impl<F: Fn(Global, &mut Cursor<'_>, u32, u8) -> Result<Read<Sub>, TextStop>> Gra
     {
         let all = self.items(
             cursor,
-            &OneField(Sign::Colon),
+            &OneField(Symbol::Colon),
             Between::Comma,
             Named::new(self.alloc),
         )?;
-        cursor.expect(Sign::SquareClose)?;
+        cursor.expect(Symbol::Close(Bracket::Square))?;
         self.node(
             cursor,
             Ending::Closed,
@@ -318,9 +318,9 @@ impl<F: Fn(Global, &mut Cursor<'_>, u32, u8) -> Result<Read<Sub>, TextStop>> Gra
         requires { Nests self.now.below (F.pre self.now.expr) (F.post self.now.expr) }
         ensures { Reads (spec.fun_set self.now.limit (spec.expr self.now.below) a cursor.old) result cursor.new }
     {
-        cursor.expect(Sign::Arrow)?;
+        cursor.expect(Symbol::Arrow)?;
         let b = self.expr(cursor, 0)?;
-        cursor.expect(Sign::SquareClose)?;
+        cursor.expect(Symbol::Close(Bracket::Square))?;
         let height = a.height.max(b.height);
         self.node(cursor, Ending::Closed, height, Expr::FunSet(a.tree, b.tree))
     }
@@ -332,7 +332,7 @@ impl<F: Fn(Global, &mut Cursor<'_>, u32, u8) -> Result<Read<Sub>, TextStop>> Gra
         ensures { Reads (spec.except self.now.limit (spec.expr self.now.below) a cursor.old) result cursor.new }
     {
         let updates = self.updates(cursor)?;
-        cursor.expect(Sign::SquareClose)?;
+        cursor.expect(Symbol::Close(Bracket::Square))?;
         let height = a.height.max(updates.height);
         self.node(
             cursor,
@@ -349,7 +349,7 @@ impl<F: Fn(Global, &mut Cursor<'_>, u32, u8) -> Result<Read<Sub>, TextStop>> Gra
         ensures { Reads (spec.other_square self.now.limit (spec.expr self.now.below) cursor.old) result cursor.new }
     {
         let a = self.expr(cursor, 0)?;
-        if cursor.eat(Sign::Except) {
+        if cursor.eat(Symbol::Except) {
             self.except(cursor, a)
         } else {
             self.fun_set(cursor, a)
@@ -383,7 +383,7 @@ impl<F: Fn(Global, &mut Cursor<'_>, u32, u8) -> Result<Read<Sub>, TextStop>> Gra
     {
         cursor.skip();
         let binders = self.binders(cursor)?;
-        cursor.expect(Sign::Colon)?;
+        cursor.expect(Symbol::Colon)?;
         let p = self.expr(cursor, 0)?;
         let height = binders.height.max(p.height);
         self.node(
@@ -402,9 +402,9 @@ impl<F: Fn(Global, &mut Cursor<'_>, u32, u8) -> Result<Read<Sub>, TextStop>> Gra
     {
         cursor.skip();
         let name = cursor.name(self.alloc)?;
-        cursor.expect(Sign::In)?;
+        cursor.expect(Symbol::Infix(Infix::In))?;
         let set = self.range(cursor, 0)?;
-        cursor.expect(Sign::Colon)?;
+        cursor.expect(Symbol::Colon)?;
         let p = self.expr(cursor, 0)?;
         let height = set.height.max(p.height);
         self.node(
@@ -423,9 +423,9 @@ impl<F: Fn(Global, &mut Cursor<'_>, u32, u8) -> Result<Read<Sub>, TextStop>> Gra
     {
         cursor.skip();
         let a = self.expr(cursor, 0)?;
-        cursor.expect(Sign::Then)?;
+        cursor.expect(Symbol::Then)?;
         let b = self.expr(cursor, 0)?;
-        cursor.expect(Sign::Else)?;
+        cursor.expect(Symbol::Else)?;
         let c = self.expr(cursor, 0)?;
         let height = a.height.max(b.height.max(c.height));
         self.node(
@@ -442,8 +442,8 @@ impl<F: Fn(Global, &mut Cursor<'_>, u32, u8) -> Result<Read<Sub>, TextStop>> Gra
         requires { Nests self.now.below (F.pre self.now.expr) (F.post self.now.expr) }
         ensures { Reads (spec.last_arm self.now.limit (spec.expr self.now.below) arms cursor.old) result cursor.new }
     {
-        cursor.expect(Sign::Other)?;
-        cursor.expect(Sign::Arrow)?;
+        cursor.expect(Symbol::Other)?;
+        cursor.expect(Symbol::Arrow)?;
         let a = self.expr(cursor, 0)?;
         let height = arms.height.max(a.height);
         self.node(
@@ -463,7 +463,7 @@ impl<F: Fn(Global, &mut Cursor<'_>, u32, u8) -> Result<Read<Sub>, TextStop>> Gra
         cursor.skip();
         let arms = self.arms(cursor)?;
         let stop = cursor.refuse();
-        if cursor.eat(Sign::Arm) {
+        if cursor.eat(Symbol::Box) {
             if is_case(arms.ending) {
                 return Err(stop);
             }
@@ -480,7 +480,7 @@ impl<F: Fn(Global, &mut Cursor<'_>, u32, u8) -> Result<Read<Sub>, TextStop>> Gra
     {
         cursor.skip();
         let definitions = self.definitions(cursor)?;
-        cursor.expect(Sign::LetIn)?;
+        cursor.expect(Symbol::LetIn)?;
         let a = self.expr(cursor, 0)?;
         let height = definitions.height.max(a.height);
         self.node(
@@ -498,9 +498,9 @@ impl<F: Fn(Global, &mut Cursor<'_>, u32, u8) -> Result<Read<Sub>, TextStop>> Gra
         ensures { Reads (spec.unchanged self.now.limit (spec.expr self.now.below) cursor.old) result cursor.new }
     {
         cursor.skip();
-        cursor.expect(Sign::AngleOpen)?;
+        cursor.expect(Symbol::Open(Bracket::Angle))?;
         let names = names(self.alloc, cursor)?;
-        cursor.expect(Sign::AngleClose)?;
+        cursor.expect(Symbol::Close(Bracket::Angle))?;
         self.leaf(cursor, Expr::Unchanged(names))
     }
 

@@ -3,7 +3,7 @@ ghost use Rattle.std.specs.Prelude.{◌≡◌, ℕ, [], ◌∷◌, ◌++◌, IfO
 ghost use Rattle.pgo_expr_read.specs.Kinds as kind;
 ghost use Rattle.pgo_expr_read.specs.Lookahead as look;
 ghost use Rattle.pgo_expr_read.specs.declared.read.Read.{Read};
-ghost use Rattle.pgo_expr_read.specs.declared.sign.Sign.TheVariants as sign;
+ghost use Rattle.pgo_lexer.specs.declared.symbol.Symbol.TheVariants as sign;
 ghost use Rattle.pgo_expr_read.specs.Nests.{Nests};
 ghost use Rattle.pgo_expr_read.specs.Reading as spec;
 ghost use Rattle.pgo_expr_read.specs.Reading.{Reads, Parser};
@@ -11,10 +11,10 @@ ghost use Rattle.pgo_expr_read.specs.Reading.{Reads, Parser};
 use crate::cursor::Cursor;
 use crate::grammar::Grammar;
 use crate::read::{Ending, Read, part};
-use crate::sign::Sign;
-use pgo_base::expr::{Arms, Binders, Expr, Exprs, Named, Names, Sub, Updates};
+use pgo_base::expr::{Arms, Binders, Expr, Exprs, Infix, Named, Names, Sub, Updates};
 use pgo_base::text::Text;
 use pgo_lexer::errors::TextStop;
+use pgo_lexer::symbol::{Bracket, Symbol};
 use std::alloc::{AllocError, Global};
 
 /// One name more, behind a comma.
@@ -22,7 +22,7 @@ use std::alloc::{AllocError, Global};
 fn more_names(alloc: Global, cursor: &mut Cursor<'_>, all: Names) -> Result<Names, TextStop>
     ensures { Reads (spec.one_more_name all cursor.old) result cursor.new }
 {
-    cursor.expect(Sign::Comma)?;
+    cursor.expect(Symbol::Comma)?;
     let name = cursor.name(alloc)?;
     let mut names = all;
     names.push(name)?;
@@ -35,7 +35,7 @@ fn names_behind(alloc: Global, cursor: &mut Cursor<'_>, first: Names) -> Result<
 {
     let mut all = first;
     for _turn in 0..cursor.left() {
-        if !cursor.sees(Sign::Comma) {
+        if !cursor.sees(Symbol::Comma) {
             return Ok(all);
         }
         all = more_names(alloc, cursor, all)?;
@@ -70,6 +70,8 @@ pub enum Between {
     Comma,
     /// `[]`, unless OTHER follows. None stands behind an item that ends in a CASE.
     Arm,
+    /// The mark between the items of a junction list.
+    ListNext,
     /// A name.
     Name,
     /// `[` or `.`.
@@ -77,20 +79,21 @@ pub enum Between {
 }
 
 /// Whether another item follows.
-fn goes(cursor: &Cursor<'_>, between: Between) -> bool
+pub fn goes(cursor: &Cursor<'_>, between: Between) -> bool
     ensures { result ≡ spec.goes_at between cursor.now }
 {
     match between {
-        Between::Comma => cursor.sees(Sign::Comma),
+        Between::Comma => cursor.sees(Symbol::Comma),
         Between::Arm => cursor.sees_arm(),
+        Between::ListNext => cursor.sees_list_next(),
         Between::Name => cursor.sees_name(),
-        Between::Step => cursor.sees(Sign::SquareOpen) || cursor.sees(Sign::Dot),
+        Between::Step => cursor.sees(Symbol::Open(Bracket::Square)) || cursor.sees(Symbol::Dot),
     }
 }
 
 /// Whether another item may stand behind one that ends so.
 fn follows(between: Between, ending: Ending) -> bool
-    ensures { result ≡ spec.follows between ending }
+    ensures { result ≡ kind.follows between ending }
 {
     match between {
         Between::Arm => !is_case(ending),
@@ -99,12 +102,13 @@ fn follows(between: Between, ending: Ending) -> bool
 }
 
 /// Goes past what stands between two items.
-fn pass(cursor: &mut Cursor<'_>, between: Between) -> Result<(), TextStop>
+pub fn pass(cursor: &mut Cursor<'_>, between: Between) -> Result<(), TextStop>
     ensures { Reads (spec.pass_at between cursor.old) result cursor.new }
 {
     match between {
-        Between::Comma => cursor.expect(Sign::Comma),
-        Between::Arm => cursor.expect(Sign::Arm),
+        Between::Comma => cursor.expect(Symbol::Comma),
+        Between::Arm => cursor.expect(Symbol::Box),
+        Between::ListNext => cursor.list_next(),
         Between::Name | Between::Step => Ok(()),
     }
 }
@@ -178,7 +182,7 @@ impl Item for OneBinder {
         cursor: &mut Cursor<'_>,
     ) -> Result<Read<(Names, Sub)>, TextStop> {
         let names = names(grammar.alloc, cursor)?;
-        cursor.expect(Sign::In)?;
+        cursor.expect(Symbol::Infix(Infix::In))?;
         let set = grammar.range(cursor, 0)?;
         Ok(part(Ending::Closed, set.height, (names, set.tree)))
     }
@@ -190,7 +194,7 @@ impl Item for OneBinder {
 }
 
 /// A name with an expression behind this sign.
-pub struct OneField(pub Sign);
+pub struct OneField(pub Symbol);
 
 impl Item for OneField {
     type One = (Text, Sub);
@@ -238,7 +242,7 @@ impl Item for OneArm {
         cursor: &mut Cursor<'_>,
     ) -> Result<Read<(Sub, Sub)>, TextStop> {
         let guard = grammar.expr(cursor, 0)?;
-        cursor.expect(Sign::Arrow)?;
+        cursor.expect(Symbol::Arrow)?;
         let a = grammar.expr(cursor, 0)?;
         let height = guard.height.max(a.height);
         Ok(part(a.ending, height, (guard.tree, a.tree)))
@@ -268,14 +272,14 @@ impl Item for OneStep {
         grammar: &Grammar<F>,
         cursor: &mut Cursor<'_>,
     ) -> Result<Read<Sub>, TextStop> {
-        if cursor.eat(Sign::Dot) {
+        if cursor.eat(Symbol::Dot) {
             let name = cursor.name(grammar.alloc)?;
             let tree = Sub::new(grammar.alloc, Expr::Text(name))?;
             return Ok(part(Ending::Closed, 1, tree));
         }
-        cursor.expect(Sign::SquareOpen)?;
+        cursor.expect(Symbol::Open(Bracket::Square))?;
         let a = grammar.expr(cursor, 0)?;
-        cursor.expect(Sign::SquareClose)?;
+        cursor.expect(Symbol::Close(Bracket::Square))?;
         Ok(part(Ending::Closed, a.height, a.tree))
     }
 
@@ -302,9 +306,9 @@ impl Item for OneUpdate {
         grammar: &Grammar<F>,
         cursor: &mut Cursor<'_>,
     ) -> Result<Read<(Exprs, Sub)>, TextStop> {
-        cursor.expect(Sign::Bang)?;
+        cursor.expect(Symbol::Bang)?;
         let path = grammar.path(cursor)?;
-        cursor.expect(Sign::Equal)?;
+        cursor.expect(Symbol::Infix(Infix::Equal))?;
         let a = grammar.expr(cursor, 0)?;
         let height = path.height.max(a.height);
         Ok(part(a.ending, height, (path.tree, a.tree)))
@@ -337,7 +341,7 @@ impl<F: Fn(Global, &mut Cursor<'_>, u32, u8) -> Result<Read<Sub>, TextStop>> Gra
         all: Read<I::List>,
     ) -> Result<Read<I::List>, TextStop>
         requires { Nests self.now.below (F.pre self.now.expr) (F.post self.now.expr) }
-        ensures { Reads (spec.more_at I.join (λ o. spec.follows between o) (spec.pass_at between) (I.reading item.now self.now.limit self.now.below) all cursor.old) result cursor.new }
+        ensures { Reads (spec.more_at I.join (λ o. kind.follows between o) (spec.pass_at between) (I.reading item.now self.now.limit self.now.below) all cursor.old) result cursor.new }
     {
         if !follows(between, all.ending) {
             return Err(cursor.refuse());
@@ -356,7 +360,7 @@ impl<F: Fn(Global, &mut Cursor<'_>, u32, u8) -> Result<Read<Sub>, TextStop>> Gra
         first: Read<I::List>,
     ) -> Result<Read<I::List>, TextStop>
         requires { Nests self.now.below (F.pre self.now.expr) (F.post self.now.expr) }
-        ensures { Reads (spec.all_folded (spec.goes_at between) (spec.more_at I.join (λ o. spec.follows between o) (spec.pass_at between) (I.reading item.now self.now.limit self.now.below)) first cursor.old) result cursor.new }
+        ensures { Reads (spec.all_folded (spec.goes_at between) (spec.more_at I.join (λ o. kind.follows between o) (spec.pass_at between) (I.reading item.now self.now.limit self.now.below)) first cursor.old) result cursor.new }
     {
         let mut all = first;
         for _turn in 0..cursor.left() {
@@ -378,7 +382,7 @@ impl<F: Fn(Global, &mut Cursor<'_>, u32, u8) -> Result<Read<Sub>, TextStop>> Gra
         none: I::List,
     ) -> Result<Read<I::List>, TextStop>
         requires { Nests self.now.below (F.pre self.now.expr) (F.post self.now.expr) }
-        ensures { Reads (spec.listed_at I.join none (spec.goes_at between) (λ o. spec.follows between o) (spec.pass_at between) (I.reading item.now self.now.limit self.now.below) cursor.old) result cursor.new }
+        ensures { Reads (spec.listed_at I.join none (spec.goes_at between) (λ o. kind.follows between o) (spec.pass_at between) (I.reading item.now self.now.limit self.now.below) cursor.old) result cursor.new }
     {
         let first = item.read(self, cursor)?;
         let all = pushed::<I>(part(Ending::Closed, 0, none), first)?;
@@ -408,7 +412,7 @@ impl<F: Fn(Global, &mut Cursor<'_>, u32, u8) -> Result<Read<Sub>, TextStop>> Gra
     {
         self.items(
             cursor,
-            &OneField(Sign::Defines),
+            &OneField(Symbol::Defines),
             Between::Name,
             Named::new(self.alloc),
         )

@@ -2,7 +2,7 @@
 ghost use Rattle.std.specs.Prelude.{◌≡◌};
 ghost use Rattle.pgo_expr_read.specs.Lookahead as spec;
 
-use crate::sign::{Sign, code, code_of};
+use crate::sign::is_sign;
 use crate::table::Operator;
 use pgo_base::expr::{Infix, Prefix, Quantifier, Word};
 use pgo_lexer::symbol::{Bracket, Junction, Symbol};
@@ -133,21 +133,11 @@ pub fn form_of_second(rest: &[Lexeme]) -> Square
 }
 
 /// Whether this sign is next.
-pub fn sees(rest: &[Lexeme], sign: Sign) -> bool
+pub fn sees(rest: &[Lexeme], sign: Symbol) -> bool
     ensures { result ≡ spec.sees sign (spec.tokens_of rest.now) }
 {
     match rest {
         [] => false,
-        [lexeme, ..] => code_of(&lexeme.token) == code(sign),
-    }
-}
-
-/// Whether it is `$variable` or `$value`, which stand in a mapping macro alone.
-pub fn is_mapped(token: &Token) -> bool
-    ensures { result ≡ spec.is_mapped token.now }
-{
-    match token {
-        Token::Symbol(Symbol::Variable) | Token::Symbol(Symbol::Value) => true,
-        _ => false,
+        [lexeme, ..] => is_sign(sign, &lexeme.token),
     }
 }

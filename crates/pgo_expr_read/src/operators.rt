@@ -1,7 +1,6 @@
 // Operators, and what opens without a node.
 ghost use Rattle.std.specs.Prelude.{◌≡◌, [], length};
 ghost use Rattle.pgo_expr_read.specs.Lookahead as look;
-ghost use Rattle.pgo_expr_read.specs.declared.sign.Sign.TheVariants as sign;
 ghost use Rattle.pgo_expr_read.specs.Nests.{Nests};
 ghost use Rattle.pgo_expr_read.specs.Reading as spec;
 ghost use Rattle.pgo_expr_read.specs.Reading.{Reads, Makes};
@@ -9,14 +8,14 @@ ghost use Rattle.pgo_expr_read.specs.Reading.{Reads, Makes};
 use crate::ast::{applied, infix_of};
 use crate::cursor::Cursor;
 use crate::grammar::Grammar;
+use crate::lists::{Between, goes, pass};
 use crate::lookahead::{Lead, Next, Opener};
 use crate::read::{Ending, Read, closed, left_height};
-use crate::sign::Sign;
 use crate::stack::Openers;
 use crate::table::{Form, Operator, form_low, prefix_least, right_least, row, takes_left};
 use pgo_base::expr::{Expr, Exprs, Infix, Sub};
 use pgo_lexer::errors::TextStop;
-use pgo_lexer::symbol::Junction;
+use pgo_lexer::symbol::{Bracket, Junction, Symbol};
 use std::alloc::Global;
 
 fn is_closed(ending: Ending) -> bool
@@ -114,7 +113,7 @@ impl<F: Fn(Global, &mut Cursor<'_>, u32, u8) -> Result<Read<Sub>, TextStop>> Gra
     {
         cursor.skip();
         let all = self.trees(cursor)?;
-        cursor.expect(Sign::SquareClose)?;
+        cursor.expect(Symbol::Close(Bracket::Square))?;
         let below = index_height(cursor, self.limit, &all)?;
         let height = left.height.max(below);
         self.node(
@@ -210,7 +209,7 @@ impl<F: Fn(Global, &mut Cursor<'_>, u32, u8) -> Result<Read<Sub>, TextStop>> Gra
         requires { Nests self.now.below (F.pre self.now.expr) (F.post self.now.expr) }
         ensures { Reads (spec.one_more_joined self.now.limit (spec.expr self.now.below) op all cursor.old) result cursor.new }
     {
-        cursor.expect(Sign::ListNext)?;
+        pass(cursor, Between::ListNext)?;
         let r = self.expr(cursor, 0)?;
         let height = all.height.max(r.height);
         self.node(
@@ -229,11 +228,11 @@ impl<F: Fn(Global, &mut Cursor<'_>, u32, u8) -> Result<Read<Sub>, TextStop>> Gra
         first: Read<Sub>,
     ) -> Result<Read<Sub>, TextStop>
         requires { Nests self.now.below (F.pre self.now.expr) (F.post self.now.expr) }
-        ensures { Reads (spec.all_folded (look.sees sign.ListNext) (spec.one_more_joined self.now.limit (spec.expr self.now.below) op) first cursor.old) result cursor.new }
+        ensures { Reads (spec.all_folded look.sees_list_next (spec.one_more_joined self.now.limit (spec.expr self.now.below) op) first cursor.old) result cursor.new }
     {
         let mut all = first;
         for _turn in 0..cursor.left() {
-            if !cursor.sees(Sign::ListNext) {
+            if !goes(cursor, Between::ListNext) {
                 return Ok(all);
             }
             all = self.more_joined(cursor, op, all)?;
@@ -255,12 +254,12 @@ impl<F: Fn(Global, &mut Cursor<'_>, u32, u8) -> Result<Read<Sub>, TextStop>> Gra
         let s = self.more(cursor, 0, first)?;
         match opener {
             Opener::Round => {
-                cursor.expect(Sign::RoundClose)?;
+                cursor.expect(Symbol::Close(Bracket::Round))?;
                 Ok(closed(s))
             }
             Opener::List(op) => {
                 let all = self.joined_behind(cursor, op, closed(s))?;
-                cursor.expect(Sign::ListClose)?;
+                cursor.list_close()?;
                 Ok(all)
             }
         }

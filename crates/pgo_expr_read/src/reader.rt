@@ -22,8 +22,8 @@ ghost use Rattle.pgo_lexer.specs.Tokenized.{Tokenized};
 
 use crate::cursor::Cursor;
 use crate::grammar::Grammar;
-use crate::lookahead::is_mapped;
 use crate::read::Read;
+use crate::sign::is_mapped;
 use crate::stops::within;
 use pgo_base::expr::{Expr, Sub};
 use pgo_lexer::before::{Before, tokens_before};

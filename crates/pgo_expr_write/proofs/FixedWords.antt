@@ -19,9 +19,7 @@ use Rattle.pgo_lexer.specs.declared.symbol.Bracket.TheVariants as b
 use Rattle.pgo_lexer.specs.Symbols.{find, signs, begins_no_row}
 use Rattle.pgo_lexer.specs.Lexemes.{Stops, opens, opens_line, opens_word}
 use Rattle.pgo_lexer.specs.Lexemes as l
-use Rattle.pgo_expr_read.specs.declared.sign.Sign.TheVariants as sign
 use Rattle.pgo_expr_read.specs.declared.table.Operator.TheVariants as operator
-use Rattle.pgo_expr_read.specs.Signs.{token}
 use Rattle.pgo_expr_read.specs.Spells.{prefix_token, operator_token}
 use Rattle.pgo_expr_write.proofs.Lexed as w
 use Rattle.pgo_expr_write.proofs.Lexed.{IsWritten, piece, Lexed, blank, single, opening, closing}
@@ -81,68 +79,68 @@ sign_any x front (y ∷ rest) symbol found none round slash = sign_before x fron
 
 -- ---- brackets
 
-pub round_open : {st : List Bracket} {p : Bool} (rest : List ℕ) {us : List Token} → Begins rest → Lexed (b.Round ∷ st) false rest us → Lexed st p (40 ∷ rest) (token sign.RoundOpen ∷ us)
+pub round_open : {st : List Bracket} {p : Bool} (rest : List ℕ) {us : List Token} → Begins rest → Lexed (b.Round ∷ st) false rest us → Lexed st p (40 ∷ rest) (t.Symbol (s.Open b.Round) ∷ us)
 round_open [] h d = absurd h
 round_open (y ∷ rest) h d = opening 40 [] (w.sign (40 ∷ []) rest y (s.Open b.Round) refl refl h.0 refl refl) refl refl d
 
 square_row : (y : ℕ) → nat_eq y 93 ≡ false → begins_no_row (91 ∷ (y ∷ [])) signs ≡ true
 square_row y h = rw h refl
 
-pub square_open : {st : List Bracket} {p : Bool} (rest : List ℕ) {us : List Token} → Begins rest → Lexed (b.Square ∷ st) false rest us → Lexed st p (91 ∷ rest) (token sign.SquareOpen ∷ us)
+pub square_open : {st : List Bracket} {p : Bool} (rest : List ℕ) {us : List Token} → Begins rest → Lexed (b.Square ∷ st) false rest us → Lexed st p (91 ∷ rest) (t.Symbol (s.Open b.Square) ∷ us)
 square_open [] h d = absurd h
 square_open (y ∷ rest) h d = opening 91 [] (sign_before 91 [] y rest (s.Open b.Square) refl (square_row y h.2) refl refl) refl refl d
 
-pub angle_open : {st : List Bracket} {p : Bool} (rest : List ℕ) {us : List Token} → Lexed (b.Angle ∷ st) false rest us → Lexed st p (60 ∷ 60 ∷ rest) (token sign.AngleOpen ∷ us)
+pub angle_open : {st : List Bracket} {p : Bool} (rest : List ℕ) {us : List Token} → Lexed (b.Angle ∷ st) false rest us → Lexed st p (60 ∷ 60 ∷ rest) (t.Symbol (s.Open b.Angle) ∷ us)
 angle_open rest d = opening 60 (60 ∷ []) (sign_any 60 (60 ∷ []) rest (s.Open b.Angle) refl (λ y. refl) refl refl) refl refl d
 
-pub curly_open : {st : List Bracket} {p : Bool} (rest : List ℕ) {us : List Token} → Lexed (b.Curly ∷ st) false rest us → Lexed st p (123 ∷ rest) (token sign.CurlyOpen ∷ us)
+pub curly_open : {st : List Bracket} {p : Bool} (rest : List ℕ) {us : List Token} → Lexed (b.Curly ∷ st) false rest us → Lexed st p (123 ∷ rest) (t.Symbol (s.Open b.Curly) ∷ us)
 curly_open rest d = opening 123 ([]) (sign_any 123 ([]) rest (s.Open b.Curly) refl (λ y. refl) refl refl) refl refl d
 
-pub round_close : {st : List Bracket} {p : Bool} (rest : List ℕ) {us : List Token} → Lexed st true rest us → Lexed (b.Round ∷ st) p (41 ∷ rest) (token sign.RoundClose ∷ us)
+pub round_close : {st : List Bracket} {p : Bool} (rest : List ℕ) {us : List Token} → Lexed st true rest us → Lexed (b.Round ∷ st) p (41 ∷ rest) (t.Symbol (s.Close b.Round) ∷ us)
 round_close rest d = closing 41 ([]) (sign_any 41 ([]) rest (s.Close b.Round) refl (λ y. refl) refl refl) refl refl d
 
-pub square_close : {st : List Bracket} {p : Bool} (rest : List ℕ) {us : List Token} → Lexed st true rest us → Lexed (b.Square ∷ st) p (93 ∷ rest) (token sign.SquareClose ∷ us)
+pub square_close : {st : List Bracket} {p : Bool} (rest : List ℕ) {us : List Token} → Lexed st true rest us → Lexed (b.Square ∷ st) p (93 ∷ rest) (t.Symbol (s.Close b.Square) ∷ us)
 square_close rest d = closing 93 ([]) (sign_any 93 ([]) rest (s.Close b.Square) refl (λ y. refl) refl refl) refl refl d
 
-pub angle_close : {st : List Bracket} {p : Bool} (rest : List ℕ) {us : List Token} → Lexed st true rest us → Lexed (b.Angle ∷ st) p (62 ∷ 62 ∷ rest) (token sign.AngleClose ∷ us)
+pub angle_close : {st : List Bracket} {p : Bool} (rest : List ℕ) {us : List Token} → Lexed st true rest us → Lexed (b.Angle ∷ st) p (62 ∷ 62 ∷ rest) (t.Symbol (s.Close b.Angle) ∷ us)
 angle_close rest d = closing 62 (62 ∷ []) (sign_any 62 (62 ∷ []) rest (s.Close b.Angle) refl (λ y. refl) refl refl) refl refl d
 
-pub curly_close : {st : List Bracket} {p : Bool} (rest : List ℕ) {us : List Token} → Lexed st true rest us → Lexed (b.Curly ∷ st) p (125 ∷ rest) (token sign.CurlyClose ∷ us)
+pub curly_close : {st : List Bracket} {p : Bool} (rest : List ℕ) {us : List Token} → Lexed st true rest us → Lexed (b.Curly ∷ st) p (125 ∷ rest) (t.Symbol (s.Close b.Curly) ∷ us)
 curly_close rest d = closing 125 ([]) (sign_any 125 ([]) rest (s.Close b.Curly) refl (λ y. refl) refl refl) refl refl d
 
 -- ---- signs and words between blanks
 
-pub colon : {st : List Bracket} {p : Bool} {rest : List ℕ} {us : List Token} → Lexed st false rest us → Lexed st p (32 ∷ 58 ∷ 32 ∷ rest) (token sign.Colon ∷ us)
+pub colon : {st : List Bracket} {p : Bool} {rest : List ℕ} {us : List Token} → Lexed st false rest us → Lexed st p (32 ∷ 58 ∷ 32 ∷ rest) (t.Symbol s.Colon ∷ us)
 colon d = blank (single 58 ([]) (w.sign (58 ∷ []) _ 32 _ refl refl refl refl refl) refl refl (blank d))
 
-pub arrow : {st : List Bracket} {p : Bool} {rest : List ℕ} {us : List Token} → Lexed st false rest us → Lexed st p (32 ∷ 45 ∷ 62 ∷ 32 ∷ rest) (token sign.Arrow ∷ us)
+pub arrow : {st : List Bracket} {p : Bool} {rest : List ℕ} {us : List Token} → Lexed st false rest us → Lexed st p (32 ∷ 45 ∷ 62 ∷ 32 ∷ rest) (t.Symbol s.Arrow ∷ us)
 arrow d = blank (single 45 (62 ∷ []) (w.sign (45 ∷ 62 ∷ []) _ 32 _ refl refl refl refl refl) refl refl (blank d))
 
-pub box : {st : List Bracket} {p : Bool} {rest : List ℕ} {us : List Token} → Lexed st false rest us → Lexed st p (32 ∷ 91 ∷ 93 ∷ 32 ∷ rest) (token sign.Arm ∷ us)
+pub box : {st : List Bracket} {p : Bool} {rest : List ℕ} {us : List Token} → Lexed st false rest us → Lexed st p (32 ∷ 91 ∷ 93 ∷ 32 ∷ rest) (t.Symbol s.Box ∷ us)
 box d = blank (single 91 (93 ∷ []) (w.sign (91 ∷ 93 ∷ []) _ 32 _ refl refl refl refl refl) refl refl (blank d))
 
-pub defines : {st : List Bracket} {p : Bool} {rest : List ℕ} {us : List Token} → Lexed st false rest us → Lexed st p (32 ∷ 61 ∷ 61 ∷ 32 ∷ rest) (token sign.Defines ∷ us)
+pub defines : {st : List Bracket} {p : Bool} {rest : List ℕ} {us : List Token} → Lexed st false rest us → Lexed st p (32 ∷ 61 ∷ 61 ∷ 32 ∷ rest) (t.Symbol s.Defines ∷ us)
 defines d = blank (w.defines d)
 
-pub maps_to : {st : List Bracket} {p : Bool} {rest : List ℕ} {us : List Token} → Lexed st false rest us → Lexed st p (32 ∷ 124 ∷ 45 ∷ 62 ∷ 32 ∷ rest) (token sign.MapsTo ∷ us)
+pub maps_to : {st : List Bracket} {p : Bool} {rest : List ℕ} {us : List Token} → Lexed st false rest us → Lexed st p (32 ∷ 124 ∷ 45 ∷ 62 ∷ 32 ∷ rest) (t.Symbol s.MapsTo ∷ us)
 maps_to d = blank (single 124 (45 ∷ 62 ∷ []) (w.sign (124 ∷ 45 ∷ 62 ∷ []) _ 32 _ refl refl refl refl refl) refl refl (blank d))
 
-pub equal : {st : List Bracket} {p : Bool} {rest : List ℕ} {us : List Token} → Lexed st false rest us → Lexed st p (32 ∷ 61 ∷ 32 ∷ rest) (token sign.Equal ∷ us)
+pub equal : {st : List Bracket} {p : Bool} {rest : List ℕ} {us : List Token} → Lexed st false rest us → Lexed st p (32 ∷ 61 ∷ 32 ∷ rest) (t.Symbol (s.Infix op.Equal) ∷ us)
 equal d = blank (single 61 ([]) (w.sign (61 ∷ []) _ 32 _ refl refl refl refl refl) refl refl (blank d))
 
-pub member : {st : List Bracket} {p : Bool} {rest : List ℕ} {us : List Token} → Lexed st false rest us → Lexed st p (32 ∷ 92 ∷ 105 ∷ 110 ∷ 32 ∷ rest) (token sign.In ∷ us)
+pub member : {st : List Bracket} {p : Bool} {rest : List ℕ} {us : List Token} → Lexed st false rest us → Lexed st p (32 ∷ 92 ∷ 105 ∷ 110 ∷ 32 ∷ rest) (t.Symbol (s.Infix op.In) ∷ us)
 member d = blank (single 92 (105 ∷ 110 ∷ []) (piece (l.slashed (record { all = refl; longest = refl }) refl)) refl refl (blank d))
 
-pub then : {st : List Bracket} {p : Bool} {rest : List ℕ} {us : List Token} → Lexed st false rest us → Lexed st p (32 ∷ 84 ∷ 72 ∷ 69 ∷ 78 ∷ 32 ∷ rest) (token sign.Then ∷ us)
+pub then : {st : List Bracket} {p : Bool} {rest : List ℕ} {us : List Token} → Lexed st false rest us → Lexed st p (32 ∷ 84 ∷ 72 ∷ 69 ∷ 78 ∷ 32 ∷ rest) (t.Symbol s.Then ∷ us)
 then d = blank (single 84 (72 ∷ 69 ∷ 78 ∷ []) (piece (l.word (record { all = refl; longest = refl }) refl)) refl refl (blank d))
 
-pub otherwise : {st : List Bracket} {p : Bool} {rest : List ℕ} {us : List Token} → Lexed st false rest us → Lexed st p (32 ∷ 69 ∷ 76 ∷ 83 ∷ 69 ∷ 32 ∷ rest) (token sign.Else ∷ us)
+pub otherwise : {st : List Bracket} {p : Bool} {rest : List ℕ} {us : List Token} → Lexed st false rest us → Lexed st p (32 ∷ 69 ∷ 76 ∷ 83 ∷ 69 ∷ 32 ∷ rest) (t.Symbol s.Else ∷ us)
 otherwise d = blank (single 69 (76 ∷ 83 ∷ 69 ∷ []) (piece (l.word (record { all = refl; longest = refl }) refl)) refl refl (blank d))
 
-pub let_end : {st : List Bracket} {p : Bool} {rest : List ℕ} {us : List Token} → Lexed st false rest us → Lexed st p (32 ∷ 73 ∷ 78 ∷ 32 ∷ rest) (token sign.LetIn ∷ us)
+pub let_end : {st : List Bracket} {p : Bool} {rest : List ℕ} {us : List Token} → Lexed st false rest us → Lexed st p (32 ∷ 73 ∷ 78 ∷ 32 ∷ rest) (t.Symbol s.LetIn ∷ us)
 let_end d = blank (single 73 (78 ∷ []) (piece (l.word (record { all = refl; longest = refl }) refl)) refl refl (blank d))
 
-pub except : {st : List Bracket} {p : Bool} {rest : List ℕ} {us : List Token} → Lexed st false rest us → Lexed st p (32 ∷ 69 ∷ 88 ∷ 67 ∷ 69 ∷ 80 ∷ 84 ∷ 32 ∷ rest) (token sign.Except ∷ us)
+pub except : {st : List Bracket} {p : Bool} {rest : List ℕ} {us : List Token} → Lexed st false rest us → Lexed st p (32 ∷ 69 ∷ 88 ∷ 67 ∷ 69 ∷ 80 ∷ 84 ∷ 32 ∷ rest) (t.Symbol s.Except ∷ us)
 except d = blank (single 69 (88 ∷ 67 ∷ 69 ∷ 80 ∷ 84 ∷ []) (piece (l.word (record { all = refl; longest = refl }) refl)) refl refl (blank d))
 
 pub product : {st : List Bracket} {p : Bool} {rest : List ℕ} {us : List Token} → Lexed st false rest us → Lexed st p (32 ∷ 92 ∷ 88 ∷ 32 ∷ rest) (operator_token operator.Product ∷ us)
@@ -160,13 +158,13 @@ let_begin d = single 76 (69 ∷ 84 ∷ []) (piece (l.word (record { all = refl; 
 pub choose : {st : List Bracket} {p : Bool} {rest : List ℕ} {us : List Token} → Lexed st false rest us → Lexed st p (67 ∷ 72 ∷ 79 ∷ 79 ∷ 83 ∷ 69 ∷ 32 ∷ rest) (t.Symbol s.Choose ∷ us)
 choose d = single 67 (72 ∷ 79 ∷ 79 ∷ 83 ∷ 69 ∷ []) (piece (l.word (record { all = refl; longest = refl }) refl)) refl refl (blank d)
 
-pub other_arrow : {st : List Bracket} {p : Bool} {rest : List ℕ} {us : List Token} → Lexed st false rest us → Lexed st p (79 ∷ 84 ∷ 72 ∷ 69 ∷ 82 ∷ 32 ∷ 45 ∷ 62 ∷ 32 ∷ rest) (token sign.Other ∷ (token sign.Arrow ∷ us))
+pub other_arrow : {st : List Bracket} {p : Bool} {rest : List ℕ} {us : List Token} → Lexed st false rest us → Lexed st p (79 ∷ 84 ∷ 72 ∷ 69 ∷ 82 ∷ 32 ∷ 45 ∷ 62 ∷ 32 ∷ rest) (t.Symbol s.Other ∷ (t.Symbol s.Arrow ∷ us))
 other_arrow d = single 79 (84 ∷ 72 ∷ 69 ∷ 82 ∷ []) (piece (l.word (record { all = refl; longest = refl }) refl)) refl refl (arrow d)
 
 pub unchanged : {st : List Bracket} {p : Bool} {rest : List ℕ} {us : List Token} → Lexed st false rest us → Lexed st p (85 ∷ 78 ∷ 67 ∷ 72 ∷ 65 ∷ 78 ∷ 71 ∷ 69 ∷ 68 ∷ 32 ∷ rest) (t.Symbol s.Unchanged ∷ us)
 unchanged d = single 85 (78 ∷ 67 ∷ 72 ∷ 65 ∷ 78 ∷ 71 ∷ 69 ∷ 68 ∷ []) (piece (l.word (record { all = refl; longest = refl }) refl)) refl refl (blank d)
 
-pub comma : {st : List Bracket} {p : Bool} {rest : List ℕ} {us : List Token} → Lexed st false rest us → Lexed st p (44 ∷ 32 ∷ rest) (token sign.Comma ∷ us)
+pub comma : {st : List Bracket} {p : Bool} {rest : List ℕ} {us : List Token} → Lexed st false rest us → Lexed st p (44 ∷ 32 ∷ rest) (t.Symbol s.Comma ∷ us)
 comma d = single 44 ([]) (w.sign (44 ∷ []) _ 32 _ refl refl refl refl refl) refl refl (blank d)
 
 -- ---- operators
@@ -225,16 +223,16 @@ pub at_said : {st : List Bracket} {p : Bool} (rest : List ℕ) {us : List Token}
 at_said [] e d = single 64 [] (sign_last 64 [] s.At refl refl refl) refl refl d
 at_said (y ∷ rest) e d = single 64 [] (sign_before 64 [] y rest s.At refl (at_row y e.1) refl refl) refl refl d
 
-pub prime_said : {st : List Bracket} {p : Bool} (rest : List ℕ) {us : List Token} → Lexed st true rest us → Lexed st p (39 ∷ rest) (token sign.Prime ∷ us)
+pub prime_said : {st : List Bracket} {p : Bool} (rest : List ℕ) {us : List Token} → Lexed st true rest us → Lexed st p (39 ∷ rest) (t.Symbol s.Prime ∷ us)
 prime_said rest d = single 39 [] (sign_any 39 [] rest s.Prime refl (λ y. refl) refl refl) refl refl d
 
-pub bang_said : {st : List Bracket} {p : Bool} (rest : List ℕ) {us : List Token} → Lexed st false rest us → Lexed st p (33 ∷ rest) (token sign.Bang ∷ us)
+pub bang_said : {st : List Bracket} {p : Bool} (rest : List ℕ) {us : List Token} → Lexed st false rest us → Lexed st p (33 ∷ rest) (t.Symbol s.Bang ∷ us)
 bang_said rest d = single 33 [] (sign_any 33 [] rest s.Bang refl (λ y. refl) refl refl) refl refl d
 
 dot_row : (y : ℕ) → nat_eq y 46 ≡ false → begins_no_row (46 ∷ (y ∷ [])) signs ≡ true
 dot_row y h = rw h refl
 
-pub dot_said : {st : List Bracket} {p : Bool} (y : ℕ) (rest : List ℕ) {us : List Token} → nat_eq y 46 ≡ false → Lexed st false (y ∷ rest) us → Lexed st p (46 ∷ (y ∷ rest)) (token sign.Dot ∷ us)
+pub dot_said : {st : List Bracket} {p : Bool} (y : ℕ) (rest : List ℕ) {us : List Token} → nat_eq y 46 ≡ false → Lexed st false (y ∷ rest) us → Lexed st p (46 ∷ (y ∷ rest)) (t.Symbol s.Dot ∷ us)
 dot_said y rest h d = single 46 [] (sign_before 46 [] y rest s.Dot refl (dot_row y h) refl refl) refl refl d
 
 pub truth_said : (v : Bool) {st : List Bracket} {p : Bool} (rest : List ℕ) {us : List Token} → Ends rest → Lexed st true rest us → Lexed st p (truth_text v ++ rest) (t.Symbol (s.Truth v) ∷ us)

@@ -6,6 +6,7 @@ use Rattle.pgo_base.specs.Tree.{Tree, Trees, no_trees, more_trees, trees, named,
 use Rattle.pgo_base.specs.Tree as e
 use Rattle.pgo_model.specs.ValueText.{is_digit, is_letter, is_word_byte}
 use Rattle.pgo_lexer.specs.declared.symbol.Junction.{Junction}
+use Rattle.pgo_lexer.specs.declared.symbol.Symbol.TheVariants as sign
 use Rattle.pgo_lexer.specs.declared.token.Token.{Token}
 use Rattle.pgo_lexer.specs.declared.token.Token.TheVariants as t
 use Rattle.pgo_lexer.specs.Lexemes.{all_are}
@@ -14,7 +15,6 @@ use Rattle.pgo_expr_read.specs.declared.table.Form.TheVariants as form
 use Rattle.pgo_expr_read.specs.declared.table.Operator.{Operator}
 use Rattle.pgo_expr_read.specs.declared.table.Operator.TheVariants as operator
 use Rattle.pgo_expr_read.specs.declared.read.Ending.{Ending}
-use Rattle.pgo_expr_read.specs.declared.sign.Sign.TheVariants as sign
 use Rattle.pgo_expr_read.specs.Lookahead.{is_mapped}
 use Rattle.pgo_expr_read.specs.Kinds as kind
 use Rattle.pgo_expr_read.specs.Kinds.{Kind, Thing, between}

@@ -1,18 +1,21 @@
 -- Canonical texts as outermost expressions and as operands, with tokens that spell the expression.
-use Rattle.std.proofs.Common.{◌≡◌, ℕ, Bool, true, false, ◌&&◌, List, [], ◌∷◌, ◌++◌, refl, ap, sym, ◌∙◌, subst, nat_eq}
+use Rattle.std.proofs.Common.{◌≡◌, ℕ, Bool, true, false, ◌&&◌, List, [], ◌∷◌, ◌++◌, refl, ap, sym, ◌∙◌, subst}
 use Rattle.std.specs.Prelude.{codes}
 use Rattle.std.proofs.lemmas.List.{append_assoc}
+use Rattle.pgo_base.specs.declared.expr.Infix.TheVariants as op
 use Rattle.pgo_base.specs.Tree.{Tree}
 use Rattle.pgo_base.specs.Tree as e
 use Rattle.pgo_model.specs.ExprText.{expr_text}
+use Rattle.pgo_lexer.specs.declared.symbol.Bracket.TheVariants as bracket
+use Rattle.pgo_lexer.specs.declared.symbol.Symbol.TheVariants as sign
+use Rattle.pgo_lexer.specs.declared.token.Token.TheVariants as t
 use Rattle.pgo_lexer.specs.declared.token.Token.{Token}
 use Rattle.pgo_lexer.specs.declared.symbol.Bracket.{Bracket}
-use Rattle.pgo_expr_read.specs.declared.sign.Sign.TheVariants as sign
 use Rattle.pgo_expr_read.specs.declared.table.Form.{Form}
 use Rattle.pgo_expr_read.specs.declared.table.Form.TheVariants as form
 use Rattle.pgo_expr_read.specs.declared.read.Ending.{Ending}
 use Rattle.pgo_expr_read.specs.declared.read.Ending.TheVariants as ending
-use Rattle.pgo_expr_read.specs.Signs.{token, code_of}
+use Rattle.pgo_expr_read.specs.Signs.{is_sign}
 use Rattle.pgo_expr_read.specs.Lookahead.{begins_binder, is_name, sees}
 use Rattle.pgo_expr_read.specs.Spells.{Spelled, Range}
 use Rattle.pgo_expr_read.specs.Spells as s
@@ -141,13 +144,13 @@ inner_enclosed a o h =
     let bytes : (rest : List ℕ) → 40 ∷ ahead (pieces_of a) (41 ∷ rest) ≡ expr_text false a ++ rest =
     λ rest. ap (λ z. 40 ∷ z) (text_ahead a (41 ∷ rest)) ∙ enclosed_bytes (expr_text true a) rest ∙ ap (λ z. z ++ rest) (sym (enclosed_text a h)) in
     record {
-      tokens = token sign.RoundOpen ∷ (o.tokens ++ (token sign.RoundClose ∷ []));
+      tokens = t.Symbol (sign.Open bracket.Round) ∷ (o.tokens ++ (t.Symbol (sign.Close bracket.Round) ∷ []));
       spelled = s.parens o.spelled;
       no_binder = refl;
       begins = λ rest. subst Begins (bytes rest) (refl, refl, refl);
       said = λ st p rest us ends d.
-          regroup _ _ _ _ (bytes rest) (ap (λ z. token sign.RoundOpen ∷ z) (sym (append_assoc o.tokens (token sign.RoundClose ∷ []) us)))
-          (round_open (ahead (pieces_of a) (41 ∷ rest)) (o.begins (41 ∷ rest)) (o.said _ false (41 ∷ rest) (token sign.RoundClose ∷ us) (refl, refl) (round_close rest d)));
+          regroup _ _ _ _ (bytes rest) (ap (λ z. t.Symbol (sign.Open bracket.Round) ∷ z) (sym (append_assoc o.tokens (t.Symbol (sign.Close bracket.Round) ∷ []) us)))
+          (round_open (ahead (pieces_of a) (41 ∷ rest)) (o.begins (41 ∷ rest)) (o.said _ false (41 ∷ rest) (t.Symbol (sign.Close bracket.Round) ∷ us) (refl, refl) (round_close rest d)));
     }
 
 inner_by : (a : Tree) (c : Bool) → is_enclosed a ≡ c → Outer a → Inner a
@@ -165,8 +168,8 @@ pub outer_said : (a : Tree) (o : Outer a) → Says (λ rest. expr_text true a ++
 outer_said a o st p rest us ends d = regroup _ _ _ _ (text_ahead a rest) refl (o.said st p rest us ends d)
 
 -- a front that begins with no name and `\in`, before another token than `\in`
-pub still_no_binder : (xs : List Token) (k : Token) (ys : List Token) → is_name k ≡ false → nat_eq (code_of k) 18 ≡ false → begins_binder xs ≡ false → begins_binder (xs ++ (k ∷ ys)) ≡ false
-still_no_binder [] k ys n c h = ap (λ z. z && sees sign.In ys) n
+pub still_no_binder : (xs : List Token) (k : Token) (ys : List Token) → is_name k ≡ false → is_sign (sign.Infix op.In) k ≡ false → begins_binder xs ≡ false → begins_binder (xs ++ (k ∷ ys)) ≡ false
+still_no_binder [] k ys n c h = ap (λ z. z && sees (sign.Infix op.In) ys) n
 still_no_binder (a ∷ []) k ys n c h = ap (λ z. is_name a && z) c ∙ and_false (is_name a)
   where
     and_false : (b : Bool) → (b && false) ≡ false

@@ -3,18 +3,19 @@ use Rattle.std.proofs.Common.{◌≡◌, ℕ, suc, Bool, true, false, List, [], 
 use Rattle.std.specs.Prelude.{codes}
 use Rattle.std.proofs.lemmas.Bool.{and_parts, leb-true}
 use Rattle.std.proofs.lemmas.List.{append_assoc}
+use Rattle.pgo_base.specs.declared.expr.Infix.TheVariants as op
 use Rattle.pgo_base.specs.Data.{string}
 use Rattle.pgo_base.specs.Lookup.{Name}
 use Rattle.pgo_base.specs.Tree.{Tree, Trees, no_trees, more_trees, NamedTrees, no_named, more_named, TreePairs, no_arms, more_arms, BoundTrees, no_bound, more_bound, PathTrees, no_paths, more_paths, trees, named, arms, bound, paths}
 use Rattle.pgo_base.specs.Tree as e
 use Rattle.pgo_model.specs.ValueText.{is_field, is_identifier}
 use Rattle.pgo_model.specs.ExprText.{expr_text}
+use Rattle.pgo_lexer.specs.declared.symbol.Bracket.TheVariants as bracket
+use Rattle.pgo_lexer.specs.declared.symbol.Symbol.TheVariants as sign
+use Rattle.pgo_lexer.specs.declared.symbol.Symbol.{Symbol}
 use Rattle.pgo_lexer.specs.declared.token.Token.{Token}
 use Rattle.pgo_lexer.specs.declared.token.Token.TheVariants as t
 use Rattle.pgo_lexer.specs.declared.symbol.Bracket.{Bracket}
-use Rattle.pgo_expr_read.specs.declared.sign.Sign.{Sign}
-use Rattle.pgo_expr_read.specs.declared.sign.Sign.TheVariants as sign
-use Rattle.pgo_expr_read.specs.Signs.{token}
 use Rattle.pgo_expr_read.specs.Kinds as kind
 use Rattle.pgo_expr_read.specs.Spells.{names, more_names}
 use Rattle.pgo_expr_read.specs.Spells as s
@@ -127,16 +128,16 @@ names_said x xs h hs st p rest us ends d = name_said x (ahead (names_from 1 xs) 
 
 -- ---- fields and definitions
 
-one_field : (v : Sign) (bytes : List ℕ) (x : Name) (a : Tree) → ((st : List Bracket) (rest : List ℕ) (us : List Token) → Lexed st false rest us → Lexed st true (bytes ++ rest) (token v ∷ us)) → ((rest : List ℕ) → Ends (bytes ++ rest))
+one_field : (v : Symbol) (bytes : List ℕ) (x : Name) (a : Tree) → ((st : List Bracket) (rest : List ℕ) (us : List Token) → Lexed st false rest us → Lexed st true (bytes ++ rest) (t.Symbol v ∷ us)) → ((rest : List ℕ) → Ends (bytes ++ rest))
     → IsName x → Inner a → One (kind.field v) (written x ∷ written bytes ∷ operand a ∷ []) (x, a)
 one_field v bytes x a says ends h i = record {
-  tokens = t.Name x ∷ (token v ∷ i.tokens);
+  tokens = t.Name x ∷ (t.Symbol v ∷ i.tokens);
   item = s.field i.spelled;
   begins = λ rest. name_begins x (bytes ++ (expr_text false a ++ rest)) h;
   said = λ st p rest us e d. name_said x (bytes ++ (expr_text false a ++ rest)) h (ends (expr_text false a ++ rest)) (says st (expr_text false a ++ rest) (i.tokens ++ us) (i.said st false rest us e d));
 }
 
-module _ (v : Sign) (bytes : List ℕ) (says : (st : List Bracket) (rest : List ℕ) (us : List Token) → Lexed st false rest us → Lexed st true (bytes ++ rest) (token v ∷ us)) (ends : (rest : List ℕ) → Ends (bytes ++ rest)) where
+module _ (v : Symbol) (bytes : List ℕ) (says : (st : List Bracket) (rest : List ℕ) (us : List Token) → Lexed st false rest us → Lexed st true (bytes ++ rest) (t.Symbol v ∷ us)) (ends : (rest : List ℕ) → Ends (bytes ++ rest)) where
   further_fields : (n : ℕ) (as' : NamedTrees) → InnerNamed as' → More (kind.field v) (named_from bytes (codes ", ") (suc n) as') (named_list as')
   unfolding named_list
   further_fields n no_named no_field = no_more (kind.field v)
@@ -151,7 +152,7 @@ module _ (v : Sign) (bytes : List ℕ) (says : (st : List Bracket) (rest : List 
 
 one_definition : (x : Name) (a : Tree) → IsName x → Inner a → One kind.definition (written x ∷ written (codes " == ") ∷ operand a ∷ []) (x, a)
 one_definition x a h i = record {
-  tokens = t.Name x ∷ (token sign.Defines ∷ i.tokens);
+  tokens = t.Name x ∷ (t.Symbol sign.Defines ∷ i.tokens);
   item = s.definition i.spelled;
   begins = λ rest. name_begins x _ h;
   said = λ st p rest us e d. name_said x _ h (refl, refl) (defines (i.said st false rest us e d));
@@ -173,10 +174,10 @@ row_of_definitions x a as' h i is =
 
 one_arm : (g a : Tree) → Inner g → Inner a → One kind.arm (operand g ∷ written (codes " -> ") ∷ operand a ∷ []) (g, a)
 one_arm g a j i = record {
-  tokens = j.tokens ++ (token sign.Arrow ∷ i.tokens);
+  tokens = j.tokens ++ (t.Symbol sign.Arrow ∷ i.tokens);
   item = s.arm j.spelled i.spelled;
   begins = λ rest. j.begins _;
-  said = λ st p rest us e d. regroup _ _ _ _ refl (sym (append_assoc j.tokens (token sign.Arrow ∷ i.tokens) us)) (j.said st p _ (token sign.Arrow ∷ (i.tokens ++ us)) (refl, refl) (arrow (i.said st false rest us e d)));
+  said = λ st p rest us e d. regroup _ _ _ _ refl (sym (append_assoc j.tokens (t.Symbol sign.Arrow ∷ i.tokens) us)) (j.said st p _ (t.Symbol sign.Arrow ∷ (i.tokens ++ us)) (refl, refl) (arrow (i.said st false rest us e d)));
 }
 
 further_arms : (n : ℕ) (gs : TreePairs) → InnerArms gs → More kind.arm (arms_from (suc n) gs) (arm_list gs)
@@ -198,12 +199,12 @@ one_binder (x ∷ xs) r h o =
     let ps = names_from 0 (x ∷ xs) in
     let qs : List Piece = written (codes " \\in ") ∷ operand r ∷ [] in
     record {
-      tokens = names x xs ++ (token sign.In ∷ o.tokens);
+      tokens = names x xs ++ (t.Symbol (sign.Infix op.In) ∷ o.tokens);
       item = s.binder o.range;
       begins = λ rest. name_begins x _ h.0;
       said = λ st p rest us e d.
-          regroup _ _ _ _ (sym (ahead_append ps qs rest)) (sym (append_assoc (names x xs) (token sign.In ∷ o.tokens) us))
-          (names_said x xs h.0 h.1 st p (ahead qs rest) (token sign.In ∷ (o.tokens ++ us)) (refl, refl) (member (o.said st false rest us e d)));
+          regroup _ _ _ _ (sym (ahead_append ps qs rest)) (sym (append_assoc (names x xs) (t.Symbol (sign.Infix op.In) ∷ o.tokens) us))
+          (names_said x xs h.0 h.1 st p (ahead qs rest) (t.Symbol (sign.Infix op.In) ∷ (o.tokens ++ us)) (refl, refl) (member (o.said st false rest us e d)));
     }
 
 further_binders : (n : ℕ) (bs : BoundTrees) → InnerBound bs → More kind.binder (binders_from (suc n) bs) (bound_list bs)
@@ -225,21 +226,21 @@ pub record Step (a : Tree) : Type 0 where
 
 one_bracketed : (a : Tree) → Inner a → One kind.step (bracketed a) a
 one_bracketed a i = record {
-  tokens = token sign.SquareOpen ∷ (i.tokens ++ (token sign.SquareClose ∷ []));
+  tokens = t.Symbol (sign.Open bracket.Square) ∷ (i.tokens ++ (t.Symbol (sign.Close bracket.Square) ∷ []));
   item = s.index_step i.spelled;
   begins = λ rest. (refl, refl, refl);
   said = λ st p rest us e d.
-      regroup _ _ _ _ refl (ap (λ z. token sign.SquareOpen ∷ z) (sym (append_assoc i.tokens (token sign.SquareClose ∷ []) us)))
-      (square_open (expr_text false a ++ (93 ∷ rest)) (i.begins (93 ∷ rest)) (i.said _ false (93 ∷ rest) (token sign.SquareClose ∷ us) (refl, refl) (square_close rest d)));
+      regroup _ _ _ _ refl (ap (λ z. t.Symbol (sign.Open bracket.Square) ∷ z) (sym (append_assoc i.tokens (t.Symbol (sign.Close bracket.Square) ∷ []) us)))
+      (square_open (expr_text false a ++ (93 ∷ rest)) (i.begins (93 ∷ rest)) (i.said _ false (93 ∷ rest) (t.Symbol (sign.Close bracket.Square) ∷ us) (refl, refl) (square_close rest d)));
 }
 
-pub dot_name : {st : List Bracket} {p : Bool} (x rest : List ℕ) {us : List Token} → IsName x → Ends rest → Lexed st true rest us → Lexed st p (46 ∷ (x ++ rest)) (token sign.Dot ∷ (t.Name x ∷ us))
+pub dot_name : {st : List Bracket} {p : Bool} (x rest : List ℕ) {us : List Token} → IsName x → Ends rest → Lexed st true rest us → Lexed st p (46 ∷ (x ++ rest)) (t.Symbol sign.Dot ∷ (t.Name x ∷ us))
 dot_name [] rest h e d = absurd (let z = h.0 in cc)
 dot_name (y ∷ x) rest h e d = dot_said y (x ++ rest) (no_dot y x h) (name_said (y ∷ x) rest h e d)
 
 one_field_step : (x : Name) → IsName x → One kind.step (written (codes ".") ∷ written x ∷ []) (e.text x)
 one_field_step x h = record {
-  tokens = token sign.Dot ∷ (t.Name x ∷ []);
+  tokens = t.Symbol sign.Dot ∷ (t.Name x ∷ []);
   item = s.field_step;
   begins = λ rest. (refl, refl, refl);
   said = λ st p rest us e d. dot_name x rest h e d;
@@ -301,12 +302,12 @@ one_update p ps a i is j =
     let steps = path_pieces (more_trees p ps) in
     let qs : List Piece = written (codes " = ") ∷ operand a ∷ [] in
     record {
-      tokens = token sign.Bang ∷ (row.tokens ++ (token sign.Equal ∷ j.tokens));
+      tokens = t.Symbol sign.Bang ∷ (row.tokens ++ (t.Symbol (sign.Infix op.Equal) ∷ j.tokens));
       item = s.update row.items j.spelled;
       begins = λ rest. (refl, refl, refl);
       said = λ st q rest us e d.
-          regroup _ _ _ _ (ap (λ z. 33 ∷ z) (sym (ahead_append steps qs rest))) (ap (λ z. token sign.Bang ∷ z) (sym (append_assoc row.tokens (token sign.Equal ∷ j.tokens) us)))
-          (bang_said (ahead steps (ahead qs rest)) (row.said st false (ahead qs rest) (token sign.Equal ∷ (j.tokens ++ us)) (refl, refl) (equal (j.said st false rest us e d))));
+          regroup _ _ _ _ (ap (λ z. 33 ∷ z) (sym (ahead_append steps qs rest))) (ap (λ z. t.Symbol sign.Bang ∷ z) (sym (append_assoc row.tokens (t.Symbol (sign.Infix op.Equal) ∷ j.tokens) us)))
+          (bang_said (ahead steps (ahead qs rest)) (row.said st false (ahead qs rest) (t.Symbol (sign.Infix op.Equal) ∷ (j.tokens ++ us)) (refl, refl) (equal (j.said st false rest us e d))));
     }
 
 further_updates : (n : ℕ) (us : PathTrees) → InnerPaths us → More kind.update (updates_from (suc n) us) (path_list us)

@@ -14,12 +14,10 @@ use Rattle.pgo_model.specs.ExprText.{expr_text, infix_text}
 use Rattle.pgo_lexer.specs.declared.token.Token.TheVariants as t
 use Rattle.pgo_lexer.specs.declared.symbol.Symbol.TheVariants as y
 use Rattle.pgo_lexer.specs.Lexemes.{all_are}
-use Rattle.pgo_expr_read.specs.declared.sign.Sign.TheVariants as sign
 use Rattle.pgo_expr_read.specs.declared.table.Form.TheVariants as form
 use Rattle.pgo_expr_read.specs.declared.table.Operator.{Operator}
 use Rattle.pgo_expr_read.specs.declared.table.Operator.TheVariants as operator
 use Rattle.pgo_expr_read.specs.declared.read.Ending.TheVariants as ending
-use Rattle.pgo_expr_read.specs.Signs.{token}
 use Rattle.pgo_expr_read.specs.Spells.{Spelled, prefix_token, operator_token}
 use Rattle.pgo_expr_read.specs.Spells as s
 use Rattle.pgo_expr_read.specs.Table.{takes_left, right_least, prefix_least, form_low, high}
@@ -45,7 +43,7 @@ pub primed_form : (x : Name) → IsName x → Outer (e.primed x)
 primed_form x h = record {
   outermost = form.Closed;
   last = ending.Closed;
-  tokens = t.Name x ∷ (token sign.Prime ∷ []);
+  tokens = t.Name x ∷ (t.Symbol y.Prime ∷ []);
   spelled = s.primed;
   closed = λ _. (refl, refl, refl);
   begins = λ rest. name_begins x (39 ∷ rest) h;
@@ -203,17 +201,17 @@ binary_form o a c i j = record {
       (i.said st p (infix_text o ++ (expr_text false c ++ rest)) (operator_token (operator.Infix o) ∷ (j.tokens ++ us)) (infix_ends o (expr_text false c ++ rest)) (infix_said o (j.said st false rest us ends d)));
 }
 
-endless_member : (w : Word) (a : Tree) (i : Inner a) → Spelled (form.Operation (operator.Infix op.In)) ending.Closed (i.tokens ++ (token sign.In ∷ (t.Symbol (y.Word w) ∷ []))) (e.binary op.In a (e.word w)) → Outer (e.binary op.In a (e.word w))
+endless_member : (w : Word) (a : Tree) (i : Inner a) → Spelled (form.Operation (operator.Infix op.In)) ending.Closed (i.tokens ++ (t.Symbol (y.Infix op.In) ∷ (t.Symbol (y.Word w) ∷ []))) (e.binary op.In a (e.word w)) → Outer (e.binary op.In a (e.word w))
 endless_member w a i d = record {
   outermost = form.Operation (operator.Infix op.In);
   last = ending.Closed;
-  tokens = i.tokens ++ (token sign.In ∷ (t.Symbol (y.Word w) ∷ []));
+  tokens = i.tokens ++ (t.Symbol (y.Infix op.In) ∷ (t.Symbol (y.Word w) ∷ []));
   spelled = d;
   closed = λ h. cc;
   begins = λ rest. i.begins _;
   said = λ st p rest us ends d.
-      regroup _ _ _ _ refl (sym (append_assoc i.tokens (token sign.In ∷ (t.Symbol (y.Word w) ∷ [])) us))
-      (i.said st p _ (token sign.In ∷ (t.Symbol (y.Word w) ∷ us)) (refl, refl) (member (word_said w rest ends d)));
+      regroup _ _ _ _ refl (sym (append_assoc i.tokens (t.Symbol (y.Infix op.In) ∷ (t.Symbol (y.Word w) ∷ [])) us))
+      (i.said st p _ (t.Symbol (y.Infix op.In) ∷ (t.Symbol (y.Word w) ∷ us)) (refl, refl) (member (word_said w rest ends d)));
 }
 
 pub member_form : (w : Word) (a : Tree) → Inner a → Outer (e.binary op.In a (e.word w))

@@ -4,3 +4,4 @@ pub mod Matching
 pub mod Firsts
 pub mod Ordered
 pub mod KnownParts
+pub mod SameNames

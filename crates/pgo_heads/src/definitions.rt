@@ -4,6 +4,7 @@ ghost use Rattle.std.specs.List.{filter_map};
 ghost use Rattle.pgo_base.specs.View.{data_of, named_data};
 ghost use Rattle.pgo_bound.specs.Values as values;
 
+use crate::given_values::GivenValues;
 use pgo_base::consts::Consts;
 use pgo_base::expr::Names;
 use pgo_base::module::{Defined, Defs};
@@ -36,8 +37,9 @@ fn add_constants(
 ) -> Result<(), AllocError>
     ensures { IfOk result (λ _. defs.new ≡ defs.old ++ filter_map (values.given_constant (map named_data consts.now)) declared.now) }
 {
+    let given = GivenValues::new(alloc, consts)?;
     for c in declared {
-        match given_value(consts, &c.name) {
+        match given.get(&c.name) {
             None => continue,
             Some(value) => {
                 let value = value.copy(alloc)?;

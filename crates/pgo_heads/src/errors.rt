@@ -19,7 +19,7 @@ use thiserror::Error;
 /// - `TooManyInstances`, `TooManyResources`: there are more than 64, or more than 1,024, namely this many.
 /// - `InitNoValue`: an initial value, a set or a value argument has no value, or what starts with it is too deep for a state.
 /// - `InitEmpty`: the set behind `\in` is empty.
-/// - `NoMemory`: there was no memory.
+/// - `NoMemory`: there was no memory, or an expression that is evaluated opens more than 640 levels.
 ///
 /// Source: Modular PlusCal for what is bound to what; this project's choice for the rest.
 #[derive(Drop, Error)]

@@ -6,15 +6,18 @@
 #![tactic(auto)]
 
 pub mod constants;
+pub mod declared_names;
 pub mod definitions;
 pub mod errors;
 pub mod findings;
 pub mod fitting;
+pub mod given_values;
 pub mod globals;
 pub mod identifiers;
 pub mod instances;
 pub mod kinds;
 pub mod known;
 pub mod mapping;
+pub mod name_map;
 pub mod runs;
 pub mod start_values;

@@ -13,3 +13,5 @@ pub mod MarksSound
 pub mod TokensExact
 pub mod SignEnds
 pub mod FurtherRight
+pub mod PrefixLexed
+pub mod PrefixMarks

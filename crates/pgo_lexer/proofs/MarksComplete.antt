@@ -31,7 +31,7 @@ not_below : (a b : ℕ) → b ≤ a → nat_lt a b ≡ false
 not_below a b h = elim (leb_tells (suc a) b) [ inl k ↦ absurd (omega (arith, k.1)) | inr k ↦ k.0 ]
 
 -- a token that ends no list is put in its place
-step_placed : (out : List Lexeme) (fs : List Frame) (p : Bool) (r : Lexeme) → bound fs ≤ r.column → step (at out fs p) r ≡ placed (role_of p (kind_of r.token)) r out fs
+pub step_placed : (out : List Lexeme) (fs : List Frame) (p : Bool) (r : Lexeme) → bound fs ≤ r.column → step (at out fs p) r ≡ placed (role_of p (kind_of r.token)) r out fs
 unfolding step
 step_placed out fs p r h =
     ap (λ s. placed_at s (at out fs p) r) (settle_stays r fs h)
@@ -102,7 +102,7 @@ unfolding step
 step_pops op c out fs p r h other = ap (λ s. placed_at s (at out (f.List op c ∷ fs) p) r) (settle_pops op c fs r h other) ∙ placed_closing (settle r fs) out fs op c p r
 
 -- a bracket's end, or a `;`, closes a list in whatever column it stands
-placed_ends : (op : Junction) (c : ℕ) (out : List Lexeme) (fs : List Frame) (p : Bool) (r : Lexeme) (k : Kind) → Ends false k → placed (role_of p k) r out (f.List op c ∷ fs) ≡ placed (role_of p k) r (out ++ (list_close ∷ [])) fs
+pub placed_ends : (op : Junction) (c : ℕ) (out : List Lexeme) (fs : List Frame) (p : Bool) (r : Lexeme) (k : Kind) → Ends false k → placed (role_of p k) r out (f.List op c ∷ fs) ≡ placed (role_of p k) r (out ++ (list_close ∷ [])) fs
 placed_ends op c out fs p r k (inl h) =
     let P : Kind → Type 0 = λ k. placed (role_of p k) r out (f.List op c ∷ fs) ≡ placed (role_of p k) r (out ++ (list_close ∷ [])) fs in
     let q : P (kind.Close h.0) = ap (λ x. close_by h.0 r x (unlisted fs).frames) (sym (append_assoc out (list_close ∷ []) (unlisted fs).marks)) in
@@ -126,7 +126,7 @@ pops op c out fs p (r ∷ rs) low (inr h) =
       | inr k ↦ ap (λ s. run_by s rs) (step_ends op c out fs p r h k.1 low)
     ]
 
-same_bracket : (k : Bracket) → is_same_bracket k k ≡ true
+pub same_bracket : (k : Bracket) → is_same_bracket k k ≡ true
 same_bracket k = eq-eqb (bracket_code k) (bracket_code k) refl
 
 -- no list is the innermost that is open

@@ -1,6 +1,8 @@
 -- The clauses of the public calls, from the laws of the tokens and of the marks.
 use Rattle.std.proofs.Common.{◌≡◌, ◌≤◌, ◌+◌, ℕ, List, [], ◌∷◌, length, Option, Some, None, Result, Ok, Err, IfOk, refl, sym, ◌∙◌, ap, subst, arith}
+use Rattle.std.specs.List.{All}
 use Rattle.std.proofs.lemmas.List.{length-append}
+use Rattle.std.proofs.lemmas.List.Elements.{All-nil, All-cons}
 use Rattle.pgo_lexer.specs.declared.token.Lexeme.{Lexeme}
 use Rattle.pgo_lexer.specs.declared.errors.TextStop.{TextStop}
 use Rattle.pgo_lexer.specs.declared.errors.TextStop.TheVariants.{Syntax, NoMemory}
@@ -73,3 +75,17 @@ spans_of (l.token {column} {offset} front {rest} {ls} {token} is d) end e =
 
 pub spans : (column offset : ℕ) (text : List ℕ) (tokens : List Lexeme) → Lexes column offset text tokens → Spans offset text tokens
 spans column offset text tokens d = spans_of d (offset + length text) refl
+
+-- ---- tokens begin within the text
+
+starts_of : {column offset : ℕ} {text : List ℕ} {ls : List Lexeme} → Lexes column offset text ls → (end : ℕ) → offset + length text ≤ end → All (λ t. t.start ≤ end) ls
+starts_of (l.end {column} {offset}) end e = All-nil (λ (t : Lexeme). t.start ≤ end)
+starts_of (l.pass {column} {offset} front {rest} {ls} is d) end e = starts_of d end (let long = length-append front rest in omega (arith, e, long))
+starts_of (l.token {column} {offset} front {rest} {ls} {token} is d) end e =
+    let long = length-append front rest in
+    All-cons (λ (t : Lexeme). t.start ≤ end) (record { token = token; column = column; start = offset; stop = offset + length front }) ls (omega (arith, e)) (starts_of d end (omega (arith, e, long)))
+
+pub lexed_starts : (limit : ℕ) (text : List ℕ) (ls : List Lexeme) → lexed limit (length text) 0 0 [] text ≡ Some ls → All (λ t. t.start ≤ length text) ls
+lexed_starts limit text ls e =
+    let r = lexed_sound limit (length text) 0 0 [] ls text (omega arith) e in
+    subst (All (λ (t : Lexeme). t.start ≤ length text)) (sym r.both) (starts_of r.is (length text) (omega arith))

@@ -7,3 +7,6 @@ pub mod Tokenized
 pub mod Answers
 pub mod Lexing
 pub mod Marking
+pub mod Offsets
+pub mod Ends
+pub mod Prefixes

@@ -1,6 +1,7 @@
 // Why a text was not read.
 ghost use Rattle.std.specs.Prelude.{◌≡◌};
 ghost use Rattle.pgo_lexer.specs.Answers.{IsSyntax};
+ghost use Rattle.pgo_lexer.specs.Offsets.{IsAt};
 
 use std::alloc::AllocError;
 use thiserror::Error;
@@ -20,7 +21,8 @@ pub enum TextStop {
 impl TextStop {
     /// The text is refused at this offset.
     pub fn at(offset: usize) -> TextStop
-        ensures { IsSyntax result }
+        ensures syntax { IsSyntax result }
+        ensures at { IsAt offset result }
     {
         TextStop::Syntax {
             offset: offset as u64,

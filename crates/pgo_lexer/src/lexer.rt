@@ -1,6 +1,7 @@
 // A text cut into its tokens.
-ghost use Rattle.std.specs.Prelude.{◌≡◌, ◌≤◌, ◌<◌, ◌+◌, [], length, IfOk};
+ghost use Rattle.std.specs.Prelude.{◌≡◌, ◌≤◌, ◌<◌, ◌+◌, [], length, IfErr, IfOk};
 ghost use Rattle.pgo_lexer.specs.Answers.{Gives, ok_as};
+ghost use Rattle.pgo_lexer.specs.Offsets.{IsAt, IsWithin};
 ghost use Rattle.pgo_lexer.specs.Pieces as piece;
 ghost use Rattle.pgo_lexer.specs.Lexing as spec;
 
@@ -17,6 +18,7 @@ pub const MOST_BYTES: usize = 1152921504606846976;
 fn next_piece(alloc: Global, rest: &[u8], at: usize) -> Result<Piece, TextStop>
     ensures value { Gives (piece.first_piece rest.now) result }
     ensures within { IfOk result (λ p. p.length ≤ length rest.now) }
+    ensures refused { IfErr result (IsAt at) }
 {
     match first_piece(alloc, rest)? {
         Some(piece) => Ok(piece),
@@ -33,7 +35,8 @@ fn add(
     piece: Piece,
 ) -> Result<(), TextStop>
     requires { start + piece.length < 18446744073709551616 }
-    ensures { Gives (spec.added limit column start tokens.old piece.length piece.token) (ok_as tokens.new result) }
+    ensures value { Gives (spec.added limit column start tokens.old piece.length piece.token) (ok_as tokens.new result) }
+    ensures refused { IfErr result (IsAt start) }
 {
     let stop = start + piece.length;
     match piece.token {
@@ -56,7 +59,8 @@ fn add(
 
 /// The tokens of a text without marks, at most so many.
 pub fn lexed(alloc: Global, text: &[u8], limit: u32) -> Result<Tokens, TextStop>
-    ensures { Gives (spec.lexed limit (length text.now) 0 0 [] text.now) result }
+    ensures value { Gives (spec.lexed limit (length text.now) 0 0 [] text.now) result }
+    ensures within { IfErr result (IsWithin (length text.now)) }
 {
     if text.len() > MOST_BYTES {
         return Err(TextStop::NoMemory);

@@ -1,6 +1,9 @@
 // The marks of junction lists, put in between the tokens that come one by one.
-ghost use Rattle.std.specs.Prelude.{◌≡◌, ◌≤◌, [], ◌∷◌, ◌++◌, OnOk, IfOk, MatchResult};
+ghost use Rattle.std.specs.Prelude.{◌≡◌, ◌≤◌, [], ◌∷◌, ◌++◌, OnOk, IfOk, IfErr, MatchResult};
+ghost use Rattle.std.specs.List.{All};
 ghost use Rattle.pgo_lexer.specs.Answers.{Gives, ok_as};
+ghost use Rattle.pgo_lexer.specs.Ends.{IsRefusal};
+ghost use Rattle.pgo_lexer.specs.Offsets.{IsAt, IsWithin};
 ghost use Rattle.pgo_lexer.specs.Layout as layout;
 ghost use Rattle.pgo_lexer.specs.Kinds as kinds;
 ghost use Rattle.pgo_lexer.specs.Marking as spec;
@@ -104,7 +107,8 @@ impl Marker {
 
     /// Ends the innermost bracket. It stays open where another bracket ends.
     fn close(&mut self, bracket: Bracket, lexeme: Lexeme) -> Result<(), TextStop>
-        ensures { Gives (spec.close_by bracket lexeme self.old.out self.old.frames) (ok_as self.new result) }
+        ensures value { Gives (spec.close_by bracket lexeme self.old.out self.old.frames) (ok_as self.new result) }
+        ensures refused { IfErr result (IsRefusal lexeme.start self.old self.new) }
     {
         match self.frames.pop() {
             Some(Frame::Bracket(other, _)) if is_same_bracket(bracket, other) => {
@@ -121,7 +125,8 @@ impl Marker {
     }
 
     fn place(&mut self, lexeme: Lexeme) -> Result<(), TextStop>
-        ensures { Gives (spec.placed (kinds.role_of self.old.after_operand (kinds.kind_of lexeme.token)) lexeme self.old.out self.old.frames) (ok_as self.new result) }
+        ensures value { Gives (spec.placed (kinds.role_of self.old.after_operand (kinds.kind_of lexeme.token)) lexeme self.old.out self.old.frames) (ok_as self.new result) }
+        ensures refused { IfErr result (IsRefusal lexeme.start self.old self.new) }
     {
         match role_of(self.after_operand, kind_of(&lexeme.token)) {
             Role::Open(bracket) => {
@@ -158,7 +163,8 @@ impl Marker {
     /// Takes the next token.
     #[tactic(auto, unfolding(crate::specs::Marking::step))]
     pub fn push(&mut self, lexeme: Lexeme) -> Result<(), TextStop>
-        ensures { Gives (spec.step self.old lexeme) (ok_as self.new result) }
+        ensures value { Gives (spec.step self.old lexeme) (ok_as self.new result) }
+        ensures refused { IfErr result (IsRefusal lexeme.start self.old self.new) }
     {
         if self.settle(&lexeme)? {
             self.after_operand = false;
@@ -173,7 +179,8 @@ impl Marker {
     /// The tokens with their marks, at the end of a text of so many bytes.
     #[tactic(auto, unfolding(crate::specs::Marking::finish))]
     pub fn finish(self, end: usize) -> Result<Tokens, TextStop>
-        ensures { Gives (spec.finish self) result }
+        ensures value { Gives (spec.finish self) result }
+        ensures at { IfErr result (IsAt end) }
     {
         let mut all = self;
         all.end_lists()?;
@@ -187,7 +194,8 @@ impl Marker {
 
 /// These tokens with the marks of their junction lists, for a text of so many bytes.
 pub fn marked(alloc: Global, tokens: Tokens, end: usize) -> Result<Tokens, TextStop>
-    ensures { Gives (spec.marked tokens) result }
+    ensures value { Gives (spec.marked tokens) result }
+    ensures within { All (λ t. t.start ≤ end) tokens → IfErr result (IsWithin end) }
 {
     let mut marker = Marker::new(alloc);
     for lexeme in tokens.into_vec() {

@@ -1,7 +1,8 @@
 // The tokens of a text, with the marks of its junction lists.
-ghost use Rattle.std.specs.Prelude.{◌≡◌, ℕ, List, IfOk};
+ghost use Rattle.std.specs.Prelude.{◌≡◌, ℕ, List, IfErr, IfOk, length};
 ghost use Rattle.pgo_lexer.specs.declared.token.Lexeme.{Lexeme};
 ghost use Rattle.pgo_lexer.specs.Answers.{Gives};
+ghost use Rattle.pgo_lexer.specs.Offsets.{IsWithin};
 ghost use Rattle.pgo_lexer.specs.Marking as spec;
 ghost use Rattle.pgo_lexer.specs.Lexemes.{Lexes};
 ghost use Rattle.pgo_lexer.specs.Layout.{Marks};
@@ -15,7 +16,8 @@ use std::alloc::Global;
 
 /// The tokens of a text, as the function on lists gives them.
 fn read(alloc: Global, text: &[u8], limit: u32) -> Result<Tokens, TextStop>
-    ensures { Gives (spec.tokens limit text.now) result }
+    ensures value { Gives (spec.tokens limit text.now) result }
+    ensures within { IfErr result (IsWithin (length text.now)) }
 {
     let unmarked = lexed(alloc, text, limit)?;
     marked(alloc, unmarked, text.len())
@@ -31,6 +33,7 @@ pub fn tokens(alloc: Global, text: &[u8], limit: u32) -> Result<Tokens, TextStop
     ensures found { IfOk result (λ ts. Tokenized limit text.now ts) }
     // What the text has is answered, unless memory runs out. So `Syntax` comes only where the text has no tokens.
     ensures only { (ts : List Lexeme) → Tokenized limit text.now ts → IsOrNoMemory result ts }
+    ensures within { IfErr result (IsWithin (length text.now)) }
 {
     read(alloc, text, limit)
 }

@@ -28,7 +28,7 @@ use Rattle.pgo_sections.specs.Section.{section}
 use Rattle.pgo_meaning.specs.Ends.{KeepsElements}
 use Rattle.pgo_meaning.specs.Sect.{is_by_element, context_of, code_at, nothing, Sect}
 use Rattle.pgo_meaning.specs.TreesAgree.{sections_at}
-use Rattle.pgo_meaning.proofs.Trees.{among_front, keys_map}
+use Rattle.pgo_meaning.proofs.Trees.{among_front}
 
 -- what the lower laws say
 abbrev pub VariablesKept : Type 0
@@ -102,7 +102,7 @@ module _ (variables : VariablesKept) (domains : DomainsKept) (b : Bound) (k : �
 
   pub end_is_state : IsState b s → AllValues t → IsState b t
   end_is_state is values = record {
-    variables = sym (keys_map t) ∙ (variables c e.code d t prints e.ends).0 ∙ keys_map s ∙ is.variables;
+    variables = (variables c e.code d t prints e.ends).0 ∙ is.variables;
     values = values;
     shallow = (variables c e.code d t prints e.ends).1;
     places = kept pc _ (place (same_name-self pc)) is.places;

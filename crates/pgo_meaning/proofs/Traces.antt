@@ -80,7 +80,7 @@ place_bound p (b ∷ bs) ls x g h none = go b.target h (λ k. place_bound p bs l
     go (targets.Global g' e None) h more = found x g' (same_name x b.parameter) h more
     go (targets.Global g' e (Some m)) h more = or_right (same_name g g') (is_among g (globals_in bs)) (more h)
 
-no_local : (p : Name) (ds : List Declaration) (x g : Name) → find x (local_places p ds) ≡ Some (Whole g) → ⊥
+pub no_local : (p : Name) (ds : List Declaration) (x g : Name) → find x (local_places p ds) ≡ Some (Whole g) → ⊥
 no_local p [] x g h = cc
 no_local p (d ∷ ds) x g h = go (same_name x d.name.name) _ h (λ k. no_local p ds x g k)
   where

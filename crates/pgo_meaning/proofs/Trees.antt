@@ -1,6 +1,6 @@
 -- From the law of one section to a bound specification.
 use Rattle.std.proofs.Common.{◌≡◌, ℕ, Bool, true, false, ◌||◌, if◌then◌else◌, List, [], ◌∷◌, ◌++◌, map, Option, Some, None, ◌↔◌, refl, sym, ap, ◌∙◌, subst, arith, option_map}
-use Rattle.std.specs.List.{AllByRecursion, flat_map}
+use Rattle.std.specs.List.{flat_map}
 use Rattle.pgo_base.specs.Data.{string}
 use Rattle.pgo_base.specs.Lookup.{Name, Vars, same_name, find}
 use Rattle.pgo_model.specs.Machine.{nth}
@@ -11,8 +11,8 @@ use Rattle.pgo_model.specs.Written.{pc, self_name, written}
 use Rattle.pgo_syntax.specs.declared.bound.Bound.{Bound}
 use Rattle.pgo_syntax.specs.declared.bound.Instance.{Instance}
 use Rattle.pgo_bound.specs.Declares.{value_in}
-use Rattle.pgo_bound.specs.State.{AreDifferent, IsState, id_of, own_names, variables_of}
-use Rattle.pgo_sections.specs.SectionsAgree.{keys, Distinct, IsPlace, Fit, SectionsAgree}
+use Rattle.pgo_bound.specs.State.{IsState, id_of, own_names, variables_of}
+use Rattle.pgo_sections.specs.SectionsAgree.{IsPlace, Fit, SectionsAgree}
 use Rattle.pgo_sections.specs.Closed.{ClosedAlike}
 use Rattle.pgo_sections.specs.Code.{Place, Whole, Own, Code}
 use Rattle.pgo_sections.specs.Section.{section}
@@ -24,6 +24,7 @@ use Rattle.pgo_sections.specs.Expansion.{Path}
 use Rattle.pgo_meaning.specs.TreesAgree.{Named, TreesAgree, AllTreesAgree, sections_at, expansions_at}
 use Rattle.pgo_meaning.specs.Sect.{context_of, code_at, nothing, Sect, Allows}
 use Rattle.pgo_meaning.specs.TreeAllows.{path_context, TreeAllows}
+use Rattle.pgo_sections.proofs.Closing.{not_among}
 use Rattle.pgo_meaning.proofs.SectionCode.{section_has_blocks}
 
 find_map : {A B : Type 0} → (f : A → B) (l : List (Name × A)) (x : Name) → find x (map (λ c. (c.0, f c.1)) l) ≡ option_map f (find x l)
@@ -34,18 +35,6 @@ find_map {A} {B} f (p ∷ l) x = go (same_name x p.0) (find_map f l x)
     go true e = refl
     go false e = e
 
-pub keys_map : (s : Vars) → keys s ≡ map (λ p. p.0) s
-keys_map [] = refl
-keys_map (p ∷ s) = ap (λ l. p.0 ∷ l) (keys_map s)
-
-not_among : (x : Name) (ys : List Name) → AllByRecursion (λ y. same_name x y ≡ false) ys → is_among x ys ≡ false
-not_among x [] h = refl
-not_among x (y ∷ ys) h = ap (λ b. b || is_among x ys) h.0 ∙ not_among x ys h.1
-
-distinct : (xs : List Name) → AreDifferent xs → Distinct xs
-distinct [] h = tt
-distinct (x ∷ xs) h = (not_among x xs h.0, distinct xs h.1)
-
 or_left : (b c d : Bool) → (b ≡ true → c ≡ true) → d || b ≡ true → d || c ≡ true
 or_left b c true f h = refl
 or_left b c false f h = f h
@@ -54,27 +43,19 @@ pub among_front : (x : Name) (xs ys : List Name) → is_among x xs ≡ true → 
 among_front x [] ys h = absurd (grind (arith, h))
 among_front x (z ∷ xs) ys h = or_left (is_among x xs) (is_among x (xs ++ ys)) (same_name x z) (λ k. among_front x xs ys k) h
 
-not_there : (s : Vars) (x : Name) → is_among x (keys s) ≡ false → find x s ≡ None
-not_there [] x h = refl
-not_there (p ∷ s) x h = go (same_name x p.0) refl h (λ k. not_there s x k)
-  where
-    go : (b : Bool) → same_name x p.0 ≡ b → b || is_among x (keys s) ≡ false → (is_among x (keys s) ≡ false → find x s ≡ None) → find x (p ∷ s) ≡ None
-    go true e k more = absurd (grind (arith, k))
-    go false e k more = ap (λ b. if b then Some p.1 else find x s) e ∙ more k
-
 module _ (sections_agree : SectionsAgree) (alike : ClosedAlike) (b : Bound) (k : ℕ) (i : Instance) (l : Name) (s t : Vars) (at_k : nth b.instances k ≡ Some i) (n : Named b i) (is_s : IsState b s) (is_t : IsState b t) (at_l : value_in s pc (id_of i) ≡ Some (string l)) where
   fit : Fit (path_context b (id_of i)) (context_of b i s) t
   fit = record {
     id = refl;
     globals = refl;
-    before = keys_map s ∙ is_s.variables;
-    after = keys_map t ∙ is_t.variables;
+    before = is_s.variables;
+    after = is_t.variables;
     shallow = is_t.shallow;
-    distinct = distinct (variables_of b.spec) n.differ;
+    distinct = n.differ;
     written = n.written;
     inside = inside;
     places = n.places s;
-    defs = λ x args. alike (variables_of b.spec) (map defined_view b.defs) s (Some t) n.closed (λ y h. not_there s y (ap (λ xs. is_among y xs) (keys_map s ∙ is_s.variables) ∙ h)) x args;
+    defs = λ x args. alike (variables_of b.spec) (map defined_view b.defs) s (Some t) n.closed (λ y h. not_among s y (ap (λ xs. is_among y xs) is_s.variables ∙ h)) x args;
   }
     where
       inside : (p : Place) → IsPlace (context_of b i s) p → is_among (elim p as (λ p. Name) [ Whole x ↦ x | Own x ↦ x ]) (variables_of b.spec) ≡ true

@@ -2,6 +2,7 @@
 -- attempt are listed from what its section does on the state of the journal.
 use Rattle.std.specs.Prelude.{ℕ, zero, suc, Bool, true, false, if◌then◌else◌, nat_eq, nat_lt, List, [], ◌∷◌, ◌++◌, length, Option, Some, None}
 use Rattle.pgo_base.specs.Data.{Data}
+pub use Rattle.pgo_base.specs.Lookup.{nth}
 use Rattle.pgo_model.specs.Outcome.{Kind, Blocked, NoValue, AssertFails, Outcome, Next, Stuck, Nowhere, Section}
 
 -- what the machine stands on: S are the states, D what an entry records; resources and instances are numbers
@@ -90,11 +91,6 @@ abbrev pub events : {S : Type 0} → List ℕ → Outcome S → List ℕ → Lis
 events [] end taken = last_events end taken
 events (r ∷ trace) end taken =
     if among r taken then Operate r ∷ events trace end taken else Take r ∷ (Operate r ∷ events trace end (taken ++ (r ∷ [])))
-
-abbrev pub nth : {A : Type 0} → List A → ℕ → Option A
-nth [] n = None
-nth (x ∷ l) zero = Some x
-nth (x ∷ l) (suc n) = nth l n
 
 abbrev pub put : {A : Type 0} → ℕ → A → (ℕ → A) → ℕ → A
 put i x f j = if nat_eq j i then x else f j

@@ -25,7 +25,7 @@ skip (Held r h) z l = refl
 skip (Down r o) z l = refl
 skip (Full n) z l = refl
 
-full_ends : (l : List Record) (i q : ℕ) → nth l i ≡ Some (Full q) → suc i ≡ length l → last_ends l ≡ true
+pub full_ends : (l : List Record) (i q : ℕ) → nth l i ≡ Some (Full q) → suc i ≡ length l → last_ends l ≡ true
 full_ends [] i q h e = absurd (grind (arith, h))
 full_ends (y ∷ []) zero q h e = let y' : y ≡ Full q = grind (arith, h) in ap (λ y. last_ends (y ∷ [])) y'
 full_ends (y ∷ (z ∷ l)) zero q h e = absurd (omega (arith, e))

@@ -1,8 +1,9 @@
--- When two names are one, and what stands under a name in two lists together.
+-- When two names are one, lists in which none are, and what stands under a name in two lists together.
 use Rattle.std.specs.Prelude.{◌≡◌, ℕ, Bool, true, false, ◌&&◌, nat_eq, if◌then◌else◌, List, [], ◌∷◌, ◌++◌, Option, Some, None, refl}
 use Rattle.std.proofs.Common.{ap, arith}
 use Rattle.std.specs.declared.cmp.Ordering.{Ordering}
 use Rattle.std.specs.declared.cmp.Ordering.TheVariants.{Less, Equal, Greater}
+use Rattle.std.specs.List.{AllByRecursion}
 use Rattle.std.specs.Ordering.{nat_cmp, is_eq}
 use Rattle.std.specs.Cmp.Lexicographic.{slice_cmp}
 use Rattle.pgo_base.specs.Data.{string}
@@ -30,6 +31,11 @@ same_name-not x y h = go (same_name x y) refl
     go : (b : Bool) → same_name x y ≡ b → b ≡ false
     go true e = absurd (h (same_name-is x y e))
     go false e = refl
+
+-- no two of these names are one
+abbrev pub AreDifferent : List Name → Type 0
+AreDifferent [] = Unit {0}
+AreDifferent (x ∷ xs) = AllByRecursion (λ y. same_name x y ≡ false) xs × AreDifferent xs
 
 pub same_bytes-self : (x : Name) → same_bytes x x ≡ true
 same_bytes-self [] = refl

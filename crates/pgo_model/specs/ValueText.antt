@@ -23,6 +23,10 @@ truth_text false = codes "FALSE"
 abbrev pub is_digit : ℕ → Bool
 is_digit b = nat_le 48 b && nat_le b 57
 
+abbrev pub all_digits : List ℕ → Bool
+all_digits [] = true
+all_digits (b ∷ bs) = is_digit b && all_digits bs
+
 abbrev pub is_letter : ℕ → Bool
 is_letter b = (nat_le 65 b && nat_le b 90) || (nat_le 97 b && nat_le b 122)
 

@@ -8,7 +8,7 @@ use Rattle.pgo_lexer.specs.declared.errors.TextStop.TheVariants.{Syntax, NoMemor
 use Rattle.pgo_lexer.proofs.Runs.{cond_true, cond_false}
 use Rattle.pgo_model.specs.ValueText.{same_bytes}
 use Rattle.pgo_model.specs.Written.{default_init_value}
-use Rattle.pgo_mpcal_read.specs.Reading.{Makes}
+use Rattle.pgo_expr_read.specs.Steps.{Makes}
 use Rattle.pgo_module_read.specs.Building.{before_default, without_default}
 
 pub default_read : (xs zs : List Name) (x : Name) → xs ≡ zs ++ x ∷ [] → same_bytes x default_init_value ≡ true → without_default xs ≡ Some zs

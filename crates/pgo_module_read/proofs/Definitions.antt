@@ -14,14 +14,15 @@ use Rattle.pgo_model.specs.ModuleView.{defined_view}
 use Rattle.pgo_model.specs.Val as model
 use Rattle.pgo_model.specs.Written.{self_name}
 use Rattle.pgo_syntax.specs.declared.name.PlacedName.{PlacedName}
-use Rattle.pgo_mpcal_read.specs.Leaves.{Spot, at, word, placed, IsName, Items, Row}
-use Rattle.pgo_mpcal_read.specs.Leaves as leaf
+use Rattle.pgo_mpcal_read.specs.Elements.{Spot, at, word, placed, IsName, Items, Row}
+use Rattle.pgo_mpcal_read.specs.Elements as elements
 use Rattle.pgo_mpcal_read.specs.Reading.{Parser, name, items, row}
 use Rattle.pgo_mpcal_read.specs.Signs.{sees}
 use Rattle.pgo_mpcal_read.specs.ReadingSpec.{begins_list}
 use Rattle.pgo_mpcal_read.proofs.Expressions.{IsWithin, sound_within, reach_within}
 use Rattle.pgo_mpcal_read.proofs.Lists.{sound_items, reach_items, sound_row, reach_row}
-use Rattle.pgo_mpcal_read.proofs.Parts.{Front, Sound, Reach, Quiet, some_pair, front_then, expect_then, name_then, eaten_then, sound_name, next_step, expect_gives, eat_true, eat_false}
+use Rattle.pgo_expr_read.proofs.Steps.{some_pair, next_step}
+use Rattle.pgo_mpcal_read.proofs.Parts.{Front, Sound, Reach, Quiet, front_then, expect_then, name_then, eaten_then, sound_name, expect_gives, eat_true, eat_false}
 use Rattle.pgo_module_spells.specs.Grammar.{IsExpression, IsDefined, AreListed, bare, most_height}
 use Rattle.pgo_module_spells.specs.Grammar as g
 use Rattle.pgo_module_read.specs.Reading.{expression, with_parameters, without_parameters, definition, is_definition, definitions, with_self, action, is_action, actions, body_of, names_behind, fixed}
@@ -39,7 +40,7 @@ pub reach_expression : Reach IsExpression expression Quiet
 reach_expression xs a d rest q = reach_within most_height xs a (record { spells = d.spells }) rest q
 
 reach_name : Reach IsName name (λ rest. Unit {0})
-reach_name front a leaf.name rest q = refl
+reach_name front a elements.name rest q = refl
 
 reach_list : Reach (Items IsName symbol.Comma) (items symbol.Comma name) (λ rest. (Unit {0}) × (sees symbol.Comma rest ≡ false))
 reach_list = reach_items IsName symbol.Comma name (λ rest. Unit {0}) reach_name (λ p j. tt)

@@ -7,7 +7,7 @@ use Rattle.pgo_lexer.specs.declared.errors.TextStop.{TextStop}
 use Rattle.pgo_lexer.specs.declared.errors.TextStop.TheVariants.{Syntax, NoMemory}
 use Rattle.pgo_model.specs.Module.{Module, WrittenProcess}
 use Rattle.pgo_model.specs.ModuleView.{module_view}
-use Rattle.pgo_mpcal_read.specs.Reading.{Makes}
+use Rattle.pgo_expr_read.specs.Steps.{Makes}
 use Rattle.pgo_mpcal_read.specs.ReadingSpec.{if_some}
 use Rattle.pgo_module_spells.specs.Grammar.{AreParts}
 use Rattle.pgo_module_spells.specs.Spells.{SpellsModule, IsOrNoMemory}

@@ -6,11 +6,13 @@ use Rattle.pgo_lexer.specs.declared.token.Token.{Token}
 use Rattle.pgo_lexer.specs.declared.token.Token.TheVariants as t
 use Rattle.pgo_expr_read.specs.Kinds.{Name}
 use Rattle.pgo_model.specs.Names.{same_bytes-self, same_bytes-is}
-use Rattle.pgo_mpcal_read.specs.Leaves.{Spot, at, word}
-use Rattle.pgo_mpcal_read.specs.Leaves as leaf
-use Rattle.pgo_mpcal_read.specs.Reading.{Outcome, Parser, and_then, skip}
+use Rattle.pgo_mpcal_read.specs.Elements.{Spot, at, word}
+use Rattle.pgo_mpcal_read.specs.Elements as elements
+use Rattle.pgo_expr_read.specs.Steps.{and_then, skip}
+use Rattle.pgo_mpcal_read.specs.Reading.{Outcome, Parser}
 use Rattle.pgo_mpcal_read.specs.ReadingSpec.{is_word, sees_word, expect_word}
-use Rattle.pgo_mpcal_read.proofs.Parts.{Front, Sound, spot, some_pair, expect_then, next_step, expect_gives}
+use Rattle.pgo_expr_read.proofs.Steps.{some_pair, next_step}
+use Rattle.pgo_mpcal_read.proofs.Parts.{Front, Sound, spot, expect_then, expect_gives}
 use Rattle.pgo_module_read.specs.Reading.{Fixed, fixed}
 use Rattle.pgo_module_read.specs.Reading as f
 
@@ -22,7 +24,7 @@ word_of w _ e = cc
 
 seen_word : (w : Name) (i : List Lexeme) → sees_word w i ≡ true → (p : Spot) × (i ≡ word p w ∷ skip i)
 seen_word w [] e = cc
-seen_word w (l ∷ i) e = (spot l, ap (λ z. leaf.lexeme (spot l) z ∷ i) (word_of w l.token e))
+seen_word w (l ∷ i) e = (spot l, ap (λ z. elements.lexeme (spot l) z ∷ i) (word_of w l.token e))
 
 word_by : {B : Type 0} (b : Bool) (w : Name) (i : List Lexeme) (f : Unit {0} → Parser B) (y : B × List Lexeme) (C : Type 0) → sees_word w i ≡ b → and_then (cond b (Some (tt, skip i)) None) f ≡ Some y
     → ((p : Spot) (j : List Lexeme) → i ≡ word p w ∷ j → f tt j ≡ Some y → C) → C

@@ -15,9 +15,10 @@ use Rattle.pgo_model.specs.ModuleView.{defined_view}
 use Rattle.pgo_model.specs.Val.{Defined, Means, Given}
 use Rattle.pgo_model.specs.Written.{self_name, proc_set, terminating, default_init_value}
 use Rattle.pgo_syntax.specs.declared.name.PlacedName.{PlacedName}
-use Rattle.pgo_mpcal_read.specs.Leaves.{Spot, at, word, placed, IsName, Items, Row}
-use Rattle.pgo_mpcal_read.specs.Leaves as leaf
-use Rattle.pgo_mpcal_read.specs.Reading.{Outcome, and_then}
+use Rattle.pgo_mpcal_read.specs.Elements.{Spot, at, word, placed, IsName, Items, Row}
+use Rattle.pgo_mpcal_read.specs.Elements as elements
+use Rattle.pgo_expr_read.specs.Steps.{and_then}
+use Rattle.pgo_mpcal_read.specs.Reading.{Outcome}
 use Rattle.pgo_mpcal_read.specs.ReadingSpec.{whole}
 use Rattle.pgo_mpcal_read.proofs.Parts.{Front}
 use Rattle.pgo_module_spells.specs.Grammar.{IsExpression, IsDefined, IsHeading, AreListed, IsEnding, AreParts, bare}
@@ -53,26 +54,26 @@ parts_in l = record {
 -- ---- what is read is so
 
 base_row : {ts : List Lexeme} {ds : List base.Defined} → Row IsBase ts ds → Row IsDefined ts (map defined_view ds)
-base_row leaf.nothing = leaf.nothing
-base_row (leaf.another o m) = leaf.another o.is (base_row m)
+base_row elements.nothing = elements.nothing
+base_row (elements.another o m) = elements.another o.is (base_row m)
 
 body_defined : {w : Name} {ts : List Lexeme} {e : Tree} → IsBody w ts e → IsDefined ts (Means w [] e)
 body_defined (d.body m) = g.without_parameters m
 
 action_defined : {ts : List Lexeme} {a : Action} → IsAction ts a → IsDefined ts (defined_action a)
-action_defined (d.action_of {s = s} {c = c} {d = d} m) = g.with_parameters c d (leaf.items (leaf.name {p = s} {x = self_name}) leaf.no_more) m
+action_defined (d.action_of {s = s} {c = c} {d = d} m) = g.with_parameters c d (elements.items (elements.name {p = s} {x = self_name}) elements.no_more) m
 
 action_row : {xs ys : List Lexeme} {as' : List Action} {ds : List Defined} → Row IsAction xs as' → Row IsDefined ys ds → Row IsDefined (xs ++ ys) (map defined_action as' ++ ds)
-action_row leaf.nothing m = m
-action_row {ys = zs} {ds = ds} (leaf.another {xs = xs} {ys = ys} {a = a} {as' = as'} o r) m =
+action_row elements.nothing m = m
+action_row {ys = zs} {ds = ds} (elements.another {xs = xs} {ys = ys} {a = a} {as' = as'} o r) m =
     let P : List Lexeme → Type 0 = λ z. Row IsDefined z (defined_action a ∷ (map defined_action as' ++ ds)) in
-    subst P (sym (append_assoc xs ys zs)) (leaf.another (action_defined o) (action_row r m))
+    subst P (sym (append_assoc xs ys zs)) (elements.another (action_defined o) (action_row r m))
 
 further_row : {as' bs cs xs es fs : List Lexeme} {v s i t n : Tree} {acts : List Action} → IsBody (codes "vars") as' v → IsBody proc_set bs s → IsBody (codes "Init") cs i → Row IsAction xs acts → IsBody terminating es t → IsBody (codes "Next") fs n
     → Row IsDefined (as' ++ (bs ++ (cs ++ (xs ++ (es ++ (fs ++ []))))))
     (Means (codes "vars") [] v ∷ Means proc_set [] s ∷ Means (codes "Init") [] i ∷ (map defined_action acts ++ (Means terminating [] t ∷ Means (codes "Next") [] n ∷ [])))
 further_row a b c r e f =
-    leaf.another (body_defined a) (leaf.another (body_defined b) (leaf.another (body_defined c) (action_row r (leaf.another (body_defined e) (leaf.another (body_defined f) leaf.nothing)))))
+    elements.another (body_defined a) (elements.another (body_defined b) (elements.another (body_defined c) (action_row r (elements.another (body_defined e) (elements.another (body_defined f) elements.nothing)))))
 
 regrouped : (h c d v a b i x t n e : List Lexeme) → ((h ++ c) ++ (d ++ v)) ++ (((a ++ (b ++ i)) ++ (x ++ (t ++ n))) ++ e) ≡ h ++ (c ++ (d ++ (v ++ ((a ++ (b ++ (i ++ (x ++ (t ++ (n ++ [])))))) ++ e))))
 regrouped h c d v a b i x t n e = simp (append_assoc, append-nil)
@@ -149,16 +150,16 @@ processes_defined (p ∷ ps) =
     ∙ (λ i. actions_defined p.actions i ++ (Means p.name (self_name ∷ []) (process_body p) ∷ processes_defined ps i))
 
 written_row : {ts : List Lexeme} {ds : List Defined} → Row IsDefined ts ds → Row Written ts (map base_of ds)
-written_row leaf.nothing = leaf.nothing
-written_row (leaf.another o m) = leaf.another (d.written o) (written_row m)
+written_row elements.nothing = elements.nothing
+written_row (elements.another o m) = elements.another (d.written o) (written_row m)
 
 base_view : {ts : List Lexeme} {x : Defined} → IsDefined ts x → defined_view (base_of x) ≡ x
 base_view (g.without_parameters m) = refl
 base_view (g.with_parameters c d n m) = refl
 
 pub base_views : {ts : List Lexeme} {ds : List Defined} → Row IsDefined ts ds → map defined_view (map base_of ds) ≡ ds
-base_views leaf.nothing = refl
-base_views (leaf.another o m) = λ i. base_view o i ∷ base_views m i
+base_views elements.nothing = refl
+base_views (elements.another o m) = λ i. base_view o i ∷ base_views m i
 
 -- the first definition of a row, and the others
 record First (fs : List Lexeme) (x : Defined) (ds : List Defined) : Type 0 where
@@ -169,14 +170,14 @@ record First (fs : List Lexeme) (x : Defined) (ds : List Defined) : Type 0 where
   row : Row IsDefined others ds
 
 first_of : {fs : List Lexeme} {os : List Defined} → Row IsDefined fs os → (x : Defined) (ds : List Defined) → os ≡ x ∷ ds → First fs x ds
-first_of leaf.nothing x ds q = cc
-first_of (leaf.another {xs = xs} {ys = ys} {a = a} {as' = as'} o m) x ds q =
+first_of elements.nothing x ds q = cc
+first_of (elements.another {xs = xs} {ys = ys} {a = a} {as' = as'} o m) x ds q =
     let same : a ≡ x = cc in
     let rest_is : as' ≡ ds = cc in
     record { front = xs; others = ys; split = refl; is = subst (λ z. IsDefined xs z) same o; row = subst (λ z. Row IsDefined ys z) rest_is m }
 
 some_names : {xs : List Lexeme} {ps : List PlacedName} → Items IsName symbol.Comma xs ps → bare ps ≡ [] → ⊥
-some_names (leaf.items leaf.name m) q = cc
+some_names (elements.items elements.name m) q = cc
 
 body_named : (n o : Spot) (x w : Name) (ts : List Lexeme) (f e : Tree) → x ≡ w → f ≡ e → IsExpression ts f → IsBody w (word n x ∷ (at o symbol.Defines ∷ ts)) e
 body_named n o x w ts f e q r m =
@@ -198,8 +199,8 @@ selved n o s c k x w y ts f e q r v m =
 
 one_name : (n o c k : Spot) (x w : Name) (ts xs : List Lexeme) (ps : List PlacedName) (f e : Tree) → Items IsName symbol.Comma xs ps → x ≡ w → bare ps ≡ self_name ∷ [] → f ≡ e → IsExpression ts f
     → IsAction (word n x ∷ (at o (symbol.Open bracket.Round) ∷ (xs ++ (at c (symbol.Close bracket.Round) ∷ (at k symbol.Defines ∷ ts))))) (record { name = w; body = e })
-one_name n o c k x w ts front all f e (leaf.items (leaf.name {p = s} {x = y}) leaf.no_more) q r v m = selved n o s c k x w y ts f e q (let z : y ≡ self_name = cc in z) v m
-one_name n o c k x w ts front all f e (leaf.items leaf.name (leaf.one_more leaf.name u)) q r v m = cc
+one_name n o c k x w ts front all f e (elements.items (elements.name {p = s} {x = y}) elements.no_more) q r v m = selved n o s c k x w y ts f e q (let z : y ≡ self_name = cc in z) v m
+one_name n o c k x w ts front all f e (elements.items elements.name (elements.one_more elements.name u)) q r v m = cc
 
 action_is : {ts : List Lexeme} {x : Defined} → IsDefined ts x → (a : Action) → x ≡ defined_action a → IsAction ts a
 action_is (g.without_parameters m) a q = cc
@@ -215,7 +216,7 @@ record Actions (fs : List Lexeme) (as' : List Action) (ds : List Defined) : Type
   row : Row IsDefined others ds
 
 actions_first : (as' : List Action) (ds : List Defined) (fs : List Lexeme) → Row IsDefined fs (map defined_action as' ++ ds) → Actions fs as' ds
-actions_first [] ds fs r = record { front = []; others = fs; split = refl; are = leaf.nothing; row = r }
+actions_first [] ds fs r = record { front = []; others = fs; split = refl; are = elements.nothing; row = r }
 actions_first (a ∷ as') ds fs r =
     let h = first_of r (defined_action a) (map defined_action as' ++ ds) refl in
     let k = actions_first as' ds h.others h.row in
@@ -223,13 +224,13 @@ actions_first (a ∷ as') ds fs r =
       front = h.front ++ k.front;
       others = k.others;
       split = h.split ∙ ap (λ z. h.front ++ z) k.split ∙ sym (append_assoc h.front k.front k.others);
-      are = leaf.another (action_is h.is a refl) k.are;
+      are = elements.another (action_is h.is a refl) k.are;
       row = k.row;
     }
 
 no_more : {fs : List Lexeme} {os : List Defined} → Row IsDefined fs os → os ≡ [] → fs ≡ []
-no_more leaf.nothing q = refl
-no_more (leaf.another o m) q = cc
+no_more elements.nothing q = refl
+no_more (elements.another o m) q = cc
 
 further_is : (fs : List Lexeme) (l : Lines) → Row IsDefined fs (further_in l) → AreFurther fs l.further
 further_is fs l r =

@@ -10,14 +10,15 @@ use Rattle.pgo_lexer.specs.declared.symbol.Symbol.TheVariants as symbol
 use Rattle.pgo_lexer.specs.declared.token.Lexeme.{Lexeme}
 use Rattle.pgo_model.specs.Written.{proc_set, terminating}
 use Rattle.pgo_syntax.specs.declared.name.PlacedName.{PlacedName}
-use Rattle.pgo_mpcal_read.specs.Leaves.{Spot, at, word, placed, IsName, Items, Row}
-use Rattle.pgo_mpcal_read.specs.Leaves as leaf
+use Rattle.pgo_mpcal_read.specs.Elements.{Spot, at, word, placed, IsName, Items, Row}
+use Rattle.pgo_mpcal_read.specs.Elements as elements
 use Rattle.pgo_mpcal_read.specs.Spells.{IsDashes}
 use Rattle.pgo_mpcal_read.specs.Reading.{name, sees_name}
 use Rattle.pgo_mpcal_read.specs.ReadingSpec.{dashes}
 use Rattle.pgo_mpcal_read.specs.Signs.{sees}
 use Rattle.pgo_mpcal_read.proofs.Dashes.{IsDashesUnit, sound_dashes, reach_dashes}
-use Rattle.pgo_mpcal_read.proofs.Parts.{Front, Sound, Reach, Quiet, some_pair, front_then, expect_then, name_then, next_step, expect_gives}
+use Rattle.pgo_expr_read.proofs.Steps.{some_pair, next_step}
+use Rattle.pgo_mpcal_read.proofs.Parts.{Front, Sound, Reach, Quiet, front_then, expect_then, name_then, expect_gives}
 use Rattle.pgo_module_spells.specs.Grammar.{IsHeading, AreListed, IsEnding, bare, extended}
 use Rattle.pgo_module_spells.specs.Grammar as g
 use Rattle.pgo_module_read.specs.declared.lines.Declared.{Declared}
@@ -48,7 +49,7 @@ modules_of (f.word_next {p = e} (f.word_next {p = a} (f.sign_next {p = x} (f.wor
   names = word a (codes "Integers") ∷ (at x symbol.Comma ∷ (word b (codes "Sequences") ∷ (at y symbol.Comma ∷ (word c (codes "FiniteSets") ∷ (at z symbol.Comma ∷ (word o (codes "TLC") ∷ []))))));
   listed = placed a (codes "Integers") ∷ (placed b (codes "Sequences") ∷ (placed c (codes "FiniteSets") ∷ (placed o (codes "TLC") ∷ [])));
   split = refl;
-  items = leaf.items leaf.name (leaf.one_more leaf.name (leaf.one_more leaf.name (leaf.one_more leaf.name leaf.no_more)));
+  items = elements.items elements.name (elements.one_more elements.name (elements.one_more elements.name (elements.one_more elements.name elements.no_more)));
   is = refl;
 }
 
@@ -96,12 +97,12 @@ four e a b c o x y z i j k l p q r s = record {
 }
 
 halves_of : {zs : List Lexeme} {es : List PlacedName} → Items IsName symbol.Comma zs es → bare es ≡ extended → (e : Spot) → Halves (word e (codes "EXTENDS") ∷ zs)
-halves_of (leaf.items leaf.name leaf.no_more) q e = cc
-halves_of (leaf.items leaf.name (leaf.one_more leaf.name leaf.no_more)) q e = cc
-halves_of (leaf.items leaf.name (leaf.one_more leaf.name (leaf.one_more leaf.name leaf.no_more))) q e = cc
-halves_of (leaf.items (leaf.name {p = a} {x = i}) (leaf.one_more {p = x} (leaf.name {p = b} {x = j}) (leaf.one_more {p = y} (leaf.name {p = c} {x = k}) (leaf.one_more {p = z} (leaf.name {p = o} {x = l}) leaf.no_more)))) q e =
+halves_of (elements.items elements.name elements.no_more) q e = cc
+halves_of (elements.items elements.name (elements.one_more elements.name elements.no_more)) q e = cc
+halves_of (elements.items elements.name (elements.one_more elements.name (elements.one_more elements.name elements.no_more))) q e = cc
+halves_of (elements.items (elements.name {p = a} {x = i}) (elements.one_more {p = x} (elements.name {p = b} {x = j}) (elements.one_more {p = y} (elements.name {p = c} {x = k}) (elements.one_more {p = z} (elements.name {p = o} {x = l}) elements.no_more)))) q e =
     four e a b c o x y z i j k l (cc) (cc) (cc) (cc)
-halves_of (leaf.items leaf.name (leaf.one_more leaf.name (leaf.one_more leaf.name (leaf.one_more leaf.name (leaf.one_more leaf.name m))))) q e = cc
+halves_of (elements.items elements.name (elements.one_more elements.name (elements.one_more elements.name (elements.one_more elements.name (elements.one_more elements.name m))))) q e = cc
 
 no_minus : {ts : List Lexeme} → AreFixed first_modules ts → (j : List Lexeme) → sees (symbol.Infix operator.Subtract) (ts ++ j) ≡ false
 no_minus (f.word_next m) j = refl
@@ -218,15 +219,15 @@ abbrev NoComma : List Lexeme → Type 0
 NoComma rest = sees symbol.Comma rest ≡ false
 
 names_begin : {xs : List Lexeme} {ns : List PlacedName} → Items IsName symbol.Comma xs ns → (j : List Lexeme) → sees_name (xs ++ j) ≡ true
-names_begin (leaf.items leaf.name m) j = refl
+names_begin (elements.items elements.name m) j = refl
 
 at_variables : (ys : List Lexeme) (b : List Name) (rest : List Lexeme) → AreListed (codes "VARIABLES") ys b → NoComma rest → Quiet (ys ++ rest) × (is_definition (ys ++ rest) ≡ false)
 at_variables front b rest (g.listed p {xs = xs} m) e = (refl, ap not (names_begin m rest))
 
 at_definitions : (ys : List Lexeme) (b : List Defined × List Name) (rest : List Lexeme) → Variables Written ys b → NoComma rest → NoComma (ys ++ rest)
-at_definitions front b rest (pair leaf.nothing (g.listed p m)) e = refl
-at_definitions front b rest (pair (leaf.another (d.written (g.without_parameters m)) o) v) e = refl
-at_definitions front b rest (pair (leaf.another (d.written (g.with_parameters x y n m)) o) v) e = refl
+at_definitions front b rest (pair elements.nothing (g.listed p m)) e = refl
+at_definitions front b rest (pair (elements.another (d.written (g.without_parameters m)) o) v) e = refl
+at_definitions front b rest (pair (elements.another (d.written (g.with_parameters x y n m)) o) v) e = refl
 
 reach_title : Reach Title title NoComma
 unfolding title
@@ -253,8 +254,8 @@ at_behind : (ys : List Lexeme) (b : Tree × Tree) (rest : List Lexeme) → Behin
 at_behind front b rest (pair (d.body m) o) q = (refl, refl)
 
 at_actions : (ys : List Lexeme) (b : List Action × (Tree × Tree)) (rest : List Lexeme) → Both (Row IsAction) Behind ys b → Quiet rest → Quiet (ys ++ rest)
-at_actions front b rest (pair leaf.nothing (pair (d.body m) o)) q = refl
-at_actions front b rest (pair (leaf.another (d.action_of m) o) n) q = refl
+at_actions front b rest (pair elements.nothing (pair (d.body m) o)) q = refl
+at_actions front b rest (pair (elements.another (d.action_of m) o) n) q = refl
 
 at_ending : (ys : List Lexeme) (b : Unit {0}) (rest : List Lexeme) → EndingUnit ys b → Anything rest → Quiet (ys ++ rest)
 at_ending front b rest g.ending u = refl

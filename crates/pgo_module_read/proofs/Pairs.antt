@@ -3,7 +3,8 @@ use Rattle.std.proofs.Common.{◌≡◌, List, ◌++◌, Some, refl, ap, sym, �
 use Rattle.std.proofs.lemmas.List.{append_assoc}
 use Rattle.pgo_lexer.specs.declared.token.Lexeme.{Lexeme}
 use Rattle.pgo_mpcal_read.specs.Reading.{Parser}
-use Rattle.pgo_mpcal_read.proofs.Parts.{Front, Sound, Reach, some_pair, front_then, next_step}
+use Rattle.pgo_expr_read.proofs.Steps.{some_pair, next_step}
+use Rattle.pgo_mpcal_read.proofs.Parts.{Front, Sound, Reach, front_then}
 use Rattle.pgo_module_read.specs.Reading.{both, mapped}
 
 pub data Both {A B : Type 0} (R : List Lexeme → A → Type 0) (S : List Lexeme → B → Type 0) : List Lexeme → A × B → Type 0 where

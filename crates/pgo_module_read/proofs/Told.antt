@@ -14,8 +14,8 @@ use Rattle.pgo_model.specs.Written.{self_name, default_init_value, terminating}
 use Rattle.pgo_spec_text.specs.SpecText.{Cut}
 use Rattle.pgo_spec_text.specs.SpecText as s
 use Rattle.pgo_syntax.specs.declared.name.PlacedName.{PlacedName}
-use Rattle.pgo_mpcal_read.specs.Leaves.{IsName, Behind, Items, Row}
-use Rattle.pgo_mpcal_read.specs.Leaves as leaf
+use Rattle.pgo_mpcal_read.specs.Elements.{IsName, Behind, Items, Row}
+use Rattle.pgo_mpcal_read.specs.Elements as elements
 use Rattle.pgo_expr_write.specs.WellFormed.{AreNames, AreSomeNames}
 use Rattle.pgo_expr_write.specs.WellFormed as well
 use Rattle.pgo_expr_write.proofs.Formed.{AllTold, formed}
@@ -53,11 +53,11 @@ expression_formed : (ts : List Lexeme) (e : Tree) → IsExpression ts e → AreT
 expression_formed ts e d h = record { formed = formed d.spells.2 h; low = d.spells.3 }
 
 behind_formed : {v : Symbol} {xs : List Lexeme} {ns : List PlacedName} → Behind IsName v xs ns → AreTold xs → AreNames (bare ns)
-behind_formed leaf.no_more h = tt
-behind_formed (leaf.one_more leaf.name m) h = (h.2.0, behind_formed m h.2.2)
+behind_formed elements.no_more h = tt
+behind_formed (elements.one_more elements.name m) h = (h.2.0, behind_formed m h.2.2)
 
 names_formed : {v : Symbol} {xs : List Lexeme} {ns : List PlacedName} → Items IsName v xs ns → AreTold xs → AreSomeNames (bare ns)
-names_formed (leaf.items leaf.name m) h = (h.0, behind_formed m h.2)
+names_formed (elements.items elements.name m) h = (h.0, behind_formed m h.2)
 
 listed_formed : {w : Name} {xs : List Lexeme} {ns : List Name} → AreListed w xs ns → AreTold xs → AreSomeNames ns
 listed_formed (g.listed p m) h = names_formed m h.2
@@ -73,8 +73,8 @@ definition_formed (g.with_parameters c d {xs = xs} {ts = ts} {ps = ps} {e = e} n
     (h.0, are_names (bare ps) (names_formed n q.0), expression_formed ts e m q.1.2.2)
 
 row_formed : {ts : List Lexeme} {ds : List Defined} → Row IsDefined ts ds → AreTold ts → AllByRecursion IsWrittenDefinition ds
-row_formed leaf.nothing h = tt
-row_formed (leaf.another {xs = xs} {ys = ys} o m) h = let q = told_parts xs ys h in (definition_formed o q.0, row_formed m q.1)
+row_formed elements.nothing h = tt
+row_formed (elements.another {xs = xs} {ys = ys} o m) h = let q = told_parts xs ys h in (definition_formed o q.0, row_formed m q.1)
 
 heading_formed : {ts : List Lexeme} {x : Name} → IsHeading ts x → AreTold ts → well.IsName x
 heading_formed (g.heading p n e {xs = xs} k l m q) h = (told_parts xs _ h).1.2.0

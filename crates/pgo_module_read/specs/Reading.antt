@@ -13,7 +13,8 @@ use Rattle.pgo_lexer.specs.declared.token.Lexeme.{Lexeme}
 use Rattle.pgo_expr_read.specs.Lookahead.{tokens_of, has_mapped}
 use Rattle.pgo_model.specs.Written.{self_name, proc_set, terminating}
 use Rattle.pgo_syntax.specs.declared.name.PlacedName.{PlacedName}
-use Rattle.pgo_mpcal_read.specs.Reading.{◌>>=◌, ◌>>◌, Parser, and_then, pure, eat, expect, name, sees_second, expression_within, items, row}
+use Rattle.pgo_expr_read.specs.Steps.{◌>>=◌, ◌>>◌, and_then, pure}
+use Rattle.pgo_mpcal_read.specs.Reading.{Parser, eat, expect, name, sees_second, expression_within, items, row}
 use Rattle.pgo_mpcal_read.specs.ReadingSpec.{expect_word, dashes, begins_list, whole}
 use Rattle.pgo_module_spells.specs.Grammar.{most_height, bare}
 use Rattle.pgo_module_read.specs.declared.lines.Declared.{Declared}

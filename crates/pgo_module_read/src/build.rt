@@ -3,7 +3,7 @@ ghost use Rattle.std.specs.Prelude.{◌≡◌, IfOk, map};
 ghost use Rattle.pgo_base.specs.Tree.{name};
 ghost use Rattle.pgo_model.specs.Module as written;
 ghost use Rattle.pgo_model.specs.ModuleView.{module_view};
-ghost use Rattle.pgo_mpcal_read.specs.Reading.{Makes};
+ghost use Rattle.pgo_expr_read.specs.Steps.{Makes};
 ghost use Rattle.pgo_module_spells.specs.Parts as parts;
 ghost use Rattle.pgo_module_read.specs.Building as spec;
 

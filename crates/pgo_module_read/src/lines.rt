@@ -1,7 +1,7 @@
 // The lines of a module, by its tokens.
 ghost use Rattle.std.specs.Prelude.{◌≡◌, is_some};
 ghost use Rattle.pgo_expr_read.specs.Lookahead as look;
-ghost use Rattle.pgo_mpcal_read.specs.Reading.{Reads, Makes};
+ghost use Rattle.pgo_expr_read.specs.Steps.{Reads, Makes};
 ghost use Rattle.pgo_mpcal_read.specs.ReadingSpec.{whole};
 ghost use Rattle.pgo_module_read.specs.Reading as spec;
 
@@ -10,9 +10,10 @@ use pgo_base::expr::{Infix, Names, Sub};
 use pgo_base::items::Items;
 use pgo_base::module::{Action, Defs};
 use pgo_base::text::Text;
+use pgo_expr_read::sign::is_mapped;
 use pgo_lexer::errors::TextStop;
 use pgo_lexer::symbol::{Bracket, Symbol};
-use pgo_lexer::token::{Lexeme, Token};
+use pgo_lexer::token::Lexeme;
 use pgo_mpcal_read::cursor::Cursor;
 use pgo_mpcal_read::header::dashes;
 use pgo_mpcal_read::item::items;
@@ -226,16 +227,6 @@ fn whole_lines(alloc: Global, tokens: &[Lexeme], end: u64) -> Result<Lines, Text
         Ok(all)
     } else {
         Err(cursor.refuse())
-    }
-}
-
-/// Whether it is `$variable` or `$value`.
-fn is_mapped(token: &Token) -> bool
-    ensures { result ≡ look.is_mapped token.now }
-{
-    match token {
-        Token::Symbol(Symbol::Variable) | Token::Symbol(Symbol::Value) => true,
-        _ => false,
     }
 }
 

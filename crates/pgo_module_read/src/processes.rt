@@ -1,7 +1,7 @@
 // The processes of a module, with their label actions.
 ghost use Rattle.std.specs.Prelude.{◌≡◌, [], IfOk, reverse};
 ghost use Rattle.pgo_lexer.specs.Pieces.{begins};
-ghost use Rattle.pgo_mpcal_read.specs.Reading.{Makes};
+ghost use Rattle.pgo_expr_read.specs.Steps.{Makes};
 ghost use Rattle.pgo_module_read.specs.Answers.{Leaves};
 ghost use Rattle.pgo_module_read.specs.Building as spec;
 

@@ -3,7 +3,7 @@ ghost use Rattle.std.specs.Prelude.{◌≡◌, ℕ, List, IfOk, IfErr, length};
 ghost use Rattle.pgo_expr_read.specs.Stops.{IsWithin};
 ghost use Rattle.pgo_model.specs.Module as model;
 ghost use Rattle.pgo_model.specs.ModuleView.{module_view};
-ghost use Rattle.pgo_mpcal_read.specs.Reading.{Makes};
+ghost use Rattle.pgo_expr_read.specs.Steps.{Makes};
 ghost use Rattle.pgo_module_spells.specs.Spells.{SpellsModule, IsOrNoMemory};
 ghost use Rattle.pgo_module_spells.specs.Written.{IsWritten};
 ghost use Rattle.pgo_module_read.specs.Building as spec;

@@ -1,6 +1,6 @@
 // Definitions of a module, and rows of them.
 ghost use Rattle.std.specs.Prelude.{◌≡◌, IfOk};
-ghost use Rattle.pgo_mpcal_read.specs.Reading.{Reads};
+ghost use Rattle.pgo_expr_read.specs.Steps.{Reads};
 ghost use Rattle.pgo_mpcal_read.specs.Reading as reading;
 ghost use Rattle.pgo_mpcal_read.specs.ReadingSpec.{Updates};
 ghost use Rattle.pgo_module_spells.specs.Grammar.{bare};

@@ -1,7 +1,7 @@
 // The processes of a module, by the body of Next and that of ProcSet.
 ghost use Rattle.std.specs.Prelude.{◌≡◌, [], option_map, reverse};
 ghost use Rattle.pgo_base.specs.ExprView.{tree};
-ghost use Rattle.pgo_mpcal_read.specs.Reading.{Makes};
+ghost use Rattle.pgo_expr_read.specs.Steps.{Makes};
 ghost use Rattle.pgo_module_read.specs.Building as spec;
 
 use pgo_base::expr::{Expr, Infix, Sub};

@@ -11,7 +11,7 @@ use Rattle.pgo_lexer.specs.declared.token.Lexeme.{Lexeme}
 use Rattle.pgo_expr_read.specs.Lookahead.{tokens_of}
 use Rattle.pgo_expr_read.specs.Spells as expression
 use Rattle.pgo_syntax.specs.declared.name.PlacedName.{PlacedName}
-use Rattle.pgo_mpcal_read.specs.Leaves.{Spot, at, word, IsName, Items, Row}
+use Rattle.pgo_mpcal_read.specs.Elements.{Spot, at, word, IsName, Items, Row}
 use Rattle.pgo_mpcal_read.specs.Spells.{IsDashes}
 use Rattle.pgo_module_spells.specs.Parts.{Parts}
 

@@ -14,7 +14,7 @@ use Rattle.pgo_lexer.specs.Lexemes as l
 use Rattle.pgo_expr_read.specs.Lookahead.{tokens_of}
 use Rattle.pgo_spec_text.specs.SpecText.{Cut, Anything}
 use Rattle.pgo_spec_text.specs.SpecText as c
-use Rattle.pgo_mpcal_read.specs.Leaves.{Spot, at, word}
+use Rattle.pgo_mpcal_read.specs.Elements.{Spot, at, word}
 use Rattle.pgo_expr_write.proofs.Lexed.{SignsEnd, Lexed, single, end}
 use Rattle.pgo_expr_write.proofs.Lexed as w
 use Rattle.pgo_expr_write.proofs.FixedWords.{defines, infix_said, square_open, square_close}

@@ -24,7 +24,7 @@ use Rattle.pgo_expr_read.specs.Lookahead.{tokens_of, has_mapped}
 use Rattle.pgo_expr_read.specs.Spells.{Spelled, joined}
 use Rattle.pgo_spec_text.specs.SpecText.{Cut, Anything, lexeme}
 use Rattle.pgo_spec_text.specs.SpecText as c
-use Rattle.pgo_mpcal_read.specs.Leaves.{Spot, at}
+use Rattle.pgo_mpcal_read.specs.Elements.{Spot, at}
 use Rattle.pgo_expr_write.specs.WellFormed.{IsName, AreNames}
 use Rattle.pgo_expr_write.proofs.Lexed.{SignsEnd, Lexed, plain, is_defines}
 use Rattle.pgo_expr_write.proofs.Lexed as w

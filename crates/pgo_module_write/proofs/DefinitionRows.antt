@@ -12,7 +12,7 @@ use Rattle.pgo_model.specs.Val.{Defined, Given, Means}
 use Rattle.pgo_model.specs.Written.{self_name, terminating}
 use Rattle.pgo_lexer.specs.declared.token.Lexeme.{Lexeme}
 use Rattle.pgo_expr_read.specs.Heights.{trees_height}
-use Rattle.pgo_mpcal_read.specs.Leaves.{Row, nothing, another}
+use Rattle.pgo_mpcal_read.specs.Elements.{Row, nothing, another}
 use Rattle.pgo_expr_write.specs.WellFormed.{AreNames, AreAll}
 use Rattle.pgo_expr_write.proofs.Lexed.{SignsEnd}
 use Rattle.pgo_module_spells.specs.Grammar.{IsDefined}

@@ -15,7 +15,7 @@ use Rattle.pgo_lexer.specs.Layout.{Marked}
 use Rattle.pgo_expr_read.specs.Lookahead.{has_mapped}
 use Rattle.pgo_spec_text.specs.SpecText.{Cut, Anything}
 use Rattle.pgo_spec_text.specs.SpecText as c
-use Rattle.pgo_mpcal_read.specs.Leaves.{Spot, at, word}
+use Rattle.pgo_mpcal_read.specs.Elements.{Spot, at, word}
 use Rattle.pgo_mpcal_read.specs.Spells.{IsDashes, dash, dashes}
 use Rattle.pgo_expr_write.specs.WellFormed.{IsName, AreNames}
 use Rattle.pgo_expr_write.proofs.Lexed.{SignsEnd, Lexed, blank, end, is_defines}

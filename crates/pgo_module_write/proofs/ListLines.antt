@@ -9,7 +9,7 @@ use Rattle.pgo_lexer.specs.declared.token.Lexeme.{Lexeme}
 use Rattle.pgo_lexer.specs.declared.token.Token.TheVariants as t
 use Rattle.pgo_expr_read.specs.Lookahead.{tokens_of}
 use Rattle.pgo_expr_read.specs.Spells.{names}
-use Rattle.pgo_mpcal_read.specs.Leaves.{word}
+use Rattle.pgo_mpcal_read.specs.Elements.{word}
 use Rattle.pgo_expr_write.specs.WellFormed.{IsName, AreNames}
 use Rattle.pgo_expr_write.proofs.Lexed.{SignsEnd, Lexed, blank, end}
 use Rattle.pgo_expr_write.proofs.Leaves.{name_said}

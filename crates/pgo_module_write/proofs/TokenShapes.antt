@@ -12,8 +12,8 @@ use Rattle.pgo_lexer.specs.declared.token.Token.TheVariants as t
 use Rattle.pgo_expr_read.specs.Lookahead.{tokens_of}
 use Rattle.pgo_expr_read.specs.Spells.{names, more_names}
 use Rattle.pgo_syntax.specs.declared.name.PlacedName.{PlacedName}
-use Rattle.pgo_mpcal_read.specs.Leaves.{Spot, lexeme, at, word, placed, IsName, Items, Behind}
-use Rattle.pgo_mpcal_read.specs.Leaves as l
+use Rattle.pgo_mpcal_read.specs.Elements.{Spot, lexeme, at, word, placed, IsName, Items, Behind}
+use Rattle.pgo_mpcal_read.specs.Elements as l
 use Rattle.pgo_module_spells.specs.Grammar.{IsExpression, IsDefined, bare}
 use Rattle.pgo_module_spells.specs.Grammar as g
 use Rattle.pgo_module_write.proofs.NameLines.{head_tokens}

@@ -14,7 +14,7 @@ use Rattle.pgo_lexer.specs.Layout.{Marked, Past, Marks}
 use Rattle.pgo_lexer.specs.Layout as layout
 use Rattle.pgo_expr_read.specs.Texts.{most_tokens}
 use Rattle.pgo_spec_text.specs.SpecText.{IsFirst, IsModuleLine}
-use Rattle.pgo_mpcal_read.specs.Leaves.{at}
+use Rattle.pgo_mpcal_read.specs.Elements.{at}
 use Rattle.pgo_expr_write.specs.WellFormed.{AreNames}
 use Rattle.pgo_expr_write.proofs.Lexed.{SignsEnd}
 use Rattle.pgo_module_spells.specs.Grammar.{IsEnding, AreParts, parts}

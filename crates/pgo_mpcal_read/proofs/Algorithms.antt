@@ -9,47 +9,49 @@ use Rattle.pgo_syntax.specs.Statement.{labeled}
 use Rattle.pgo_lexer.specs.declared.symbol.Bracket.TheVariants as bracket
 use Rattle.pgo_lexer.specs.declared.symbol.Keyword.TheVariants as keyword
 use Rattle.pgo_lexer.specs.declared.symbol.Symbol.TheVariants as symbol
-use Rattle.pgo_mpcal_read.specs.declared.standing.Standing.{Standing}
-use Rattle.pgo_mpcal_read.specs.declared.standing.Standing.TheVariants as standing
+use Rattle.pgo_mpcal_read.specs.declared.allowed.Context.{Context}
+use Rattle.pgo_mpcal_read.specs.declared.allowed.Context.TheVariants as context
 use Rattle.pgo_mpcal_read.specs.declared.units.Units.{Units}
 use Rattle.pgo_mpcal_read.specs.Depths.{labeled_depth}
 use Rattle.pgo_mpcal_read.specs.Signs.{sees}
-use Rattle.pgo_mpcal_read.specs.Leaves.{Spot, at, word, placed}
+use Rattle.pgo_mpcal_read.specs.Elements.{Spot, at, word, placed}
 use Rattle.pgo_mpcal_read.specs.Units.{IsDefine, IsVariables, IsMacro, IsMappingMacro, IsArchetype, IsProcess, is_plain, may_stand_in_macro, all_are, IsUnit, no_units, AreUnits}
 use Rattle.pgo_mpcal_read.specs.Units as u
-use Rattle.pgo_mpcal_read.specs.Reading.{Outcome, Parser, and_then, pure, front_of, folded}
-use Rattle.pgo_mpcal_read.specs.ReadingStatements.{deep, goes_on}
+use Rattle.pgo_expr_read.specs.Steps.{and_then, pure, folded}
+use Rattle.pgo_mpcal_read.specs.Reading.{Outcome, Parser, front_of}
+use Rattle.pgo_mpcal_read.specs.ReadingStatements.{with_depth, goes_on}
 use Rattle.pgo_mpcal_read.specs.ReadingUnits.{define, variables, macro_definition, mapping_macro, archetype, process, sees_clause}
-use Rattle.pgo_mpcal_read.specs.ReadingSpec.{stands, checked, if_absent, define_unit, macro_unit, mapping_unit, archetype_unit, globals_unit, process_unit, unit, algorithm}
-use Rattle.pgo_mpcal_read.proofs.Parts.{Front, Sound, Reach, some_pair, if_some, bind_then, expect_then, name_then, next_step, expect_gives}
+use Rattle.pgo_mpcal_read.specs.ReadingSpec.{is_allowed, if_allowed, if_absent, define_unit, macro_unit, mapping_unit, archetype_unit, globals_unit, process_unit, unit, algorithm}
+use Rattle.pgo_expr_read.proofs.Steps.{some_pair, if_some, bind_then, next_step}
+use Rattle.pgo_mpcal_read.proofs.Parts.{Front, Sound, Reach, expect_then, name_then, expect_gives}
 use Rattle.pgo_mpcal_read.proofs.Good.{front_is}
 use Rattle.pgo_mpcal_read.proofs.Declared.{sound_variables, reach_variables, Behind}
 use Rattle.pgo_mpcal_read.proofs.Blocks.{sound_define, reach_define, sound_macro, reach_macro, sound_mapping, reach_mapping, sound_archetype, reach_archetype, sound_process, reach_process}
 
 -- ---- tokens that may stand there
 
-checked_some : {A : Type 0} (w : Standing) (i : List Lexeme) (o : Outcome A) (a : A) (rest : List Lexeme) → checked w i o ≡ Some (a, rest) → (o ≡ Some (a, rest)) × (all_are (stands w) (front_of i rest) ≡ true)
-checked_some {A} w i (Some p) a rest got =
-    let q = if_some (all_are (stands w) (front_of i p.1)) p (a, rest) got in
-    (ap Some q.1, ap (λ (z : A × List Lexeme). all_are (stands w) (front_of i z.1)) (sym q.1) ∙ q.0)
-checked_some w i None a rest got = cc
+if_allowed_some : {A : Type 0} (w : Context) (i : List Lexeme) (o : Outcome A) (a : A) (rest : List Lexeme) → if_allowed w i o ≡ Some (a, rest) → (o ≡ Some (a, rest)) × (all_are (is_allowed w) (front_of i rest) ≡ true)
+if_allowed_some {A} w i (Some p) a rest got =
+    let q = if_some (all_are (is_allowed w) (front_of i p.1)) p (a, rest) got in
+    (ap Some q.1, ap (λ (z : A × List Lexeme). all_are (is_allowed w) (front_of i z.1)) (sym q.1) ∙ q.0)
+if_allowed_some w i None a rest got = cc
 
--- what was checked, and that its tokens may stand there
-record Checked {A : Type 0} (w : Standing) (R : List Lexeme → A → Type 0) (i : List Lexeme) (a : A) (rest : List Lexeme) : Type 0 where
+-- what was read, and that its tokens are allowed there
+record IfAllowed {A : Type 0} (w : Context) (R : List Lexeme → A → Type 0) (i : List Lexeme) (a : A) (rest : List Lexeme) : Type 0 where
   front : List Lexeme
   split : i ≡ front ++ rest
   holds : R front a
-  stand : all_are (stands w) front ≡ true
+  stand : all_are (is_allowed w) front ≡ true
 
-sound_checked : {A : Type 0} (w : Standing) (R : List Lexeme → A → Type 0) (p : Parser A) → Sound R p → (i : List Lexeme) (a : A) (rest : List Lexeme) → checked w i (p i) ≡ Some (a, rest) → Checked w R i a rest
-sound_checked w R p s i a rest got =
-    let k = checked_some w i (p i) a rest got in
+sound_if_allowed : {A : Type 0} (w : Context) (R : List Lexeme → A → Type 0) (p : Parser A) → Sound R p → (i : List Lexeme) (a : A) (rest : List Lexeme) → if_allowed w i (p i) ≡ Some (a, rest) → IfAllowed w R i a rest
+sound_if_allowed w R p s i a rest got =
+    let k = if_allowed_some w i (p i) a rest got in
     let g = s i a rest k.0 in
-    record { front = g.front; split = g.split; holds = g.holds; stand = ap (all_are (stands w)) (sym (front_is i g.front rest g.split)) ∙ k.1 }
+    record { front = g.front; split = g.split; holds = g.holds; stand = ap (all_are (is_allowed w)) (sym (front_is i g.front rest g.split)) ∙ k.1 }
 
-checked_gives : {A : Type 0} (w : Standing) (ts : List Lexeme) (o : Outcome A) (a : A) (rest : List Lexeme) → o ≡ Some (a, rest) → all_are (stands w) ts ≡ true → checked w (ts ++ rest) o ≡ Some (a, rest)
-checked_gives w ts o a rest got stand =
-    ap (checked w (ts ++ rest)) got ∙ ap (λ b. cond b (Some (a, rest)) None) (ap (all_are (stands w)) (front_is (ts ++ rest) ts rest refl) ∙ stand)
+if_allowed_gives : {A : Type 0} (w : Context) (ts : List Lexeme) (o : Outcome A) (a : A) (rest : List Lexeme) → o ≡ Some (a, rest) → all_are (is_allowed w) ts ≡ true → if_allowed w (ts ++ rest) o ≡ Some (a, rest)
+if_allowed_gives w ts o a rest got stand =
+    ap (if_allowed w (ts ++ rest)) got ∙ ap (λ b. cond b (Some (a, rest)) None) (ap (all_are (is_allowed w)) (front_is (ts ++ rest) ts rest refl) ∙ stand)
 
 -- ---- units
 
@@ -72,16 +74,16 @@ sound_define_unit : SoundUnit define_unit
 unfolding define_unit
 sound_define_unit b i a rest got =
     let k = absent_some b.define _ _ got in
-    bind_then (checked standing.Plain i (define i)) _ _ _ k.1 (λ ds j h got.
-    let g = sound_checked standing.Plain IsDefine define sound_define i ds j h in
+    bind_then (if_allowed context.Plain i (define i)) _ _ _ k.1 (λ ds j h got.
+    let g = sound_if_allowed context.Plain IsDefine define sound_define i ds j h in
     let q = some_pair _ _ _ _ got in
     made b a _ i g.front j rest g.split (u.define k.0 g.holds g.stand) q.0 q.1)
 
 sound_macro_unit : SoundUnit macro_unit
 unfolding macro_unit
 sound_macro_unit b i a rest got =
-    bind_then (checked standing.Macro i (macro_definition b.depths i)) _ _ _ got (λ m j h got.
-    let g = sound_checked standing.Macro _ (macro_definition b.depths) (sound_macro b.depths) i m j h in
+    bind_then (if_allowed context.Macro i (macro_definition b.depths i)) _ _ _ got (λ m j h got.
+    let g = sound_if_allowed context.Macro _ (macro_definition b.depths) (sound_macro b.depths) i m j h in
     let q = some_pair _ _ _ _ got in
     let D : ℕ → Type 0 = λ z. IsUnit b g.front (record b { macros = b.macros ++ m.part ∷ []; depths = b.depths ++ record { name = m.part.name.name; depth = z } ∷ [] }) in
     made b a _ i g.front j rest g.split (subst D (sym g.holds.depth) (u.macro_definition g.holds.holds g.stand g.holds.within)) q.0 q.1)
@@ -97,8 +99,8 @@ sound_mapping_unit b i a rest got =
 sound_archetype_unit : SoundUnit archetype_unit
 unfolding archetype_unit
 sound_archetype_unit b i a rest got =
-    bind_then (checked standing.Plain i (archetype b.depths i)) _ _ _ got (λ m j h got.
-    let g = sound_checked standing.Plain _ (archetype b.depths) (sound_archetype b.depths) i m j h in
+    bind_then (if_allowed context.Plain i (archetype b.depths i)) _ _ _ got (λ m j h got.
+    let g = sound_if_allowed context.Plain _ (archetype b.depths) (sound_archetype b.depths) i m j h in
     let q = some_pair _ _ _ _ got in
     made b a _ i g.front j rest g.split (u.archetype g.holds.holds g.stand g.holds.within) q.0 q.1)
 
@@ -106,16 +108,16 @@ sound_globals_unit : SoundUnit globals_unit
 unfolding globals_unit
 sound_globals_unit b i a rest got =
     let k = absent_some b.globals _ _ got in
-    bind_then (checked standing.Plain i (variables i)) _ _ _ k.1 (λ ds j h got.
-    let g = sound_checked standing.Plain IsVariables variables sound_variables i ds j h in
+    bind_then (if_allowed context.Plain i (variables i)) _ _ _ k.1 (λ ds j h got.
+    let g = sound_if_allowed context.Plain IsVariables variables sound_variables i ds j h in
     let q = some_pair _ _ _ _ got in
     made b a _ i g.front j rest g.split (u.globals k.0 g.holds g.stand) q.0 q.1)
 
 sound_process_unit : SoundUnit process_unit
 unfolding process_unit
 sound_process_unit b i a rest got =
-    bind_then (checked standing.Plain i (process i)) _ _ _ got (λ m j h got.
-    let g = sound_checked standing.Plain IsProcess process sound_process i m j h in
+    bind_then (if_allowed context.Plain i (process i)) _ _ _ got (λ m j h got.
+    let g = sound_if_allowed context.Plain IsProcess process sound_process i m j h in
     let q = some_pair _ _ _ _ got in
     made b a _ i g.front j rest g.split (u.process g.holds g.stand) q.0 q.1)
 
@@ -199,21 +201,21 @@ unit_begins (u.process (u.instance_of p a n b k l m u.strongly d4 d9 d10 c) h) =
 reach_process_unit : (b : Units) {ts : List Lexeme} {q : Process} → IsProcess ts q → all_are is_plain ts ≡ true → (rest : List Lexeme) → Follows rest → process_unit b (ts ++ rest) ≡ Some (record b { processes = b.processes ++ q ∷ [] }, rest)
 unfolding process_unit
 reach_process_unit b {ts} {q} d p rest f =
-    next_step _ _ _ _ _ (checked_gives standing.Plain ts (process (ts ++ rest)) q rest (reach_process ts q d rest (record { no_semicolon = f.behind.no_semicolon; no_clause = f.no_clause })) p) refl
+    next_step _ _ _ _ _ (if_allowed_gives context.Plain ts (process (ts ++ rest)) q rest (reach_process ts q d rest (record { no_semicolon = f.behind.no_semicolon; no_clause = f.no_clause })) p) refl
 
 reach_unit : {b a : Units} {ts : List Lexeme} → IsUnit b ts a → (rest : List Lexeme) → Follows rest → unit b (ts ++ rest) ≡ Some (a, rest)
 unfolding unit define_unit macro_unit mapping_unit archetype_unit globals_unit
 reach_unit {b} (u.define {xs = xs} {ds = ds} n (u.definitions {p = p} {o = o} c d) h) rest f =
-    ap (λ z. if_absent z (and_then (checked standing.Plain (xs ++ rest) (define (xs ++ rest))) (λ ds. pure (record b { define = Some ds })))) n
-    ∙ next_step _ _ _ _ _ (checked_gives standing.Plain xs (define (xs ++ rest)) ds rest (reach_define xs ds (u.definitions c d) rest tt) h) refl
+    ap (λ z. if_absent z (and_then (if_allowed context.Plain (xs ++ rest) (define (xs ++ rest))) (λ ds. pure (record b { define = Some ds })))) n
+    ∙ next_step _ _ _ _ _ (if_allowed_gives context.Plain xs (define (xs ++ rest)) ds rest (reach_define xs ds (u.definitions c d) rest tt) h) refl
 reach_unit {b} (u.macro_definition {xs = xs} {m = m} (u.macro_of d k) h low) rest f =
-    next_step _ _ _ _ _ (checked_gives standing.Macro xs (macro_definition b.depths (xs ++ rest)) (deep (labeled_depth b.depths (labeled m.body)) m) rest (reach_macro b.depths (u.macro_of d k) low rest) h) refl
+    next_step _ _ _ _ _ (if_allowed_gives context.Macro xs (macro_definition b.depths (xs ++ rest)) (with_depth (labeled_depth b.depths (labeled m.body)) m) rest (reach_macro b.depths (u.macro_of d k) low rest) h) refl
 reach_unit {b} (u.mapping {xs = xs} {m = m} (u.mapping_macro_of w c k d) low low') rest f = next_step _ _ _ _ _ (reach_mapping b.depths (u.mapping_macro_of w c k d) low low' rest) refl
 reach_unit {b} (u.archetype {xs = xs} {a = a} (u.archetype_of d m k) h low) rest f =
-    next_step _ _ _ _ _ (checked_gives standing.Plain xs (archetype b.depths (xs ++ rest)) a rest (reach_archetype b.depths (u.archetype_of d m k) low rest) h) refl
+    next_step _ _ _ _ _ (if_allowed_gives context.Plain xs (archetype b.depths (xs ++ rest)) a rest (reach_archetype b.depths (u.archetype_of d m k) low rest) h) refl
 reach_unit {b} (u.globals {xs = xs} {ds = ds} n (u.variables d) h) rest f =
-    ap (λ z. if_absent z (and_then (checked standing.Plain (xs ++ rest) (variables (xs ++ rest))) (λ ds. pure (record b { globals = Some ds })))) n
-    ∙ next_step _ _ _ _ _ (checked_gives standing.Plain xs (variables (xs ++ rest)) ds rest (reach_variables xs ds (u.variables d) rest f.behind) h) refl
+    ap (λ z. if_absent z (and_then (if_allowed context.Plain (xs ++ rest) (variables (xs ++ rest))) (λ ds. pure (record b { globals = Some ds })))) n
+    ∙ next_step _ _ _ _ _ (if_allowed_gives context.Plain xs (variables (xs ++ rest)) ds rest (reach_variables xs ds (u.variables d) rest f.behind) h) refl
 reach_unit {b} (u.process (u.instance_of p a n k l i m u.unfair d4 d9 d10 c) h) rest f = reach_process_unit b (u.instance_of p a n k l i m u.unfair d4 d9 d10 c) h rest f
 reach_unit {b} (u.process (u.instance_of p a n k l i m u.weakly d4 d9 d10 c) h) rest f = reach_process_unit b (u.instance_of p a n k l i m u.weakly d4 d9 d10 c) h rest f
 reach_unit {b} (u.process (u.instance_of p a n k l i m u.strongly d4 d9 d10 c) h) rest f = reach_process_unit b (u.instance_of p a n k l i m u.strongly d4 d9 d10 c) h rest f

@@ -14,13 +14,14 @@ use Rattle.pgo_lexer.specs.declared.symbol.Bracket.TheVariants as bracket
 use Rattle.pgo_lexer.specs.declared.symbol.Keyword.TheVariants as keyword
 use Rattle.pgo_lexer.specs.declared.symbol.Symbol.TheVariants as symbol
 use Rattle.pgo_mpcal_read.specs.Signs.{sees}
-use Rattle.pgo_mpcal_read.specs.Leaves.{Spot, at, word, numeral, placed, closes, Ended, IsName, IsExpression, most_depth, Items, InBrackets, Row}
-use Rattle.pgo_mpcal_read.specs.Leaves as leaf
+use Rattle.pgo_mpcal_read.specs.Elements.{Spot, at, word, numeral, placed, closes, Ended, IsName, IsExpression, most_depth, Items, InBrackets, Row}
+use Rattle.pgo_mpcal_read.specs.Elements as elements
 use Rattle.pgo_mpcal_read.specs.Units.{IsDefinition, IsDeclaration, Parted, IsDeclarations, IsVariables, IsExtent, IsParameter, IsArgument, IsTarget, IsClause, IsMacro, IsMappingMacro, IsLocals, IsArchetype, IsFair, IsClosing, IsProcess, IsDefine}
 use Rattle.pgo_mpcal_read.specs.Units as u
 use Rattle.pgo_mpcal_read.specs.Reading.{name, place, expression, in_brackets, row}
 use Rattle.pgo_mpcal_read.specs.ReadingUnits.{element, extent, ref_parameter, value_parameter, parameter, ref_argument, value_argument, argument, numbered_target, named_target, target, clause, sees_clause}
-use Rattle.pgo_mpcal_read.proofs.Parts.{Front, Sound, Reach, Quiet, some_pair, front_then, expect_then, mark_then, name_then, number_then, eaten_then, sound_name, next_step, expect_gives, mark_gives, eat_true, eat_false}
+use Rattle.pgo_expr_read.proofs.Steps.{some_pair, next_step}
+use Rattle.pgo_mpcal_read.proofs.Parts.{Front, Sound, Reach, Quiet, front_then, expect_then, mark_then, name_then, number_then, eaten_then, sound_name, expect_gives, mark_gives, eat_true, eat_false}
 use Rattle.pgo_mpcal_read.proofs.Expressions.{sound_expression, reach_expression}
 use Rattle.pgo_mpcal_read.proofs.Lists.{sound_in_brackets, sound_row, reach_in_brackets, reach_row}
 use Rattle.pgo_syntax.specs.declared.process.Argument.TheVariants as arguments
@@ -85,10 +86,10 @@ pub reach_parameters : Reach (InBrackets IsParameter) (in_brackets parameter) (�
 reach_parameters = reach_in_brackets IsParameter parameter (λ rest. sees (symbol.Open bracket.Square) rest ≡ false) reach_parameter (λ p j. refl) (λ p j. refl) parameter_begins
 
 reach_name : Reach IsName name (λ rest. Unit {0})
-reach_name front a leaf.name rest q = refl
+reach_name front a elements.name rest q = refl
 
 name_begins : (xs : List Lexeme) (a : PlacedName) → IsName xs a → (j : List Lexeme) → sees (symbol.Close bracket.Round) (xs ++ j) ≡ false
-name_begins front a leaf.name j = refl
+name_begins front a elements.name j = refl
 
 pub sound_names : Sound (InBrackets IsName) (in_brackets name)
 sound_names = sound_in_brackets IsName name sound_name

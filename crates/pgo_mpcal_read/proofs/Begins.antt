@@ -8,7 +8,7 @@ use Rattle.pgo_lexer.specs.declared.symbol.Bracket.TheVariants as bracket
 use Rattle.pgo_lexer.specs.declared.symbol.Keyword.TheVariants as keyword
 use Rattle.pgo_lexer.specs.declared.symbol.Symbol.TheVariants as symbol
 use Rattle.pgo_mpcal_read.specs.Signs.{sees}
-use Rattle.pgo_mpcal_read.specs.Leaves as leaf
+use Rattle.pgo_mpcal_read.specs.Elements as elements
 use Rattle.pgo_mpcal_read.specs.Statements.{Spelled, IsLabeled}
 use Rattle.pgo_mpcal_read.specs.Statements as s
 use Rattle.pgo_mpcal_read.specs.ReadingStatements.{begins_label}
@@ -28,8 +28,8 @@ pub record Begins (xs : List Lexeme) : Type 0 where
 
 pub begins : {u v : Bool} {xs : List Lexeme} {a : Statement} → Spelled u v xs a → Begins xs
 begins s.skip = record { full = omega arith; quiet = λ j. refl; no_else = λ j. refl; no_or = λ j. refl; no_plus = λ j. refl; no_minus = λ j. refl; no_bars = λ j. refl; no_semicolon = λ j. refl; no_brace = λ j. refl }
-begins (s.assign (leaf.items (s.assignment k (s.named p) e) m)) = record { full = omega arith; quiet = λ j. refl; no_else = λ j. refl; no_or = λ j. refl; no_plus = λ j. refl; no_minus = λ j. refl; no_bars = λ j. refl; no_semicolon = λ j. refl; no_brace = λ j. refl }
-begins (s.assign (leaf.items (s.assignment k (s.variable p) e) m)) = record { full = omega arith; quiet = λ j. refl; no_else = λ j. refl; no_or = λ j. refl; no_plus = λ j. refl; no_minus = λ j. refl; no_bars = λ j. refl; no_semicolon = λ j. refl; no_brace = λ j. refl }
+begins (s.assign (elements.items (s.assignment k (s.named p) e) m)) = record { full = omega arith; quiet = λ j. refl; no_else = λ j. refl; no_or = λ j. refl; no_plus = λ j. refl; no_minus = λ j. refl; no_bars = λ j. refl; no_semicolon = λ j. refl; no_brace = λ j. refl }
+begins (s.assign (elements.items (s.assignment k (s.variable p) e) m)) = record { full = omega arith; quiet = λ j. refl; no_else = λ j. refl; no_or = λ j. refl; no_plus = λ j. refl; no_minus = λ j. refl; no_bars = λ j. refl; no_semicolon = λ j. refl; no_brace = λ j. refl }
 begins (s.if_then (s.branch c d r) m) = record { full = omega arith; quiet = λ j. refl; no_else = λ j. refl; no_or = λ j. refl; no_plus = λ j. refl; no_minus = λ j. refl; no_bars = λ j. refl; no_semicolon = λ j. refl; no_brace = λ j. refl }
 begins (s.if_else l (s.branch c d r) m n o) = record { full = omega arith; quiet = λ j. refl; no_else = λ j. refl; no_or = λ j. refl; no_plus = λ j. refl; no_minus = λ j. refl; no_bars = λ j. refl; no_semicolon = λ j. refl; no_brace = λ j. refl }
 begins (s.while_do c d r) = record { full = omega arith; quiet = λ j. refl; no_else = λ j. refl; no_or = λ j. refl; no_plus = λ j. refl; no_minus = λ j. refl; no_bars = λ j. refl; no_semicolon = λ j. refl; no_brace = λ j. refl }
@@ -51,10 +51,10 @@ labeled_begins (s.label f d) = record { full = omega arith; quiet = λ j. refl; 
 -- no statement begins with a name and a colon
 pub no_label : {u v : Bool} {xs : List Lexeme} {a : Statement} → Spelled u v xs a → (j : List Lexeme) → begins_label (xs ++ j) ≡ false
 no_label s.skip j = refl
-no_label (s.assign (leaf.items (s.assignment k (s.named leaf.nothing) e) m)) j = refl
-no_label (s.assign (leaf.items (s.assignment k (s.named (leaf.another (s.index c i) p)) e) m)) j = refl
-no_label (s.assign (leaf.items (s.assignment k (s.named (leaf.another s.field p)) e) m)) j = refl
-no_label (s.assign (leaf.items (s.assignment k (s.variable p) e) m)) j = refl
+no_label (s.assign (elements.items (s.assignment k (s.named elements.nothing) e) m)) j = refl
+no_label (s.assign (elements.items (s.assignment k (s.named (elements.another (s.index c i) p)) e) m)) j = refl
+no_label (s.assign (elements.items (s.assignment k (s.named (elements.another s.field p)) e) m)) j = refl
+no_label (s.assign (elements.items (s.assignment k (s.variable p) e) m)) j = refl
 no_label (s.if_then (s.branch c d r) m) j = refl
 no_label (s.if_else l (s.branch c d r) m n o) j = refl
 no_label (s.while_do c d r) j = refl
@@ -65,7 +65,7 @@ no_label (s.with_in c d r) j = refl
 no_label (s.print_out d) j = refl
 no_label (s.assert_that d) j = refl
 no_label s.go_to j = refl
-no_label (s.call_macro leaf.empty) j = refl
-no_label (s.call_macro (leaf.some c d)) j = refl
+no_label (s.call_macro elements.empty) j = refl
+no_label (s.call_macro (elements.some c d)) j = refl
 no_label (s.yield_as d) j = refl
 no_label (s.block c r) j = refl

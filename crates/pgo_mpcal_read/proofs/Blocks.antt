@@ -10,7 +10,7 @@ use Rattle.pgo_syntax.specs.declared.macros.Macro.{Macro}
 use Rattle.pgo_syntax.specs.declared.macros.MappingMacro.{MappingMacro}
 use Rattle.pgo_syntax.specs.declared.process.Process.{Process}
 use Rattle.pgo_syntax.specs.Statement.{Statement, labeled}
-use Rattle.pgo_mpcal_read.specs.declared.deep.Deep.{Deep}
+use Rattle.pgo_mpcal_read.specs.declared.with_depth.WithDepth.{WithDepth}
 use Rattle.pgo_mpcal_read.specs.declared.depths.MacroDepth.{MacroDepth}
 use Rattle.pgo_base.specs.declared.expr.Infix.TheVariants as operator
 use Rattle.pgo_lexer.specs.declared.symbol.Bracket.TheVariants as bracket
@@ -18,16 +18,18 @@ use Rattle.pgo_lexer.specs.declared.symbol.Keyword.TheVariants as keyword
 use Rattle.pgo_lexer.specs.declared.symbol.Symbol.TheVariants as symbol
 use Rattle.pgo_mpcal_read.specs.Depths.{labeled_depth}
 use Rattle.pgo_mpcal_read.specs.Signs.{sees}
-use Rattle.pgo_mpcal_read.specs.Leaves.{Spot, at, word, placed, IsName, most_depth, InBrackets, Row}
+use Rattle.pgo_mpcal_read.specs.Elements.{Spot, at, word, placed, IsName, most_depth, InBrackets, Row}
 use Rattle.pgo_mpcal_read.specs.Statements.{IsOrigin, IsBody}
 use Rattle.pgo_mpcal_read.specs.Statements as s
 use Rattle.pgo_mpcal_read.specs.Units.{IsDefinition, IsDeclaration, Parted, IsDeclarations, IsVariables, IsExtent, IsParameter, IsArgument, IsTarget, IsClause, IsMacro, IsMappingMacro, IsLocals, IsArchetype, IsFair, IsClosing, IsProcess, IsDefine}
 use Rattle.pgo_mpcal_read.specs.Units as u
-use Rattle.pgo_mpcal_read.specs.Reading.{and_then, skip, past, name, sees_name, in_brackets, row}
-use Rattle.pgo_mpcal_read.specs.ReadingStatements.{deep, origin_of, statement}
+use Rattle.pgo_expr_read.specs.Steps.{and_then, skip}
+use Rattle.pgo_mpcal_read.specs.Reading.{past, name, sees_name, in_brackets, row}
+use Rattle.pgo_mpcal_read.specs.ReadingStatements.{with_depth, origin_of, statement}
 use Rattle.pgo_mpcal_read.specs.ReadingUnits.{define, macro_definition, mapping_macro, archetype, fair, process_head, process_tail, process, sees_clause, definition, locals, clause, argument, parameter}
 use Rattle.pgo_mpcal_read.specs.ReadingUnits as reading
-use Rattle.pgo_mpcal_read.proofs.Parts.{Sound, Reach, some_pair, bind_then, front_then, expect_then, name_then, seen, next_step, expect_gives}
+use Rattle.pgo_expr_read.proofs.Steps.{some_pair, bind_then, next_step}
+use Rattle.pgo_mpcal_read.proofs.Parts.{Sound, Reach, front_then, expect_then, name_then, seen, expect_gives}
 use Rattle.pgo_mpcal_read.proofs.Lists.{sound_row}
 use Rattle.pgo_mpcal_read.proofs.Lefts.{sound_origin, reach_origin}
 use Rattle.pgo_mpcal_read.proofs.SoundBlocks.{sound_body}
@@ -37,7 +39,7 @@ use Rattle.pgo_mpcal_read.proofs.Declared.{sound_definition, reach_definitions, 
 use Rattle.pgo_mpcal_read.proofs.Arguments.{sound_names, reach_names, sound_parameters, reach_parameters, sound_arguments, reach_arguments, sound_clauses, reach_clauses}
 
 -- the block of a unit, with its depth
-pub record DeepBody (ms : List MacroDepth) (ts : List Lexeme) (r : Deep (List (Option PlacedName × Statement))) : Type 0 where
+pub record DeepBody (ms : List MacroDepth) (ts : List Lexeme) (r : WithDepth (List (Option PlacedName × Statement))) : Type 0 where
   pub holds : IsBody ts r.part
   pub depth : r.depth ≡ labeled_depth ms (labeled r.part)
   pub within : labeled_depth ms (labeled r.part) ≤ most_depth
@@ -50,7 +52,7 @@ sound_block ms i r rest got =
 
 reach_block : (ms : List MacroDepth) → Reach (DeepBody ms) (reading.block ms) (λ rest. Unit {0})
 unfolding reading.block
-reach_block ms ts r d rest q = reach_body d.holds ms most_depth most_depth rest d.within ∙ ap (λ z. Some (deep z r.part, rest)) (sym d.depth)
+reach_block ms ts r d rest q = reach_body d.holds ms most_depth most_depth rest d.within ∙ ap (λ z. Some (with_depth z r.part, rest)) (sym d.depth)
 
 pub sound_define : Sound IsDefine define
 unfolding define
@@ -71,7 +73,7 @@ reach_define front a (u.definitions {p = p} {o = o} c {xs = xs} {ds = ds} d) res
 
 -- ---- macros
 
-pub record DeepMacro (ms : List MacroDepth) (ts : List Lexeme) (m : Deep Macro) : Type 0 where
+pub record DeepMacro (ms : List MacroDepth) (ts : List Lexeme) (m : WithDepth Macro) : Type 0 where
   pub holds : IsMacro ts m.part
   pub depth : m.depth ≡ labeled_depth ms (labeled m.part.body)
   pub within : labeled_depth ms (labeled m.part.body) ≤ most_depth
@@ -84,13 +86,13 @@ sound_macro ms i a rest got =
     front_then (InBrackets IsName) (in_brackets name) sound_names i2 _ _ _ got (λ xs ps i3 e3 d got.
     front_then (DeepBody ms) (reading.block ms) (sound_block ms) i3 _ _ _ got (λ ys r i4 e4 b got.
     let q = some_pair _ _ _ _ got in
-    let P : Deep Macro → Type 0 = λ z. DeepMacro ms (at p (symbol.Keyword keyword.Macro) ∷ (word n x ∷ (xs ++ ys))) z in
+    let P : WithDepth Macro → Type 0 = λ z. DeepMacro ms (at p (symbol.Keyword keyword.Macro) ∷ (word n x ∷ (xs ++ ys))) z in
     record { front = at p (symbol.Keyword keyword.Macro) ∷ (word n x ∷ (xs ++ ys)); split = e1 ∙ ap (λ z. at p (symbol.Keyword keyword.Macro) ∷ z) (e2 ∙ ap (λ z. word n x ∷ z) (e3 ∙ ap (λ z. xs ++ z) (e4 ∙ ap (λ z. ys ++ z) q.1) ∙ sym (append_assoc xs (ys) rest))); holds = subst P q.0 (record { holds = u.macro_of d b.holds; depth = b.depth; within = b.within }) }))))
 
-pub reach_macro : (ms : List MacroDepth) {ts : List Lexeme} {m : Macro} → IsMacro ts m → labeled_depth ms (labeled m.body) ≤ most_depth → (rest : List Lexeme) → macro_definition ms (ts ++ rest) ≡ Some (deep (labeled_depth ms (labeled m.body)) m, rest)
+pub reach_macro : (ms : List MacroDepth) {ts : List Lexeme} {m : Macro} → IsMacro ts m → labeled_depth ms (labeled m.body) ≤ most_depth → (rest : List Lexeme) → macro_definition ms (ts ++ rest) ≡ Some (with_depth (labeled_depth ms (labeled m.body)) m, rest)
 unfolding macro_definition
 reach_macro ms (u.macro_of {p = p} {n = n} {x = x} {xs = xs} {ys = ys} {ps = ps} {rs = rs} d b) low rest =
-    let r : Deep (List (Option PlacedName × Statement)) = deep (labeled_depth ms (labeled rs)) rs in
+    let r : WithDepth (List (Option PlacedName × Statement)) = with_depth (labeled_depth ms (labeled rs)) rs in
     let k : DeepBody ms ys r = record { holds = b; depth = refl; within = low } in
     ap (macro_definition ms) (ap (λ z. at p (symbol.Keyword keyword.Macro) ∷ z) (ap (λ z. word n x ∷ z) (append_assoc xs (ys) rest)))
     ∙ next_step _ _ _ _ _ (expect_gives (symbol.Keyword keyword.Macro) p (word n x ∷ (xs ++ (ys ++ rest)))) (next_step _ _ _ _ _ (reach_names xs ps d (ys ++ rest) tt) (next_step _ _ _ _ _ (reach_block ms ys r k rest tt) refl))
@@ -119,9 +121,9 @@ sound_mapping ms i a rest got =
 pub reach_mapping : (ms : List MacroDepth) {ts : List Lexeme} {m : MappingMacro} → IsMappingMacro ts m → labeled_depth ms (labeled m.read) ≤ most_depth → labeled_depth ms (labeled m.write) ≤ most_depth → (rest : List Lexeme) → mapping_macro ms (ts ++ rest) ≡ Some (m, rest)
 unfolding mapping_macro
 reach_mapping ms (u.mapping_macro_of {p = p} {q = k} {n = n} {o = o} {r = r} w c {x = x} {xs = xs} {ys = ys} {rs = rs} {ws = ws} b d) low low' rest =
-    let r1 : Deep (List (Option PlacedName × Statement)) = deep (labeled_depth ms (labeled rs)) rs in
+    let r1 : WithDepth (List (Option PlacedName × Statement)) = with_depth (labeled_depth ms (labeled rs)) rs in
     let k1 : DeepBody ms xs r1 = record { holds = b; depth = refl; within = low } in
-    let r2 : Deep (List (Option PlacedName × Statement)) = deep (labeled_depth ms (labeled ws)) ws in
+    let r2 : WithDepth (List (Option PlacedName × Statement)) = with_depth (labeled_depth ms (labeled ws)) ws in
     let k2 : DeepBody ms ys r2 = record { holds = d; depth = refl; within = low' } in
     ap (mapping_macro ms) (ap (λ z. at p (symbol.Keyword keyword.Mapping) ∷ z) (ap (λ z. at k (symbol.Keyword keyword.Macro) ∷ z) (ap (λ z. word n x ∷ z) (ap (λ z. at o (symbol.Open bracket.Curly) ∷ z) (ap (λ z. at r (symbol.Keyword keyword.Read) ∷ z) (append_assoc xs (at w (symbol.Keyword keyword.Write) ∷ (ys ++ (at c (symbol.Close bracket.Curly) ∷ []))) rest ∙ ap (λ z. xs ++ z) (ap (λ z. at w (symbol.Keyword keyword.Write) ∷ z) (append_assoc ys (at c (symbol.Close bracket.Curly) ∷ []) rest))))))))
     ∙ next_step _ _ _ _ _ (expect_gives (symbol.Keyword keyword.Mapping) p (at k (symbol.Keyword keyword.Macro) ∷ (word n x ∷ (at o (symbol.Open bracket.Curly) ∷ (at r (symbol.Keyword keyword.Read) ∷ (xs ++ (at w (symbol.Keyword keyword.Write) ∷ (ys ++ (at c (symbol.Close bracket.Curly) ∷ rest))))))))) (next_step _ _ _ _ _ (expect_gives (symbol.Keyword keyword.Macro) k (word n x ∷ (at o (symbol.Open bracket.Curly) ∷ (at r (symbol.Keyword keyword.Read) ∷ (xs ++ (at w (symbol.Keyword keyword.Write) ∷ (ys ++ (at c (symbol.Close bracket.Curly) ∷ rest)))))))) (next_step _ _ _ _ _ (expect_gives (symbol.Open bracket.Curly) o (at r (symbol.Keyword keyword.Read) ∷ (xs ++ (at w (symbol.Keyword keyword.Write) ∷ (ys ++ (at c (symbol.Close bracket.Curly) ∷ rest)))))) (next_step _ _ _ _ _ (expect_gives (symbol.Keyword keyword.Read) r (xs ++ (at w (symbol.Keyword keyword.Write) ∷ (ys ++ (at c (symbol.Close bracket.Curly) ∷ rest))))) (next_step _ _ _ _ _ (reach_block ms xs r1 k1 (at w (symbol.Keyword keyword.Write) ∷ (ys ++ (at c (symbol.Close bracket.Curly) ∷ rest))) tt) (next_step _ _ _ _ _ (expect_gives (symbol.Keyword keyword.Write) w (ys ++ (at c (symbol.Close bracket.Curly) ∷ rest))) (next_step _ _ _ _ _ (reach_block ms ys r2 k2 (at c (symbol.Close bracket.Curly) ∷ rest) tt) (next_step _ _ _ _ _ (expect_gives (symbol.Close bracket.Curly) c rest) refl)))))))
@@ -150,7 +152,7 @@ body_behind (s.body c d) j = (record { quiet = refl; no_name = refl; no_comma = 
 pub reach_archetype : (ms : List MacroDepth) {ts : List Lexeme} {a : Archetype} → IsArchetype ts a → labeled_depth ms (labeled a.body) ≤ most_depth → (rest : List Lexeme) → archetype ms (ts ++ rest) ≡ Some (a, rest)
 unfolding archetype
 reach_archetype ms (u.archetype_of {p = p} {n = n} {x = x} {xs = xs} {ys = ys} {zs = zs} {ps = ps} {ds = ds} {rs = rs} d m b) low rest =
-    let r : Deep (List (Option PlacedName × Statement)) = deep (labeled_depth ms (labeled rs)) rs in
+    let r : WithDepth (List (Option PlacedName × Statement)) = with_depth (labeled_depth ms (labeled rs)) rs in
     let k : DeepBody ms zs r = record { holds = b; depth = refl; within = low } in
     ap (archetype ms) (ap (λ z. at p (symbol.Keyword keyword.Archetype) ∷ z) (ap (λ z. word n x ∷ z) (append_assoc xs (ys ++ zs) rest ∙ ap (λ z. xs ++ z) (append_assoc ys (zs) rest))))
     ∙ next_step _ _ _ _ _ (expect_gives (symbol.Keyword keyword.Archetype) p (word n x ∷ (xs ++ (ys ++ (zs ++ rest))))) (next_step _ _ _ _ _ (reach_parameters xs ps d (ys ++ (zs ++ rest)) tt) (next_step _ _ _ _ _ (reach_locals ys ds m (zs ++ rest) (body_behind b rest)) (next_step _ _ _ _ _ (reach_block ms zs r k rest tt) refl)))

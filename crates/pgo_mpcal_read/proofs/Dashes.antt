@@ -5,15 +5,18 @@ use Rattle.std.proofs.lemmas.List.{length-append}
 use Rattle.pgo_lexer.specs.declared.token.Lexeme.{Lexeme}
 use Rattle.pgo_base.specs.declared.expr.Infix.TheVariants as operator
 use Rattle.pgo_lexer.specs.declared.symbol.Symbol.TheVariants as symbol
-use Rattle.pgo_mpcal_read.specs.Signs.{is_sign, sees}
-use Rattle.pgo_mpcal_read.specs.Leaves.{Spot, at, word, placed, IsName, Items}
-use Rattle.pgo_mpcal_read.specs.Leaves as leaf
+use Rattle.pgo_expr_read.specs.Signs.{is_sign}
+use Rattle.pgo_mpcal_read.specs.Signs.{sees}
+use Rattle.pgo_mpcal_read.specs.Elements.{Spot, at, word, placed, IsName, Items}
+use Rattle.pgo_mpcal_read.specs.Elements as elements
 use Rattle.pgo_mpcal_read.specs.Spells.{IsRow, IsDashes, IsExtends, IsConstantsWord, IsPart, IsHeader, SpellsTokens}
 use Rattle.pgo_mpcal_read.specs.Spells as h
-use Rattle.pgo_mpcal_read.specs.Reading.{Outcome, and_then, skip}
+use Rattle.pgo_expr_read.specs.Steps.{and_then, skip}
+use Rattle.pgo_mpcal_read.specs.Reading.{Outcome}
 use Rattle.pgo_mpcal_read.specs.ReadingSpec.{sees_minus, stop_of, more_dashes, dashes}
-use Rattle.pgo_mpcal_read.proofs.Signs.{token_of_sign}
-use Rattle.pgo_mpcal_read.proofs.Parts.{Front, Sound, Reach, spot, some_pair, bind_then, next_step}
+use Rattle.pgo_expr_read.proofs.Signs.{token_of_sign}
+use Rattle.pgo_expr_read.proofs.Steps.{some_pair, bind_then, next_step}
+use Rattle.pgo_mpcal_read.proofs.Parts.{Front, Sound, Reach, spot}
 
 pub and_both : (a b : Bool) → (a && b) ≡ true → (a ≡ true) × (b ≡ true)
 and_both true b e = (refl, e)
@@ -42,7 +45,7 @@ dashes_by true n count stop l i c rest is go got =
     let g = go got in
     let long = g.long in
     let starts = eqb-true l.start stop k.1 in
-    let token : l ∷ i ≡ at (spot l) (symbol.Infix operator.Subtract) ∷ i = ap (λ z. leaf.lexeme (spot l) z ∷ i) (token_of_sign (symbol.Infix operator.Subtract) l.token k.0) in
+    let token : l ∷ i ≡ at (spot l) (symbol.Infix operator.Subtract) ∷ i = ap (λ z. elements.lexeme (spot l) z ∷ i) (token_of_sign (symbol.Infix operator.Subtract) l.token k.0) in
     record { front = at (spot l) (symbol.Infix operator.Subtract) ∷ g.front; split = token ∙ ap (λ z. at (spot l) (symbol.Infix operator.Subtract) ∷ z) g.split; long = omega (arith, long); row = λ p e. h.dashes (starts ∙ sym e) (g.row (spot l) refl) }
 dashes_by false n count stop l i c rest is go got =
     let q = some_pair _ _ _ _ got in
@@ -66,7 +69,7 @@ all_dashes true d l i a rest is got =
     let k = enough_by (nat_le 3 c) j rest a got in
     let four = leb-true 3 c k.0 in
     let long = g.long in
-    let token : l ∷ i ≡ at (spot l) (symbol.Infix operator.Subtract) ∷ i = ap (λ z. leaf.lexeme (spot l) z ∷ i) (token_of_sign (symbol.Infix operator.Subtract) l.token is) in
+    let token : l ∷ i ≡ at (spot l) (symbol.Infix operator.Subtract) ∷ i = ap (λ z. elements.lexeme (spot l) z ∷ i) (token_of_sign (symbol.Infix operator.Subtract) l.token is) in
     record { front = at (spot l) (symbol.Infix operator.Subtract) ∷ g.front; split = token ∙ ap (λ z. at (spot l) (symbol.Infix operator.Subtract) ∷ z) (g.split ∙ ap (λ z. g.front ++ z) k.1); holds = record { row = g.row (spot l) refl; long = omega (arith, four, long) } })
 all_dashes false d l i a rest is got = cc
 

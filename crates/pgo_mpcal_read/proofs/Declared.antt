@@ -9,24 +9,27 @@ use Rattle.pgo_syntax.specs.declared.declaration.Definition.{Definition}
 use Rattle.pgo_lexer.specs.declared.symbol.Bracket.TheVariants as bracket
 use Rattle.pgo_lexer.specs.declared.symbol.Keyword.TheVariants as keyword
 use Rattle.pgo_lexer.specs.declared.symbol.Symbol.TheVariants as symbol
-use Rattle.pgo_mpcal_read.specs.Signs.{is_sign, sees}
-use Rattle.pgo_mpcal_read.specs.Leaves.{Spot, at, word, numeral, placed, closes, Ended, IsName, IsExpression, most_depth, Items, InBrackets, Row}
-use Rattle.pgo_mpcal_read.specs.Leaves as leaf
+use Rattle.pgo_expr_read.specs.Signs.{is_sign}
+use Rattle.pgo_mpcal_read.specs.Signs.{sees}
+use Rattle.pgo_mpcal_read.specs.Elements.{Spot, at, word, numeral, placed, closes, Ended, IsName, IsExpression, most_depth, Items, InBrackets, Row}
+use Rattle.pgo_mpcal_read.specs.Elements as elements
 use Rattle.pgo_mpcal_read.specs.Statements.{IsOrigin, IsBody}
 use Rattle.pgo_mpcal_read.specs.Statements as s
 use Rattle.pgo_mpcal_read.specs.Units.{IsDefinition, IsDeclaration, Parted, IsDeclarations, IsVariables, IsExtent, IsParameter, IsArgument, IsTarget, IsClause, IsMacro, IsMappingMacro, IsLocals, IsArchetype, IsFair, IsClosing, IsProcess, IsDefine}
 use Rattle.pgo_mpcal_read.specs.Units as u
-use Rattle.pgo_mpcal_read.specs.Reading.{and_then, skip, name, sees_name, expression, front_of, folded, items, row, ended}
+use Rattle.pgo_expr_read.specs.Steps.{and_then, skip, folded}
+use Rattle.pgo_mpcal_read.specs.Reading.{name, sees_name, expression, front_of, items, row, ended}
 use Rattle.pgo_mpcal_read.specs.ReadingStatements.{origin_of}
 use Rattle.pgo_mpcal_read.specs.ReadingUnits.{without_params, with_params, definition, with_value, sees_origin, declaration, declaration_ended, declared_to, one_more_declaration, declarations, variables, locals}
-use Rattle.pgo_mpcal_read.proofs.Parts.{Front, Sound, Reach, Quiet, some_pair, bind_then, front_then, expect_then, name_then, eaten_then, seen, sound_name, next_step, expect_gives, eat_true, eat_false}
+use Rattle.pgo_expr_read.proofs.Steps.{some_pair, bind_then, next_step}
+use Rattle.pgo_mpcal_read.proofs.Parts.{Front, Sound, Reach, Quiet, front_then, expect_then, name_then, eaten_then, seen, sound_name, expect_gives, eat_true, eat_false}
 use Rattle.pgo_mpcal_read.proofs.Expressions.{sound_expression, reach_expression}
 use Rattle.pgo_mpcal_read.proofs.Lists.{sound_items, reach_items, reach_row}
 use Rattle.pgo_mpcal_read.proofs.Lefts.{sound_origin, reach_origin}
 use Rattle.pgo_mpcal_read.proofs.Good.{sound_ended, front_is}
 
 pub reach_name : Reach IsName name (λ rest. Unit {0})
-reach_name front a leaf.name rest q = refl
+reach_name front a elements.name rest q = refl
 
 pub sound_definition : Sound IsDefinition definition
 unfolding definition without_params with_params
@@ -236,8 +239,8 @@ reach_declared (u.with_value {n = n} {x = x} {ts = ts} {o = o} d) rest q h =
 behind_gives : {xs zs : List Lexeme} → Parted xs zs → (rest : List Lexeme) → (zs ≡ [] → (sees symbol.Comma rest ≡ false) × (sees symbol.Semicolon rest ≡ false)) → ((p : Spot) → zs ≡ at p symbol.Comma ∷ [] → sees_name rest ≡ true) → declaration_ended (xs ++ (zs ++ rest)) (zs ++ rest) ≡ Some rest
 unfolding declaration_ended ended
 behind_gives (u.comma {p = p}) rest free named = ap (λ b. cond b (Some rest) None) (named p refl)
-behind_gives (u.ended leaf.semicolon) rest free named = refl
-behind_gives {xs = xs} (u.ended (leaf.brace e)) rest free named =
+behind_gives (u.ended elements.semicolon) rest free named = refl
+behind_gives {xs = xs} (u.ended (elements.brace e)) rest free named =
     let n = free refl in
     ap (λ b. cond b (cond (sees_name (skip rest)) (Some (skip rest)) None) (cond (sees symbol.Semicolon rest) (Some (skip rest)) (cond (closes (front_of (xs ++ rest) rest)) (Some rest) None))) n.0
     ∙ ap (λ b. cond b (Some (skip rest)) (cond (closes (front_of (xs ++ rest) rest)) (Some rest) None)) n.1
@@ -247,13 +250,13 @@ behind_gives {xs = xs} (u.ended (leaf.brace e)) rest free named =
 -- how what stands behind a declaration and the rest begin
 behind_quiet : {xs zs : List Lexeme} → Parted xs zs → (rest : List Lexeme) → Quiet rest → Quiet (zs ++ rest)
 behind_quiet u.comma rest q = refl
-behind_quiet (u.ended leaf.semicolon) rest q = refl
-behind_quiet (u.ended (leaf.brace e)) rest q = q
+behind_quiet (u.ended elements.semicolon) rest q = refl
+behind_quiet (u.ended (elements.brace e)) rest q = q
 
 behind_plain : {xs zs : List Lexeme} → Parted xs zs → (rest : List Lexeme) → (sees_origin (zs ++ rest) ≡ false) ⊎ (closes xs ≡ true)
 behind_plain u.comma rest = inl refl
-behind_plain (u.ended leaf.semicolon) rest = inl refl
-behind_plain (u.ended (leaf.brace e)) rest = inr e
+behind_plain (u.ended elements.semicolon) rest = inl refl
+behind_plain (u.ended (elements.brace e)) rest = inr e
 
 one_gives : {xs zs : List Lexeme} {d : Declaration} → IsDeclaration xs d → Parted xs zs → (acc : List Declaration) (rest : List Lexeme) → Quiet rest → (zs ≡ [] → (sees symbol.Comma rest ≡ false) × (sees symbol.Semicolon rest ≡ false)) → ((p : Spot) → zs ≡ at p symbol.Comma ∷ [] → sees_name rest ≡ true)
     → one_more_declaration acc (xs ++ (zs ++ rest)) ≡ Some (acc ++ d ∷ [], rest)
@@ -262,9 +265,9 @@ one_gives {xs = xs} {zs = zs} {d = d} m p acc rest q free named =
     next_step _ _ _ _ _ (reach_declared m (zs ++ rest) (behind_quiet p rest q) (behind_plain p rest)) (ap (declared_to acc d) (behind_gives p rest free named))
 
 not_comma : {xs zs : List Lexeme} → Ended xs zs → (p : Spot) → zs ≡ at p symbol.Comma ∷ [] → ⊥
-not_comma (leaf.semicolon {p = q}) p e =
+not_comma (elements.semicolon {p = q}) p e =
     let f : is_sign symbol.Semicolon (at q symbol.Semicolon).token ≡ is_sign symbol.Semicolon (at p symbol.Comma).token = ap (λ z. sees symbol.Semicolon z) e in cc
-not_comma (leaf.brace c) p e = let f : sees symbol.Comma [] ≡ true = ap (sees symbol.Comma) e in cc
+not_comma (elements.brace c) p e = let f : sees symbol.Comma [] ≡ true = ap (sees symbol.Comma) e in cc
 
 declared_begins : {ts : List Lexeme} {ds : List Declaration} → IsDeclarations ts ds → (j : List Lexeme) → (sees_name (ts ++ j) ≡ true) × (Quiet (ts ++ j)) × (sees symbol.Comma (ts ++ j) ≡ false) × (sees symbol.Semicolon (ts ++ j) ≡ false) × (1 ≤ length ts)
 declared_begins (u.last_declaration u.without_value e) j = (refl, refl, refl, refl, omega arith)

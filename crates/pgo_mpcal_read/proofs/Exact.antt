@@ -20,16 +20,18 @@ use Rattle.pgo_lexer.specs.declared.symbol.Bracket.TheVariants as bracket
 use Rattle.pgo_lexer.specs.declared.symbol.Symbol.TheVariants as symbol
 use Rattle.pgo_mpcal_read.specs.declared.units.Units.{Units}
 use Rattle.pgo_mpcal_read.specs.Signs.{sees}
-use Rattle.pgo_mpcal_read.specs.Leaves.{Spot, at, word, placed, IsName, Items}
-use Rattle.pgo_mpcal_read.specs.Leaves as leaf
+use Rattle.pgo_mpcal_read.specs.Elements.{Spot, at, word, placed, IsName, Items}
+use Rattle.pgo_mpcal_read.specs.Elements as elements
 use Rattle.pgo_mpcal_read.specs.Units.{IsDefinition, is_plain, all_are, AreUnits}
 use Rattle.pgo_mpcal_read.specs.Units as u
-use Rattle.pgo_mpcal_read.specs.Spells.{IsRow, IsDashes, IsExtends, IsConstantsWord, IsPart, IsHeader, AreShallow, SpellsTokens}
+use Rattle.pgo_mpcal_read.specs.Spells.{IsRow, IsDashes, IsExtends, IsConstantsWord, IsPart, IsHeader, AreWithinDepth, SpellsTokens}
 use Rattle.pgo_mpcal_read.specs.Spells as h
-use Rattle.pgo_mpcal_read.specs.Reading.{Outcome, Parser, and_then, skip, name, sees_name, folded, behind, items}
+use Rattle.pgo_expr_read.specs.Steps.{and_then, skip, folded}
+use Rattle.pgo_mpcal_read.specs.Reading.{Outcome, Parser, name, sees_name, behind, items}
 use Rattle.pgo_mpcal_read.specs.ReadingUnits.{definition}
-use Rattle.pgo_mpcal_read.specs.ReadingSpec.{is_word, sees_word, expect_word, dashes, begins_list, extends, title, constants_part, definition_part, part, some_left, header, whole, if_some, has_process, are_shallow, spec_of, all_header, all_algorithm, algorithm, spec}
-use Rattle.pgo_mpcal_read.proofs.Parts.{Front, Sound, Reach, Quiet, spot, some_pair, bind_then, front_then, name_then, sound_name, next_step}
+use Rattle.pgo_mpcal_read.specs.ReadingSpec.{is_word, sees_word, expect_word, dashes, begins_list, extends, title, constants_part, definition_part, part, some_left, header, whole, if_some, has_process, are_within_depth, spec_of, all_header, all_algorithm, algorithm, spec}
+use Rattle.pgo_expr_read.proofs.Steps.{some_pair, bind_then, next_step}
+use Rattle.pgo_mpcal_read.proofs.Parts.{Front, Sound, Reach, Quiet, spot, front_then, name_then, sound_name}
 use Rattle.pgo_mpcal_read.proofs.Lists.{sound_items, sound_behind, reach_items, reach_behind}
 use Rattle.pgo_mpcal_read.proofs.Declared.{sound_definition, reach_definition, reach_name}
 use Rattle.pgo_mpcal_read.proofs.Dashes.{and_both, and_false, IsDashesUnit, sound_dashes, reach_dashes}
@@ -43,7 +45,7 @@ word_of w _ e = cc
 
 pub seen_word : (w : Name) (i : List Lexeme) → sees_word w i ≡ true → (p : Spot) × (i ≡ word p w ∷ skip i)
 seen_word w [] e = cc
-seen_word w (l ∷ i) e = (spot l, ap (λ z. leaf.lexeme (spot l) z ∷ i) (word_of w l.token e))
+seen_word w (l ∷ i) e = (spot l, ap (λ z. elements.lexeme (spot l) z ∷ i) (word_of w l.token e))
 
 pub data IsWord (w : Name) : List Lexeme → Unit {0} → Type 0 where
   here : {p : Spot} → IsWord w (word p w ∷ []) tt
@@ -88,7 +90,7 @@ record Follows (rest : List Lexeme) : Type 0 where
   no_extends : begins_list (codes "EXTENDS") rest ≡ false
 
 names_begin : {xs : List Lexeme} {ns : List PlacedName} → Items IsName symbol.Comma xs ns → (j : List Lexeme) → sees_name (xs ++ j) ≡ true
-names_begin (leaf.items leaf.name m) j = refl
+names_begin (elements.items elements.name m) j = refl
 
 reach_list : Reach (Items IsName symbol.Comma) (items symbol.Comma name) (λ rest. (Unit {0}) × (sees symbol.Comma rest ≡ false))
 reach_list = reach_items IsName symbol.Comma name (λ rest. Unit {0}) reach_name (λ p j. tt)
@@ -155,7 +157,7 @@ sound_constants g w is i a rest begins got =
     record {
       front = word k.0 w ∷ ((word n x ∷ []) ++ m.front);
       split = k.1 ∙ ap (λ z. word k.0 w ∷ z) (e1 ∙ ap (λ z. word n x ∷ z) (m.split ∙ ap (λ z. m.front ++ z) q.1));
-      holds = subst Q q.0 (subst P (sym same) (h.constants is (leaf.items leaf.name m.holds)));
+      holds = subst Q q.0 (subst P (sym same) (h.constants is (elements.items elements.name m.holds)));
     }))
 
 sound_definition_part : (g : Header) (i : List Lexeme) (a : Header) (rest : List Lexeme) → definition_part g i ≡ Some (a, rest) → FrontPart g i a rest
@@ -215,14 +217,14 @@ definition_list (u.without_params {x = x} m) w j = and_false (same_bytes x w)
 definition_list (u.with_params c k {x = x} d m) w j = and_false (same_bytes x w)
 
 part_begins : {g a : Header} {ts : List Lexeme} → IsPart g ts a → Begins ts
-part_begins (h.constants h.one (leaf.items leaf.name m)) = record { full = omega arith; follows = λ j. record { quiet = refl; no_comma = refl; no_minus = refl; no_extends = refl }; some = λ j. refl }
-part_begins (h.constants h.several (leaf.items leaf.name m)) = record { full = omega arith; follows = λ j. record { quiet = refl; no_comma = refl; no_minus = refl; no_extends = refl }; some = λ j. refl }
+part_begins (h.constants h.one (elements.items elements.name m)) = record { full = omega arith; follows = λ j. record { quiet = refl; no_comma = refl; no_minus = refl; no_extends = refl }; some = λ j. refl }
+part_begins (h.constants h.several (elements.items elements.name m)) = record { full = omega arith; follows = λ j. record { quiet = refl; no_comma = refl; no_minus = refl; no_extends = refl }; some = λ j. refl }
 part_begins (h.definition (u.without_params {x = x} m)) = record { full = omega arith; follows = λ j. record { quiet = refl; no_comma = refl; no_minus = refl; no_extends = and_false (same_bytes x (codes "EXTENDS")) }; some = λ j. refl }
 part_begins (h.definition (u.with_params c k {x = x} d m)) = record { full = omega arith; follows = λ j. record { quiet = refl; no_comma = refl; no_minus = refl; no_extends = and_false (same_bytes x (codes "EXTENDS")) }; some = λ j. refl }
 
 constants_give : (g : Header) (p : Spot) (w : Name) {xs : List Lexeme} {ns : List PlacedName} → Items IsName symbol.Comma xs ns → (rest : List Lexeme) → sees symbol.Comma rest ≡ false → constants_part g (xs ++ rest) ≡ Some (record g { constants = g.constants ++ ns }, rest)
 unfolding constants_part
-constants_give g p w (leaf.items {ys = ys} {as' = as'} (leaf.name {p = n} {x = x}) m) rest e =
+constants_give g p w (elements.items {ys = ys} {as' = as'} (elements.name {p = n} {x = x}) m) rest e =
     next_step _ _ _ _ _ (reach_behind IsName symbol.Comma name (λ rest. Unit {0}) reach_name (λ p j. tt) m (length (ys ++ rest)) (g.constants ++ placed n x ∷ []) rest (let l = length-append ys rest in omega (arith, l)) (tt, e))
     (ap (λ z. Some (record g { constants = z }, rest)) (append_assoc g.constants (placed n x ∷ []) as'))
 
@@ -298,13 +300,13 @@ some_then : {A B : Type 0} (o : Option A) (f : A → Option B) (b : B) (C : Type
 some_then (Some a) f b C e k = k a refl e
 some_then None f b C e k = cc
 
-shallow_of : (ms : List MacroDepth) (as' : List Archetype) → are_shallow ms as' ≡ true → AreShallow ms as'
-shallow_of ms [] e = h.no_archetype
-shallow_of ms (a ∷ as') e = let k = and_both _ _ e in h.archetype (leb-true _ _ k.0) (shallow_of ms as' k.1)
+within_depth_of : (ms : List MacroDepth) (as' : List Archetype) → are_within_depth ms as' ≡ true → AreWithinDepth ms as'
+within_depth_of ms [] e = h.no_archetype
+within_depth_of ms (a ∷ as') e = let k = and_both _ _ e in h.archetype (leb-true _ _ k.0) (within_depth_of ms as' k.1)
 
-shallow_gives : {ms : List MacroDepth} {as' : List Archetype} → AreShallow ms as' → are_shallow ms as' ≡ true
-shallow_gives h.no_archetype = refl
-shallow_gives {ms = ms} (h.archetype {a = a} {as' = as'} low m) = ap (λ b. b && are_shallow ms as') (le-leb _ _ low) ∙ shallow_gives m
+within_depth_gives : {ms : List MacroDepth} {as' : List Archetype} → AreWithinDepth ms as' → are_within_depth ms as' ≡ true
+within_depth_gives h.no_archetype = refl
+within_depth_gives {ms = ms} (h.archetype {a = a} {as' = as'} low m) = ap (λ b. b && are_within_depth ms as') (le-leb _ _ low) ∙ within_depth_gives m
 
 -- a header, and an algorithm with a process
 record GoodHeader (i : List Lexeme) (a : Header) : Type 0 where
@@ -322,24 +324,24 @@ sound_all_header i a got =
 record GoodAlgorithm (i : List Lexeme) (a : PlacedName × Units) : Type 0 where
   holds : IsAlgorithm i a
   process : has_process a.1.processes ≡ true
-  shallow : are_shallow a.1.depths a.1.archetypes ≡ true
+  within_depth : are_within_depth a.1.depths a.1.archetypes ≡ true
 
 sound_all_algorithm : (i : List Lexeme) (a : PlacedName × Units) → all_algorithm i ≡ Some a → GoodAlgorithm i a
 unfolding all_algorithm
 sound_all_algorithm i a got =
     some_then (whole (algorithm i)) _ _ _ got (λ g is got.
-    let q = when (has_process g.1.processes && are_shallow g.1.depths g.1.archetypes) g a got in
+    let q = when (has_process g.1.processes && are_within_depth g.1.depths g.1.archetypes) g a got in
     let k = and_both _ _ q.0 in
     let P : PlacedName × Units → Type 0 = λ z. IsAlgorithm i z in
-    record { holds = subst P q.1 (whole_some IsAlgorithm algorithm sound_algorithm i (algorithm i) g refl is); process = ap (λ (z : PlacedName × Units). has_process z.1.processes) (sym q.1) ∙ k.0; shallow = ap (λ (z : PlacedName × Units). are_shallow z.1.depths z.1.archetypes) (sym q.1) ∙ k.1 })
+    record { holds = subst P q.1 (whole_some IsAlgorithm algorithm sound_algorithm i (algorithm i) g refl is); process = ap (λ (z : PlacedName × Units). has_process z.1.processes) (sym q.1) ∙ k.0; within_depth = ap (λ (z : PlacedName × Units). are_within_depth z.1.depths z.1.archetypes) (sym q.1) ∙ k.1 })
 
 some_process : (qs : List Process) → has_process qs ≡ true → (q : Process) × (more : List Process) × (qs ≡ q ∷ more)
 some_process [] e = cc
 some_process (q ∷ qs) e = (q, qs, refl)
 
-spelled : (hs xs : List Lexeme) (g : Header) (a : PlacedName × Units) → IsHeader hs g → all_are is_plain hs ≡ true → IsAlgorithm xs a → has_process a.1.processes ≡ true → are_shallow a.1.depths a.1.archetypes ≡ true → SpellsTokens hs xs (spec_of g a)
+spelled : (hs xs : List Lexeme) (g : Header) (a : PlacedName × Units) → IsHeader hs g → all_are is_plain hs ≡ true → IsAlgorithm xs a → has_process a.1.processes ≡ true → are_within_depth a.1.depths a.1.archetypes ≡ true → SpellsTokens hs xs (spec_of g a)
 unfolding spec_of
-spelled hs xs g a d plain (algorithm_of c {us = us} k) some low = let q = some_process us.processes some in h.spec c d plain k (shallow_of us.depths us.archetypes low) q.2
+spelled hs xs g a d plain (algorithm_of c {us = us} k) some low = let q = some_process us.processes some in h.spec c d plain k (within_depth_of us.depths us.archetypes low) q.2
 
 pub found_tokens : (hs xs : List Lexeme) (r : Spec) → spec hs xs ≡ Some r → SpellsTokens hs xs r
 unfolding spec
@@ -350,7 +352,7 @@ found_tokens hs xs r got =
     let m = sound_all_algorithm xs a so in
     let q : spec_of g a ≡ r = cc in
     let P : Spec → Type 0 = λ z. SpellsTokens hs xs z in
-    subst P q (spelled hs xs g a k.holds k.plain m.holds m.process m.shallow)))
+    subst P q (spelled hs xs g a k.holds k.plain m.holds m.process m.within_depth)))
 
 pub only_tokens : (hs xs : List Lexeme) (r : Spec) → SpellsTokens hs xs r → spec hs xs ≡ Some r
 unfolding spec all_header all_algorithm spec_of
@@ -358,10 +360,10 @@ only_tokens hs ts r (h.spec {n = n} {o = o} c {x = x} {hs = hs'} {xs = xs} {h = 
     let a = algorithm_of {n = n} {o = o} c {x = x} k in
     let front = word n x ∷ (at o (symbol.Open bracket.Curly) ∷ (xs ++ (at c (symbol.Close bracket.Curly) ∷ []))) in
     let got : algorithm front ≡ Some ((placed n x, us), []) = ap algorithm (sym (append-nil front)) ∙ reach_algorithm front (placed n x, us) a [] tt in
-    ap (λ z. if_some (if_some (whole z) (λ g. cond (all_are is_plain hs) (Some g) None)) (λ g. if_some (if_some (whole (algorithm front)) (λ a. cond (has_process a.1.processes && are_shallow a.1.depths a.1.archetypes) (Some a) None)) (λ a. Some (spec_of g a)))) (whole_header d)
-    ∙ ap (λ b. if_some (cond b (Some g) None) (λ g. if_some (if_some (whole (algorithm front)) (λ a. cond (has_process a.1.processes && are_shallow a.1.depths a.1.archetypes) (Some a) None)) (λ a. Some (spec_of g a)))) plain
-    ∙ ap (λ z. if_some (if_some (whole z) (λ a. cond (has_process a.1.processes && are_shallow a.1.depths a.1.archetypes) (Some a) None)) (λ a. Some (spec_of g a))) got
-    ∙ ap (λ b. if_some (cond b (Some (placed n x, us)) None) (λ a. Some (spec_of g a))) (ap (λ z. has_process z && are_shallow us.depths us.archetypes) some ∙ shallow_gives low)
+    ap (λ z. if_some (if_some (whole z) (λ g. cond (all_are is_plain hs) (Some g) None)) (λ g. if_some (if_some (whole (algorithm front)) (λ a. cond (has_process a.1.processes && are_within_depth a.1.depths a.1.archetypes) (Some a) None)) (λ a. Some (spec_of g a)))) (whole_header d)
+    ∙ ap (λ b. if_some (cond b (Some g) None) (λ g. if_some (if_some (whole (algorithm front)) (λ a. cond (has_process a.1.processes && are_within_depth a.1.depths a.1.archetypes) (Some a) None)) (λ a. Some (spec_of g a)))) plain
+    ∙ ap (λ z. if_some (if_some (whole z) (λ a. cond (has_process a.1.processes && are_within_depth a.1.depths a.1.archetypes) (Some a) None)) (λ a. Some (spec_of g a))) got
+    ∙ ap (λ b. if_some (cond b (Some (placed n x, us)) None) (λ a. Some (spec_of g a))) (ap (λ z. has_process z && are_within_depth us.depths us.archetypes) some ∙ within_depth_gives low)
 
 pub one_spec_of_tokens : (hs xs : List Lexeme) (a b : Spec) → SpellsTokens hs xs a → SpellsTokens hs xs b → a ≡ b
 one_spec_of_tokens hs xs a b d e = let q = sym (only_tokens hs xs a d) ∙ only_tokens hs xs b e in cc

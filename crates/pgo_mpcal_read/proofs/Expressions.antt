@@ -16,10 +16,11 @@ use Rattle.pgo_expr_read.specs.Spells.{Spelled, Range}
 use Rattle.pgo_expr_read.specs.Spells as spelled
 use Rattle.pgo_expr_read.proofs.Exact.{front, read_whole}
 use Rattle.pgo_expr_read.proofs.Ranges.{range_front, range_whole}
-use Rattle.pgo_mpcal_read.specs.Leaves.{IsExpression, most_height}
-use Rattle.pgo_mpcal_read.specs.Leaves as leaf
+use Rattle.pgo_mpcal_read.specs.Elements.{IsExpression, most_height}
+use Rattle.pgo_mpcal_read.specs.Elements as elements
 use Rattle.pgo_mpcal_read.specs.Reading.{expression, expression_within, range, on_tokens, left_of}
-use Rattle.pgo_mpcal_read.proofs.Parts.{Front, Sound, Reach, Quiet, some_pair}
+use Rattle.pgo_expr_read.proofs.Steps.{some_pair}
+use Rattle.pgo_mpcal_read.proofs.Parts.{Front, Sound, Reach, Quiet}
 
 pub tokens_append : (xs ys : List Lexeme) → tokens_of (xs ++ ys) ≡ tokens_of xs ++ tokens_of ys
 tokens_append [] ys = refl
@@ -91,7 +92,7 @@ sound_expression i a rest got =
     let g = sound_within most_height i a rest got in
     record { front = g.front; split = g.split; holds = record { spells = g.holds.spells } }
 
-range_by : (o : expression_parsers.Outcome (Read Tree)) (i : List Lexeme) (a : Tree) (rest : List Lexeme) → expressions.range most_height (expressions.expr most_height) 0 (tokens_of i) ≡ o → on_tokens i o ≡ Some (a, rest) → Front leaf.IsRange i a rest
+range_by : (o : expression_parsers.Outcome (Read Tree)) (i : List Lexeme) (a : Tree) (rest : List Lexeme) → expressions.range most_height (expressions.expr most_height) 0 (tokens_of i) ≡ o → on_tokens i o ≡ Some (a, rest) → Front elements.IsRange i a rest
 range_by (Some p) i a rest is got =
     let g = range_front most_height (tokens_of i) p.0 p.1 is in
     let c = cut g.front i p.1 g.split in
@@ -99,11 +100,11 @@ range_by (Some p) i a rest is got =
     let x = g.height in
     let low = g.within in
     let P : List Token → Type 0 = λ z. Range z p.0.tree in
-    let Q : Tree → Type 0 = λ z. Front leaf.IsRange i z rest in
+    let Q : Tree → Type 0 = λ z. Front elements.IsRange i z rest in
     subst Q q.0 (record { front = c.front; split = left_is g.front p.1 i c g.split ∙ ap (λ z. c.front ++ z) q.1; holds = record { range = subst P (sym c.same) g.range; low = omega (arith, x, low) } })
 range_by None i a rest is got = cc
 
-pub sound_range : Sound leaf.IsRange range
+pub sound_range : Sound elements.IsRange range
 unfolding range
 sound_range i a rest got = range_by (expressions.range most_height (expressions.expr most_height) 0 (tokens_of i)) i a rest refl got
 
@@ -120,7 +121,7 @@ reach_within limit xs a d rest q =
 pub reach_expression : Reach IsExpression expression Quiet
 reach_expression xs a d rest q = reach_within most_height xs a (record { spells = d.spells }) rest q
 
-pub reach_range : Reach leaf.IsRange range Quiet
+pub reach_range : Reach elements.IsRange range Quiet
 unfolding range
 reach_range xs a d rest q =
     let got = range_whole (tokens_of xs) a d.range most_height (tokens_of rest) d.low q in

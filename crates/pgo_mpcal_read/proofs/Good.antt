@@ -4,19 +4,21 @@ use Rattle.std.proofs.lemmas.Bool.{ltb-true}
 use Rattle.std.proofs.lemmas.List.{length-append}
 use Rattle.pgo_lexer.specs.declared.token.Lexeme.{Lexeme}
 use Rattle.pgo_syntax.specs.Statement.{Statement}
-use Rattle.pgo_mpcal_read.specs.declared.deep.Deep.{Deep}
+use Rattle.pgo_mpcal_read.specs.declared.with_depth.WithDepth.{WithDepth}
 use Rattle.pgo_mpcal_read.specs.declared.depths.MacroDepth.{MacroDepth}
 use Rattle.pgo_lexer.specs.declared.symbol.Symbol.{Symbol}
 use Rattle.pgo_lexer.specs.declared.symbol.Keyword.TheVariants as keyword
 use Rattle.pgo_lexer.specs.declared.symbol.Symbol.TheVariants as symbol
 use Rattle.pgo_mpcal_read.specs.Depths.{depth}
 use Rattle.pgo_mpcal_read.specs.Signs.{sees}
-use Rattle.pgo_mpcal_read.specs.Leaves.{Spot, at, Ended, closes}
-use Rattle.pgo_mpcal_read.specs.Leaves as leaf
-use Rattle.pgo_mpcal_read.specs.Reading.{Outcome, Parser, and_then, skip, folded, front_of, ended}
-use Rattle.pgo_mpcal_read.specs.ReadingStatements.{deep, node}
+use Rattle.pgo_mpcal_read.specs.Elements.{Spot, at, Ended, closes}
+use Rattle.pgo_mpcal_read.specs.Elements as elements
+use Rattle.pgo_expr_read.specs.Steps.{and_then, skip, folded}
+use Rattle.pgo_mpcal_read.specs.Reading.{Outcome, Parser, front_of, ended}
+use Rattle.pgo_mpcal_read.specs.ReadingStatements.{with_depth, node}
 use Rattle.pgo_mpcal_read.specs.Statements.{Spelled}
-use Rattle.pgo_mpcal_read.proofs.Parts.{some_pair, seen, bind_then}
+use Rattle.pgo_expr_read.proofs.Steps.{some_pair, bind_then}
+use Rattle.pgo_mpcal_read.proofs.Parts.{seen}
 
 -- what follows no statement that ends so
 pub record Stays (u v : Bool) (rest : List Lexeme) : Type 0 where
@@ -26,7 +28,7 @@ pub record Stays (u v : Bool) (rest : List Lexeme) : Type 0 where
 pub stays_closed : (rest : List Lexeme) → Stays false false rest
 stays_closed rest = record { no_else = λ h. cc; no_or = λ h. cc }
 
-pub record Good (ms : List MacroDepth) (limit : ℕ) (i : List Lexeme) (r : Deep Statement) (rest : List Lexeme) : Type 0 where
+pub record Good (ms : List MacroDepth) (limit : ℕ) (i : List Lexeme) (r : WithDepth Statement) (rest : List Lexeme) : Type 0 where
   pub opens_if : Bool
   pub opens_either : Bool
   pub front : List Lexeme
@@ -36,25 +38,25 @@ pub record Good (ms : List MacroDepth) (limit : ℕ) (i : List Lexeme) (r : Deep
   pub within : r.depth ≤ limit
   pub stays : Stays opens_if opens_either rest
 
-abbrev pub SoundInner : List MacroDepth → ℕ → Parser (Deep Statement) → Type 0
-SoundInner ms limit inner = (i : List Lexeme) (r : Deep Statement) (rest : List Lexeme) → inner i ≡ Some (r, rest) → Good ms limit i r rest
+abbrev pub SoundInner : List MacroDepth → ℕ → Parser (WithDepth Statement) → Type 0
+SoundInner ms limit inner = (i : List Lexeme) (r : WithDepth Statement) (rest : List Lexeme) → inner i ≡ Some (r, rest) → Good ms limit i r rest
 
-pub inner_then : {B : Type 0} (ms : List MacroDepth) (limit : ℕ) (inner : Parser (Deep Statement)) → SoundInner ms limit inner → (i : List Lexeme) (f : Deep Statement → Parser B) (y : B × List Lexeme) (C : Type 0) → and_then (inner i) f ≡ Some y
-    → ((r : Deep Statement) (j : List Lexeme) → Good ms limit i r j → f r j ≡ Some y → C) → C
+pub inner_then : {B : Type 0} (ms : List MacroDepth) (limit : ℕ) (inner : Parser (WithDepth Statement)) → SoundInner ms limit inner → (i : List Lexeme) (f : WithDepth Statement → Parser B) (y : B × List Lexeme) (C : Type 0) → and_then (inner i) f ≡ Some y
+    → ((r : WithDepth Statement) (j : List Lexeme) → Good ms limit i r j → f r j ≡ Some y → C) → C
 inner_then ms limit inner s i f y C e k = bind_then (inner i) f y C e (λ r j got e. k r j (s i r j got) e)
 
-node_by : (b : Bool) (h : ℕ) (s : Statement) (j : List Lexeme) (r : Deep Statement) (rest : List Lexeme) → cond {A = Outcome (Deep Statement)} b (Some (deep (h + 1) s, j)) None ≡ Some (r, rest) → (b ≡ true) × ((deep (h + 1) s ≡ r) × (j ≡ rest))
+node_by : (b : Bool) (h : ℕ) (s : Statement) (j : List Lexeme) (r : WithDepth Statement) (rest : List Lexeme) → cond {A = Outcome (WithDepth Statement)} b (Some (with_depth (h + 1) s, j)) None ≡ Some (r, rest) → (b ≡ true) × ((with_depth (h + 1) s ≡ r) × (j ≡ rest))
 node_by true h s j r rest e = (refl, some_pair _ _ _ _ e)
 node_by false h s j r rest e = cc
 
 -- a node that was made
-pub good_node : (ms : List MacroDepth) (limit : ℕ) (inner : Parser (Deep Statement)) (u v : Bool) (h : ℕ) (s : Statement) (r : Deep Statement) (front i j rest : List Lexeme) → node ms limit inner h s j ≡ Some (r, rest) → i ≡ front ++ j → Spelled u v front s → h + 1 ≡ depth ms s → Stays u v j
+pub good_node : (ms : List MacroDepth) (limit : ℕ) (inner : Parser (WithDepth Statement)) (u v : Bool) (h : ℕ) (s : Statement) (r : WithDepth Statement) (front i j rest : List Lexeme) → node ms limit inner h s j ≡ Some (r, rest) → i ≡ front ++ j → Spelled u v front s → h + 1 ≡ depth ms s → Stays u v j
     → Good ms limit i r rest
 unfolding node
 good_node ms limit inner u v h s r front i j rest got split spelled same stays =
     let q = node_by (nat_lt h limit) h s j r rest got in
     let low : h < limit = ltb-true h limit q.0 in
-    let P : Deep Statement → Type 0 = λ x. Good ms limit i x rest in
+    let P : WithDepth Statement → Type 0 = λ x. Good ms limit i x rest in
     let Q : List Lexeme → Type 0 = λ x. Stays u v x in
     subst P q.1.0 (record { opens_if = u; opens_either = v; front = front; split = split ∙ ap (λ k. front ++ k) q.1.1; spelled = spelled; depth = same; within = omega (arith, low); stays = subst Q q.1.1 stays })
 
@@ -104,8 +106,8 @@ end_by : (b c : Bool) (xs rest j : List Lexeme) → sees symbol.Semicolon rest �
 end_by true c xs rest j is close got =
     let s = seen symbol.Semicolon rest is in
     let q : skip rest ≡ j = cc in
-    record { front = at s.0 symbol.Semicolon ∷ []; split = s.1 ∙ ap (λ z. at s.0 symbol.Semicolon ∷ z) q; holds = leaf.semicolon }
-end_by false true xs rest j is close got = let q : rest ≡ j = cc in record { front = []; split = q; holds = leaf.brace close }
+    record { front = at s.0 symbol.Semicolon ∷ []; split = s.1 ∙ ap (λ z. at s.0 symbol.Semicolon ∷ z) q; holds = elements.semicolon }
+end_by false true xs rest j is close got = let q : rest ≡ j = cc in record { front = []; split = q; holds = elements.brace close }
 end_by false false xs rest j is close got = cc
 
 pub sound_ended : (i xs rest j : List Lexeme) → i ≡ xs ++ rest → ended i rest ≡ Some j → GoodEnd xs rest j

@@ -9,11 +9,12 @@ use Rattle.pgo_lexer.specs.declared.token.Lexeme.{Lexeme}
 use Rattle.pgo_lexer.specs.declared.token.Token.{Token}
 use Rattle.pgo_lexer.specs.declared.token.Token.TheVariants as t
 use Rattle.pgo_expr_read.specs.Lookahead.{tokens_of}
+use Rattle.pgo_expr_read.specs.Signs.{is_sign}
 use Rattle.pgo_expr_read.proofs.Heads.{Starts, starts}
 use Rattle.pgo_expr_read.proofs.Heads as heads
 use Rattle.pgo_lexer.specs.declared.symbol.Keyword.TheVariants as keyword
-use Rattle.pgo_mpcal_read.specs.Signs.{is_sign, sees}
-use Rattle.pgo_mpcal_read.specs.Leaves.{IsExpression}
+use Rattle.pgo_mpcal_read.specs.Signs.{sees}
+use Rattle.pgo_mpcal_read.specs.Elements.{IsExpression}
 
 -- what a token that begins an expression is not
 record Facts (k : Token) : Type 0 where

@@ -7,12 +7,14 @@ use Rattle.pgo_syntax.specs.Statement.{Statement}
 use Rattle.pgo_base.specs.declared.expr.Infix.TheVariants as operator
 use Rattle.pgo_lexer.specs.declared.symbol.Symbol.TheVariants as symbol
 use Rattle.pgo_mpcal_read.specs.Signs.{sees}
-use Rattle.pgo_mpcal_read.specs.Leaves.{Spot, at, word, placed}
+use Rattle.pgo_mpcal_read.specs.Elements.{Spot, at, word, placed}
 use Rattle.pgo_mpcal_read.specs.Statements.{Spelled, IsBranch, ElseIfs, Ors, IsLabeled, Rows, IsBody, IsFairness, IsAwait, IsAssignment, IsWithName}
 use Rattle.pgo_mpcal_read.specs.Statements as s
-use Rattle.pgo_mpcal_read.specs.Reading.{skip, sees_name, sees_second}
+use Rattle.pgo_expr_read.specs.Steps.{skip}
+use Rattle.pgo_mpcal_read.specs.Reading.{sees_name, sees_second}
 use Rattle.pgo_mpcal_read.specs.ReadingStatements.{fairness, label, optional_label}
-use Rattle.pgo_mpcal_read.proofs.Parts.{Front, some_pair, expect_then, name_then, seen}
+use Rattle.pgo_expr_read.proofs.Steps.{some_pair}
+use Rattle.pgo_mpcal_read.proofs.Parts.{Front, expect_then, name_then, seen}
 
 -- ---- labels
 

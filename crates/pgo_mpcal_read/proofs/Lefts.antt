@@ -13,12 +13,14 @@ use Rattle.pgo_base.specs.declared.expr.Infix.TheVariants as operator
 use Rattle.pgo_lexer.specs.declared.symbol.Bracket.TheVariants as bracket
 use Rattle.pgo_lexer.specs.declared.symbol.Symbol.TheVariants as symbol
 use Rattle.pgo_mpcal_read.specs.Signs.{sees}
-use Rattle.pgo_mpcal_read.specs.Leaves.{Spot, at, word, placed, IsExpression, IsRange, Row}
+use Rattle.pgo_mpcal_read.specs.Elements.{Spot, at, word, placed, IsExpression, IsRange, Row}
 use Rattle.pgo_mpcal_read.specs.Statements.{IsStep, IsLeft, IsAssignment, IsOrigin, IsWithName}
 use Rattle.pgo_mpcal_read.specs.Statements as s
-use Rattle.pgo_mpcal_read.specs.Reading.{and_then, pure, name, expression, range, row}
+use Rattle.pgo_expr_read.specs.Steps.{and_then, pure}
+use Rattle.pgo_mpcal_read.specs.Reading.{name, expression, range, row}
 use Rattle.pgo_mpcal_read.specs.ReadingStatements.{index_step, field_step, path_step, sees_step, variable, assigned, left, assignment, equals, member, origin_of, with_name}
-use Rattle.pgo_mpcal_read.proofs.Parts.{Front, Sound, Reach, Quiet, some_pair, front_then, expect_then, mark_then, name_then, eaten_then, next_step, expect_gives, mark_gives, eat_true, eat_false}
+use Rattle.pgo_expr_read.proofs.Steps.{some_pair, next_step}
+use Rattle.pgo_mpcal_read.proofs.Parts.{Front, Sound, Reach, Quiet, front_then, expect_then, mark_then, name_then, eaten_then, expect_gives, mark_gives, eat_true, eat_false}
 use Rattle.pgo_mpcal_read.proofs.Expressions.{sound_expression, sound_range, reach_expression, reach_range}
 use Rattle.pgo_mpcal_read.proofs.Lists.{sound_row, reach_row}
 

@@ -1,4 +1,3 @@
-pub mod Signs
 pub mod Turns
 pub mod Parts
 pub mod Expressions
@@ -18,5 +17,5 @@ pub mod Algorithms
 pub mod Dashes
 pub mod Exact
 pub mod Spelled
-pub mod Deeper
-pub mod Checked
+pub mod DepthLimits
+pub mod IfAllowed

@@ -1,5 +1,5 @@
 -- Taking a reader's steps apart, and putting them together.
-use Rattle.std.proofs.Common.{◌≡◌, ℕ, pos, Bool, true, false, List, [], ◌∷◌, ◌++◌, Option, Some, None, refl, ap, ◌∙◌, subst, cond}
+use Rattle.std.proofs.Common.{◌≡◌, ℕ, pos, Bool, true, false, List, [], ◌∷◌, ◌++◌, Some, None, refl, ap, ◌∙◌, subst, cond}
 use Rattle.pgo_lexer.specs.declared.token.Lexeme.{Lexeme}
 use Rattle.pgo_lexer.specs.declared.token.Token.{Token}
 use Rattle.pgo_lexer.specs.declared.token.Token.TheVariants as t
@@ -9,11 +9,14 @@ use Rattle.pgo_expr_read.specs.Lookahead as look
 use Rattle.pgo_expr_read.specs.Lookahead.{tokens_of}
 use Rattle.pgo_syntax.specs.declared.name.PlacedName.{PlacedName}
 use Rattle.pgo_lexer.specs.declared.symbol.Symbol.{Symbol}
-use Rattle.pgo_mpcal_read.specs.Signs.{is_sign, sees}
-use Rattle.pgo_mpcal_read.specs.Leaves.{Spot, at, word, numeral, placed, IsName}
-use Rattle.pgo_mpcal_read.specs.Leaves as leaf
-use Rattle.pgo_mpcal_read.specs.Reading.{Outcome, Parser, and_then, pure, skip, past, expect, mark, name, name_of, number, number_of}
-use Rattle.pgo_mpcal_read.proofs.Signs.{token_of_sign, own_sign}
+use Rattle.pgo_expr_read.specs.Signs.{is_sign}
+use Rattle.pgo_mpcal_read.specs.Signs.{sees}
+use Rattle.pgo_mpcal_read.specs.Elements.{Spot, at, word, numeral, placed, IsName}
+use Rattle.pgo_mpcal_read.specs.Elements as elements
+use Rattle.pgo_expr_read.specs.Steps.{and_then, pure, skip}
+use Rattle.pgo_mpcal_read.specs.Reading.{Parser, past, expect, mark, name, name_of, number, number_of}
+use Rattle.pgo_expr_read.proofs.Signs.{token_of_sign, own_sign}
+use Rattle.pgo_expr_read.proofs.Steps.{some_pair, bind_then}
 
 -- a front of the tokens is so, and the rest follows
 pub record Front {A : Type 0} (R : List Lexeme → A → Type 0) (i : List Lexeme) (a : A) (rest : List Lexeme) : Type 0 where
@@ -36,25 +39,14 @@ Quiet rest = look.after (tokens_of rest) ≡ next.End
 abbrev pub spot : Lexeme → Spot
 spot l = record { column = l.column; start = l.start; stop = l.stop }
 
-pub some_pair : {A B : Type 0} (a c : A) (b d : B) → ◌≡◌ {A = Option (A × B)} (Some (a, b)) (Some (c, d)) → (a ≡ c) × (b ≡ d)
-some_pair {A} {B} a c b d e = let q : ◌≡◌ {A = A × B} (a, b) (c, d) = cc in (ap (λ (p : A × B). p.0) q, ap (λ (p : A × B). p.1) q)
-
-pub if_some : {A : Type 0} (b : Bool) (x y : A) → cond b (Some x) None ≡ Some y → (b ≡ true) × (x ≡ y)
-if_some true x y e = (refl, cc)
-if_some false x y e = cc
-
 -- ---- steps apart: what was read, and what follows
-
-pub bind_then : {A B : Type 0} (o : Outcome A) (f : A → Parser B) (y : B × List Lexeme) (C : Type 0) → and_then o f ≡ Some y → ((a : A) (i : List Lexeme) → o ≡ Some (a, i) → f a i ≡ Some y → C) → C
-bind_then (Some p) f y C e k = k p.0 p.1 refl e
-bind_then None f y C e k = cc
 
 pub front_then : {A B : Type 0} (R : List Lexeme → A → Type 0) (p : Parser A) → Sound R p → (i : List Lexeme) (f : A → Parser B) (y : B × List Lexeme) (C : Type 0) → and_then (p i) f ≡ Some y
     → ((xs : List Lexeme) (a : A) (j : List Lexeme) → i ≡ xs ++ j → R xs a → f a j ≡ Some y → C) → C
 front_then R p s i f y C e k = bind_then (p i) f y C e (λ a j got e. let g = s i a j got in k g.front a j g.split g.holds e)
 
 sign_at : (v : Symbol) (l : Lexeme) (rest : List Lexeme) → is_sign v l.token ≡ true → l ∷ rest ≡ at (spot l) v ∷ rest
-sign_at v l rest h = ap (λ k. leaf.lexeme (spot l) k ∷ rest) (token_of_sign v l.token h)
+sign_at v l rest h = ap (λ k. elements.lexeme (spot l) k ∷ rest) (token_of_sign v l.token h)
 
 expect_by : {B : Type 0} (b : Bool) (v : Symbol) (l : Lexeme) (rest : List Lexeme) (f : Unit {0} → Parser B) (y : B × List Lexeme) (C : Type 0) → is_sign v l.token ≡ b → and_then (cond b (Some (tt, rest)) None) f ≡ Some y
     → ((p : Spot) (j : List Lexeme) → l ∷ rest ≡ at p v ∷ j → f tt j ≡ Some y → C) → C
@@ -80,7 +72,7 @@ mark_then v (l ∷ rest) f y C e k = mark_by (is_sign v l.token) v l rest f y C 
 
 name_by : {B : Type 0} (c : Token) (l : Lexeme) (rest : List Lexeme) (f : PlacedName → Parser B) (y : B × List Lexeme) (C : Type 0) → l.token ≡ c → and_then (name_of c l.start rest) f ≡ Some y
     → ((p : Spot) (x : Name) (j : List Lexeme) → l ∷ rest ≡ word p x ∷ j → f (placed p x) j ≡ Some y → C) → C
-name_by (t.Name x) l rest f y C is e k = k (spot l) x rest (ap (λ z. leaf.lexeme (spot l) z ∷ rest) is) e
+name_by (t.Name x) l rest f y C is e k = k (spot l) x rest (ap (λ z. elements.lexeme (spot l) z ∷ rest) is) e
 name_by _ l rest f y C is e k = cc
 
 pub name_then : {B : Type 0} (i : List Lexeme) (f : PlacedName → Parser B) (y : B × List Lexeme) (C : Type 0) → and_then (name i) f ≡ Some y
@@ -90,7 +82,7 @@ name_then (l ∷ rest) f y C e k = name_by l.token l rest f y C refl e k
 
 number_by : {B : Type 0} (c : Token) (l : Lexeme) (rest : List Lexeme) (f : ℕ → Parser B) (y : B × List Lexeme) (C : Type 0) → l.token ≡ c → and_then (number_of c rest) f ≡ Some y
     → ((p : Spot) (n : ℕ) (j : List Lexeme) → l ∷ rest ≡ numeral p n ∷ j → f n j ≡ Some y → C) → C
-number_by (t.Number (pos n)) l rest f y C is e k = k (spot l) n rest (ap (λ z. leaf.lexeme (spot l) z ∷ rest) is) e
+number_by (t.Number (pos n)) l rest f y C is e k = k (spot l) n rest (ap (λ z. elements.lexeme (spot l) z ∷ rest) is) e
 number_by _ l rest f y C is e k = cc
 
 pub number_then : {B : Type 0} (i : List Lexeme) (f : ℕ → Parser B) (y : B × List Lexeme) (C : Type 0) → and_then (number i) f ≡ Some y
@@ -121,12 +113,9 @@ sound_name i a rest got =
     name_then i pure (a, rest) (Front IsName i a rest) e (λ p x j is e.
     let q = some_pair _ _ _ _ e in
     let P : PlacedName → Type 0 = λ z. Front IsName i z rest in
-    subst P q.0 (record { front = word p x ∷ []; split = is ∙ ap (λ z. word p x ∷ z) q.1; holds = leaf.name }))
+    subst P q.0 (record { front = word p x ∷ []; split = is ∙ ap (λ z. word p x ∷ z) q.1; holds = elements.name }))
 
 -- ---- steps together
-
-pub next_step : {A B : Type 0} (o : Outcome A) (f : A → Parser B) (a : A) (i : List Lexeme) (y : Outcome B) → o ≡ Some (a, i) → f a i ≡ y → and_then o f ≡ y
-next_step o f a i y e g = ap (λ z. and_then z f) e ∙ g
 
 pub expect_gives : (v : Symbol) (p : Spot) (i : List Lexeme) → expect v (at p v ∷ i) ≡ Some (tt, i)
 unfolding expect

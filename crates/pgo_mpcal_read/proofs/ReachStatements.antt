@@ -10,9 +10,9 @@ use Rattle.pgo_syntax.specs.declared.assignment.Assignment.{Assignment}
 use Rattle.pgo_syntax.specs.declared.binding.WithName.{WithName}
 use Rattle.pgo_syntax.specs.Statement.{Statement, statements, labeled, guarded}
 use Rattle.pgo_syntax.specs.Statement as st
-use Rattle.pgo_mpcal_read.specs.declared.deep.Deep.{Deep}
+use Rattle.pgo_mpcal_read.specs.declared.with_depth.WithDepth.{WithDepth}
 use Rattle.pgo_mpcal_read.specs.declared.depths.MacroDepth.{MacroDepth}
-use Rattle.pgo_mpcal_read.specs.declared.lead.Lead.TheVariants as lead
+use Rattle.pgo_mpcal_read.specs.declared.lookahead.StatementForm.TheVariants as statement_form
 use Rattle.pgo_lexer.specs.declared.symbol.Symbol.{Symbol}
 use Rattle.pgo_base.specs.declared.expr.Infix.TheVariants as operator
 use Rattle.pgo_lexer.specs.declared.symbol.Bracket.TheVariants as bracket
@@ -20,15 +20,17 @@ use Rattle.pgo_lexer.specs.declared.symbol.Keyword.{Keyword}
 use Rattle.pgo_lexer.specs.declared.symbol.Keyword.TheVariants as keyword
 use Rattle.pgo_lexer.specs.declared.symbol.Symbol.TheVariants as symbol
 use Rattle.pgo_mpcal_read.specs.Depths.{depth, depth_of, statements_depth, labeled_depth, guarded_depth}
-use Rattle.pgo_mpcal_read.specs.Leads.{lead_of}
+use Rattle.pgo_mpcal_read.specs.Lookahead.{form_of}
 use Rattle.pgo_mpcal_read.specs.Signs.{sees}
-use Rattle.pgo_mpcal_read.specs.Leaves.{Spot, at, word, placed, closes, Ended, IsExpression, Items, InBrackets}
-use Rattle.pgo_mpcal_read.specs.Leaves as leaf
+use Rattle.pgo_mpcal_read.specs.Elements.{Spot, at, word, placed, closes, Ended, IsExpression, Items, InBrackets}
+use Rattle.pgo_mpcal_read.specs.Elements as elements
 use Rattle.pgo_mpcal_read.specs.Statements.{Spelled, IsBranch, ElseIfs, Ors, IsLabeled, Rows, IsBody, IsFairness, IsAwait, IsAssignment, IsWithName}
 use Rattle.pgo_mpcal_read.specs.Statements as s
-use Rattle.pgo_mpcal_read.specs.Reading.{Outcome, and_then, skip, sees_second, expression, folded, front_of, ended}
-use Rattle.pgo_mpcal_read.specs.ReadingStatements.{deep, assignment, with_name, fairness, label, optional_label, node, skip_form, said, one_expression, goto_form, assign_form, call_form, while_form, with_form, branch, sees_else_if, one_more_branch, last_else, if_form, one_more_or, either_form, labeled_statement, row_ended, row_to, one_more_row, goes_on, rows, block_form, body, form, any_form, statement}
-use Rattle.pgo_mpcal_read.proofs.Parts.{Quiet, next_step, expect_gives, mark_gives, eat_true, eat_false}
+use Rattle.pgo_expr_read.specs.Steps.{and_then, skip, folded}
+use Rattle.pgo_mpcal_read.specs.Reading.{Outcome, sees_second, expression, front_of, ended}
+use Rattle.pgo_mpcal_read.specs.ReadingStatements.{with_depth, assignment, with_name, fairness, label, optional_label, node, skip_form, said, one_expression, goto_form, assign_form, call_form, while_form, with_form, branch, sees_else_if, one_more_branch, last_else, if_form, one_more_or, either_form, labeled_statement, row_ended, row_to, one_more_row, goes_on, rows, block_form, body, form, any_form, statement}
+use Rattle.pgo_expr_read.proofs.Steps.{next_step}
+use Rattle.pgo_mpcal_read.proofs.Parts.{Quiet, expect_gives, mark_gives, eat_true, eat_false}
 use Rattle.pgo_mpcal_read.proofs.Expressions.{reach_expression}
 use Rattle.pgo_mpcal_read.proofs.Heads as heads
 use Rattle.pgo_mpcal_read.proofs.Lists.{reach_items, reach_in_brackets}
@@ -43,7 +45,7 @@ pub record Follows (u v : Bool) (rest : List Lexeme) : Type 0 where
   pub stays : Stays u v rest
 
 pub record Reaches (u v : Bool) (ts : List Lexeme) (a : Statement) : Type 0 where
-  pub reads : (ms : List MacroDepth) (n : ℕ) (rest : List Lexeme) → depth ms a ≤ n → Follows u v rest → statement ms n (ts ++ rest) ≡ Some (deep (depth ms a) a, rest)
+  pub reads : (ms : List MacroDepth) (n : ℕ) (rest : List Lexeme) → depth ms a ≤ n → Follows u v rest → statement ms n (ts ++ rest) ≡ Some (with_depth (depth ms a) a, rest)
 
 pub tall : (ms : List MacroDepth) (a : Statement) → 0 < depth ms a
 tall ms (st.skip p) = omega arith
@@ -62,16 +64,16 @@ tall ms (st.yield_as p x) = omega arith
 tall ms (st.block p x) = omega arith
 
 -- it is enough to read it at a depth that is no 0
-some_depth : (ms : List MacroDepth) (a : Statement) (n : ℕ) (i rest : List Lexeme) → depth ms a ≤ n → ((m : ℕ) → depth ms a ≤ suc m → any_form ms (suc m) (statement ms m) i ≡ Some (deep (depth ms a) a, rest)) → statement ms n i ≡ Some (deep (depth ms a) a, rest)
+some_depth : (ms : List MacroDepth) (a : Statement) (n : ℕ) (i rest : List Lexeme) → depth ms a ≤ n → ((m : ℕ) → depth ms a ≤ suc m → any_form ms (suc m) (statement ms m) i ≡ Some (with_depth (depth ms a) a, rest)) → statement ms n i ≡ Some (with_depth (depth ms a) a, rest)
 unfolding statement
 some_depth ms a zero i rest h k = absurd (let z = tall ms a in omega (arith, z, h))
 some_depth ms a (suc m) i rest h k = k m h
 
-node_gives : (ms : List MacroDepth) (n : ℕ) (h : ℕ) (a : Statement) (i : List Lexeme) → h + 1 ≡ depth ms a → depth ms a ≤ suc n → node ms (suc n) (statement ms n) h a i ≡ Some (deep (depth ms a) a, i)
+node_gives : (ms : List MacroDepth) (n : ℕ) (h : ℕ) (a : Statement) (i : List Lexeme) → h + 1 ≡ depth ms a → depth ms a ≤ suc n → node ms (suc n) (statement ms n) h a i ≡ Some (with_depth (depth ms a) a, i)
 unfolding node
 node_gives ms n h a i same low =
     let b : h < suc n = omega (arith, same, low) in
-    ap (λ b. cond b (Some (deep (h + 1) a, i)) None) (lt-ltb h (suc n) b) ∙ ap (λ x. Some (deep x a, i)) same
+    ap (λ b. cond b (Some (with_depth (h + 1) a, i)) None) (lt-ltb h (suc n) b) ∙ ap (λ x. Some (with_depth x a, i)) same
 
 pub reach_skip : {p : Spot} → Reaches false false (at p (symbol.Keyword keyword.Skip) ∷ []) (st.skip p.start)
 unfolding any_form skip_form
@@ -89,7 +91,7 @@ reach_go_to {p} {n} {x} = record {
 
 -- a statement of one word and an expression
 one_gives : (ms : List MacroDepth) (m : ℕ) (k : Keyword) (p : Spot) (xs : List Lexeme) (e : Tree) (rest : List Lexeme) → IsExpression xs e → 0 + 1 ≡ depth ms (said k p.start e) → Quiet rest
-    → one_expression ms (suc m) (statement ms m) k (at p (symbol.Keyword k) ∷ (xs ++ rest)) ≡ Some (deep (depth ms (said k p.start e)) (said k p.start e), rest)
+    → one_expression ms (suc m) (statement ms m) k (at p (symbol.Keyword k) ∷ (xs ++ rest)) ≡ Some (with_depth (depth ms (said k p.start e)) (said k p.start e), rest)
 unfolding one_expression
 one_gives ms m k p xs e rest d one q =
     next_step _ _ _ _ _ (mark_gives (symbol.Keyword k) p (xs ++ rest)) (next_step _ _ _ _ _ (reach_expression xs e d rest q) (node_gives ms m 0 (said k p.start e) rest one (omega (arith, one))))
@@ -111,11 +113,11 @@ pub reach_yield : {p : Spot} {xs : List Lexeme} {e : Tree} → IsExpression xs e
 unfolding any_form
 reach_yield {p} {xs} {e} d = record { reads = λ ms n rest h f. some_depth ms (st.yield_as p.start e) n (at p (symbol.Keyword keyword.Yield) ∷ (xs ++ rest)) rest h (λ m h. one_gives ms m keyword.Yield p xs e rest d (omega arith) f.quiet) }
 
-assign_lead : {xs : List Lexeme} {a : Assignment} {as' : List Assignment} → Items IsAssignment symbol.Bars xs (a ∷ as') → (j : List Lexeme) → lead_of (xs ++ j) ≡ lead.Assign
-assign_lead (leaf.items (s.assignment k (s.named leaf.nothing) e) m) j = refl
-assign_lead (leaf.items (s.assignment k (s.named (leaf.another (s.index o i) p)) e) m) j = refl
-assign_lead (leaf.items (s.assignment k (s.named (leaf.another s.field p)) e) m) j = refl
-assign_lead (leaf.items (s.assignment k (s.variable p) e) m) j = refl
+assign_lead : {xs : List Lexeme} {a : Assignment} {as' : List Assignment} → Items IsAssignment symbol.Bars xs (a ∷ as') → (j : List Lexeme) → form_of (xs ++ j) ≡ statement_form.Assign
+assign_lead (elements.items (s.assignment k (s.named elements.nothing) e) m) j = refl
+assign_lead (elements.items (s.assignment k (s.named (elements.another (s.index o i) p)) e) m) j = refl
+assign_lead (elements.items (s.assignment k (s.named (elements.another s.field p)) e) m) j = refl
+assign_lead (elements.items (s.assignment k (s.variable p) e) m) j = refl
 
 pub reach_assign : {xs : List Lexeme} {a : Assignment} {as' : List Assignment} → Items IsAssignment symbol.Bars xs (a ∷ as') → Reaches false false xs (st.assign a.left.name.place (a ∷ as'))
 unfolding any_form assign_form
@@ -125,9 +127,9 @@ reach_assign {xs} {a} {as'} d = record {
       ∙ next_step _ _ _ _ _ (reach_items IsAssignment symbol.Bars assignment Quiet reach_assignment (λ p j. refl) xs (a ∷ as') d rest (f.quiet, f.no_bars)) (node_gives ms m 0 (st.assign a.left.name.place (a ∷ as')) rest (omega arith) h));
 }
 
-call_lead : (n : Spot) (x : Name) {xs : List Lexeme} {es : List Tree} → InBrackets IsExpression xs es → (j : List Lexeme) → lead_of (word n x ∷ (xs ++ j)) ≡ lead.Call
-call_lead n x leaf.empty j = refl
-call_lead n x (leaf.some c d) j = refl
+call_lead : (n : Spot) (x : Name) {xs : List Lexeme} {es : List Tree} → InBrackets IsExpression xs es → (j : List Lexeme) → form_of (word n x ∷ (xs ++ j)) ≡ statement_form.Call
+call_lead n x elements.empty j = refl
+call_lead n x (elements.some c d) j = refl
 
 pub reach_call : {n : Spot} {x : Name} {xs : List Lexeme} {es : List Tree} → InBrackets IsExpression xs es → Reaches false false (word n x ∷ xs) (st.call_macro n.start (placed n x) es)
 unfolding any_form call_form
@@ -169,11 +171,11 @@ reach_with {u} {v} {p} {o} c {xs} {ys} {ns} {a} d r = record {
 -- ---- `if`
 
 pub record ReachesBranch (u v : Bool) (ts : List Lexeme) (b : ℕ × (Tree × Statement)) : Type 0 where
-  pub reads : (ms : List MacroDepth) (limit m : ℕ) (rest : List Lexeme) → depth ms b.1.1 ≤ m → Follows u v rest → branch ms limit (statement ms m) (ts ++ rest) ≡ Some (deep (depth ms b.1.1) b, rest)
+  pub reads : (ms : List MacroDepth) (limit m : ℕ) (rest : List Lexeme) → depth ms b.1.1 ≤ m → Follows u v rest → branch ms limit (statement ms m) (ts ++ rest) ≡ Some (with_depth (depth ms b.1.1) b, rest)
 
 abbrev pub ReadsElseIfs : Bool → Bool → Bool → Bool → List Lexeme → List (ℕ × (Tree × Statement)) → Type 0
 ReadsElseIfs u v w z ts bs = (ms : List MacroDepth) (limit m n h : ℕ) (acc : List (ℕ × (Tree × Statement))) (rest : List Lexeme) → guarded_depth ms (guarded bs) ≤ m → length ts ≤ n → Follows w z rest → sees_else_if rest ≡ false
-    → (folded sees_else_if (one_more_branch ms limit (statement ms m)) n (deep h acc) (ts ++ rest) ≡ Some (deep (max h (guarded_depth ms (guarded bs))) (acc ++ bs), rest)) × Follows u v (ts ++ rest)
+    → (folded sees_else_if (one_more_branch ms limit (statement ms m)) n (with_depth h acc) (ts ++ rest) ≡ Some (with_depth (max h (guarded_depth ms (guarded bs))) (acc ++ bs), rest)) × Follows u v (ts ++ rest)
 
 pub record ReachesElseIfs (u v w z : Bool) (ts : List Lexeme) (bs : List (ℕ × (Tree × Statement))) : Type 0 where
   pub reads : ReadsElseIfs u v w z ts bs
@@ -191,14 +193,14 @@ reach_branch {u} {v} {p} {o} c {xs} {ys} {e} {a} d r = record {
       (next_step _ _ _ _ _ (r.reads ms m rest h f) refl))));
 }
 
-same_deep : {A : Type 0} (h k : ℕ) (xs ys : List A) (rest : List Lexeme) → h ≡ k → xs ≡ ys → ◌≡◌ {A = Outcome (Deep (List A))} (Some (deep h xs, rest)) (Some (deep k ys, rest))
-same_deep {A} h k xs ys rest e f = ap (λ z. Some (deep z xs, rest)) e ∙ ap (λ z. Some (deep k z, rest)) f
+same_deep : {A : Type 0} (h k : ℕ) (xs ys : List A) (rest : List Lexeme) → h ≡ k → xs ≡ ys → ◌≡◌ {A = Outcome (WithDepth (List A))} (Some (with_depth h xs, rest)) (Some (with_depth k ys, rest))
+same_deep {A} h k xs ys rest e f = ap (λ z. Some (with_depth z xs, rest)) e ∙ ap (λ z. Some (with_depth k z, rest)) f
 
 no_else_if_reads : (u v : Bool) → ReadsElseIfs u v u v [] []
 unfolding folded
 no_else_if_reads u v ms limit m zero h acc rest low short f over = (same_deep _ _ _ _ rest (omega arith) (sym (append-nil acc)), f)
 no_else_if_reads u v ms limit m (suc n) h acc rest low short f over = (
-  ap (λ b. cond b (and_then (one_more_branch ms limit (statement ms m) (deep h acc) rest) (folded sees_else_if (one_more_branch ms limit (statement ms m)) n)) (Some (deep h acc, rest))) over
+  ap (λ b. cond b (and_then (one_more_branch ms limit (statement ms m) (with_depth h acc) rest) (folded sees_else_if (one_more_branch ms limit (statement ms m)) n)) (Some (with_depth h acc, rest))) over
       ∙ same_deep _ _ _ _ rest (omega arith) (sym (append-nil acc)),
   f,
 )
@@ -206,7 +208,7 @@ no_else_if_reads u v ms limit m (suc n) h acc rest low short f over = (
 pub reach_no_else_if : {u v : Bool} → ReachesElseIfs u v u v [] []
 reach_no_else_if {u} {v} = record { reads = no_else_if_reads u v }
 
-branch_lead : {u v : Bool} {xs : List Lexeme} {b : ℕ × (Tree × Statement)} → IsBranch u v xs b → (j : List Lexeme) → lead_of (xs ++ j) ≡ lead.Keyword keyword.If
+branch_lead : {u v : Bool} {xs : List Lexeme} {b : ℕ × (Tree × Statement)} → IsBranch u v xs b → (j : List Lexeme) → form_of (xs ++ j) ≡ statement_form.Keyword keyword.If
 branch_lead (s.branch c d r) j = refl
 
 branch_if : {u v : Bool} {xs : List Lexeme} {b : ℕ × (Tree × Statement)} → IsBranch u v xs b → (j : List Lexeme) → sees (symbol.Keyword keyword.If) (xs ++ j) ≡ true
@@ -224,10 +226,10 @@ else_if_reads v' p {xs = xs} {ys = ys} {b = b} {bs = bs} d r m ms limit k (suc n
     let more = m.reads ms limit k n (max h (depth ms b.1.1)) (acc ++ b ∷ []) rest (omega (arith, low)) fits f over in
     let flat : at p (symbol.Keyword keyword.Else) ∷ ((xs ++ ys) ++ rest) ≡ at p (symbol.Keyword keyword.Else) ∷ (xs ++ (ys ++ rest)) = ap (λ z. at p (symbol.Keyword keyword.Else) ∷ z) (append_assoc xs ys rest) in
     let goes : sees_else_if (at p (symbol.Keyword keyword.Else) ∷ (xs ++ (ys ++ rest))) ≡ true = branch_if d (ys ++ rest) in
-    let one : one_more_branch ms limit (statement ms k) (deep h acc) (at p (symbol.Keyword keyword.Else) ∷ (xs ++ (ys ++ rest))) ≡ Some (deep (max h (depth ms b.1.1)) (acc ++ b ∷ []), ys ++ rest) =
+    let one : one_more_branch ms limit (statement ms k) (with_depth h acc) (at p (symbol.Keyword keyword.Else) ∷ (xs ++ (ys ++ rest))) ≡ Some (with_depth (max h (depth ms b.1.1)) (acc ++ b ∷ []), ys ++ rest) =
     next_step _ _ _ _ _ (expect_gives (symbol.Keyword keyword.Else) p (xs ++ (ys ++ rest))) (next_step _ _ _ _ _ (r.reads ms limit k (ys ++ rest) (omega (arith, low)) more.1) refl) in (
-      ap (λ i. cond (sees_else_if i) (and_then (one_more_branch ms limit (statement ms k) (deep h acc) i) (folded sees_else_if (one_more_branch ms limit (statement ms k)) n)) (Some (deep h acc, i))) flat
-          ∙ ap (λ c. cond c (and_then (one_more_branch ms limit (statement ms k) (deep h acc) (at p (symbol.Keyword keyword.Else) ∷ (xs ++ (ys ++ rest)))) (folded sees_else_if (one_more_branch ms limit (statement ms k)) n)) (Some (deep h acc, at p (symbol.Keyword keyword.Else) ∷ (xs ++ (ys ++ rest))))) goes
+      ap (λ i. cond (sees_else_if i) (and_then (one_more_branch ms limit (statement ms k) (with_depth h acc) i) (folded sees_else_if (one_more_branch ms limit (statement ms k)) n)) (Some (with_depth h acc, i))) flat
+          ∙ ap (λ c. cond c (and_then (one_more_branch ms limit (statement ms k) (with_depth h acc) (at p (symbol.Keyword keyword.Else) ∷ (xs ++ (ys ++ rest)))) (folded sees_else_if (one_more_branch ms limit (statement ms k)) n)) (Some (with_depth h acc, at p (symbol.Keyword keyword.Else) ∷ (xs ++ (ys ++ rest))))) goes
           ∙ next_step _ _ _ _ _ one more.0
           ∙ same_deep _ _ _ _ rest (omega arith) (append_assoc acc (b ∷ []) bs),
       else_follows p ((xs ++ ys) ++ rest),
@@ -270,7 +272,7 @@ reach_if_else {u} {v} {w'} {z} {z'} p {xs} {ys} {zs} {b} {bs} {a} d r m no_if fu
       ∙ ap (λ l. form ms (suc k) (statement ms k) l (xs ++ (ys ++ (at p (symbol.Keyword keyword.Else) ∷ (zs ++ rest))))) (branch_lead d (ys ++ (at p (symbol.Keyword keyword.Else) ∷ (zs ++ rest))))
       ∙ next_step _ _ _ _ _ (r.reads ms (suc k) k (ys ++ (at p (symbol.Keyword keyword.Else) ∷ (zs ++ rest))) (omega (arith, h)) more.1)
       (next_step _ _ _ _ _ more.0
-      (eat_true (symbol.Keyword keyword.Else) (last_else ms (suc k) (statement ms k) b.0 (deep (max (depth ms b.1.1) (guarded_depth ms (guarded bs))) (b ∷ bs))) (node ms (suc k) (statement ms k) (max (depth ms b.1.1) (guarded_depth ms (guarded bs))) (st.if_then b.0 (guarded (b ∷ bs)))) p (zs ++ rest)
+      (eat_true (symbol.Keyword keyword.Else) (last_else ms (suc k) (statement ms k) b.0 (with_depth (max (depth ms b.1.1) (guarded_depth ms (guarded bs))) (b ∷ bs))) (node ms (suc k) (statement ms k) (max (depth ms b.1.1) (guarded_depth ms (guarded bs))) (st.if_then b.0 (guarded (b ∷ bs)))) p (zs ++ rest)
       ∙ next_step _ _ _ _ _ (r'.reads ms k rest (omega (arith, h)) f)
       (node_gives ms k (max (max (depth ms b.1.1) (guarded_depth ms (guarded bs))) (depth ms a)) (st.if_else b.0 (guarded (b ∷ bs)) a) rest (omega arith) h))));
 }
@@ -279,7 +281,7 @@ reach_if_else {u} {v} {w'} {z} {z'} p {xs} {ys} {zs} {b} {bs} {a} d r m no_if fu
 
 abbrev pub ReadsOrs : Bool → Bool → Bool → Bool → List Lexeme → List Statement → Type 0
 ReadsOrs u v w z ts ss = (ms : List MacroDepth) (limit m n h : ℕ) (acc : List Statement) (rest : List Lexeme) → statements_depth ms (statements ss) ≤ m → length ts ≤ n → Follows w z rest → sees (symbol.Keyword keyword.Or) rest ≡ false
-    → (folded (sees (symbol.Keyword keyword.Or)) (one_more_or ms limit (statement ms m)) n (deep h acc) (ts ++ rest) ≡ Some (deep (max h (statements_depth ms (statements ss))) (acc ++ ss), rest)) × Follows u v (ts ++ rest)
+    → (folded (sees (symbol.Keyword keyword.Or)) (one_more_or ms limit (statement ms m)) n (with_depth h acc) (ts ++ rest) ≡ Some (with_depth (max h (statements_depth ms (statements ss))) (acc ++ ss), rest)) × Follows u v (ts ++ rest)
 
 pub record ReachesOrs (u v w z : Bool) (ts : List Lexeme) (ss : List Statement) : Type 0 where
   pub reads : ReadsOrs u v w z ts ss
@@ -288,7 +290,7 @@ no_or_reads : (u v : Bool) → ReadsOrs u v u v [] []
 unfolding folded
 no_or_reads u v ms limit m zero h acc rest low short f over = (same_deep _ _ _ _ rest (omega arith) (sym (append-nil acc)), f)
 no_or_reads u v ms limit m (suc n) h acc rest low short f over = (
-  ap (λ b. cond b (and_then (one_more_or ms limit (statement ms m) (deep h acc) rest) (folded (sees (symbol.Keyword keyword.Or)) (one_more_or ms limit (statement ms m)) n)) (Some (deep h acc, rest))) over
+  ap (λ b. cond b (and_then (one_more_or ms limit (statement ms m) (with_depth h acc) rest) (folded (sees (symbol.Keyword keyword.Or)) (one_more_or ms limit (statement ms m)) n)) (Some (with_depth h acc, rest))) over
       ∙ same_deep _ _ _ _ rest (omega arith) (sym (append-nil acc)),
   f,
 )
@@ -300,7 +302,7 @@ or_follows : {u : Bool} (p : Spot) (j : List Lexeme) → Follows u false (at p (
 or_follows p j = record { quiet = refl; no_bars = refl; stays = record { no_else = λ h. refl; no_or = λ h. cc } }
 
 one_or_gives : {u v : Bool} (p : Spot) (xs : List Lexeme) (a : Statement) → Reaches u v xs a → (ms : List MacroDepth) (limit k h : ℕ) (acc : List Statement) (rest : List Lexeme) → depth ms a ≤ k → Follows u v rest
-    → one_more_or ms limit (statement ms k) (deep h acc) (at p (symbol.Keyword keyword.Or) ∷ (xs ++ rest)) ≡ Some (deep (max h (depth ms a)) (acc ++ a ∷ []), rest)
+    → one_more_or ms limit (statement ms k) (with_depth h acc) (at p (symbol.Keyword keyword.Or) ∷ (xs ++ rest)) ≡ Some (with_depth (max h (depth ms a)) (acc ++ a ∷ []), rest)
 unfolding one_more_or
 one_or_gives p xs a r ms limit k h acc rest low f = next_step _ _ _ _ _ (expect_gives (symbol.Keyword keyword.Or) p (xs ++ rest)) (next_step _ _ _ _ _ (r.reads ms k rest low f) refl)
 
@@ -311,7 +313,7 @@ or_this_reads u' p {xs = xs} {ys = ys} {a = a} {ss = ss} r m ms limit k (suc n) 
     let l = length-append xs ys in
     let fits : length ys ≤ n = omega (arith, l, short) in
     let more = m.reads ms limit k n (max h (depth ms a)) (acc ++ a ∷ []) rest (omega (arith, low)) fits f over in (
-      ap (λ i. folded (sees (symbol.Keyword keyword.Or)) (one_more_or ms limit (statement ms k)) (suc n) (deep h acc) (at p (symbol.Keyword keyword.Or) ∷ i)) (append_assoc xs ys rest)
+      ap (λ i. folded (sees (symbol.Keyword keyword.Or)) (one_more_or ms limit (statement ms k)) (suc n) (with_depth h acc) (at p (symbol.Keyword keyword.Or) ∷ i)) (append_assoc xs ys rest)
           ∙ next_step _ _ _ _ _ (one_or_gives p xs a r ms limit k h acc (ys ++ rest) (omega (arith, low)) more.1) more.0
           ∙ same_deep _ _ _ _ rest (omega arith) (append_assoc acc (a ∷ []) ss),
       or_follows p ((xs ++ ys) ++ rest),
@@ -339,7 +341,7 @@ reach_either {u} {u'} {v'} {w} {z} {p} q {xs} {ys} {zs} {a} {b} {ss} r r' m = re
 -- ---- blocks
 
 pub record ReachesLabeled (u v : Bool) (ts : List Lexeme) (r : Option PlacedName × Statement) : Type 0 where
-  pub reads : (ms : List MacroDepth) (limit m : ℕ) (rest : List Lexeme) → depth ms r.1 ≤ m → Follows u v rest → labeled_statement ms limit (statement ms m) (ts ++ rest) ≡ Some (deep (depth ms r.1) r, rest)
+  pub reads : (ms : List MacroDepth) (limit m : ℕ) (rest : List Lexeme) → depth ms r.1 ≤ m → Follows u v rest → labeled_statement ms limit (statement ms m) (ts ++ rest) ≡ Some (with_depth (depth ms r.1) r, rest)
 
 pub reach_bare : {u v : Bool} {xs : List Lexeme} {a : Statement} → Spelled u v xs a → Reaches u v xs a → ReachesLabeled u v xs (None, a)
 unfolding labeled_statement optional_label
@@ -366,7 +368,7 @@ reach_label {u} {v} {n} {c} {x} {xs} {ys} {a} fair b r = record {
 -- the rows of a block before its `}`
 abbrev pub ReadsRows : List Lexeme → List (Option PlacedName × Statement) → Type 0
 ReadsRows ts rs = (ms : List MacroDepth) (limit m n h : ℕ) (acc : List (Option PlacedName × Statement)) (c : Spot) (rest : List Lexeme) → labeled_depth ms (labeled rs) ≤ m → length ts ≤ n
-    → folded goes_on (one_more_row ms limit (statement ms m)) n (deep h acc) (ts ++ (at c (symbol.Close bracket.Curly) ∷ rest)) ≡ Some (deep (max h (labeled_depth ms (labeled rs))) (acc ++ rs), at c (symbol.Close bracket.Curly) ∷ rest)
+    → folded goes_on (one_more_row ms limit (statement ms m)) n (with_depth h acc) (ts ++ (at c (symbol.Close bracket.Curly) ∷ rest)) ≡ Some (with_depth (max h (labeled_depth ms (labeled rs))) (acc ++ rs), at c (symbol.Close bracket.Curly) ∷ rest)
 
 pub record ReachesRows (ts : List Lexeme) (rs : List (Option PlacedName × Statement)) : Type 0 where
   pub reads : ReadsRows ts rs
@@ -386,15 +388,15 @@ begins_follows : {u v : Bool} {xs : List Lexeme} → Begins xs → (j : List Lex
 begins_follows b j = record { quiet = b.quiet j; no_bars = b.no_bars j; stays = record { no_else = λ h. b.no_else j; no_or = λ h. b.no_or j } }
 
 row_gives : {u v : Bool} {xs : List Lexeme} {r : Option PlacedName × Statement} → ReachesLabeled u v xs r → (ms : List MacroDepth) (limit m h : ℕ) (acc : List (Option PlacedName × Statement)) (rest j : List Lexeme) → depth ms r.1 ≤ m → Follows u v rest → row_ended (xs ++ rest) rest ≡ Some j
-    → one_more_row ms limit (statement ms m) (deep h acc) (xs ++ rest) ≡ Some (deep (max h (depth ms r.1)) (acc ++ r ∷ []), j)
+    → one_more_row ms limit (statement ms m) (with_depth h acc) (xs ++ rest) ≡ Some (with_depth (max h (depth ms r.1)) (acc ++ r ∷ []), j)
 unfolding one_more_row
-row_gives {xs = xs} {r = r} reaches ms limit m h acc rest j low f ends = next_step _ _ _ _ _ (reaches.reads ms limit m rest low f) (ap (row_to (deep h acc) (deep (depth ms r.1) r)) ends)
+row_gives {xs = xs} {r = r} reaches ms limit m h acc rest j low f ends = next_step _ _ _ _ _ (reaches.reads ms limit m rest low f) (ap (row_to (with_depth h acc) (with_depth (depth ms r.1) r)) ends)
 
 last_row_reads : {u v : Bool} {xs : List Lexeme} {r : Option PlacedName × Statement} → Begins xs → ReachesLabeled u v xs r → ReadsRows xs (r ∷ [])
 unfolding folded row_ended
 last_row_reads {xs = xs} b reaches ms limit m zero h acc c rest low short = absurd (let k = b.full in omega (arith, k, short))
 last_row_reads {xs = xs} {r = r} b reaches ms limit m (suc n) h acc c rest low short =
-    ap (λ z. cond (not z) (and_then (one_more_row ms limit (statement ms m) (deep h acc) (xs ++ (at c (symbol.Close bracket.Curly) ∷ rest))) (folded goes_on (one_more_row ms limit (statement ms m)) n)) (Some (deep h acc, xs ++ (at c (symbol.Close bracket.Curly) ∷ rest)))) (b.no_brace (at c (symbol.Close bracket.Curly) ∷ rest))
+    ap (λ z. cond (not z) (and_then (one_more_row ms limit (statement ms m) (with_depth h acc) (xs ++ (at c (symbol.Close bracket.Curly) ∷ rest))) (folded goes_on (one_more_row ms limit (statement ms m)) n)) (Some (with_depth h acc, xs ++ (at c (symbol.Close bracket.Curly) ∷ rest)))) (b.no_brace (at c (symbol.Close bracket.Curly) ∷ rest))
     ∙ next_step _ _ _ _ _ (row_gives reaches ms limit m h acc (at c (symbol.Close bracket.Curly) ∷ rest) (at c (symbol.Close bracket.Curly) ∷ rest) (omega (arith, low)) (brace_follows c rest) refl)
     (no_row_reads ms limit m n (max h (depth ms r.1)) (acc ++ r ∷ []) c rest (omega arith) (omega arith))
     ∙ same_deep _ _ _ _ (at c (symbol.Close bracket.Curly) ∷ rest) (omega arith) (append-nil (acc ++ r ∷ []))
@@ -414,20 +416,20 @@ brace_goes xs ys more e b =
 -- how what stands behind a row goes on
 row_goes : {xs zs ys : List Lexeme} {rs : List (Option PlacedName × Statement)} → Ended xs zs → Rows ys rs → (c : Spot) (rest : List Lexeme) → row_ended (xs ++ (zs ++ (ys ++ (at c (symbol.Close bracket.Curly) ∷ rest)))) (zs ++ (ys ++ (at c (symbol.Close bracket.Curly) ∷ rest))) ≡ Some (ys ++ (at c (symbol.Close bracket.Curly) ∷ rest))
 unfolding row_ended ended
-row_goes leaf.semicolon d c rest = refl
-row_goes (leaf.brace e) s.no_row c rest = refl
-row_goes {xs = xs} (leaf.brace e) (s.last_row {xs = ys} d) c rest = brace_goes xs ys (at c (symbol.Close bracket.Curly) ∷ rest) e (labeled_begins d)
-row_goes {xs = xs} (leaf.brace e) (s.row {xs = ys} {ys = more} {zs = ends} d k m) c rest =
+row_goes elements.semicolon d c rest = refl
+row_goes (elements.brace e) s.no_row c rest = refl
+row_goes {xs = xs} (elements.brace e) (s.last_row {xs = ys} d) c rest = brace_goes xs ys (at c (symbol.Close bracket.Curly) ∷ rest) e (labeled_begins d)
+row_goes {xs = xs} (elements.brace e) (s.row {xs = ys} {ys = more} {zs = ends} d k m) c rest =
     ap (λ i. row_ended (xs ++ i) i) (append_assoc ys (ends ++ more) (at c (symbol.Close bracket.Curly) ∷ rest)) ∙ brace_goes xs ys ((ends ++ more) ++ (at c (symbol.Close bracket.Curly) ∷ rest)) e (labeled_begins d) ∙ ap (λ i. Some i) (sym (append_assoc ys (ends ++ more) (at c (symbol.Close bracket.Curly) ∷ rest)))
 
 semicolon_follows : {u v : Bool} (p : Spot) (j : List Lexeme) → Follows u v (at p symbol.Semicolon ∷ j)
 semicolon_follows p j = record { quiet = refl; no_bars = refl; stays = record { no_else = λ h. refl; no_or = λ h. refl } }
 
 row_follows : {xs zs ys : List Lexeme} {rs : List (Option PlacedName × Statement)} {u v : Bool} → Ended xs zs → Rows ys rs → (c : Spot) (rest : List Lexeme) → Follows u v (zs ++ (ys ++ (at c (symbol.Close bracket.Curly) ∷ rest)))
-row_follows (leaf.semicolon {p = p}) d c rest = semicolon_follows p _
-row_follows (leaf.brace e) s.no_row c rest = brace_follows c rest
-row_follows (leaf.brace e) (s.last_row d) c rest = begins_follows (labeled_begins d) (at c (symbol.Close bracket.Curly) ∷ rest)
-row_follows {u = u} {v = v} (leaf.brace e) (s.row {xs = ys} {ys = more} {zs = ends} d k m) c rest =
+row_follows (elements.semicolon {p = p}) d c rest = semicolon_follows p _
+row_follows (elements.brace e) s.no_row c rest = brace_follows c rest
+row_follows (elements.brace e) (s.last_row d) c rest = begins_follows (labeled_begins d) (at c (symbol.Close bracket.Curly) ∷ rest)
+row_follows {u = u} {v = v} (elements.brace e) (s.row {xs = ys} {ys = more} {zs = ends} d k m) c rest =
     let P : List Lexeme → Type 0 = λ i. Follows u v i in
     subst P (sym (append_assoc ys (ends ++ more) (at c (symbol.Close bracket.Curly) ∷ rest))) (begins_follows (labeled_begins d) ((ends ++ more) ++ (at c (symbol.Close bracket.Curly) ∷ rest)))
 
@@ -440,8 +442,8 @@ row_reads {u} {v} {xs = xs} {ys = ys} {zs = zs} {r = r} {rs = rs} b reaches ends
     let l' = length-append zs ys in
     let f = b.full in
     let flat : (xs ++ (zs ++ ys)) ++ end ≡ xs ++ (zs ++ (ys ++ end)) = append_assoc xs (zs ++ ys) end ∙ ap (λ i. xs ++ i) (append_assoc zs ys end) in
-    ap (λ i. folded goes_on (one_more_row ms limit (statement ms k)) (suc n) (deep h acc) i) flat
-    ∙ ap (λ z. cond (not z) (and_then (one_more_row ms limit (statement ms k) (deep h acc) (xs ++ (zs ++ (ys ++ end)))) (folded goes_on (one_more_row ms limit (statement ms k)) n)) (Some (deep h acc, xs ++ (zs ++ (ys ++ end))))) (b.no_brace (zs ++ (ys ++ end)))
+    ap (λ i. folded goes_on (one_more_row ms limit (statement ms k)) (suc n) (with_depth h acc) i) flat
+    ∙ ap (λ z. cond (not z) (and_then (one_more_row ms limit (statement ms k) (with_depth h acc) (xs ++ (zs ++ (ys ++ end)))) (folded goes_on (one_more_row ms limit (statement ms k)) n)) (Some (with_depth h acc, xs ++ (zs ++ (ys ++ end))))) (b.no_brace (zs ++ (ys ++ end)))
     ∙ next_step _ _ _ _ _ (row_gives reaches ms limit k h acc (zs ++ (ys ++ end)) (ys ++ end) (omega (arith, low)) (row_follows ends d c rest) (row_goes ends d c rest))
     (m.reads ms limit k n (max h (depth ms r.1)) (acc ++ r ∷ []) c rest (omega (arith, low)) (omega (arith, short, l, l', f)))
     ∙ same_deep _ _ _ _ end (omega arith) (append_assoc acc (r ∷ []) rs)
@@ -450,11 +452,11 @@ pub reach_row : {u v : Bool} {xs ys zs : List Lexeme} {r : Option PlacedName × 
 reach_row b r e d m = record { reads = row_reads b r e d m }
 
 rows_give : {xs : List Lexeme} {rs : List (Option PlacedName × Statement)} → ReachesRows xs rs → (ms : List MacroDepth) (limit m : ℕ) (c : Spot) (rest : List Lexeme) → labeled_depth ms (labeled rs) ≤ m
-    → rows ms limit (statement ms m) (xs ++ (at c (symbol.Close bracket.Curly) ∷ rest)) ≡ Some (deep (labeled_depth ms (labeled rs)) rs, rest)
+    → rows ms limit (statement ms m) (xs ++ (at c (symbol.Close bracket.Curly) ∷ rest)) ≡ Some (with_depth (labeled_depth ms (labeled rs)) rs, rest)
 unfolding rows
 rows_give {xs} {rs} m ms limit k c rest low =
     next_step _ _ _ _ _ (m.reads ms limit k (length (xs ++ (at c (symbol.Close bracket.Curly) ∷ rest))) 0 [] c rest low (let l = length-append xs (at c (symbol.Close bracket.Curly) ∷ rest) in omega (arith, l)))
-    (next_step _ _ _ _ _ (expect_gives (symbol.Close bracket.Curly) c rest) (ap (λ z. Some (deep z rs, rest)) (omega arith)))
+    (next_step _ _ _ _ _ (expect_gives (symbol.Close bracket.Curly) c rest) (ap (λ z. Some (with_depth z rs, rest)) (omega arith)))
 
 pub reach_block : {o : Spot} (c : Spot) {xs : List Lexeme} {rs : List (Option PlacedName × Statement)} → ReachesRows xs rs → Reaches false false (at o (symbol.Open bracket.Curly) ∷ (xs ++ (at c (symbol.Close bracket.Curly) ∷ []))) (st.block o.start (labeled rs))
 unfolding any_form block_form
@@ -467,7 +469,7 @@ reach_block {o} c {xs} {rs} m = record {
 }
 
 body_gives : (o c : Spot) {xs : List Lexeme} {rs : List (Option PlacedName × Statement)} → ReachesRows xs rs → (ms : List MacroDepth) (limit m : ℕ) (rest : List Lexeme) → labeled_depth ms (labeled rs) ≤ m
-    → body ms limit (statement ms m) ((at o (symbol.Open bracket.Curly) ∷ (xs ++ (at c (symbol.Close bracket.Curly) ∷ []))) ++ rest) ≡ Some (deep (labeled_depth ms (labeled rs)) rs, rest)
+    → body ms limit (statement ms m) ((at o (symbol.Open bracket.Curly) ∷ (xs ++ (at c (symbol.Close bracket.Curly) ∷ []))) ++ rest) ≡ Some (with_depth (labeled_depth ms (labeled rs)) rs, rest)
 unfolding body
 body_gives o c {xs} {rs} m ms limit k rest low =
     ap (λ i. body ms limit (statement ms k) (at o (symbol.Open bracket.Curly) ∷ i)) (append_assoc xs (at c (symbol.Close bracket.Curly) ∷ []) rest)
@@ -513,5 +515,5 @@ mutual
   reach_rows (s.row d e m) = reach_row (labeled_begins d) (reach_labeled d) e m (reach_rows m)
 
 pub reach_body : {ts : List Lexeme} {rs : List (Option PlacedName × Statement)} → IsBody ts rs → (ms : List MacroDepth) (limit m : ℕ) (rest : List Lexeme) → labeled_depth ms (labeled rs) ≤ m
-    → body ms limit (statement ms m) (ts ++ rest) ≡ Some (deep (labeled_depth ms (labeled rs)) rs, rest)
+    → body ms limit (statement ms m) (ts ++ rest) ≡ Some (with_depth (labeled_depth ms (labeled rs)) rs, rest)
 reach_body (s.body {o = o} c m) = body_gives o c (reach_rows m)

@@ -6,23 +6,25 @@ use Rattle.pgo_lexer.specs.declared.token.Lexeme.{Lexeme}
 use Rattle.pgo_syntax.specs.declared.assignment.Assignment.{Assignment}
 use Rattle.pgo_syntax.specs.Statement.{Statement, statements, labeled, guarded}
 use Rattle.pgo_syntax.specs.Statement as st
-use Rattle.pgo_mpcal_read.specs.declared.deep.Deep.{Deep}
+use Rattle.pgo_mpcal_read.specs.declared.with_depth.WithDepth.{WithDepth}
 use Rattle.pgo_mpcal_read.specs.declared.depths.MacroDepth.{MacroDepth}
-use Rattle.pgo_mpcal_read.specs.declared.lead.Lead.{Lead}
-use Rattle.pgo_mpcal_read.specs.declared.lead.Lead.TheVariants as lead
+use Rattle.pgo_mpcal_read.specs.declared.lookahead.StatementForm.{StatementForm}
+use Rattle.pgo_mpcal_read.specs.declared.lookahead.StatementForm.TheVariants as statement_form
 use Rattle.pgo_lexer.specs.declared.symbol.Bracket.TheVariants as bracket
 use Rattle.pgo_lexer.specs.declared.symbol.Keyword.{Keyword}
 use Rattle.pgo_lexer.specs.declared.symbol.Keyword.TheVariants as keyword
 use Rattle.pgo_lexer.specs.declared.symbol.Symbol.TheVariants as symbol
 use Rattle.pgo_mpcal_read.specs.Depths.{depth, depth_of, statements_depth, guarded_depth}
-use Rattle.pgo_mpcal_read.specs.Leads.{lead_of}
+use Rattle.pgo_mpcal_read.specs.Lookahead.{form_of}
 use Rattle.pgo_mpcal_read.specs.Signs.{sees}
-use Rattle.pgo_mpcal_read.specs.Leaves.{Spot, at, word, placed, IsExpression, Items, InBrackets}
+use Rattle.pgo_mpcal_read.specs.Elements.{Spot, at, word, placed, IsExpression, Items, InBrackets}
 use Rattle.pgo_mpcal_read.specs.Statements.{Spelled, IsBranch, ElseIfs, Ors, IsLabeled, Rows, IsBody, IsFairness, IsAwait, IsAssignment, IsWithName}
 use Rattle.pgo_mpcal_read.specs.Statements as s
-use Rattle.pgo_mpcal_read.specs.Reading.{Outcome, Parser, and_then, skip, expression, folded, items, in_brackets}
-use Rattle.pgo_mpcal_read.specs.ReadingStatements.{deep, assignment, with_name, skip_form, said, one_expression, goto_form, assign_all, assign_form, call_form, while_form, with_form, branch, sees_else_if, one_more_branch, last_else, if_form, one_more_or, either_form, keyword_form, form, any_form, statement}
-use Rattle.pgo_mpcal_read.proofs.Parts.{some_pair, bind_then, front_then, expect_then, mark_then, name_then, eaten_then}
+use Rattle.pgo_expr_read.specs.Steps.{and_then, skip, folded}
+use Rattle.pgo_mpcal_read.specs.Reading.{Outcome, Parser, expression, items, in_brackets}
+use Rattle.pgo_mpcal_read.specs.ReadingStatements.{with_depth, assignment, with_name, skip_form, said, one_expression, goto_form, assign_all, assign_form, call_form, while_form, with_form, branch, sees_else_if, one_more_branch, last_else, if_form, one_more_or, either_form, keyword_form, form, any_form, statement}
+use Rattle.pgo_expr_read.proofs.Steps.{some_pair, bind_then}
+use Rattle.pgo_mpcal_read.proofs.Parts.{front_then, expect_then, mark_then, name_then, eaten_then}
 use Rattle.pgo_mpcal_read.proofs.Expressions.{sound_expression}
 use Rattle.pgo_mpcal_read.proofs.Lists.{sound_items, sound_in_brackets}
 use Rattle.pgo_mpcal_read.proofs.Lefts.{sound_assignment, sound_with_name}
@@ -41,7 +43,7 @@ is_false : (u x : Bool) → (u ≡ true → x ≡ false) → x ≡ true → u �
 is_false true x h e = let q = h refl in cc
 is_false false x h e = refl
 
-module _ (ms : List MacroDepth) (limit below : ℕ) (inner : Parser (Deep Statement)) (S : SoundInner ms below inner) where
+module _ (ms : List MacroDepth) (limit below : ℕ) (inner : Parser (WithDepth Statement)) (S : SoundInner ms below inner) where
   pub sound_skip : SoundInner ms limit (skip_form ms limit inner)
   unfolding skip_form
   sound_skip i r rest got =
@@ -63,7 +65,7 @@ module _ (ms : List MacroDepth) (limit below : ℕ) (inner : Parser (Deep Statem
       name_then i1 _ _ _ got (λ n x i2 e2 got.
       good_node ms limit inner false false 0 (st.go_to p.start (placed n x)) r (at p (symbol.Keyword keyword.Goto) ∷ (word n x ∷ [])) i i2 rest got (e1 ∙ ap (λ z. at p (symbol.Keyword keyword.Goto) ∷ z) e2) s.go_to (omega arith) (stays_closed i2)))
 
-  assigned_all : (all : List Assignment) (xs i j : List Lexeme) (r : Deep Statement) (rest : List Lexeme) → i ≡ xs ++ j → Items IsAssignment symbol.Bars xs all → assign_all ms limit inner all j ≡ Some (r, rest) → Good ms limit i r rest
+  assigned_all : (all : List Assignment) (xs i j : List Lexeme) (r : WithDepth Statement) (rest : List Lexeme) → i ≡ xs ++ j → Items IsAssignment symbol.Bars xs all → assign_all ms limit inner all j ≡ Some (r, rest) → Good ms limit i r rest
   assigned_all [] xs i j r rest e d got = cc
   assigned_all (a ∷ as') xs i j r rest e d got = good_node ms limit inner false false 0 (st.assign a.left.name.place (a ∷ as')) r xs i j rest got e (s.assign d) (omega arith) (stays_closed j)
 
@@ -109,7 +111,7 @@ module _ (ms : List MacroDepth) (limit below : ℕ) (inner : Parser (Deep Statem
 
   -- ---- `if`
 
-  record GoodBranch (i : List Lexeme) (r : Deep (ℕ × (Tree × Statement))) (rest : List Lexeme) : Type 0 where
+  record GoodBranch (i : List Lexeme) (r : WithDepth (ℕ × (Tree × Statement))) (rest : List Lexeme) : Type 0 where
     opens_if : Bool
     opens_either : Bool
     front : List Lexeme
@@ -118,7 +120,7 @@ module _ (ms : List MacroDepth) (limit below : ℕ) (inner : Parser (Deep Statem
     depth : r.depth ≡ depth ms r.part.1.1
     stays : Stays opens_if opens_either rest
 
-  sound_branch : (i : List Lexeme) (r : Deep (ℕ × (Tree × Statement))) (rest : List Lexeme) → branch ms limit inner i ≡ Some (r, rest) → GoodBranch i r rest
+  sound_branch : (i : List Lexeme) (r : WithDepth (ℕ × (Tree × Statement))) (rest : List Lexeme) → branch ms limit inner i ≡ Some (r, rest) → GoodBranch i r rest
   unfolding branch
   sound_branch i r rest got =
       mark_then (symbol.Keyword keyword.If) i _ _ _ got (λ p i1 e1 got.
@@ -127,7 +129,7 @@ module _ (ms : List MacroDepth) (limit below : ℕ) (inner : Parser (Deep Statem
       expect_then (symbol.Close bracket.Round) i3 _ _ _ got (λ c i4 e4 got.
       inner_then ms below inner S i4 _ _ _ got (λ b i5 g got.
       let q = some_pair _ _ _ _ got in
-      let P : Deep (ℕ × (Tree × Statement)) → Type 0 = λ z. GoodBranch i z rest in
+      let P : WithDepth (ℕ × (Tree × Statement)) → Type 0 = λ z. GoodBranch i z rest in
       let Q : List Lexeme → Type 0 = λ z. Stays g.opens_if g.opens_either z in
       subst P q.0 (record {
         opens_if = g.opens_if;
@@ -139,7 +141,7 @@ module _ (ms : List MacroDepth) (limit below : ℕ) (inner : Parser (Deep Statem
         stays = subst Q q.1 g.stays;
       }))))))
 
-  record GoodElseIfs (u v : Bool) (i : List Lexeme) (acc res : Deep (List (ℕ × (Tree × Statement)))) (rest : List Lexeme) : Type 0 where
+  record GoodElseIfs (u v : Bool) (i : List Lexeme) (acc res : WithDepth (List (ℕ × (Tree × Statement)))) (rest : List Lexeme) : Type 0 where
     opens_if : Bool
     opens_either : Bool
     front : List Lexeme
@@ -150,15 +152,15 @@ module _ (ms : List MacroDepth) (limit below : ℕ) (inner : Parser (Deep Statem
     depth : res.depth ≡ max acc.depth (guarded_depth ms (guarded others))
     stays : Stays opens_if opens_either rest
 
-  else_ifs_end : (u v : Bool) (acc res : Deep (List (ℕ × (Tree × Statement)))) (i rest : List Lexeme) → Stays u v i → ◌≡◌ {A = Outcome (Deep (List (ℕ × (Tree × Statement))))} (Some (acc, i)) (Some (res, rest)) → GoodElseIfs u v i acc res rest
+  else_ifs_end : (u v : Bool) (acc res : WithDepth (List (ℕ × (Tree × Statement)))) (i rest : List Lexeme) → Stays u v i → ◌≡◌ {A = Outcome (WithDepth (List (ℕ × (Tree × Statement))))} (Some (acc, i)) (Some (res, rest)) → GoodElseIfs u v i acc res rest
   else_ifs_end u v acc res i rest stays got =
       let q = some_pair _ _ _ _ got in
-      let P : Deep (List (ℕ × (Tree × Statement))) → Type 0 = λ z. GoodElseIfs u v i acc z rest in
+      let P : WithDepth (List (ℕ × (Tree × Statement))) → Type 0 = λ z. GoodElseIfs u v i acc z rest in
       let Q : List Lexeme → Type 0 = λ z. Stays u v z in
       subst P q.0 (record { opens_if = u; opens_either = v; front = []; others = []; split = q.1; holds = s.no_else_if; is = sym (append-nil acc.part); depth = omega arith; stays = subst Q q.1 stays })
 
-  else_ifs_by : (b : Bool) (n : ℕ) (u v : Bool) (acc res : Deep (List (ℕ × (Tree × Statement)))) (i rest : List Lexeme) → sees_else_if i ≡ b → Stays u v i
-      → ((w z : Bool) (next : Deep (List (ℕ × (Tree × Statement)))) (j : List Lexeme) → Stays w z j → folded sees_else_if (one_more_branch ms limit inner) n next j ≡ Some (res, rest) → GoodElseIfs w z j next res rest)
+  else_ifs_by : (b : Bool) (n : ℕ) (u v : Bool) (acc res : WithDepth (List (ℕ × (Tree × Statement)))) (i rest : List Lexeme) → sees_else_if i ≡ b → Stays u v i
+      → ((w z : Bool) (next : WithDepth (List (ℕ × (Tree × Statement)))) (j : List Lexeme) → Stays w z j → folded sees_else_if (one_more_branch ms limit inner) n next j ≡ Some (res, rest) → GoodElseIfs w z j next res rest)
       → cond b (and_then (one_more_branch ms limit inner acc i) (folded sees_else_if (one_more_branch ms limit inner) n)) (Some (acc, i)) ≡ Some (res, rest) → GoodElseIfs u v i acc res rest
   unfolding one_more_branch
   else_ifs_by true n u v acc res i rest goes stays go got =
@@ -178,18 +180,18 @@ module _ (ms : List MacroDepth) (limit below : ℕ) (inner : Parser (Deep Statem
         others = b.part ∷ m.others;
         split = e1 ∙ ap (λ z. at p (symbol.Keyword keyword.Else) ∷ z) (g.split ∙ ap (λ z. g.front ++ z) (q.1 ∙ m.split) ∙ sym (append_assoc g.front m.front rest));
         holds = subst P (sym closed) (s.else_if g.holds m.holds);
-        is = m.is ∙ ap (λ (z : Deep (List (ℕ × (Tree × Statement)))). z.part ++ m.others) (sym q.0) ∙ append_assoc acc.part (b.part ∷ []) m.others;
-        depth = let x = m.depth in let y = g.depth in let z : next.depth ≡ max acc.depth b.depth = ap (λ (z : Deep (List (ℕ × (Tree × Statement)))). z.depth) (sym q.0) in omega (arith, x, y, z);
+        is = m.is ∙ ap (λ (z : WithDepth (List (ℕ × (Tree × Statement)))). z.part ++ m.others) (sym q.0) ∙ append_assoc acc.part (b.part ∷ []) m.others;
+        depth = let x = m.depth in let y = g.depth in let z : next.depth ≡ max acc.depth b.depth = ap (λ (z : WithDepth (List (ℕ × (Tree × Statement)))). z.depth) (sym q.0) in omega (arith, x, y, z);
         stays = m.stays;
       })))
   else_ifs_by false n u v acc res i rest goes stays go got = else_ifs_end u v acc res i rest stays got
 
-  sound_else_ifs : (n : ℕ) (u v : Bool) (acc res : Deep (List (ℕ × (Tree × Statement)))) (i rest : List Lexeme) → Stays u v i → folded sees_else_if (one_more_branch ms limit inner) n acc i ≡ Some (res, rest) → GoodElseIfs u v i acc res rest
+  sound_else_ifs : (n : ℕ) (u v : Bool) (acc res : WithDepth (List (ℕ × (Tree × Statement)))) (i rest : List Lexeme) → Stays u v i → folded sees_else_if (one_more_branch ms limit inner) n acc i ≡ Some (res, rest) → GoodElseIfs u v i acc res rest
   unfolding folded
   sound_else_ifs zero u v acc res i rest stays got = else_ifs_end u v acc res i rest stays got
   sound_else_ifs (suc n) u v acc res i rest stays got = else_ifs_by (sees_else_if i) n u v acc res i rest refl stays (λ w z next j stays got. sound_else_ifs n w z next res j rest stays got) got
 
-  branch_falls : (acc next : Deep (List (ℕ × (Tree × Statement)))) (i j : List Lexeme) → sees_else_if i ≡ true → one_more_branch ms limit inner acc i ≡ Some (next, j) → length j < length i
+  branch_falls : (acc next : WithDepth (List (ℕ × (Tree × Statement)))) (i j : List Lexeme) → sees_else_if i ≡ true → one_more_branch ms limit inner acc i ≡ Some (next, j) → length j < length i
   unfolding one_more_branch
   branch_falls acc next i j goes is =
       expect_then (symbol.Keyword keyword.Else) i _ _ _ is (λ p i1 e1 is.
@@ -203,8 +205,8 @@ module _ (ms : List MacroDepth) (limit below : ℕ) (inner : Parser (Deep Statem
   sound_if i r rest got =
       bind_then (branch ms limit inner i) _ _ _ got (λ first i1 hb got.
       let g = sound_branch i first i1 hb in
-      bind_then (folded sees_else_if (one_more_branch ms limit inner) (length i1) (deep first.depth (first.part ∷ [])) i1) _ _ _ got (λ bs i2 hs got.
-      let m = sound_else_ifs (length i1) g.opens_if g.opens_either (deep first.depth (first.part ∷ [])) bs i1 i2 g.stays hs in
+      bind_then (folded sees_else_if (one_more_branch ms limit inner) (length i1) (with_depth first.depth (first.part ∷ [])) i1) _ _ _ got (λ bs i2 hs got.
+      let m = sound_else_ifs (length i1) g.opens_if g.opens_either (with_depth first.depth (first.part ∷ [])) bs i1 i2 g.stays hs in
       let over = folded_over sees_else_if (one_more_branch ms limit inner) refl branch_falls (length i1) _ bs i1 i2 (omega arith) hs in
       let high : bs.depth ≡ guarded_depth ms (guarded (first.part ∷ m.others)) = let x = m.depth in let y = g.depth in omega (arith, x, y) in
       let B : List (ℕ × (Tree × Statement)) → Type 0 = λ z. bs.depth ≡ guarded_depth ms (guarded z) in
@@ -231,7 +233,7 @@ module _ (ms : List MacroDepth) (limit below : ℕ) (inner : Parser (Deep Statem
 
   -- ---- `either`
 
-  record GoodOrs (u v : Bool) (i : List Lexeme) (acc res : Deep (List Statement)) (rest : List Lexeme) : Type 0 where
+  record GoodOrs (u v : Bool) (i : List Lexeme) (acc res : WithDepth (List Statement)) (rest : List Lexeme) : Type 0 where
     opens_if : Bool
     opens_either : Bool
     front : List Lexeme
@@ -242,14 +244,14 @@ module _ (ms : List MacroDepth) (limit below : ℕ) (inner : Parser (Deep Statem
     depth : res.depth ≡ max acc.depth (statements_depth ms (statements others))
     stays : Stays opens_if opens_either rest
 
-  ors_end : (u v : Bool) (acc res : Deep (List Statement)) (i rest : List Lexeme) → Stays u v i → ◌≡◌ {A = Outcome (Deep (List Statement))} (Some (acc, i)) (Some (res, rest)) → GoodOrs u v i acc res rest
+  ors_end : (u v : Bool) (acc res : WithDepth (List Statement)) (i rest : List Lexeme) → Stays u v i → ◌≡◌ {A = Outcome (WithDepth (List Statement))} (Some (acc, i)) (Some (res, rest)) → GoodOrs u v i acc res rest
   ors_end u v acc res i rest stays got =
       let q = some_pair _ _ _ _ got in
-      let P : Deep (List Statement) → Type 0 = λ z. GoodOrs u v i acc z rest in
+      let P : WithDepth (List Statement) → Type 0 = λ z. GoodOrs u v i acc z rest in
       let Q : List Lexeme → Type 0 = λ z. Stays u v z in
       subst P q.0 (record { opens_if = u; opens_either = v; front = []; others = []; split = q.1; holds = s.no_or; is = sym (append-nil acc.part); depth = omega arith; stays = subst Q q.1 stays })
 
-  record NextOr (v : Bool) (i : List Lexeme) (acc next : Deep (List Statement)) (j : List Lexeme) : Type 0 where
+  record NextOr (v : Bool) (i : List Lexeme) (acc next : WithDepth (List Statement)) (j : List Lexeme) : Type 0 where
     spot : Spot
     opens_if : Bool
     opens_either : Bool
@@ -262,7 +264,7 @@ module _ (ms : List MacroDepth) (limit below : ℕ) (inner : Parser (Deep Statem
     depth : next.depth ≡ max acc.depth (depth ms part)
     stays : Stays opens_if opens_either j
 
-  sound_one_or : (u v : Bool) (acc next : Deep (List Statement)) (i j : List Lexeme) → Stays u v i → one_more_or ms limit inner acc i ≡ Some (next, j) → NextOr v i acc next j
+  sound_one_or : (u v : Bool) (acc next : WithDepth (List Statement)) (i j : List Lexeme) → Stays u v i → one_more_or ms limit inner acc i ≡ Some (next, j) → NextOr v i acc next j
   unfolding one_more_or
   sound_one_or u v acc next i j stays is =
       expect_then (symbol.Keyword keyword.Or) i _ _ _ is (λ p i1 e1 is.
@@ -278,13 +280,13 @@ module _ (ms : List MacroDepth) (limit below : ℕ) (inner : Parser (Deep Statem
         split = e1 ∙ ap (λ z. at p (symbol.Keyword keyword.Or) ∷ z) (g.split ∙ ap (λ z. g.front ++ z) q.1);
         closed = is_false v (sees (symbol.Keyword keyword.Or) i) stays.no_or (ap (sees (symbol.Keyword keyword.Or)) e1);
         spelled = g.spelled;
-        is = ap (λ (z : Deep (List Statement)). z.part) (sym q.0);
-        depth = ap (λ (z : Deep (List Statement)). z.depth) (sym q.0) ∙ ap (λ z. max acc.depth z) g.depth;
+        is = ap (λ (z : WithDepth (List Statement)). z.part) (sym q.0);
+        depth = ap (λ (z : WithDepth (List Statement)). z.depth) (sym q.0) ∙ ap (λ z. max acc.depth z) g.depth;
         stays = subst Q q.1 g.stays;
       }))
 
-  ors_by : (b : Bool) (n : ℕ) (u v : Bool) (acc res : Deep (List Statement)) (i rest : List Lexeme) → Stays u v i
-      → ((w z : Bool) (next : Deep (List Statement)) (j : List Lexeme) → Stays w z j → folded (sees (symbol.Keyword keyword.Or)) (one_more_or ms limit inner) n next j ≡ Some (res, rest) → GoodOrs w z j next res rest)
+  ors_by : (b : Bool) (n : ℕ) (u v : Bool) (acc res : WithDepth (List Statement)) (i rest : List Lexeme) → Stays u v i
+      → ((w z : Bool) (next : WithDepth (List Statement)) (j : List Lexeme) → Stays w z j → folded (sees (symbol.Keyword keyword.Or)) (one_more_or ms limit inner) n next j ≡ Some (res, rest) → GoodOrs w z j next res rest)
       → cond b (and_then (one_more_or ms limit inner acc i) (folded (sees (symbol.Keyword keyword.Or)) (one_more_or ms limit inner) n)) (Some (acc, i)) ≡ Some (res, rest) → GoodOrs u v i acc res rest
   ors_by true n u v acc res i rest stays go got =
       bind_then (one_more_or ms limit inner acc i) _ _ _ got (λ next j is got.
@@ -304,12 +306,12 @@ module _ (ms : List MacroDepth) (limit below : ℕ) (inner : Parser (Deep Statem
       })
   ors_by false n u v acc res i rest stays go got = ors_end u v acc res i rest stays got
 
-  sound_ors : (n : ℕ) (u v : Bool) (acc res : Deep (List Statement)) (i rest : List Lexeme) → Stays u v i → folded (sees (symbol.Keyword keyword.Or)) (one_more_or ms limit inner) n acc i ≡ Some (res, rest) → GoodOrs u v i acc res rest
+  sound_ors : (n : ℕ) (u v : Bool) (acc res : WithDepth (List Statement)) (i rest : List Lexeme) → Stays u v i → folded (sees (symbol.Keyword keyword.Or)) (one_more_or ms limit inner) n acc i ≡ Some (res, rest) → GoodOrs u v i acc res rest
   unfolding folded
   sound_ors zero u v acc res i rest stays got = ors_end u v acc res i rest stays got
   sound_ors (suc n) u v acc res i rest stays got = ors_by (sees (symbol.Keyword keyword.Or) i) n u v acc res i rest stays (λ w z next j stays got. sound_ors n w z next res j rest stays got) got
 
-  or_falls : (acc next : Deep (List Statement)) (i j : List Lexeme) → sees (symbol.Keyword keyword.Or) i ≡ true → one_more_or ms limit inner acc i ≡ Some (next, j) → length j < length i
+  or_falls : (acc next : WithDepth (List Statement)) (i j : List Lexeme) → sees (symbol.Keyword keyword.Or) i ≡ true → one_more_or ms limit inner acc i ≡ Some (next, j) → length j < length i
   or_falls acc next i j goes is =
       let g = sound_one_or false false acc next i j (stays_closed i) is in
       shorter i g.front j (at g.spot (symbol.Keyword keyword.Or)) g.split
@@ -319,8 +321,8 @@ module _ (ms : List MacroDepth) (limit below : ℕ) (inner : Parser (Deep Statem
   sound_either i r rest got =
       mark_then (symbol.Keyword keyword.Either) i _ _ _ got (λ p i1 e1 got.
       inner_then ms below inner S i1 _ _ _ got (λ a i2 g got.
-      bind_then (one_more_or ms limit inner (deep a.depth (a.part ∷ [])) i2) _ _ _ got (λ two i3 h2 got.
-      let t = sound_one_or g.opens_if g.opens_either (deep a.depth (a.part ∷ [])) two i2 i3 g.stays h2 in
+      bind_then (one_more_or ms limit inner (with_depth a.depth (a.part ∷ [])) i2) _ _ _ got (λ two i3 h2 got.
+      let t = sound_one_or g.opens_if g.opens_either (with_depth a.depth (a.part ∷ [])) two i2 i3 g.stays h2 in
       bind_then (folded (sees (symbol.Keyword keyword.Or)) (one_more_or ms limit inner) (length i3) two i3) _ _ _ got (λ all i4 h3 got.
       let m = sound_ors (length i3) t.opens_if t.opens_either two all i3 i4 t.stays h3 in
       let over = folded_over (sees (symbol.Keyword keyword.Or)) (one_more_or ms limit inner) refl or_falls (length i3) two all i3 i4 (omega arith) h3 in
@@ -350,16 +352,16 @@ module _ (ms : List MacroDepth) (limit below : ℕ) (inner : Parser (Deep Statem
   sound_keyword keyword.Yield = sound_one keyword.Yield (λ p xs e d. s.yield_as d) (λ p e. omega arith)
   sound_keyword _ = λ i r rest got. cc
 
-  sound_lead : (l : Lead) → SoundInner ms limit (form ms limit inner l)
-  sound_lead lead.Assign = sound_assign
-  sound_lead lead.Call = sound_call
-  sound_lead lead.Block = sound_block ms limit below inner S
-  sound_lead (lead.Keyword k) = sound_keyword k
-  sound_lead lead.None = λ i r rest got. cc
+  sound_lead : (l : StatementForm) → SoundInner ms limit (form ms limit inner l)
+  sound_lead statement_form.Assign = sound_assign
+  sound_lead statement_form.Call = sound_call
+  sound_lead statement_form.Block = sound_block ms limit below inner S
+  sound_lead (statement_form.Keyword k) = sound_keyword k
+  sound_lead statement_form.None = λ i r rest got. cc
 
   pub sound_form : SoundInner ms limit (any_form ms limit inner)
   unfolding any_form
-  sound_form i r rest got = sound_lead (lead_of i) i r rest got
+  sound_form i r rest got = sound_lead (form_of i) i r rest got
 
 pub sound_statement : (ms : List MacroDepth) (limit : ℕ) → SoundInner ms limit (statement ms limit)
 unfolding statement

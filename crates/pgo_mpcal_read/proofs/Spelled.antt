@@ -6,7 +6,7 @@ use Rattle.pgo_lexer.specs.declared.errors.TextStop.TheVariants.{Syntax, NoMemor
 use Rattle.pgo_spec_text.specs.SpecText.{IsSpecText}
 use Rattle.pgo_spec_text.specs.SpecText as layout
 use Rattle.pgo_syntax.specs.declared.spec.Spec.{Spec}
-use Rattle.pgo_mpcal_read.specs.Reading.{Makes}
+use Rattle.pgo_expr_read.specs.Steps.{Makes}
 use Rattle.pgo_mpcal_read.specs.ReadingSpec.{spec}
 use Rattle.pgo_mpcal_read.specs.Spells.{SpellsTokens}
 use Rattle.pgo_mpcal_read.specs.Texts.{SpellsSpec, IsOrNoMemory}

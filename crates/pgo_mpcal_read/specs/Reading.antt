@@ -1,5 +1,5 @@
 -- The reader as functions on lists of tokens, in the shape of the code: what it reads, and the tokens behind it.
-use Rattle.std.specs.Prelude.{◌≡◌, ℕ, zero, suc, pos, ◌-◌, Bool, true, false, if◌then◌else◌, List, [], ◌∷◌, ◌++◌, length, drop, take, Option, Some, None, Result, Ok, Err}
+use Rattle.std.specs.Prelude.{◌≡◌, ℕ, pos, ◌-◌, Bool, false, if◌then◌else◌, List, [], ◌∷◌, ◌++◌, length, drop, take, Option, Some, None, Result, Ok, Err}
 use Rattle.pgo_base.specs.Tree.{Tree}
 use Rattle.pgo_lexer.specs.declared.token.Lexeme.{Lexeme}
 use Rattle.pgo_lexer.specs.declared.token.Token.{Token}
@@ -7,66 +7,33 @@ use Rattle.pgo_lexer.specs.declared.token.Token.TheVariants as t
 use Rattle.pgo_lexer.specs.declared.errors.TextStop.{TextStop}
 use Rattle.pgo_lexer.specs.declared.errors.TextStop.TheVariants.{Syntax, NoMemory}
 use Rattle.pgo_expr_read.specs.declared.read.Read.{Read}
-use Rattle.pgo_expr_read.specs.Lookahead.{tokens_of}
-use Rattle.pgo_expr_read.specs.Parsers as expression_parsers
+use Rattle.pgo_expr_read.specs.Lookahead.{tokens_of, is_name}
 use Rattle.pgo_expr_read.specs.Reading as expression_reading
 use Rattle.pgo_syntax.specs.declared.name.PlacedName.{PlacedName}
 use Rattle.pgo_lexer.specs.declared.symbol.Symbol.{Symbol}
 use Rattle.pgo_lexer.specs.declared.symbol.Bracket.TheVariants as bracket
 use Rattle.pgo_lexer.specs.declared.symbol.Symbol.TheVariants as symbol
-use Rattle.pgo_mpcal_read.specs.Signs.{is_sign, sees}
-use Rattle.pgo_mpcal_read.specs.Leaves.{most_height, closes}
+use Rattle.pgo_expr_read.specs.Signs.{is_sign}
+use Rattle.pgo_expr_read.specs.Steps as steps
+use Rattle.pgo_expr_read.specs.Steps.{◌>>=◌, ◌>>◌, pure, skip, all_folded}
+use Rattle.pgo_mpcal_read.specs.Signs.{sees}
+use Rattle.pgo_mpcal_read.specs.Elements.{most_height, closes}
 
 -- ---- parsers
 
 abbrev pub Outcome : Type 0 → Type 0
-Outcome A = Option (A × List Lexeme)
+Outcome A = steps.Outcome Lexeme A
 
 abbrev pub Parser : Type 0 → Type 0
-Parser A = List Lexeme → Outcome A
+Parser A = steps.Parser Lexeme A
 
-abbrev pub and_then : {A B : Type 0} → Outcome A → (A → Parser B) → Outcome B
-and_then (Some p) f = f p.0 p.1
-and_then None f = None
-
-infixl 10 ◌>>=◌
-abbrev pub ◌>>=◌ : {A B : Type 0} → Parser A → (A → Parser B) → Parser B
-p >>= f = λ i. and_then (p i) f
-
-infixl 10 ◌>>◌
-abbrev pub ◌>>◌ : {A B : Type 0} → Parser A → Parser B → Parser B
-p >> q = p >>= (λ _. q)
-
-abbrev pub pure : {A : Type 0} → A → Parser A
-pure a = λ i. Some (a, i)
-
-abbrev pub IsSyntax : TextStop → Type 0
-IsSyntax (Syntax n) = Unit {0}
-IsSyntax NoMemory = ⊥
-
--- what a reader returns is what the function gives, unless memory runs out
-abbrev pub Reads : {A : Type 0} → Outcome A → Result A TextStop → List Lexeme → Type 0
-Reads outcome (Ok a) new = outcome ≡ Some (a, new)
-Reads outcome (Err (Syntax n)) new = outcome ≡ None
-Reads outcome (Err NoMemory) new = Unit {0}
-
--- the same of a result that stands for what the function gives
-abbrev pub Makes : {A : Type 0} → Option A → Result A TextStop → Type 0
-Makes outcome (Ok a) = outcome ≡ Some a
-Makes outcome (Err (Syntax n)) = outcome ≡ None
-Makes outcome (Err NoMemory) = Unit {0}
-
--- the same of what only goes past tokens
+-- what only goes past tokens leaves what the function gives, unless memory runs out
 abbrev pub Passes : Option (List Lexeme) → Result (Unit {0}) TextStop → List Lexeme → Type 0
 Passes outcome (Ok u) new = outcome ≡ Some new
 Passes outcome (Err (Syntax n)) new = outcome ≡ None
 Passes outcome (Err NoMemory) new = Unit {0}
 
 -- ---- single tokens
-
-abbrev pub skip : List Lexeme → List Lexeme
-skip [] = []
-skip (l ∷ rest) = rest
 
 unfoldable pub past : Symbol → List Lexeme → List Lexeme
 past v i = if sees v i then skip i else i
@@ -99,10 +66,6 @@ abbrev pub number : Parser ℕ
 number [] = None
 number (l ∷ rest) = number_of l.token rest
 
-abbrev pub is_name : Token → Bool
-is_name (t.Name x) = true
-is_name _ = false
-
 abbrev pub sees_name : List Lexeme → Bool
 sees_name [] = false
 sees_name (l ∷ rest) = is_name l.token
@@ -130,7 +93,7 @@ without_last i n = take (length i - n) i
 abbrev pub front_of : List Lexeme → List Lexeme → List Lexeme
 front_of i rest = without_last i (length rest)
 
-abbrev pub on_tokens : List Lexeme → expression_parsers.Outcome (Read Tree) → Outcome Tree
+abbrev pub on_tokens : List Lexeme → steps.Outcome Token (Read Tree) → Outcome Tree
 on_tokens i (Some p) = Some (p.0.tree, left_of i (length p.1))
 on_tokens i None = None
 
@@ -145,14 +108,6 @@ unfoldable pub range : Parser Tree
 range i = on_tokens i (expression_reading.range most_height (expression_reading.expr most_height) 0 (tokens_of i))
 
 -- ---- lists
-
--- one more as long as it goes on
-unfoldable pub folded : {A : Type 0} → (List Lexeme → Bool) → (A → Parser A) → (turns : ℕ) → A → Parser A
-folded goes more zero acc = pure acc
-folded goes more (suc n) acc = λ i. if goes i then and_then (more acc i) (folded goes more n) else Some (acc, i)
-
-abbrev pub all_folded : {A : Type 0} → (List Lexeme → Bool) → (A → Parser A) → A → Parser A
-all_folded goes more acc = λ i. folded goes more (length i) acc i
 
 -- one more item, behind a sign
 unfoldable pub one_behind : {A : Type 0} → Symbol → Parser A → List A → Parser (List A)

@@ -12,21 +12,23 @@ use Rattle.pgo_syntax.specs.declared.archetype.Archetype.{Archetype}
 use Rattle.pgo_syntax.specs.declared.process.Process.{Process}
 use Rattle.pgo_syntax.specs.declared.spec.Spec.{Spec}
 use Rattle.pgo_syntax.specs.Statement.{labeled}
+use Rattle.pgo_expr_read.specs.Signs.{is_sign}
 use Rattle.pgo_mpcal_read.specs.declared.depths.MacroDepth.{MacroDepth}
 use Rattle.pgo_mpcal_read.specs.declared.header.Header.{Header}
 use Rattle.pgo_base.specs.declared.expr.Infix.TheVariants as operator
 use Rattle.pgo_lexer.specs.declared.symbol.Bracket.TheVariants as bracket
 use Rattle.pgo_lexer.specs.declared.symbol.Keyword.TheVariants as keyword
 use Rattle.pgo_lexer.specs.declared.symbol.Symbol.TheVariants as symbol
-use Rattle.pgo_mpcal_read.specs.declared.standing.Standing.{Standing}
-use Rattle.pgo_mpcal_read.specs.declared.standing.Standing.TheVariants as standing
+use Rattle.pgo_mpcal_read.specs.declared.allowed.Context.{Context}
+use Rattle.pgo_mpcal_read.specs.declared.allowed.Context.TheVariants as context
 use Rattle.pgo_mpcal_read.specs.declared.units.Units.{Units}
 use Rattle.pgo_mpcal_read.specs.Depths.{labeled_depth}
-use Rattle.pgo_mpcal_read.specs.Leaves.{most_depth}
-use Rattle.pgo_mpcal_read.specs.Reading.{◌>>=◌, ◌>>◌, Parser, Outcome, and_then, pure, skip, expect, name, sees_name, front_of, all_folded, behind, items}
+use Rattle.pgo_mpcal_read.specs.Elements.{most_depth}
+use Rattle.pgo_expr_read.specs.Steps.{◌>>=◌, ◌>>◌, and_then, pure, skip, all_folded}
+use Rattle.pgo_mpcal_read.specs.Reading.{Parser, Outcome, expect, name, sees_name, front_of, behind, items}
 use Rattle.pgo_mpcal_read.specs.ReadingStatements.{goes_on}
 use Rattle.pgo_mpcal_read.specs.ReadingUnits.{definition, variables, define, macro_definition, mapping_macro, archetype, process}
-use Rattle.pgo_mpcal_read.specs.Signs.{is_sign, sees}
+use Rattle.pgo_mpcal_read.specs.Signs.{sees}
 use Rattle.pgo_mpcal_read.specs.Spells.{declarations_of}
 use Rattle.pgo_mpcal_read.specs.Units.{is_plain, may_stand_in_macro, all_are, no_units}
 
@@ -39,14 +41,14 @@ Updates outcome (Err NoMemory) new rest = Unit {0}
 -- ---- units
 
 -- what may stand there
-abbrev pub stands : Standing → Token → Bool
-stands standing.Plain = is_plain
-stands standing.Macro = may_stand_in_macro
+abbrev pub is_allowed : Context → Token → Bool
+is_allowed context.Plain = is_plain
+is_allowed context.Macro = may_stand_in_macro
 
 -- what was read of these tokens, where all of those that were read may stand there
-abbrev pub checked : {A : Type 0} → Standing → List Lexeme → Outcome A → Outcome A
-checked w i (Some p) = if all_are (stands w) (front_of i p.1) then Some p else None
-checked w i None = None
+abbrev pub if_allowed : {A : Type 0} → Context → List Lexeme → Outcome A → Outcome A
+if_allowed w i (Some p) = if all_are (is_allowed w) (front_of i p.1) then Some p else None
+if_allowed w i None = None
 
 -- where there is none yet
 abbrev pub if_absent : {A B : Type 0} → Option A → Outcome B → Outcome B
@@ -54,22 +56,22 @@ if_absent None o = o
 if_absent (Some a) o = None
 
 unfoldable pub define_unit : Units → Parser Units
-define_unit b i = if_absent b.define (and_then (checked standing.Plain i (define i)) (λ ds. pure (record b { define = Some ds })))
+define_unit b i = if_absent b.define (and_then (if_allowed context.Plain i (define i)) (λ ds. pure (record b { define = Some ds })))
 
 unfoldable pub macro_unit : Units → Parser Units
-macro_unit b i = and_then (checked standing.Macro i (macro_definition b.depths i)) (λ m. pure (record b { macros = b.macros ++ m.part ∷ []; depths = b.depths ++ record { name = m.part.name.name; depth = m.depth } ∷ [] }))
+macro_unit b i = and_then (if_allowed context.Macro i (macro_definition b.depths i)) (λ m. pure (record b { macros = b.macros ++ m.part ∷ []; depths = b.depths ++ record { name = m.part.name.name; depth = m.depth } ∷ [] }))
 
 unfoldable pub mapping_unit : Units → Parser Units
 mapping_unit b i = and_then (mapping_macro b.depths i) (λ m. pure (record b { mappings = b.mappings ++ m ∷ [] }))
 
 unfoldable pub archetype_unit : Units → Parser Units
-archetype_unit b i = and_then (checked standing.Plain i (archetype b.depths i)) (λ a. pure (record b { archetypes = b.archetypes ++ a ∷ [] }))
+archetype_unit b i = and_then (if_allowed context.Plain i (archetype b.depths i)) (λ a. pure (record b { archetypes = b.archetypes ++ a ∷ [] }))
 
 unfoldable pub globals_unit : Units → Parser Units
-globals_unit b i = if_absent b.globals (and_then (checked standing.Plain i (variables i)) (λ ds. pure (record b { globals = Some ds })))
+globals_unit b i = if_absent b.globals (and_then (if_allowed context.Plain i (variables i)) (λ ds. pure (record b { globals = Some ds })))
 
 unfoldable pub process_unit : Units → Parser Units
-process_unit b i = and_then (checked standing.Plain i (process i)) (λ q. pure (record b { processes = b.processes ++ q ∷ [] }))
+process_unit b i = and_then (if_allowed context.Plain i (process i)) (λ q. pure (record b { processes = b.processes ++ q ∷ [] }))
 
 unfoldable pub unit : Units → Parser Units
 unit b i =
@@ -163,12 +165,12 @@ abbrev pub whole : {A : Type 0} → Outcome A → Option A
 whole (Some p) = if nat_eq (length p.1) 0 then Some p.0 else None
 whole None = None
 
-abbrev pub is_shallow : List MacroDepth → Archetype → Bool
-is_shallow ms a = nat_le (labeled_depth ms (labeled a.body)) most_depth
+abbrev pub is_within_depth : List MacroDepth → Archetype → Bool
+is_within_depth ms a = nat_le (labeled_depth ms (labeled a.body)) most_depth
 
-abbrev pub are_shallow : List MacroDepth → List Archetype → Bool
-are_shallow ms [] = true
-are_shallow ms (a ∷ as') = is_shallow ms a && are_shallow ms as'
+abbrev pub are_within_depth : List MacroDepth → List Archetype → Bool
+are_within_depth ms [] = true
+are_within_depth ms (a ∷ as') = is_within_depth ms a && are_within_depth ms as'
 
 abbrev pub if_some : {A B : Type 0} → Option A → (A → Option B) → Option B
 if_some (Some a) f = f a
@@ -197,7 +199,7 @@ unfoldable pub all_header : List Lexeme → Option Header
 all_header i = if_some (whole (header i)) (λ h. if all_are is_plain i then Some h else None)
 
 unfoldable pub all_algorithm : List Lexeme → Option (PlacedName × Units)
-all_algorithm i = if_some (whole (algorithm i)) (λ a. if has_process a.1.processes && are_shallow a.1.depths a.1.archetypes then Some a else None)
+all_algorithm i = if_some (whole (algorithm i)) (λ a. if has_process a.1.processes && are_within_depth a.1.depths a.1.archetypes then Some a else None)
 
 unfoldable pub spec : (header algorithm : List Lexeme) → Option Spec
 spec hs xs = if_some (all_header hs) (λ h. if_some (all_algorithm xs) (λ a. Some (spec_of h a)))

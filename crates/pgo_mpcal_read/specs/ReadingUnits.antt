@@ -19,14 +19,15 @@ use Rattle.pgo_syntax.specs.declared.process.MappingTarget.{MappingTarget}
 use Rattle.pgo_syntax.specs.declared.process.MappingTarget.TheVariants as targets
 use Rattle.pgo_syntax.specs.declared.process.Process.{Process}
 use Rattle.pgo_syntax.specs.Statement.{Statement}
-use Rattle.pgo_mpcal_read.specs.declared.deep.Deep.{Deep}
+use Rattle.pgo_mpcal_read.specs.declared.with_depth.WithDepth.{WithDepth}
 use Rattle.pgo_mpcal_read.specs.declared.depths.MacroDepth.{MacroDepth}
 use Rattle.pgo_base.specs.declared.expr.Infix.TheVariants as operator
 use Rattle.pgo_lexer.specs.declared.symbol.Bracket.TheVariants as bracket
 use Rattle.pgo_lexer.specs.declared.symbol.Keyword.TheVariants as keyword
 use Rattle.pgo_lexer.specs.declared.symbol.Symbol.TheVariants as symbol
-use Rattle.pgo_mpcal_read.specs.Leaves.{most_depth}
-use Rattle.pgo_mpcal_read.specs.Reading.{◌>>=◌, ◌>>◌, Parser, Outcome, and_then, pure, skip, past, eat, expect, mark, name, number, sees_name, sees_second, place, expression, folded, items, in_brackets, row, ended}
+use Rattle.pgo_mpcal_read.specs.Elements.{most_depth}
+use Rattle.pgo_expr_read.specs.Steps.{◌>>=◌, ◌>>◌, and_then, pure, skip, folded}
+use Rattle.pgo_mpcal_read.specs.Reading.{Parser, Outcome, past, eat, expect, mark, name, number, sees_name, sees_second, place, expression, items, in_brackets, row, ended}
 use Rattle.pgo_mpcal_read.specs.ReadingStatements.{origin_of, body, statement}
 use Rattle.pgo_mpcal_read.specs.Signs.{sees}
 
@@ -162,7 +163,7 @@ sees_clause i = sees (symbol.Keyword keyword.Mapping) i && not (sees_second (sym
 -- ---- units
 
 -- the block of a unit, where these are the macros before it
-unfoldable pub block : List MacroDepth → Parser (Deep (List (Option PlacedName × Statement)))
+unfoldable pub block : List MacroDepth → Parser (WithDepth (List (Option PlacedName × Statement)))
 block ms = body ms most_depth (statement ms most_depth)
 
 unfoldable pub define : Parser (List Definition)
@@ -174,7 +175,7 @@ define = do
   pure ds
 
 -- a macro, with the depth of its body
-unfoldable pub macro_definition : List MacroDepth → Parser (Deep Macro)
+unfoldable pub macro_definition : List MacroDepth → Parser (WithDepth Macro)
 macro_definition ms = do
   expect (symbol.Keyword keyword.Macro)
   x ← name

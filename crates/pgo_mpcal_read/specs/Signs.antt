@@ -1,15 +1,8 @@
--- Signs and reserved words, and the tokens that they are.
+-- Signs and reserved words among tokens with places.
 use Rattle.std.specs.Prelude.{Bool, false, List, [], ◌∷◌}
-use Rattle.pgo_lexer.specs.contracts.symbol.SymbolPartialEq.TheImpl.{eq-value}
 use Rattle.pgo_lexer.specs.declared.symbol.Symbol.{Symbol}
 use Rattle.pgo_lexer.specs.declared.token.Lexeme.{Lexeme}
-use Rattle.pgo_lexer.specs.declared.token.Token.{Token}
-use Rattle.pgo_lexer.specs.declared.token.Token.TheVariants as t
-
--- the token is this sign
-abbrev pub is_sign : Symbol → Token → Bool
-is_sign v (t.Symbol s) = eq-value.it s v
-is_sign v _ = false
+use Rattle.pgo_expr_read.specs.Signs.{is_sign}
 
 -- the next token is this sign
 abbrev pub sees : Symbol → List Lexeme → Bool

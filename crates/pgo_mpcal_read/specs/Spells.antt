@@ -16,7 +16,7 @@ use Rattle.pgo_base.specs.declared.expr.Infix.TheVariants as operator
 use Rattle.pgo_lexer.specs.declared.symbol.Bracket.TheVariants as bracket
 use Rattle.pgo_lexer.specs.declared.symbol.Symbol.TheVariants as symbol
 use Rattle.pgo_mpcal_read.specs.declared.units.Units.{Units}
-use Rattle.pgo_mpcal_read.specs.Leaves.{Spot, at, word, placed, IsName, most_depth, Items}
+use Rattle.pgo_mpcal_read.specs.Elements.{Spot, at, word, placed, IsName, most_depth, Items}
 use Rattle.pgo_mpcal_read.specs.Units.{IsDefinition, is_plain, all_are, AreUnits}
 
 -- ---- the header
@@ -59,13 +59,13 @@ declarations_of (Some ds) = ds
 declarations_of None = []
 
 -- no statement of these archetypes is deeper than the limit, with all of these macros in the place of their calls
-pub data AreShallow (ms : List MacroDepth) : List Archetype → Type 0 where
-  no_archetype : AreShallow ms []
-  archetype : {a : Archetype} {as' : List Archetype} → labeled_depth ms (labeled a.body) ≤ most_depth → AreShallow ms as' → AreShallow ms (a ∷ as')
+pub data AreWithinDepth (ms : List MacroDepth) : List Archetype → Type 0 where
+  no_archetype : AreWithinDepth ms []
+  archetype : {a : Archetype} {as' : List Archetype} → labeled_depth ms (labeled a.body) ≤ most_depth → AreWithinDepth ms as' → AreWithinDepth ms (a ∷ as')
 
 -- of one header and one algorithm: `name { units }` with at least one process
 pub data SpellsTokens : (header algorithm : List Lexeme) → Spec → Type 0 where
   spec : {n o : Spot} (c : Spot) {x : Name} {hs xs : List Lexeme} {h : Header} {us : Units} {q : Process} {qs : List Process} → IsHeader hs h → all_are is_plain hs ≡ true
-      → AreUnits xs us → AreShallow us.depths us.archetypes → us.processes ≡ q ∷ qs
+      → AreUnits xs us → AreWithinDepth us.depths us.archetypes → us.processes ≡ q ∷ qs
       → SpellsTokens hs (word n x ∷ (at o (symbol.Open bracket.Curly) ∷ (xs ++ (at c (symbol.Close bracket.Curly) ∷ []))))
       (record { name = h.name; extends = h.extends; constants = h.constants; definitions = h.definitions; algorithm = placed n x; define = us.define; macros = us.macros; mappings = us.mappings; archetypes = us.archetypes; globals = declarations_of us.globals; processes = us.processes })

@@ -19,7 +19,7 @@ use Rattle.pgo_lexer.specs.declared.symbol.Bracket.TheVariants as bracket
 use Rattle.pgo_lexer.specs.declared.symbol.Keyword.TheVariants as keyword
 use Rattle.pgo_lexer.specs.declared.symbol.Symbol.TheVariants as symbol
 use Rattle.pgo_mpcal_read.specs.Signs.{sees}
-use Rattle.pgo_mpcal_read.specs.Leaves.{Spot, at, word, placed, Ended, IsExpression, IsRange, Items, InBrackets, Row}
+use Rattle.pgo_mpcal_read.specs.Elements.{Spot, at, word, placed, Ended, IsExpression, IsRange, Items, InBrackets, Row}
 
 -- ---- assignments
 

@@ -26,9 +26,9 @@ use Rattle.pgo_base.specs.declared.expr.Infix.TheVariants as operator
 use Rattle.pgo_lexer.specs.declared.symbol.Bracket.TheVariants as bracket
 use Rattle.pgo_lexer.specs.declared.symbol.Keyword.TheVariants as keyword
 use Rattle.pgo_lexer.specs.declared.symbol.Symbol.TheVariants as symbol
+use Rattle.pgo_expr_read.specs.Signs.{is_sign}
 use Rattle.pgo_mpcal_read.specs.declared.units.Units.{Units}
-use Rattle.pgo_mpcal_read.specs.Signs.{is_sign}
-use Rattle.pgo_mpcal_read.specs.Leaves.{Spot, at, word, numeral, placed, Ended, IsName, IsExpression, most_depth, Items, InBrackets, Row}
+use Rattle.pgo_mpcal_read.specs.Elements.{Spot, at, word, numeral, placed, Ended, IsName, IsExpression, most_depth, Items, InBrackets, Row}
 use Rattle.pgo_mpcal_read.specs.Statements.{IsOrigin, IsBody}
 use Rattle.pgo_mpcal_read.specs.Depths.{labeled_depth}
 

@@ -1,5 +1,5 @@
 // Assignments, and the names of a `with`.
-ghost use Rattle.pgo_mpcal_read.specs.Reading.{Reads};
+ghost use Rattle.pgo_expr_read.specs.Steps.{Reads};
 ghost use Rattle.pgo_mpcal_read.specs.ReadingStatements as spec;
 
 use crate::cursor::Cursor;

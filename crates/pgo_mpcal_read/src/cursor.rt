@@ -1,19 +1,21 @@
 // A cursor over the tokens of a specification.
 ghost use Rattle.std.specs.Prelude.{◌≡◌, Some, length};
-ghost use Rattle.pgo_mpcal_read.specs.Leads as leads;
-ghost use Rattle.pgo_mpcal_read.specs.Leaves as leaves;
+ghost use Rattle.pgo_mpcal_read.specs.Lookahead as lookahead;
+ghost use Rattle.pgo_mpcal_read.specs.Elements as elements;
 ghost use Rattle.pgo_mpcal_read.specs.Places.{IsFarIfNoMemory};
 ghost use Rattle.pgo_mpcal_read.specs.Signs as signs;
 ghost use Rattle.pgo_model.specs.ValueText.{same_bytes};
+ghost use Rattle.pgo_expr_read.specs.Steps as steps;
 ghost use Rattle.pgo_mpcal_read.specs.Reading as spec;
 ghost use Rattle.pgo_mpcal_read.specs.ReadingSpec as specification;
-ghost use Rattle.pgo_mpcal_read.specs.Reading.{Reads, Makes, Passes};
+ghost use Rattle.pgo_expr_read.specs.Steps.{Reads, Makes};
+ghost use Rattle.pgo_mpcal_read.specs.Reading.{Passes};
 
-use crate::lead::{Lead, lead_of_symbol};
-use crate::sign::is_sign;
+use crate::lookahead::{StatementForm, form_of_symbol};
 use pgo_base::expr::{Infix, Sub};
 use pgo_expr_read::cursor::Cursor as ExprCursor;
 use pgo_expr_read::reader;
+use pgo_expr_read::sign::is_sign;
 use pgo_lexer::errors::TextStop;
 use pgo_lexer::symbol::{Bracket, Symbol};
 use pgo_lexer::token::{Lexeme, Token};
@@ -78,7 +80,7 @@ fn first<'a>(rest: &'a [Lexeme], left: usize) -> &'a [Lexeme]
 
 /// The tokens behind the first.
 fn tail<'a>(rest: &'a [Lexeme]) -> &'a [Lexeme]
-    ensures { result.now ≡ spec.skip rest.now }
+    ensures { result.now ≡ steps.skip rest.now }
 {
     match rest {
         [] => rest,
@@ -93,7 +95,7 @@ fn is_same(a: &[u8], b: &[u8]) -> bool
 }
 
 fn closes_behind(before: bool, token: &Token) -> bool
-    ensures { result ≡ leaves.closes_behind before token.now }
+    ensures { result ≡ elements.closes_behind before token.now }
 {
     match token {
         Token::Symbol(Symbol::Close(Bracket::Curly)) => true,
@@ -104,7 +106,7 @@ fn closes_behind(before: bool, token: &Token) -> bool
 
 /// Whether the last of these tokens is a `}`; marks behind it count for nothing.
 fn closes(tokens: &[Lexeme]) -> bool
-    ensures { result ≡ leaves.closes tokens.now }
+    ensures { result ≡ elements.closes tokens.now }
 {
     let mut closed = false;
     for lexeme in tokens {
@@ -137,7 +139,7 @@ impl<'a> Cursor<'a> {
 
     /// The error that the next token has no place here.
     pub fn refuse(&self) -> TextStop
-        ensures { spec.IsSyntax result }
+        ensures { steps.IsSyntax result }
     {
         TextStop::Syntax {
             offset: offset(self.rest, self.end),
@@ -239,28 +241,28 @@ impl<'a> Cursor<'a> {
     }
 
     /// The form of the statement that is next.
-    pub fn lead(&self) -> Lead
-        ensures { result ≡ leads.lead_of self.now }
+    pub fn statement_form(&self) -> StatementForm
+        ensures { result ≡ lookahead.form_of self.now }
     {
         match self.rest {
-            [] => Lead::None,
+            [] => StatementForm::None,
             [lexeme, ..] => match &lexeme.token {
                 Token::Name(_) => {
                     if self.sees_second(Symbol::Open(Bracket::Round)) {
-                        Lead::Call
+                        StatementForm::Call
                     } else {
-                        Lead::Assign
+                        StatementForm::Assign
                     }
                 }
-                Token::Symbol(symbol) => lead_of_symbol(*symbol),
-                _ => Lead::None,
+                Token::Symbol(symbol) => form_of_symbol(*symbol),
+                _ => StatementForm::None,
             },
         }
     }
 
     /// Goes past the next token.
     pub fn skip(&mut self)
-        ensures { self.new ≡ spec.skip self.old }
+        ensures { self.new ≡ steps.skip self.old }
     {
         match self.rest {
             [] => {}

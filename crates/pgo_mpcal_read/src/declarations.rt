@@ -1,6 +1,8 @@
 // Definitions and declarations.
+ghost use Rattle.pgo_expr_read.specs.Steps as steps;
 ghost use Rattle.pgo_mpcal_read.specs.Reading as reading;
-ghost use Rattle.pgo_mpcal_read.specs.Reading.{Reads, Passes};
+ghost use Rattle.pgo_expr_read.specs.Steps.{Reads};
+ghost use Rattle.pgo_mpcal_read.specs.Reading.{Passes};
 ghost use Rattle.pgo_mpcal_read.specs.ReadingSpec.{Updates};
 ghost use Rattle.pgo_mpcal_read.specs.ReadingUnits as spec;
 
@@ -108,7 +110,7 @@ fn declarations_behind(
     cursor: &mut Cursor<'_>,
     first: Declarations,
 ) -> Result<Declarations, TextStop>
-    ensures { Reads (reading.all_folded reading.sees_name spec.one_more_declaration first cursor.old) result cursor.new }
+    ensures { Reads (steps.all_folded reading.sees_name spec.one_more_declaration first cursor.old) result cursor.new }
 {
     let mut all = first;
     for _turn in 0..cursor.left() {

@@ -1,7 +1,7 @@
 // The header of a specification.
 ghost use Rattle.std.specs.Prelude.{◌≡◌, length, Some};
-ghost use Rattle.pgo_mpcal_read.specs.Reading as reading;
-ghost use Rattle.pgo_mpcal_read.specs.Reading.{Reads};
+ghost use Rattle.pgo_expr_read.specs.Steps as steps;
+ghost use Rattle.pgo_expr_read.specs.Steps.{Reads};
 ghost use Rattle.pgo_mpcal_read.specs.ReadingSpec as spec;
 
 use crate::cursor::Cursor;
@@ -143,7 +143,7 @@ fn part(alloc: Global, cursor: &mut Cursor<'_>, before: Header) -> Result<Header
 
 /// Constants and definitions up to the end of the tokens.
 fn parts(alloc: Global, cursor: &mut Cursor<'_>, first: Header) -> Result<Header, TextStop>
-    ensures { Reads (reading.all_folded spec.some_left spec.part first cursor.old) result cursor.new }
+    ensures { Reads (steps.all_folded spec.some_left spec.part first cursor.old) result cursor.new }
 {
     let mut all = first;
     for _turn in 0..cursor.left() {

@@ -2,7 +2,8 @@
 ghost use Rattle.std.specs.Prelude.{◌≡◌, Bool, List};
 ghost use Rattle.pgo_lexer.specs.declared.token.Lexeme.{Lexeme};
 ghost use Rattle.pgo_mpcal_read.specs.Reading as reading;
-ghost use Rattle.pgo_mpcal_read.specs.Reading.{Parser, Reads};
+ghost use Rattle.pgo_expr_read.specs.Steps.{Reads};
+ghost use Rattle.pgo_mpcal_read.specs.Reading.{Parser};
 ghost use Rattle.pgo_mpcal_read.specs.ReadingSpec.{Updates};
 
 use crate::cursor::Cursor;

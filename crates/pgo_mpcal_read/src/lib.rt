@@ -1,21 +1,20 @@
 // The reader of specifications.
 #![tactic(auto)]
 
+mod allowed;
 mod assignments;
 pub mod cursor;
 mod declarations;
-mod deep;
+mod depth_limit;
 mod depths;
 pub mod header;
 pub mod item;
-mod lead;
+mod lookahead;
 mod names;
 mod nesting;
 mod parameters;
 pub mod reader;
-mod shallow;
-mod sign;
-mod standing;
 mod statements;
 mod units;
 mod whole_parts;
+mod with_depth;

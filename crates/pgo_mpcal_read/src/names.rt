@@ -1,6 +1,6 @@
 // Lists of names and of expressions.
 ghost use Rattle.pgo_mpcal_read.specs.Reading as reading;
-ghost use Rattle.pgo_mpcal_read.specs.Reading.{Reads};
+ghost use Rattle.pgo_expr_read.specs.Steps.{Reads};
 ghost use Rattle.pgo_mpcal_read.specs.ReadingSpec.{Updates};
 
 use crate::cursor::Cursor;

@@ -1,16 +1,17 @@
 // Statements that hold several others.
 ghost use Rattle.std.specs.Prelude.{◌≡◌, [], ◌∷◌, Some};
 ghost use Rattle.pgo_mpcal_read.specs.Nests.{Nests};
-ghost use Rattle.pgo_mpcal_read.specs.Reading as reading;
-ghost use Rattle.pgo_mpcal_read.specs.Reading.{Reads, Passes};
+ghost use Rattle.pgo_expr_read.specs.Steps as steps;
+ghost use Rattle.pgo_expr_read.specs.Steps.{Reads};
+ghost use Rattle.pgo_mpcal_read.specs.Reading.{Passes};
 ghost use Rattle.pgo_mpcal_read.specs.ReadingSpec.{Updates};
 ghost use Rattle.pgo_mpcal_read.specs.ReadingStatements as spec;
 ghost use Rattle.pgo_mpcal_read.specs.Signs.{sees};
 
 use crate::cursor::Cursor;
-use crate::deep::{Deep, push_branch, push_row, push_statement};
 use crate::depths::MacroDepths;
 use crate::statements::Statements;
+use crate::with_depth::{WithDepth, push_branch, push_row, push_statement};
 use pgo_base::expr::{Infix, Sub};
 use pgo_lexer::errors::TextStop;
 use pgo_lexer::symbol::{Bracket, Keyword, Symbol};
@@ -64,11 +65,11 @@ fn end_row(cursor: &mut Cursor<'_>, before: &[Lexeme]) -> Result<(), TextStop>
 
 impl<
     'k,
-    F: Fn(Global, &MacroDepths, &mut Cursor<'_>, u32) -> Result<Deep<Nested>, TextStop>,
+    F: Fn(Global, &MacroDepths, &mut Cursor<'_>, u32) -> Result<WithDepth<Nested>, TextStop>,
 > Statements<'k, F> {
     /// `if (e) s`, with its place.
     #[tactic(auto, unfolding(crate::specs::ReadingStatements::branch))]
-    fn branch(&self, cursor: &mut Cursor<'_>) -> Result<Deep<(u32, (Sub, Nested))>, TextStop>
+    fn branch(&self, cursor: &mut Cursor<'_>) -> Result<WithDepth<(u32, (Sub, Nested))>, TextStop>
         requires { Nests self.now.below (F.pre self.now.statement) (F.post self.now.statement) }
         ensures { Reads (spec.branch self.now.macros.now self.now.limit (spec.statement self.now.macros.now self.now.below) cursor.old) result cursor.new }
     {
@@ -79,7 +80,7 @@ impl<
         let s = self.inner(cursor)?;
         let depth = s.depth;
         let part = (place, (condition, s.part));
-        Ok(Deep { depth, part })
+        Ok(WithDepth { depth, part })
     }
 
     /// `else` and one branch more.
@@ -87,7 +88,7 @@ impl<
     fn more_branches(
         &self,
         cursor: &mut Cursor<'_>,
-        all: &mut Deep<Branches>,
+        all: &mut WithDepth<Branches>,
     ) -> Result<(), TextStop>
         requires { Nests self.now.below (F.pre self.now.statement) (F.post self.now.statement) }
         ensures { Updates (spec.one_more_branch self.now.macros.now self.now.limit (spec.statement self.now.macros.now self.now.below) all.old cursor.old) result all.new cursor.new }
@@ -102,10 +103,10 @@ impl<
     fn branches_behind(
         &self,
         cursor: &mut Cursor<'_>,
-        first: Deep<Branches>,
-    ) -> Result<Deep<Branches>, TextStop>
+        first: WithDepth<Branches>,
+    ) -> Result<WithDepth<Branches>, TextStop>
         requires { Nests self.now.below (F.pre self.now.statement) (F.post self.now.statement) }
-        ensures { Reads (reading.all_folded spec.sees_else_if (spec.one_more_branch self.now.macros.now self.now.limit (spec.statement self.now.macros.now self.now.below)) first cursor.old) result cursor.new }
+        ensures { Reads (steps.all_folded spec.sees_else_if (spec.one_more_branch self.now.macros.now self.now.limit (spec.statement self.now.macros.now self.now.below)) first cursor.old) result cursor.new }
     {
         let mut all = first;
         for _turn in 0..cursor.left() {
@@ -123,8 +124,8 @@ impl<
         &self,
         cursor: &mut Cursor<'_>,
         place: u32,
-        branches: Deep<Branches>,
-    ) -> Result<Deep<Nested>, TextStop>
+        branches: WithDepth<Branches>,
+    ) -> Result<WithDepth<Nested>, TextStop>
         requires { Nests self.now.below (F.pre self.now.statement) (F.post self.now.statement) }
         ensures { Reads (spec.last_else self.now.macros.now self.now.limit (spec.statement self.now.macros.now self.now.below) place branches cursor.old) result cursor.new }
     {
@@ -135,7 +136,7 @@ impl<
 
     /// `if`, with all that is its `else`.
     #[tactic(auto, unfolding(crate::specs::ReadingStatements::if_form))]
-    pub fn if_form(&self, cursor: &mut Cursor<'_>) -> Result<Deep<Nested>, TextStop>
+    pub fn if_form(&self, cursor: &mut Cursor<'_>) -> Result<WithDepth<Nested>, TextStop>
         requires { Nests self.now.below (F.pre self.now.statement) (F.post self.now.statement) }
         ensures { Reads (spec.if_form self.now.macros.now self.now.limit (spec.statement self.now.macros.now self.now.below) cursor.old) result cursor.new }
     {
@@ -154,7 +155,7 @@ impl<
     fn more_alternatives(
         &self,
         cursor: &mut Cursor<'_>,
-        all: &mut Deep<Alternatives>,
+        all: &mut WithDepth<Alternatives>,
     ) -> Result<(), TextStop>
         requires { Nests self.now.below (F.pre self.now.statement) (F.post self.now.statement) }
         ensures { Updates (spec.one_more_or self.now.macros.now self.now.limit (spec.statement self.now.macros.now self.now.below) all.old cursor.old) result all.new cursor.new }
@@ -169,10 +170,10 @@ impl<
     fn alternatives_behind(
         &self,
         cursor: &mut Cursor<'_>,
-        first: Deep<Alternatives>,
-    ) -> Result<Deep<Alternatives>, TextStop>
+        first: WithDepth<Alternatives>,
+    ) -> Result<WithDepth<Alternatives>, TextStop>
         requires { Nests self.now.below (F.pre self.now.statement) (F.post self.now.statement) }
-        ensures { Reads (reading.all_folded (sees (Symbol.Keyword Keyword.Or)) (spec.one_more_or self.now.macros.now self.now.limit (spec.statement self.now.macros.now self.now.below)) first cursor.old) result cursor.new }
+        ensures { Reads (steps.all_folded (sees (Symbol.Keyword Keyword.Or)) (spec.one_more_or self.now.macros.now self.now.limit (spec.statement self.now.macros.now self.now.below)) first cursor.old) result cursor.new }
     {
         let mut all = first;
         for _turn in 0..cursor.left() {
@@ -186,7 +187,7 @@ impl<
 
     /// `either s or s ..`, two statements or more.
     #[tactic(auto, unfolding(crate::specs::ReadingStatements::either_form))]
-    pub fn either_form(&self, cursor: &mut Cursor<'_>) -> Result<Deep<Nested>, TextStop>
+    pub fn either_form(&self, cursor: &mut Cursor<'_>) -> Result<WithDepth<Nested>, TextStop>
         requires { Nests self.now.below (F.pre self.now.statement) (F.post self.now.statement) }
         ensures { Reads (spec.either_form self.now.macros.now self.now.limit (spec.statement self.now.macros.now self.now.below) cursor.old) result cursor.new }
     {
@@ -203,7 +204,7 @@ impl<
     fn labeled_statement(
         &self,
         cursor: &mut Cursor<'_>,
-    ) -> Result<Deep<(Option<PlacedName>, Nested)>, TextStop>
+    ) -> Result<WithDepth<(Option<PlacedName>, Nested)>, TextStop>
         requires { Nests self.now.below (F.pre self.now.statement) (F.post self.now.statement) }
         ensures { Reads (spec.labeled_statement self.now.macros.now self.now.limit (spec.statement self.now.macros.now self.now.below) cursor.old) result cursor.new }
     {
@@ -211,12 +212,12 @@ impl<
         let s = self.inner(cursor)?;
         let depth = s.depth;
         let part = (label, s.part);
-        Ok(Deep { depth, part })
+        Ok(WithDepth { depth, part })
     }
 
     /// One statement of a block more.
     #[tactic(auto, unfolding(crate::specs::ReadingStatements::one_more_row))]
-    fn more_rows(&self, cursor: &mut Cursor<'_>, all: &mut Deep<Block>) -> Result<(), TextStop>
+    fn more_rows(&self, cursor: &mut Cursor<'_>, all: &mut WithDepth<Block>) -> Result<(), TextStop>
         requires { Nests self.now.below (F.pre self.now.statement) (F.post self.now.statement) }
         ensures { Updates (spec.one_more_row self.now.macros.now self.now.limit (spec.statement self.now.macros.now self.now.below) all.old cursor.old) result all.new cursor.new }
     {
@@ -228,12 +229,12 @@ impl<
     }
 
     /// The statements of a block up to its `}`.
-    fn all_rows(&self, cursor: &mut Cursor<'_>) -> Result<Deep<Block>, TextStop>
+    fn all_rows(&self, cursor: &mut Cursor<'_>) -> Result<WithDepth<Block>, TextStop>
         requires { Nests self.now.below (F.pre self.now.statement) (F.post self.now.statement) }
-        ensures { Reads (reading.all_folded spec.goes_on (spec.one_more_row self.now.macros.now self.now.limit (spec.statement self.now.macros.now self.now.below)) (spec.deep 0 []) cursor.old) result cursor.new }
+        ensures { Reads (steps.all_folded spec.goes_on (spec.one_more_row self.now.macros.now self.now.limit (spec.statement self.now.macros.now self.now.below)) (spec.with_depth 0 []) cursor.old) result cursor.new }
     {
         let part = Block::new(self.alloc);
-        let mut all = Deep { depth: 0, part };
+        let mut all = WithDepth { depth: 0, part };
         for _turn in 0..cursor.left() {
             if cursor.sees(Symbol::Close(Bracket::Curly)) {
                 return Ok(all);
@@ -245,7 +246,7 @@ impl<
 
     /// The statements of a block and its `}`.
     #[tactic(auto, unfolding(crate::specs::ReadingStatements::rows))]
-    fn rows(&self, cursor: &mut Cursor<'_>) -> Result<Deep<Block>, TextStop>
+    fn rows(&self, cursor: &mut Cursor<'_>) -> Result<WithDepth<Block>, TextStop>
         requires { Nests self.now.below (F.pre self.now.statement) (F.post self.now.statement) }
         ensures { Reads (spec.rows self.now.macros.now self.now.limit (spec.statement self.now.macros.now self.now.below) cursor.old) result cursor.new }
     {
@@ -256,7 +257,7 @@ impl<
 
     /// A block.
     #[tactic(auto, unfolding(crate::specs::ReadingStatements::block_form))]
-    pub fn block_form(&self, cursor: &mut Cursor<'_>) -> Result<Deep<Nested>, TextStop>
+    pub fn block_form(&self, cursor: &mut Cursor<'_>) -> Result<WithDepth<Nested>, TextStop>
         requires { Nests self.now.below (F.pre self.now.statement) (F.post self.now.statement) }
         ensures { Reads (spec.block_form self.now.macros.now self.now.limit (spec.statement self.now.macros.now self.now.below) cursor.old) result cursor.new }
     {
@@ -267,7 +268,7 @@ impl<
 
     /// The block of a unit.
     #[tactic(auto, unfolding(crate::specs::ReadingStatements::body))]
-    pub fn body(&self, cursor: &mut Cursor<'_>) -> Result<Deep<Block>, TextStop>
+    pub fn body(&self, cursor: &mut Cursor<'_>) -> Result<WithDepth<Block>, TextStop>
         requires { Nests self.now.below (F.pre self.now.statement) (F.post self.now.statement) }
         ensures { Reads (spec.body self.now.macros.now self.now.limit (spec.statement self.now.macros.now self.now.below) cursor.old) result cursor.new }
     {
@@ -277,22 +278,28 @@ impl<
 }
 
 /// One branch.
-fn one_branch(alloc: Global, first: Deep<(u32, (Sub, Nested))>) -> Result<Deep<Branches>, TextStop>
-    ensures { reading.Makes (Some (spec.deep first.depth (first.part ∷ []))) result }
+fn one_branch(
+    alloc: Global,
+    first: WithDepth<(u32, (Sub, Nested))>,
+) -> Result<WithDepth<Branches>, TextStop>
+    ensures { steps.Makes (Some (spec.with_depth first.depth (first.part ∷ []))) result }
 {
     let mut list = Branches::new(alloc);
     let (place, (condition, nested)) = first.part;
     list.push(place, condition, nested)?;
     let depth = first.depth;
-    Ok(Deep { depth, part: list })
+    Ok(WithDepth { depth, part: list })
 }
 
 /// One statement.
-fn one_statement(alloc: Global, first: Deep<Nested>) -> Result<Deep<Alternatives>, TextStop>
-    ensures { reading.Makes (Some (spec.deep first.depth (first.part ∷ []))) result }
+fn one_statement(
+    alloc: Global,
+    first: WithDepth<Nested>,
+) -> Result<WithDepth<Alternatives>, TextStop>
+    ensures { steps.Makes (Some (spec.with_depth first.depth (first.part ∷ []))) result }
 {
     let mut list = Alternatives::new(alloc);
     list.push(first.part)?;
     let depth = first.depth;
-    Ok(Deep { depth, part: list })
+    Ok(WithDepth { depth, part: list })
 }

@@ -1,5 +1,5 @@
 // Parameters, arguments and mapping clauses.
-ghost use Rattle.pgo_mpcal_read.specs.Reading.{Reads};
+ghost use Rattle.pgo_expr_read.specs.Steps.{Reads};
 ghost use Rattle.pgo_mpcal_read.specs.ReadingUnits as spec;
 
 use crate::cursor::Cursor;

@@ -5,17 +5,17 @@ ghost use Rattle.pgo_spec_text.specs.SpecText as layout;
 ghost use Rattle.pgo_spec_text.specs.SpecText.{IsSpecText};
 ghost use Rattle.pgo_syntax.specs.declared.spec.Spec.{Spec};
 ghost use Rattle.pgo_expr_read.specs.Stops.{IsWithin};
-ghost use Rattle.pgo_mpcal_read.specs.Reading.{Makes};
+ghost use Rattle.pgo_expr_read.specs.Steps.{Makes};
 ghost use Rattle.pgo_mpcal_read.specs.ReadingSpec as spec;
 ghost use Rattle.pgo_mpcal_read.specs.Spells.{declarations_of};
-ghost use Rattle.pgo_mpcal_read.specs.Shallow.{Tells};
+ghost use Rattle.pgo_mpcal_read.specs.DepthLimit.{Tells};
 ghost use Rattle.pgo_mpcal_read.specs.Texts.{SpellsSpec, IsOrNoMemory};
 
+use crate::allowed::{Context, if_allowed};
 use crate::cursor::Cursor;
+use crate::depth_limit::rows_too_deep;
 use crate::depths::MacroDepths;
 use crate::header::{Header, read_header};
-use crate::shallow::rows_too_deep;
-use crate::standing::{Standing, checked};
 use crate::units::{Units, algorithm};
 use crate::whole_parts::MOST_DEPTH;
 use pgo_expr_read::stops::within;
@@ -43,13 +43,13 @@ fn whole_header(alloc: Global, tokens: &[Lexeme], end: u64) -> Result<Header, Te
 }
 
 /// The header. It has no `$variable` and no `$value`.
-#[tactic(auto, using(crate::proofs::Checked::checked_makes), unfolding(crate::specs::ReadingSpec::all_header))]
+#[tactic(auto, using(crate::proofs::IfAllowed::if_allowed_makes), unfolding(crate::specs::ReadingSpec::all_header))]
 fn all_header(alloc: Global, tokens: &[Lexeme], end: u64) -> Result<Header, TextStop>
     ensures { Makes (spec.all_header tokens.now) result }
 {
     let read = whole_header(alloc, tokens, end);
-    checked(
-        Standing::Plain,
+    if_allowed(
+        Context::Plain,
         tokens,
         tokens,
         TextStop::Syntax { offset: end },
@@ -75,7 +75,7 @@ fn all_algorithm(
         [] => return Err(TextStop::at(last_start(tokens))),
         [_, ..] => {}
     }
-    match deep_archetype(&a.1.depths, a.1.archetypes.as_slice()) {
+    match too_deep_archetype(&a.1.depths, a.1.archetypes.as_slice()) {
         None => Ok(a),
         Some(place) => Err(TextStop::at(place as usize)),
     }
@@ -83,8 +83,8 @@ fn all_algorithm(
 
 /// The place of a statement of these archetypes at which one is too deep, with these macros in the place of their calls; none
 /// where none is.
-fn deep_archetype(macros: &MacroDepths, list: &[Archetype]) -> Option<u32>
-    ensures { Tells (spec.are_shallow macros.now list.now) result }
+fn too_deep_archetype(macros: &MacroDepths, list: &[Archetype]) -> Option<u32>
+    ensures { Tells (spec.are_within_depth macros.now list.now) result }
 {
     for a in list {
         let found = rows_too_deep(macros, a.body.as_slice(), MOST_DEPTH);

@@ -2,15 +2,15 @@
 ghost use Rattle.std.specs.Prelude.{◌≡◌, []};
 ghost use Rattle.pgo_syntax.specs.StatementView.{statement};
 ghost use Rattle.pgo_mpcal_read.specs.Nests.{Nests};
-ghost use Rattle.pgo_mpcal_read.specs.Reading.{Reads};
+ghost use Rattle.pgo_expr_read.specs.Steps.{Reads};
 ghost use Rattle.pgo_mpcal_read.specs.ReadingStatements as spec;
 
 use crate::cursor::Cursor;
-use crate::deep::Deep;
 use crate::depths::{MacroDepths, depth_of};
 use crate::item::items;
-use crate::lead::Lead;
+use crate::lookahead::StatementForm;
 use crate::names::expressions_in_brackets;
+use crate::with_depth::WithDepth;
 use pgo_base::expr::Sub;
 use pgo_lexer::errors::TextStop;
 use pgo_lexer::symbol::{Bracket, Keyword, Symbol};
@@ -33,10 +33,10 @@ pub struct Statements<'k, F> {
 
 impl<
     'k,
-    F: Fn(Global, &MacroDepths, &mut Cursor<'_>, u32) -> Result<Deep<Nested>, TextStop>,
+    F: Fn(Global, &MacroDepths, &mut Cursor<'_>, u32) -> Result<WithDepth<Nested>, TextStop>,
 > Statements<'k, F> {
     /// A statement in this one.
-    pub fn inner(&self, cursor: &mut Cursor<'_>) -> Result<Deep<Nested>, TextStop>
+    pub fn inner(&self, cursor: &mut Cursor<'_>) -> Result<WithDepth<Nested>, TextStop>
         requires { Nests self.now.below (F.pre self.now.statement) (F.post self.now.statement) }
         ensures { Reads (spec.statement self.now.macros.now self.now.below cursor.old) result cursor.new }
     {
@@ -50,7 +50,7 @@ impl<
         cursor: &Cursor<'_>,
         depth: u32,
         made: Stmt,
-    ) -> Result<Deep<Nested>, TextStop>
+    ) -> Result<WithDepth<Nested>, TextStop>
         ensures { Reads (spec.node self.now.macros.now self.now.limit (spec.statement self.now.macros.now self.now.below) depth (statement made) cursor.now) result cursor.now }
     {
         if depth >= self.limit {
@@ -58,12 +58,12 @@ impl<
         }
         let part = Nested::new(self.alloc, made)?;
         let depth = depth + 1;
-        Ok(Deep { depth, part })
+        Ok(WithDepth { depth, part })
     }
 
     /// `skip`.
     #[tactic(auto, unfolding(crate::specs::ReadingStatements::skip_form))]
-    fn skip_form(&self, cursor: &mut Cursor<'_>) -> Result<Deep<Nested>, TextStop>
+    fn skip_form(&self, cursor: &mut Cursor<'_>) -> Result<WithDepth<Nested>, TextStop>
         ensures { Reads (spec.skip_form self.now.macros.now self.now.limit (spec.statement self.now.macros.now self.now.below) cursor.old) result cursor.new }
     {
         let place = cursor.mark(Symbol::Keyword(Keyword::Skip))?;
@@ -76,7 +76,7 @@ impl<
         &self,
         cursor: &mut Cursor<'_>,
         keyword: Keyword,
-    ) -> Result<Deep<Nested>, TextStop>
+    ) -> Result<WithDepth<Nested>, TextStop>
         ensures { Reads (spec.one_expression self.now.macros.now self.now.limit (spec.statement self.now.macros.now self.now.below) keyword cursor.old) result cursor.new }
     {
         let place = cursor.mark(Symbol::Keyword(keyword))?;
@@ -86,7 +86,7 @@ impl<
 
     /// `goto l`.
     #[tactic(auto, unfolding(crate::specs::ReadingStatements::goto_form))]
-    fn goto_form(&self, cursor: &mut Cursor<'_>) -> Result<Deep<Nested>, TextStop>
+    fn goto_form(&self, cursor: &mut Cursor<'_>) -> Result<WithDepth<Nested>, TextStop>
         ensures { Reads (spec.goto_form self.now.macros.now self.now.limit (spec.statement self.now.macros.now self.now.below) cursor.old) result cursor.new }
     {
         let place = cursor.mark(Symbol::Keyword(Keyword::Goto))?;
@@ -96,7 +96,7 @@ impl<
 
     /// Assignments. The place is that of the first name.
     #[tactic(auto, unfolding(crate::specs::ReadingStatements::assign_form))]
-    fn assign_form(&self, cursor: &mut Cursor<'_>) -> Result<Deep<Nested>, TextStop>
+    fn assign_form(&self, cursor: &mut Cursor<'_>) -> Result<WithDepth<Nested>, TextStop>
         ensures { Reads (spec.assign_form self.now.macros.now self.now.limit (spec.statement self.now.macros.now self.now.below) cursor.old) result cursor.new }
     {
         let all: Assignments = items(self.alloc, cursor, Symbol::Bars)?;
@@ -109,7 +109,7 @@ impl<
 
     /// A macro's call.
     #[tactic(auto, unfolding(crate::specs::ReadingStatements::call_form, crate::specs::ReadingStatements::node))]
-    fn call_form(&self, cursor: &mut Cursor<'_>) -> Result<Deep<Nested>, TextStop>
+    fn call_form(&self, cursor: &mut Cursor<'_>) -> Result<WithDepth<Nested>, TextStop>
         ensures { Reads (spec.call_form self.now.macros.now self.now.limit (spec.statement self.now.macros.now self.now.below) cursor.old) result cursor.new }
     {
         let first = cursor.refuse();
@@ -125,7 +125,7 @@ impl<
 
     /// `while (e) s`.
     #[tactic(auto, unfolding(crate::specs::ReadingStatements::while_form))]
-    fn while_form(&self, cursor: &mut Cursor<'_>) -> Result<Deep<Nested>, TextStop>
+    fn while_form(&self, cursor: &mut Cursor<'_>) -> Result<WithDepth<Nested>, TextStop>
         requires { Nests self.now.below (F.pre self.now.statement) (F.post self.now.statement) }
         ensures { Reads (spec.while_form self.now.macros.now self.now.limit (spec.statement self.now.macros.now self.now.below) cursor.old) result cursor.new }
     {
@@ -139,7 +139,7 @@ impl<
 
     /// `with (v = e, w \in S) s`.
     #[tactic(auto, unfolding(crate::specs::ReadingStatements::with_form))]
-    fn with_form(&self, cursor: &mut Cursor<'_>) -> Result<Deep<Nested>, TextStop>
+    fn with_form(&self, cursor: &mut Cursor<'_>) -> Result<WithDepth<Nested>, TextStop>
         requires { Nests self.now.below (F.pre self.now.statement) (F.post self.now.statement) }
         ensures { Reads (spec.with_form self.now.macros.now self.now.limit (spec.statement self.now.macros.now self.now.below) cursor.old) result cursor.new }
     {
@@ -156,7 +156,7 @@ impl<
         &self,
         cursor: &mut Cursor<'_>,
         keyword: Keyword,
-    ) -> Result<Deep<Nested>, TextStop>
+    ) -> Result<WithDepth<Nested>, TextStop>
         requires { Nests self.now.below (F.pre self.now.statement) (F.post self.now.statement) }
         ensures { Reads (spec.keyword_form self.now.macros.now self.now.limit (spec.statement self.now.macros.now self.now.below) keyword cursor.old) result cursor.new }
     {
@@ -175,16 +175,16 @@ impl<
 
     /// A statement that doesn't stand in another one.
     #[tactic(auto, unfolding(crate::specs::ReadingStatements::any_form))]
-    pub fn any_form(&self, cursor: &mut Cursor<'_>) -> Result<Deep<Nested>, TextStop>
+    pub fn any_form(&self, cursor: &mut Cursor<'_>) -> Result<WithDepth<Nested>, TextStop>
         requires { Nests self.now.below (F.pre self.now.statement) (F.post self.now.statement) }
         ensures { Reads (spec.any_form self.now.macros.now self.now.limit (spec.statement self.now.macros.now self.now.below) cursor.old) result cursor.new }
     {
-        match cursor.lead() {
-            Lead::Assign => self.assign_form(cursor),
-            Lead::Call => self.call_form(cursor),
-            Lead::Block => self.block_form(cursor),
-            Lead::Keyword(keyword) => self.keyword_form(cursor, keyword),
-            Lead::None => Err(cursor.refuse()),
+        match cursor.statement_form() {
+            StatementForm::Assign => self.assign_form(cursor),
+            StatementForm::Call => self.call_form(cursor),
+            StatementForm::Block => self.block_form(cursor),
+            StatementForm::Keyword(keyword) => self.keyword_form(cursor, keyword),
+            StatementForm::None => Err(cursor.refuse()),
         }
     }
 }
@@ -207,7 +207,7 @@ pub fn statement(
     macros: &MacroDepths,
     cursor: &mut Cursor<'_>,
     limit: u32,
-) -> Result<Deep<Nested>, TextStop>
+) -> Result<WithDepth<Nested>, TextStop>
     ensures { Reads (spec.statement macros.now limit cursor.old) result cursor.new }
 {
     if limit == 0 {

@@ -1,17 +1,17 @@
 // The units of an algorithm.
 ghost use Rattle.std.specs.Prelude.{◌≡◌, Some, None};
-ghost use Rattle.pgo_mpcal_read.specs.Reading as reading;
-ghost use Rattle.pgo_mpcal_read.specs.Reading.{Reads};
+ghost use Rattle.pgo_expr_read.specs.Steps as steps;
+ghost use Rattle.pgo_expr_read.specs.Steps.{Reads};
 ghost use Rattle.pgo_mpcal_read.specs.ReadingSpec as spec;
 ghost use Rattle.pgo_mpcal_read.specs.ReadingSpec.{Updates};
 ghost use Rattle.pgo_mpcal_read.specs.ReadingStatements.{goes_on};
 ghost use Rattle.pgo_mpcal_read.specs.ReadingUnits as units;
 ghost use Rattle.pgo_mpcal_read.specs.Units.{no_units};
 
+use crate::allowed::{Context, if_allowed_from};
 use crate::cursor::Cursor;
 use crate::declarations::variables;
 use crate::depths::{MacroDepth, MacroDepths};
-use crate::standing::{Standing, checked_from};
 use crate::whole_parts::{archetype, define, macro_definition, mapping_macro, process};
 use pgo_lexer::errors::TextStop;
 use pgo_lexer::symbol::{Bracket, Keyword, Symbol};
@@ -59,7 +59,7 @@ fn define_unit(alloc: Global, cursor: &mut Cursor<'_>, all: &mut Units) -> Resul
     }
     let start = cursor.rest();
     let read = define(alloc, cursor);
-    let definitions = checked_from(Standing::Plain, start, cursor, read)?;
+    let definitions = if_allowed_from(Context::Plain, start, cursor, read)?;
     all.define = Some(definitions);
     Ok(())
 }
@@ -70,7 +70,7 @@ fn macro_unit(alloc: Global, cursor: &mut Cursor<'_>, all: &mut Units) -> Result
 {
     let start = cursor.rest();
     let read = macro_definition(alloc, &all.depths, cursor);
-    let m = checked_from(Standing::Macro, start, cursor, read)?;
+    let m = if_allowed_from(Context::Macro, start, cursor, read)?;
     let name = m.part.name.name.copy(alloc)?;
     let depth = m.depth;
     all.macros.push(m.part)?;
@@ -93,7 +93,7 @@ fn archetype_unit(alloc: Global, cursor: &mut Cursor<'_>, all: &mut Units) -> Re
 {
     let start = cursor.rest();
     let read = archetype(alloc, &all.depths, cursor);
-    let a = checked_from(Standing::Plain, start, cursor, read)?;
+    let a = if_allowed_from(Context::Plain, start, cursor, read)?;
     all.archetypes.push(a)?;
     Ok(())
 }
@@ -108,7 +108,7 @@ fn globals_unit(alloc: Global, cursor: &mut Cursor<'_>, all: &mut Units) -> Resu
     }
     let start = cursor.rest();
     let read = variables(alloc, cursor);
-    let declarations = checked_from(Standing::Plain, start, cursor, read)?;
+    let declarations = if_allowed_from(Context::Plain, start, cursor, read)?;
     all.globals = Some(declarations);
     Ok(())
 }
@@ -119,7 +119,7 @@ fn process_unit(alloc: Global, cursor: &mut Cursor<'_>, all: &mut Units) -> Resu
 {
     let start = cursor.rest();
     let read = process(alloc, cursor);
-    let p = checked_from(Standing::Plain, start, cursor, read)?;
+    let p = if_allowed_from(Context::Plain, start, cursor, read)?;
     all.processes.push(p)?;
     Ok(())
 }
@@ -150,7 +150,7 @@ fn unit(alloc: Global, cursor: &mut Cursor<'_>, all: &mut Units) -> Result<(), T
 
 /// Units up to a `}`.
 fn all_units(alloc: Global, cursor: &mut Cursor<'_>) -> Result<Units, TextStop>
-    ensures { Reads (reading.all_folded goes_on spec.unit no_units cursor.old) result cursor.new }
+    ensures { Reads (steps.all_folded goes_on spec.unit no_units cursor.old) result cursor.new }
 {
     let mut all = no_units(alloc);
     for _turn in 0..cursor.left() {

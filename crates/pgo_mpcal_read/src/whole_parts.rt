@@ -1,15 +1,15 @@
 // Macros, mapping macros, archetypes and processes.
 ghost use Rattle.std.specs.Prelude.{◌≡◌};
-ghost use Rattle.pgo_mpcal_read.specs.Reading.{Reads};
+ghost use Rattle.pgo_expr_read.specs.Steps.{Reads};
 ghost use Rattle.pgo_mpcal_read.specs.ReadingUnits as spec;
 
 use crate::assignments::origin;
 use crate::cursor::Cursor;
 use crate::declarations::locals;
-use crate::deep::Deep;
 use crate::depths::MacroDepths;
 use crate::item::{in_brackets, row};
 use crate::statements::{Statements, statement};
+use crate::with_depth::WithDepth;
 use pgo_base::expr::Infix;
 use pgo_lexer::errors::TextStop;
 use pgo_lexer::symbol::{Bracket, Keyword, Symbol};
@@ -31,7 +31,7 @@ fn block(
     alloc: Global,
     macros: &MacroDepths,
     cursor: &mut Cursor<'_>,
-) -> Result<Deep<Block>, TextStop>
+) -> Result<WithDepth<Block>, TextStop>
     ensures { Reads (spec.block macros.now cursor.old) result cursor.new }
 {
     Statements {
@@ -62,7 +62,7 @@ pub fn macro_definition(
     alloc: Global,
     macros: &MacroDepths,
     cursor: &mut Cursor<'_>,
-) -> Result<Deep<Macro>, TextStop>
+) -> Result<WithDepth<Macro>, TextStop>
     ensures { Reads (spec.macro_definition macros.now cursor.old) result cursor.new }
 {
     cursor.expect(Symbol::Keyword(Keyword::Macro))?;
@@ -72,7 +72,7 @@ pub fn macro_definition(
     let depth = b.depth;
     let body = b.part;
     let part = Macro { name, params, body };
-    Ok(Deep { depth, part })
+    Ok(WithDepth { depth, part })
 }
 
 /// A mapping macro.

@@ -202,3 +202,15 @@ found_yields (p ∷ ps) x m h f = go (same_name x p.0) (both_are (yields p.1.rea
 pub read_yields : (w : Leads) (bs cs : List (Option PlacedName × Statement)) → w ≡ row_leads goes_on (labeled bs) → bs ≡ cs → w.yields ≡ yields (block_code cs)
 read_yields w bs cs h e =
     ap (λ (a : Leads). a.yields) (h ∙ ap (λ (l : List (Option PlacedName × Statement)). row_leads goes_on (labeled l)) e ∙ sym (row_is goes_on [] (labeled cs)))
+
+-- both of what is found
+pub found_passes : (ms : MappedNames) (x : Name) (m : Mapped) → spec.all_pass ms ≡ true → find x ms ≡ Some m → (yields m.reads ≡ true) × (yields m.writes ≡ true)
+found_passes [] x m h f = absurd (cc f)
+found_passes (p ∷ ps) x m h f =
+    let g = both_are (yields p.1.reads && yields p.1.writes) (spec.all_pass ps) h in
+    go (same_name x p.0) (both_are (yields p.1.reads) (yields p.1.writes) g.0) (λ e. found_passes ps x m g.1 e) f
+  where
+    go : (b : Bool) → (yields p.1.reads ≡ true) × (yields p.1.writes ≡ true) → (find x ps ≡ Some m → (yields m.reads ≡ true) × (yields m.writes ≡ true))
+        → (if b then Some p.1 else find x ps) ≡ Some m → (yields m.reads ≡ true) × (yields m.writes ≡ true)
+    go true g ih e = (sym (ap (λ o. yields (on p.1 o (λ z. z)).reads) e) ∙ g.0, sym (ap (λ o. yields (on p.1 o (λ z. z)).writes) e) ∙ g.1)
+    go false g ih e = ih e

@@ -144,7 +144,7 @@ mutual
       omega (arith, in_one (either_is (yields c) (one_yields cs) p) (λ q. yields_law c m ps ren cur n k j y q h) (λ q. one_yields_law cs m ps ren cur n k j y q h))
 
 -- what stands behind a read has its nodes, where its block yields
-read_law : (m : ℕ) (ps : List (Name × Place)) (block : Code) (w g : Name) (i : Option Name) (c : Code) (ren : Renames) (cur : Current) (n : ℕ) (k : OnGo) (j : OnJump) (y : OnYield)
+pub read_law : (m : ℕ) (ps : List (Name × Place)) (block : Code) (w g : Name) (i : Option Name) (c : Code) (ren : Renames) (cur : Current) (n : ℕ) (k : OnGo) (j : OnJump) (y : OnYield)
     → yields block ≡ true → ((ren' : Renames) (cur' : Current) (n' : ℕ) → m ≤ nodes (expand ps c ren' cur' n' k j y))
     → m ≤ nodes (expand ps (Read w g i block c) ren cur n k j y)
 read_law m ps block w g i c ren cur n k j y p h =

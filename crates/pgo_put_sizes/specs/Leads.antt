@@ -55,3 +55,8 @@ abbrev mutual
 abbrev pub all_yield : MappedNames → Bool
 all_yield [] = true
 all_yield (m ∷ ms) = yields m.1.reads && all_yield ms
+
+-- whether each mapped parameter's blocks have such a path
+abbrev pub all_pass : MappedNames → Bool
+all_pass [] = true
+all_pass (m ∷ ms) = yields m.1.reads && yields m.1.writes && all_pass ms

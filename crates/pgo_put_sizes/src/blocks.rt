@@ -124,7 +124,7 @@ fn branches_lead(other: Leads, list: &[Branch]) -> Leads
 
 /// Where these statements lead, one behind the other up to the first label.
 #[cycle(leads)]
-fn row_leads(list: &[Labeled]) -> Leads
+pub(crate) fn row_leads(list: &[Labeled]) -> Leads
     ensures { result ≡ spec.row_leads spec.goes_on (labeled (map labeled_pair list.now)) }
 {
     let mut all = goes_on();
@@ -138,7 +138,7 @@ fn row_leads(list: &[Labeled]) -> Leads
 }
 
 /// Whether what a read does has a path to a `yield`.
-fn reads_yield(mapping: &Mapping) -> bool
+pub(crate) fn reads_yield(mapping: &Mapping) -> bool
     ensures { result ≡ has_yield (reads_by mapping.now) }
 {
     match mapping {

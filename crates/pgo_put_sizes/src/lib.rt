@@ -6,4 +6,5 @@ mod counted;
 mod layers;
 pub mod lefts;
 pub mod nodes;
+pub mod passes;
 pub mod wide;

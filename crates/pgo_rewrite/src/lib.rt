@@ -11,6 +11,7 @@
 
 pub mod arguments;
 pub mod bound_names;
+mod lists;
 pub mod mapped;
 mod parts;
 pub mod reads;

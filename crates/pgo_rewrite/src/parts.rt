@@ -7,6 +7,7 @@ use pgo_base::expr::{Expr, Exprs, Sub};
 use std::alloc::{AllocError, Global};
 use std::collections::VecDeque;
 use std::marker::Model;
+use std::mem::{drop, replace};
 
 /// Operands in the order of the text.
 #[derive(Drop)]
@@ -48,7 +49,14 @@ impl Parts {
         }
     }
 
-    /// The same as an operand of its own.
+    /// Takes the first operand off, if there is one.
+    pub(crate) fn skip(&mut self)
+        ensures { self.new ≡ spec.behind self.old }
+    {
+        drop(self.next())
+    }
+
+    /// The first operand as an operand of its own.
     pub(crate) fn next_sub(&mut self, alloc: Global) -> Result<Sub, AllocError>
         ensures first { IfOk result (λ s. s ≡ spec.next self.old) }
         ensures left { IfOk result (λ _. self.new ≡ spec.behind self.old) }
@@ -63,10 +71,11 @@ impl Parts {
         Vec::from(self.list)
     }
 
-    /// The same as a list.
-    pub(crate) fn into_exprs(self) -> Exprs
-        ensures { result ≡ self }
+    /// All that are left, which are taken off, as a list.
+    pub(crate) fn take_exprs(&mut self, alloc: Global) -> Exprs
+        ensures { result ≡ self.old }
     {
-        Exprs::from_vec(self.into_vec())
+        let rest = Parts::from_vec(Vec::new(alloc));
+        Exprs::from_vec(replace(self, rest).into_vec())
     }
 }

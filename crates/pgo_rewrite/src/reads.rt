@@ -4,6 +4,7 @@ ghost use Rattle.pgo_base.specs.ExprView.{tree};
 ghost use Rattle.pgo_rewrite.specs.Views.{mapped_view, read_view, read_views};
 ghost use Rattle.pgo_sections.specs.Access.{place as place_name, read_whole as whole, read_element as element};
 
+use crate::lists::push_item;
 use crate::mapped::Mapped;
 use pgo_base::expr::Expr;
 use pgo_base::results::both;
@@ -115,7 +116,7 @@ impl<'a> Reads<'a> {
         ensures used { IfOk result (λ _. self.new.used ≡ used) }
     {
         self.used = used;
-        self.list.push(read)?;
+        push_item(&mut self.list, read)?;
         Ok(())
     }
 }
@@ -149,7 +150,7 @@ impl<'a> Reads<'a> {
         ensures reads { IfOk result (λ _. read_views self.new.list.items ≡ read_views self.old.list.items ++ (element (mapped_view mapped.entry) (tree index) self.old.used).reads) }
         ensures used { IfOk result (λ _. self.new.used ≡ (element (mapped_view mapped.entry) (tree index) self.old.used).used) }
     {
-        let names = element_names(alloc, self.used)?;
+        let (index, names) = both(Ok(index), element_names(alloc, self.used))?;
         let read = element_read(mapped, names.at, index, names.value);
         self.add(read, names.used)?;
         Ok(Expr::Name(names.rest))

@@ -5,7 +5,7 @@ ghost use Rattle.pgo_base.specs.Tree.{trees, named, arms, bound, paths};
 ghost use Rattle.pgo_rewrite.specs.Rebuilt as spec;
 
 use crate::parts::Parts;
-use pgo_base::expr::{Arms, Binders, Expr, Exprs, Named, Sub, Update, Updates};
+use pgo_base::expr::{Arms, Binders, Expr, Exprs, Named, Sub, Updates};
 use pgo_base::results::both;
 use pgo_base::text::Text;
 use std::alloc::{AllocError, Global};
@@ -15,11 +15,11 @@ fn fill_exprs(alloc: Global, list: &Exprs, parts: &mut Parts) -> Result<Exprs, A
     ensures list { IfOk result (λ v. v ≡ spec.fill_trees (trees list.now) parts.old) }
     ensures left { IfOk result (λ _. parts.new ≡ spec.behind_trees (trees list.now) parts.old) }
 {
-    let mut all = Vec::new(alloc);
+    let mut all = Exprs::new(alloc);
     for _item in list.as_slice() {
-        all.push(parts.next())?;
+        all.push(parts.next_sub(alloc)?)?;
     }
-    Ok(Exprs::from_vec(all))
+    Ok(all)
 }
 
 /// The names with other expressions.
@@ -27,11 +27,12 @@ fn fill_named(alloc: Global, list: &Named, parts: &mut Parts) -> Result<Named, A
     ensures list { IfOk result (λ v. v ≡ spec.fill_named (named list.now) parts.old) }
     ensures left { IfOk result (λ _. parts.new ≡ spec.behind_named (named list.now) parts.old) }
 {
-    let mut all = Vec::new(alloc);
+    let mut all = Named::new(alloc);
     for item in list.as_slice() {
-        all.push((item.0.copy(alloc)?, parts.next()))?;
+        let name = item.0.copy(alloc)?;
+        all.push(name, parts.next_sub(alloc)?)?;
     }
-    Ok(Named::from_vec(all))
+    Ok(all)
 }
 
 /// As many arms with other guards and values.
@@ -39,13 +40,12 @@ fn fill_arms(alloc: Global, list: &Arms, parts: &mut Parts) -> Result<Arms, Allo
     ensures list { IfOk result (λ v. v ≡ spec.fill_arms (arms list.now) parts.old) }
     ensures left { IfOk result (λ _. parts.new ≡ spec.behind_arms (arms list.now) parts.old) }
 {
-    let mut all = Vec::new(alloc);
+    let mut all = Arms::new(alloc);
     for _item in list.as_slice() {
-        let guard = parts.next();
-        let value = parts.next();
-        all.push((guard, value))?;
+        let (guard, value) = two(alloc, parts)?;
+        all.push(guard, value)?;
     }
-    Ok(Arms::from_vec(all))
+    Ok(all)
 }
 
 /// The binders with other sets.
@@ -53,11 +53,12 @@ fn fill_binders(alloc: Global, list: &Binders, parts: &mut Parts) -> Result<Bind
     ensures list { IfOk result (λ v. v ≡ spec.fill_bound (bound list.now) parts.old) }
     ensures left { IfOk result (λ _. parts.new ≡ spec.behind_bound (bound list.now) parts.old) }
 {
-    let mut all = Vec::new(alloc);
+    let mut all = Binders::new(alloc);
     for item in list.as_slice() {
-        all.push((item.0.copy(alloc)?, parts.next()))?;
+        let names = item.0.copy(alloc)?;
+        all.push(names, parts.next_sub(alloc)?)?;
     }
-    Ok(Binders::from_vec(all))
+    Ok(all)
 }
 
 /// As many changes of EXCEPT, each with as many other indices and another value.
@@ -65,13 +66,12 @@ fn fill_updates(alloc: Global, list: &Updates, parts: &mut Parts) -> Result<Upda
     ensures list { IfOk result (λ v. v ≡ spec.fill_paths (paths list.now) parts.old) }
     ensures left { IfOk result (λ _. parts.new ≡ spec.behind_paths (paths list.now) parts.old) }
 {
-    let mut all = Vec::new(alloc);
+    let mut all = Updates::new(alloc);
     for item in list.as_slice() {
         let path = fill_exprs(alloc, &item.path, parts)?;
-        let value = parts.next();
-        all.push(Update { path, value })?;
+        all.push(path, parts.next_sub(alloc)?)?;
     }
-    Ok(Updates::from_vec(all))
+    Ok(all)
 }
 
 /// Two operands.
@@ -132,47 +132,46 @@ pub(crate) fn rebuilt(alloc: Global, e: &Expr, parts: Parts) -> Result<Expr, All
 {
     let mut parts = parts;
     if has_list(e) {
-        rebuilt_listed(alloc, e, parts)
+        rebuilt_listed(alloc, e, &mut parts)
     } else {
         rebuilt_fixed(alloc, e, &mut parts)
     }
 }
 
 /// The same of a form with a list; another stays as it is.
-fn rebuilt_listed(alloc: Global, e: &Expr, parts: Parts) -> Result<Expr, AllocError>
-    ensures { IfOk result (λ r. tree r ≡ spec.rebuilt_listed (tree e.now) parts) }
+fn rebuilt_listed(alloc: Global, e: &Expr, parts: &mut Parts) -> Result<Expr, AllocError>
+    ensures { IfOk result (λ r. tree r ≡ spec.rebuilt_listed (tree e.now) parts.old) }
 {
-    let mut parts = parts;
     match e {
-        Expr::Product(_) => Ok(Expr::Product(parts.into_exprs())),
-        Expr::Tuple(_) => Ok(Expr::Tuple(parts.into_exprs())),
-        Expr::SetOf(_) => Ok(Expr::SetOf(parts.into_exprs())),
-        Expr::Call(x, _) => Ok(Expr::Call(x.copy(alloc)?, parts.into_exprs())),
+        Expr::Product(_) => Ok(Expr::Product(parts.take_exprs(alloc))),
+        Expr::Tuple(_) => Ok(Expr::Tuple(parts.take_exprs(alloc))),
+        Expr::SetOf(_) => Ok(Expr::SetOf(parts.take_exprs(alloc))),
+        Expr::Call(x, _) => Ok(Expr::Call(x.copy(alloc)?, parts.take_exprs(alloc))),
         Expr::Index(_, _) => {
             let f = parts.next_sub(alloc)?;
-            Ok(Expr::Index(f, parts.into_exprs()))
+            Ok(Expr::Index(f, parts.take_exprs(alloc)))
         }
-        Expr::Case(list) => Ok(Expr::Case(fill_arms(alloc, list, &mut parts)?)),
+        Expr::Case(list) => Ok(Expr::Case(fill_arms(alloc, list, parts)?)),
         Expr::CaseOther(list, _) => {
-            let list = fill_arms(alloc, list, &mut parts)?;
+            let list = fill_arms(alloc, list, parts)?;
             Ok(Expr::CaseOther(list, parts.next_sub(alloc)?))
         }
         Expr::Let(list, _) => {
-            let list = fill_named(alloc, list, &mut parts)?;
+            let list = fill_named(alloc, list, parts)?;
             Ok(Expr::Let(list, parts.next_sub(alloc)?))
         }
-        Expr::Record(list) => Ok(Expr::Record(fill_named(alloc, list, &mut parts)?)),
-        Expr::RecordSet(list) => Ok(Expr::RecordSet(fill_named(alloc, list, &mut parts)?)),
+        Expr::Record(list) => Ok(Expr::Record(fill_named(alloc, list, parts)?)),
+        Expr::RecordSet(list) => Ok(Expr::RecordSet(fill_named(alloc, list, parts)?)),
         Expr::Except(_, list) => {
             let f = parts.next_sub(alloc)?;
-            Ok(Expr::Except(f, fill_updates(alloc, list, &mut parts)?))
+            Ok(Expr::Except(f, fill_updates(alloc, list, parts)?))
         }
         Expr::Quantified(q, list, _) => {
-            let (list, a) = under_binders(alloc, list, &mut parts)?;
+            let (list, a) = under_binders(alloc, list, parts)?;
             Ok(Expr::Quantified(*q, list, a))
         }
         Expr::FunOf(list, _) => {
-            let (list, a) = under_binders(alloc, list, &mut parts)?;
+            let (list, a) = under_binders(alloc, list, parts)?;
             Ok(Expr::FunOf(list, a))
         }
         _ => e.copy(alloc),

@@ -12,6 +12,7 @@ ghost use Rattle.pgo_rewrite.specs.Views.{mapped_view, read_views};
 ghost use Rattle.pgo_sections.specs.Access.{if_whole, if_element, mapped_under, index_tree, name_alone as name_of};
 
 use crate::bound_names::{count_at, names_by};
+use crate::lists::push_item;
 use crate::mapped::{Mapped, mapped_named};
 use crate::parts::Parts;
 use crate::reads::Reads;
@@ -165,7 +166,7 @@ fn rewrite_form<'a>(
     let mut parts = Parts::from_vec(list);
     match element_by(bindings, scope, e) {
         Some(m) => {
-            let _applied = parts.next();
+            parts.skip();
             reads.read_element(alloc, m, index_of(parts.into_vec()))
         }
         None => rebuilt(alloc, e, parts),
@@ -223,7 +224,8 @@ fn rewrite_parts<'a, S: Substitution>(
     for (i, part) in list.iter().enumerate() {
         let count = count_at(e, bound.as_slice().len(), i);
         let inner = Scope::within(&*scope, &*bound, count);
-        all.push(rewritten(alloc, names, bindings, &inner, part, reads)?)?;
+        let done = rewritten(alloc, names, bindings, &inner, part, reads)?;
+        push_item(&mut all, done)?;
     }
     Ok(all)
 }

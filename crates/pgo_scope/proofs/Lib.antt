@@ -1,5 +1,6 @@
 mod Answered
 mod Clashing
+mod Declaring
 mod Doubled
 mod Only
 mod Sorting

@@ -9,6 +9,7 @@ pub mod Ways
 pub mod KnownView
 pub mod Assigned
 pub mod Mapped
+pub mod UnitRows
 pub mod Clash
 pub mod OwnView
 pub mod Seen

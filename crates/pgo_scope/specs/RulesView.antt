@@ -6,4 +6,4 @@ use Rattle.pgo_scope.specs.Rules.{Context}
 
 abbrev pub see : code.Context → Context
 see c =
-    record { spec = c.spec.now; tables = c.tables.now; known = see_known c.known; captures = see_captures c.captures; uses = c.uses.now }
+    record { spec = c.units.now.spec.now; tables = c.tables.now; known = see_known c.known; captures = see_captures c.captures; uses = c.uses.now }

@@ -16,6 +16,7 @@ pub mod scope;
 mod things;
 mod twice;
 mod underscores;
+mod units;
 mod unknown;
 mod ways;
 mod words;

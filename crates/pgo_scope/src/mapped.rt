@@ -7,12 +7,12 @@ ghost use Rattle.pgo_scope.specs.Mapped as spec;
 
 use crate::finding::{Cause, Finding, add_if};
 use crate::known::{Known, ParameterWays, add_left_uses, parameters_of, plainly, read_around};
+use crate::units::UnitNames;
 use crate::ways::{Ways, join, left_base, left_shape};
 use pgo_base::expr::Expr;
 use pgo_base::text::Text;
-use pgo_syntax::archetype::{Archetype, Extent, Parameter, ParameterKind};
+use pgo_syntax::archetype::{Extent, ParameterKind};
 use pgo_syntax::process::{Argument, MappingClause, MappingTarget, Process};
-use pgo_syntax::spec::Spec;
 use pgo_uses::uses::{Around, Form, Home, Shape, Use};
 use pgo_uses::walk::add_uses;
 use std::alloc::{AllocError, Global};
@@ -65,7 +65,7 @@ fn some_clause(number: usize, args: &[Argument], clauses: &[MappingClause]) -> b
 }
 
 /// Whether a clause of some process of the archetype names the parameter of this number.
-fn some_process(archetype: &Text, number: usize, list: &[Process]) -> bool
+pub fn some_process(archetype: &Text, number: usize, list: &[Process]) -> bool
     ensures { result ≡ spec.some_process archetype.now number list.now }
 {
     for p in list {
@@ -78,7 +78,7 @@ fn some_process(archetype: &Text, number: usize, list: &[Process]) -> bool
     false
 }
 
-fn mapped_kind(named: bool, kind: ParameterKind) -> Mapped
+pub fn mapped_kind(named: bool, kind: ParameterKind) -> Mapped
     ensures { result ≡ spec.mapped_kind named kind }
 {
     match kind {
@@ -94,36 +94,12 @@ fn mapped_kind(named: bool, kind: ParameterKind) -> Mapped
     }
 }
 
-/// What the name is among these parameters.
-fn mapped_among(archetype: &Text, list: &[Process], params: &[Parameter], x: &Text) -> Mapped
-    ensures { result ≡ spec.mapped_among archetype.now list.now 0 params.now x.now }
-{
-    for (n, p) in params.iter().enumerate() {
-        if x.is(&p.name.name) {
-            return mapped_kind(some_process(archetype, n, list), p.kind);
-        }
-    }
-    Mapped::Unmapped
-}
-
-fn mapped_of(list: &[Process], r: Option<&Archetype>, x: &Text) -> Mapped
-    ensures { result ≡ spec.mapped_of list.now (option_map (λ r. r.now) r.entry) x.now }
-{
-    match r {
-        Some(r) => mapped_among(&r.name.name, list, r.params.as_slice(), x),
-        None => Mapped::Unmapped,
-    }
-}
-
 /// What the name is there.
-fn mapped_in(s: &Spec, home: Home, x: &Text) -> Mapped
-    ensures { result ≡ spec.mapped_in s.now home x.now }
+fn mapped_in(units: &UnitNames<'_>, home: Home, x: &Text) -> Mapped
+    ensures { result ≡ spec.mapped_in units.now.spec.now home x.now }
 {
     match home {
-        Home::Body(j) => {
-            let archetype = s.archetypes.as_slice().get(j);
-            mapped_of(s.processes.as_slice(), archetype, x)
-        }
+        Home::Body(j) => units.mapped(j, x),
         _ => Mapped::Unmapped,
     }
 }
@@ -152,45 +128,45 @@ fn wrong_write(shape: Shape, mapped: Mapped) -> bool
 
 fn add_mapped_read(
     alloc: Global,
-    s: &Spec,
+    units: &UnitNames<'_>,
     u: &Use,
     out: &mut Vec<Finding>,
 ) -> Result<(), AllocError>
-    ensures { IfOk result (λ _. out.new.items ≡ out.old.items ++ spec.mapped_read s.now u.now) }
+    ensures { IfOk result (λ _. out.new.items ≡ out.old.items ++ spec.mapped_read units.now.spec.now u.now) }
 {
-    let wrong = wrong_read(u.around, mapped_in(s, u.around.home, &u.name));
+    let wrong = wrong_read(u.around, mapped_in(units, u.around.home, &u.name));
     let cause = Cause::MappedReadHere;
     add_if(alloc, wrong, cause, u.around.place, &u.name, out)
 }
 
 fn add_mapped_write(
     alloc: Global,
-    s: &Spec,
+    units: &UnitNames<'_>,
     around: Around,
     x: &Text,
     shape: Shape,
     out: &mut Vec<Finding>,
 ) -> Result<(), AllocError>
-    ensures { IfOk result (λ _. out.new.items ≡ out.old.items ++ spec.mapped_write s.now around x.now shape) }
+    ensures { IfOk result (λ _. out.new.items ≡ out.old.items ++ spec.mapped_write units.now.spec.now around x.now shape) }
 {
-    let wrong = wrong_write(shape, mapped_in(s, around.home, x));
+    let wrong = wrong_write(shape, mapped_in(units, around.home, x));
     add_if(alloc, wrong, Cause::MappedReadHere, around.place, x, out)
 }
 
 /// Adds what is wrong with the names that are read among these.
 fn add_read_uses(
     alloc: Global,
-    s: &Spec,
+    units: &UnitNames<'_>,
     uses: &[Use],
     out: &mut Vec<Finding>,
 ) -> Result<(), AllocError>
-    ensures { IfOk result (λ _. out.new.items ≡ out.old.items ++ each_use (spec.read_use s.now) uses.now) }
+    ensures { IfOk result (λ _. out.new.items ≡ out.old.items ++ each_use (spec.read_use units.now.spec.now) uses.now) }
 {
     for u in uses {
         let Form::Alone = &u.form else {
             continue;
         };
-        add_mapped_read(alloc, s, u, out)?;
+        add_mapped_read(alloc, units, u, out)?;
     }
     Ok(())
 }
@@ -198,34 +174,34 @@ fn add_read_uses(
 /// Adds what is wrong with an argument where its parameter is read so, if it is.
 fn add_argument_read(
     alloc: Global,
-    s: &Spec,
+    units: &UnitNames<'_>,
     is: bool,
     around: Around,
     e: &Expr,
     out: &mut Vec<Finding>,
 ) -> Result<(), AllocError>
-    ensures { IfOk result (λ _. out.new.items ≡ out.old.items ++ found_where is (spec.argument_read s.now around around.hidden around.indexed (tree e.now))) }
+    ensures { IfOk result (λ _. out.new.items ≡ out.old.items ++ found_where is (spec.argument_read units.now.spec.now around around.hidden around.indexed (tree e.now))) }
 {
     if !is {
         return Ok(());
     }
     let mut uses = Vec::new(alloc);
     add_uses(alloc, around, e, &mut uses)?;
-    add_read_uses(alloc, s, uses.as_slice(), out)
+    add_read_uses(alloc, units, uses.as_slice(), out)
 }
 
 fn add_base_written(
     alloc: Global,
-    s: &Spec,
+    units: &UnitNames<'_>,
     around: Around,
     base: Option<&Text>,
     shape: Shape,
     out: &mut Vec<Finding>,
 ) -> Result<(), AllocError>
-    ensures { IfOk result (λ _. out.new.items ≡ out.old.items ++ spec.base_written s.now around (option_map (λ x. x.now) base.entry) shape) }
+    ensures { IfOk result (λ _. out.new.items ≡ out.old.items ++ spec.base_written units.now.spec.now around (option_map (λ x. x.now) base.entry) shape) }
 {
     match base {
-        Some(x) => add_mapped_write(alloc, s, around, x, shape, out),
+        Some(x) => add_mapped_write(alloc, units, around, x, shape, out),
         None => Ok(()),
     }
 }
@@ -233,79 +209,79 @@ fn add_base_written(
 /// Adds what is wrong with an argument where its parameter is assigned and this follows, if it is.
 fn add_argument_written(
     alloc: Global,
-    s: &Spec,
+    units: &UnitNames<'_>,
     is: bool,
     around: Around,
     shape: Shape,
     e: &Expr,
     out: &mut Vec<Finding>,
 ) -> Result<(), AllocError>
-    ensures { IfOk result (λ _. out.new.items ≡ out.old.items ++ found_where is (spec.argument_written s.now around shape (tree e.now))) }
+    ensures { IfOk result (λ _. out.new.items ≡ out.old.items ++ found_where is (spec.argument_written units.now.spec.now around shape (tree e.now))) }
 {
     if !is {
         return Ok(());
     }
     let whole = join(left_shape(e), shape);
-    add_base_written(alloc, s, around, left_base(e), whole, out)?;
+    add_base_written(alloc, units, around, left_base(e), whole, out)?;
     let mut uses = Vec::new(alloc);
     add_left_uses(alloc, plainly(around), e, &mut uses)?;
-    add_read_uses(alloc, s, uses.as_slice(), out)
+    add_read_uses(alloc, units, uses.as_slice(), out)
 }
 
 /// Adds what is wrong with an argument in the ways in which its parameter is read.
 fn add_argument_reads(
     alloc: Global,
-    s: &Spec,
+    units: &UnitNames<'_>,
     around: Around,
     w: Ways,
     e: &Expr,
     out: &mut Vec<Finding>,
 ) -> Result<(), AllocError>
-    ensures { IfOk result (λ _. out.new.items ≡ out.old.items ++ spec.argument_reads s.now around w (tree e.now)) }
+    ensures { IfOk result (λ _. out.new.items ≡ out.old.items ++ spec.argument_reads units.now.spec.now around w (tree e.now)) }
 {
     let plain = read_around(around, false, false);
     let indexed = read_around(around, false, true);
     let hidden = read_around(around, true, false);
     let both = read_around(around, true, true);
-    add_argument_read(alloc, s, w.plain, plain, e, out)?;
-    add_argument_read(alloc, s, w.indexed, indexed, e, out)?;
-    add_argument_read(alloc, s, w.hidden, hidden, e, out)?;
-    add_argument_read(alloc, s, w.hidden_indexed, both, e, out)
+    add_argument_read(alloc, units, w.plain, plain, e, out)?;
+    add_argument_read(alloc, units, w.indexed, indexed, e, out)?;
+    add_argument_read(alloc, units, w.hidden, hidden, e, out)?;
+    add_argument_read(alloc, units, w.hidden_indexed, both, e, out)
 }
 
 /// Adds what is wrong with an argument in all the ways in which its parameter stands.
 fn add_argument(
     alloc: Global,
-    s: &Spec,
+    units: &UnitNames<'_>,
     around: Around,
     w: Ways,
     e: &Expr,
     out: &mut Vec<Finding>,
 ) -> Result<(), AllocError>
-    ensures { IfOk result (λ _. out.new.items ≡ out.old.items ++ spec.argument_findings s.now around w (tree e.now)) }
+    ensures { IfOk result (λ _. out.new.items ≡ out.old.items ++ spec.argument_findings units.now.spec.now around w (tree e.now)) }
 {
-    add_argument_reads(alloc, s, around, w, e, out)?;
-    add_argument_written(alloc, s, w.bare, around, Shape::Bare, e, out)?;
-    add_argument_written(alloc, s, w.one_index, around, Shape::OneIndex, e, out)?;
-    add_argument_written(alloc, s, w.further, around, Shape::Further, e, out)
+    add_argument_reads(alloc, units, around, w, e, out)?;
+    add_argument_written(alloc, units, w.bare, around, Shape::Bare, e, out)?;
+    add_argument_written(alloc, units, w.one_index, around, Shape::OneIndex, e, out)?;
+    add_argument_written(alloc, units, w.further, around, Shape::Further, e, out)
 }
 
 /// Adds what is wrong with the arguments of a call of a macro with these parameters.
 fn add_arguments(
     alloc: Global,
-    s: &Spec,
+    units: &UnitNames<'_>,
     around: Around,
     params: &[ParameterWays],
     args: &[Expr],
     out: &mut Vec<Finding>,
 ) -> Result<(), AllocError>
-    ensures { IfOk result (λ _. out.new.items ≡ out.old.items ++ spec.arguments_findings s.now around (map see_ways params.now) (map tree args.now)) }
+    ensures { IfOk result (λ _. out.new.items ≡ out.old.items ++ spec.arguments_findings units.now.spec.now around (map see_ways params.now) (map tree args.now)) }
 {
     for (i, q) in params.iter().enumerate() {
         let Some(e) = args.get(i) else {
             return Ok(());
         };
-        add_argument(alloc, s, around, q.ways, e, out)?;
+        add_argument(alloc, units, around, q.ways, e, out)?;
     }
     Ok(())
 }
@@ -313,24 +289,24 @@ fn add_arguments(
 /// Adds the name where it is a mapped parameter that stands as it may not, or an argument of its macro is.
 pub fn add_mapped_use(
     alloc: Global,
-    s: &Spec,
+    units: &UnitNames<'_>,
     known: &Known<'_>,
     u: &Use,
     out: &mut Vec<Finding>,
 ) -> Result<(), AllocError>
-    ensures { IfOk result (λ _. out.new.items ≡ out.old.items ++ spec.mapped_use s.now (see_known known.now) u.now) }
+    ensures { IfOk result (λ _. out.new.items ≡ out.old.items ++ spec.mapped_use units.now.spec.now (see_known known.now) u.now) }
 {
     match &u.form {
         Form::Alone => {
             if u.around.passed {
                 return Ok(());
             }
-            add_mapped_read(alloc, s, u, out)
+            add_mapped_read(alloc, units, u, out)
         }
-        Form::Assigned(shape) => add_mapped_write(alloc, s, u.around, &u.name, *shape, out),
+        Form::Assigned(shape) => add_mapped_write(alloc, units, u.around, &u.name, *shape, out),
         Form::Called(list) => {
             let params = parameters_of(known, &u.name);
-            add_arguments(alloc, s, u.around, params, list.as_slice(), out)
+            add_arguments(alloc, units, u.around, params, list.as_slice(), out)
         }
         _ => Ok(()),
     }

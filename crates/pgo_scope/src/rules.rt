@@ -18,9 +18,9 @@ use crate::modules::add_unknown_modules;
 use crate::things::things;
 use crate::twice::{add_declared_twice, add_reserved, is_hiding};
 use crate::underscores::add_double_names;
+use crate::units::UnitNames;
 use crate::unknown::{add_unknown_heads, is_unknown};
 use crate::words::has_double_underscore;
-use pgo_syntax::spec::Spec;
 use pgo_uses::heads::{head_names, unit_names};
 use pgo_uses::tables::Tables;
 use pgo_uses::uses::Use;
@@ -28,8 +28,9 @@ use std::alloc::{AllocError, Global};
 
 /// What the rules look at.
 #[derive(Clone, Copy)]
-pub struct Context<'a> {
-    pub spec: &'a Spec,
+pub struct Context<'a, 's> {
+    /// the specification, with the names that its archetypes and macros declare
+    pub units: &'a UnitNames<'s>,
     pub tables: &'a Tables,
     /// in what ways the parameters of macros stand
     pub known: Known<'a>,
@@ -82,7 +83,7 @@ pub const RULES: [Rule; 9] = [
 fn add_use(
     alloc: Global,
     rule: UseRule,
-    c: &Context<'_>,
+    c: &Context<'_, '_>,
     u: &Use,
     out: &mut Vec<Finding>,
 ) -> Result<(), AllocError>
@@ -91,7 +92,7 @@ fn add_use(
     let (place, x) = (u.around.place, &u.name);
     match rule {
         UseRule::Unknown => {
-            let wrong = is_unknown(c.tables, c.spec.archetypes.as_slice(), u);
+            let wrong = is_unknown(c.tables, c.units, u);
             add_if(alloc, wrong, Cause::Unknown, place, x, out)
         }
         UseRule::Hiding => add_if(alloc, is_hiding(c.tables, u), Cause::Twice, place, x, out),
@@ -101,8 +102,8 @@ fn add_use(
             let wrong = is_global(c.tables, u);
             add_if(alloc, wrong, Cause::GlobalInArchetype, place, x, out)
         }
-        UseRule::Assigned => add_assigned_use(alloc, c.spec, &c.known, u, out),
-        UseRule::Mapped => add_mapped_use(alloc, c.spec, &c.known, u, out),
+        UseRule::Assigned => add_assigned_use(alloc, c.units, &c.known, u, out),
+        UseRule::Mapped => add_mapped_use(alloc, c.units, &c.known, u, out),
         UseRule::Underscores => {
             let wrong = has_double_underscore(x);
             add_if(alloc, wrong, Cause::DoubleUnderscore, place, x, out)
@@ -114,7 +115,7 @@ fn add_use(
 fn add_uses(
     alloc: Global,
     rule: UseRule,
-    c: &Context<'_>,
+    c: &Context<'_, '_>,
     out: &mut Vec<Finding>,
 ) -> Result<(), AllocError>
     ensures { IfOk result (λ _. out.new.items ≡ out.old.items ++ each_use (spec.use_findings rule (see c.now)) (see c.now).uses) }
@@ -125,52 +126,56 @@ fn add_uses(
     Ok(())
 }
 
-fn add_unknown(alloc: Global, c: &Context<'_>, out: &mut Vec<Finding>) -> Result<(), AllocError>
+fn add_unknown(alloc: Global, c: &Context<'_, '_>, out: &mut Vec<Finding>) -> Result<(), AllocError>
     ensures { IfOk result (λ _. out.new.items ≡ out.old.items ++ spec.unknown (see c.now)) }
 {
     add_uses(alloc, UseRule::Unknown, c, out)?;
-    add_unknown_heads(alloc, c.tables, c.spec.processes.as_slice(), out)
+    add_unknown_heads(alloc, c.tables, c.units.spec.processes.as_slice(), out)
 }
 
 /// Adds the names that hide another, and those in arguments that a macro captures.
-fn add_hidden(alloc: Global, c: &Context<'_>, out: &mut Vec<Finding>) -> Result<(), AllocError>
+fn add_hidden(alloc: Global, c: &Context<'_, '_>, out: &mut Vec<Finding>) -> Result<(), AllocError>
     ensures { IfOk result (λ _. out.new.items ≡ out.old.items ++ spec.hidden (see c.now)) }
 {
     add_uses(alloc, UseRule::Hiding, c, out)?;
     add_uses(alloc, UseRule::Captured, c, out)
 }
 
-fn add_twice(alloc: Global, c: &Context<'_>, out: &mut Vec<Finding>) -> Result<(), AllocError>
+fn add_twice(alloc: Global, c: &Context<'_, '_>, out: &mut Vec<Finding>) -> Result<(), AllocError>
     ensures { IfOk result (λ _. out.new.items ≡ out.old.items ++ spec.twice (see c.now)) }
 {
-    add_declared_twice(alloc, c.spec, out)?;
-    let names = unit_names(alloc, c.spec)?;
+    add_declared_twice(alloc, c.units.spec, out)?;
+    let names = unit_names(alloc, c.units.spec)?;
     add_reserved(alloc, names.as_slice(), out)?;
     add_hidden(alloc, c, out)
 }
 
-fn add_arities(alloc: Global, c: &Context<'_>, out: &mut Vec<Finding>) -> Result<(), AllocError>
+fn add_arities(alloc: Global, c: &Context<'_, '_>, out: &mut Vec<Finding>) -> Result<(), AllocError>
     ensures { IfOk result (λ _. out.new.items ≡ out.old.items ++ spec.arities (see c.now)) }
 {
     add_uses(alloc, UseRule::Arity, c, out)?;
-    add_arity_heads(alloc, c.tables, c.spec.processes.as_slice(), out)
+    add_arity_heads(alloc, c.tables, c.units.spec.processes.as_slice(), out)
 }
 
 fn add_name_clashes(
     alloc: Global,
-    c: &Context<'_>,
+    c: &Context<'_, '_>,
     out: &mut Vec<Finding>,
 ) -> Result<(), AllocError>
     ensures { IfOk result (λ _. out.new.items ≡ out.old.items ++ spec.clashes (see c.now)) }
 {
-    let things = things(alloc, c.spec, c.uses)?;
+    let things = things(alloc, c.units.spec, c.uses)?;
     add_clashes(alloc, things.as_slice(), out)
 }
 
-fn add_underscores(alloc: Global, c: &Context<'_>, out: &mut Vec<Finding>) -> Result<(), AllocError>
+fn add_underscores(
+    alloc: Global,
+    c: &Context<'_, '_>,
+    out: &mut Vec<Finding>,
+) -> Result<(), AllocError>
     ensures { IfOk result (λ _. out.new.items ≡ out.old.items ++ spec.underscores (see c.now)) }
 {
-    let names = head_names(alloc, c.spec)?;
+    let names = head_names(alloc, c.units.spec)?;
     add_double_names(alloc, names.as_slice(), out)?;
     add_uses(alloc, UseRule::Underscores, c, out)
 }
@@ -179,7 +184,7 @@ fn add_underscores(alloc: Global, c: &Context<'_>, out: &mut Vec<Finding>) -> Re
 fn add_found(
     alloc: Global,
     rule: Rule,
-    c: &Context<'_>,
+    c: &Context<'_, '_>,
     out: &mut Vec<Finding>,
 ) -> Result<(), AllocError>
     ensures { IfOk result (λ _. out.new.items ≡ out.old.items ++ spec.found_by rule (see c.now)) }
@@ -193,12 +198,16 @@ fn add_found(
         Rule::Mapped => add_uses(alloc, UseRule::Mapped, c, out),
         Rule::Clashes => add_name_clashes(alloc, c, out),
         Rule::Underscores => add_underscores(alloc, c, out),
-        Rule::Modules => add_unknown_modules(alloc, c.spec, out),
+        Rule::Modules => add_unknown_modules(alloc, c.units.spec, out),
     }
 }
 
 /// What the rule finds first in the text.
-fn first_found(alloc: Global, rule: Rule, c: &Context<'_>) -> Result<Option<ScopeError>, AllocError>
+fn first_found(
+    alloc: Global,
+    rule: Rule,
+    c: &Context<'_, '_>,
+) -> Result<Option<ScopeError>, AllocError>
     ensures { IfOk result (λ r. r ≡ spec.first_found rule (see c.now)) }
 {
     let mut found = Vec::new(alloc);
@@ -210,7 +219,7 @@ fn first_found(alloc: Global, rule: Rule, c: &Context<'_>) -> Result<Option<Scop
 pub fn first_of(
     alloc: Global,
     rules: &[Rule],
-    c: &Context<'_>,
+    c: &Context<'_, '_>,
 ) -> Result<Option<ScopeError>, AllocError>
     ensures { IfOk result (λ r. r ≡ first_broken (map (λ r. spec.found_by r (see c.now)) rules.now)) }
 {

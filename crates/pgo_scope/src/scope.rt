@@ -6,6 +6,7 @@ use crate::captures::{KnownCaptures, known_captures};
 use crate::errors::ScopeError;
 use crate::known::{Known, known_macros};
 use crate::rules::{Context, RULES, first_of};
+use crate::units::names_of_units;
 use pgo_syntax::spec::Spec;
 use pgo_uses::all_uses::all_uses;
 use pgo_uses::tables::tables_of;
@@ -44,8 +45,9 @@ fn refusal(alloc: Global, s: &Spec) -> Result<Option<ScopeError>, AllocError>
     let known = known_macros(alloc, macros, s.macros.as_slice())?;
     let captures = known_captures(alloc, macros, s.macros.as_slice())?;
     let uses = all_uses(alloc, s)?;
+    let units = names_of_units(alloc, s)?;
     let context = Context {
-        spec: s,
+        units: &units,
         tables: &tables,
         known: Known {
             macros,

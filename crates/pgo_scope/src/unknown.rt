@@ -1,14 +1,11 @@
 // Rule 1: a name has no meaning at its place.
 ghost use Rattle.std.specs.Prelude.{◌≡◌, ◌++◌, IfOk};
-ghost use Rattle.pgo_uses.specs.Names.{is_member};
-ghost use Rattle.pgo_uses.specs.AllUses.{parameter_names, variable_names};
 ghost use Rattle.pgo_scope.specs.Unknown as spec;
 
 use crate::finding::{Cause, Finding, add_if};
+use crate::units::UnitNames;
 use crate::words::{is_default, is_self, operator_count};
 use pgo_base::text::Text;
-use pgo_syntax::archetype::{Archetype, Parameter};
-use pgo_syntax::declaration::Declaration;
 use pgo_syntax::process::{Argument, MappingClause, MappingTarget, Process};
 use pgo_uses::tables::Tables;
 use pgo_uses::uses::{Form, Home, Use};
@@ -28,40 +25,6 @@ fn is_common(t: &Tables, x: &Text) -> bool
     is_constant(t, x) || t.definitions.has(x) || t.globals.has(x)
 }
 
-/// Whether one of these has the name.
-fn is_parameter(list: &[Parameter], x: &Text) -> bool
-    ensures { result ≡ is_member x.now (parameter_names list.now) }
-{
-    for p in list {
-        if x.is(&p.name.name) {
-            return true;
-        }
-    }
-    false
-}
-
-/// Whether one of these has the name.
-pub fn is_variable(list: &[Declaration], x: &Text) -> bool
-    ensures { result ≡ is_member x.now (variable_names list.now) }
-{
-    for d in list {
-        if x.is(&d.name.name) {
-            return true;
-        }
-    }
-    false
-}
-
-/// Whether the archetype of this number has a parameter or a local variable of the name.
-fn is_own(rs: &[Archetype], number: usize, x: &Text) -> bool
-    ensures { result ≡ spec.is_own rs.now number x.now }
-{
-    match rs.get(number) {
-        Some(r) => is_parameter(r.params.as_slice(), x) || is_variable(r.locals.as_slice(), x),
-        None => false,
-    }
-}
-
 /// Whether `self` is known there.
 pub fn knows_self(home: Home) -> bool
     ensures { result ≡ spec.knows_self home }
@@ -73,8 +36,8 @@ pub fn knows_self(home: Home) -> bool
 }
 
 /// Whether the name has a meaning there that nothing around it gives it.
-fn means(t: &Tables, rs: &[Archetype], home: Home, x: &Text) -> bool
-    ensures { result ≡ spec.means t.now rs.now home x.now }
+fn means(t: &Tables, units: &UnitNames<'_>, home: Home, x: &Text) -> bool
+    ensures { result ≡ spec.means t.now units.now.spec.now.archetypes home x.now }
 {
     match home {
         Home::Definition(i) => is_constant(t, x)
@@ -83,8 +46,8 @@ fn means(t: &Tables, rs: &[Archetype], home: Home, x: &Text) -> bool
         Home::Global(i) => !t.globals.is_at(i, x) && is_common(t, x),
         Home::Macro(_) => is_common(t, x) || is_self(x),
         Home::Mapping => is_common(t, x) || is_self(x),
-        Home::Initial(j) => !is_own(rs, j, x) && (is_common(t, x) || is_self(x)),
-        Home::InitialSet(j) => !is_own(rs, j, x) && is_common(t, x),
+        Home::Initial(j) => !units.is_own(j, x) && (is_common(t, x) || is_self(x)),
+        Home::InitialSet(j) => !units.is_own(j, x) && is_common(t, x),
         Home::Body(_) => is_common(t, x) || is_self(x),
         Home::Process => is_common(t, x),
         Home::Argument => is_common(t, x) || is_self(x),
@@ -102,12 +65,12 @@ fn may_call(t: &Tables, home: Home, x: &Text) -> bool
 }
 
 /// Whether the name has no meaning where it stands.
-pub fn is_unknown(t: &Tables, rs: &[Archetype], u: &Use) -> bool
-    ensures { result ≡ spec.is_unknown t.now rs.now u.now u.now.form }
+pub fn is_unknown(t: &Tables, units: &UnitNames<'_>, u: &Use) -> bool
+    ensures { result ≡ spec.is_unknown t.now units.now.spec.now.archetypes u.now u.now.form }
 {
     match &u.form {
         Form::Alone | Form::Applied(_) | Form::Assigned(_) => {
-            !u.inner && !means(t, rs, u.around.home, &u.name)
+            !u.inner && !means(t, units, u.around.home, &u.name)
         }
         Form::Called(_) => !may_call(t, u.around.home, &u.name),
         Form::Bound | Form::Named | Form::Field | Form::Label | Form::Target => false,

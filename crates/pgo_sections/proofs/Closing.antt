@@ -1,11 +1,12 @@
 -- The end of a path makes the state that the section's end makes.
 use Rattle.std.proofs.Common.{◌≡◌, ℕ, zero, suc, Bool, true, false, ◌||◌, List, [], ◌∷◌, length, Option, Some, None, refl, sym, ap, ◌∙◌, arith, option_and_then}
+use Rattle.std.specs.List.{AllByRecursion}
 use Rattle.pgo_base.specs.Data.{Data}
 use Rattle.pgo_base.specs.Lookup.{Name, Vars, same_name, find}
 use Rattle.pgo_model.specs.Machine.{nth}
-use Rattle.pgo_model.specs.Names.{same_name-self, same_name-is}
+use Rattle.pgo_model.specs.Names.{AreDifferent, same_name-self, same_name-is}
 use Rattle.pgo_model.specs.Operators.{both}
-use Rattle.pgo_sections.specs.SectionsAgree.{keys, Distinct}
+use Rattle.pgo_sections.specs.SectionsAgree.{keys}
 use Rattle.pgo_sections.specs.Context.{Context}
 use Rattle.pgo_sections.specs.Section.{closed_value, closed}
 use Rattle.pgo_sections.specs.Among.{is_among}
@@ -46,6 +47,10 @@ not_among (p ∷ s) x h = go (same_name x p.0) refl h (λ k. not_among s x k)
     go true e k more = absurd (grind (arith, k))
     go false e k more = find_on x p s e ∙ more k
 
+none_among : (x : Name) (ys : List Name) → AllByRecursion (λ y. same_name x y ≡ false) ys → is_among x ys ≡ false
+none_among x [] h = refl
+none_among x (y ∷ ys) h = ap (λ b. b || is_among x ys) h.0 ∙ none_among x ys h.1
+
 module _ (k : Context) (l : Name) (ch : Vars) where
   some_both : (o : Option Data) (q : Option Vars) (x : Name) (t : Vars) → both (λ v t. Some ((x, v) ∷ t)) o q ≡ Some t → (v : Data) × (rest : Vars) × (o ≡ Some v) × (q ≡ Some rest) × ((x, v) ∷ rest ≡ t)
   some_both None q x t e = absurd (grind (arith, e))
@@ -71,7 +76,7 @@ module _ (k : Context) (l : Name) (ch : Vars) where
       ap keys (sym b.4) ∙ ap (λ xs. p.0 ∷ xs) (closed_keys s b.1 b.3)
 
   -- and a state with those variables is the end
-  pub closed_is : (s t : Vars) → keys t ≡ keys s → Distinct (keys s) → ((x : Name) → is_among x (keys s) ≡ true → find x t ≡ option_and_then (closed_value k l ch x) (find x s)) → closed k l ch s ≡ Some t
+  pub closed_is : (s t : Vars) → keys t ≡ keys s → AreDifferent (keys s) → ((x : Name) → is_among x (keys s) ≡ true → find x t ≡ option_and_then (closed_value k l ch x) (find x s)) → closed k l ch s ≡ Some t
   closed_is [] [] e d h = refl
   closed_is [] (q ∷ t) e d h = absurd (let n = ap length e in omega (arith, n))
   closed_is (p ∷ s) [] e d h = absurd (let n = ap length e in omega (arith, n))
@@ -94,6 +99,6 @@ module _ (k : Context) (l : Name) (ch : Vars) where
 
       later : (x : Name) → is_among x (keys s) ≡ true → (b : Bool) → same_name x p.0 ≡ b → q.0 ≡ p.0 → find x t ≡ option_and_then (closed_value k l ch x) (find x s)
       later x is true b first =
-          absurd (let f : is_among p.0 (keys s) ≡ true = ap (λ y. is_among y (keys s)) (sym (same_name-is x p.0 b)) ∙ is in let g = d.0 in grind (arith, f, g))
+          absurd (let f : is_among p.0 (keys s) ≡ true = ap (λ y. is_among y (keys s)) (sym (same_name-is x p.0 b)) ∙ is in let g = none_among p.0 (keys s) d.0 in grind (arith, f, g))
       later x is false b first =
           sym (find_on x q t (ap (λ y. same_name x y) first ∙ b)) ∙ h x (ap (λ c. c || is_among x (keys s)) b ∙ is) ∙ ap (option_and_then (closed_value k l ch x)) (find_on x p s b)

@@ -112,7 +112,7 @@ module _ (vs : List Name) (L : ℕ) (apart : (b b' : Name) (m m' : ℕ) → m �
   IndexIs n ren env wenv (Some i) (Some j) =
       (y : Name) × (find i ren ≡ Some y) × (value_under i wenv ≡ Some j) × ((Δ : Names) → AllLater vs L apart n Δ → find y (Δ ++ env) ≡ Some (Some j))
 
-  known_index : (k : Context) (n : ℕ) (ren : Renames) (cur : Current) (env wenv : Names) (ch : Vars) (i : Option Name) → IsHere k n ren cur env wenv ch → KnownIndex vs (sources ren) i → (j : Option Data) × (index_value i wenv ≡ Some j) × IndexIs n ren env wenv i j
+  known_index : (k : Context) (n : ℕ) (ren : Renames) (cur : Current) (env wenv : Names) (ch : Vars) (i : Option Name) → IsHere k n ren cur env wenv ch → KnownIndex (sources ren) i → (j : Option Data) × (index_value i wenv ≡ Some j) × IndexIs n ren env wenv i j
   known_index k n ren cur env wenv ch None h is = (None, refl, tt)
   known_index k n ren cur env wenv ch (Some i) h is =
       let x = known k n ren cur env wenv ch i h is in (Some x.value, ap (option_map (λ v. Some v)) x.is_value, (x.made_as, x.is_made, x.is_value, x.found))

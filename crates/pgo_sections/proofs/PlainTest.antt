@@ -1,15 +1,16 @@
 -- Code that passes the test has well-formed names.
 use Rattle.std.proofs.Common.{◌≡◌, ℕ, zero, suc, ◌+◌, ◌/◌, ◌%◌, ◌<◌, ◌==◌, Bool, true, false, not, ◌&&◌, ◌||◌, if◌then◌else◌, nat_eq, nat_lt, is_some, is_none, List, [], ◌∷◌, ◌++◌, Option, Some, None, ◌⊎◌, refl, sym, ap, ◌∙◌, arith, inl, inr, mod-lt, append_assoc, decimal}
+use Rattle.std.specs.List.{AllByRecursion}
 use Rattle.std.specs.Fmt.{digit_glyph, digits_onto, digits}
 use Rattle.pgo_base.specs.Lookup.{Name, same_name, find}
 use Rattle.pgo_base.specs.Tree.{Tree, name, primed, number, text, truth, at, word, unary, binary, product, cond_of, case_of, case_other, let_in, quantified, choose, tuple, set_of, filter_of, image, fun_of, fun_set, record_of, record_set, except, index, field, call, unchanged, Trees, no_trees, more_trees, NamedTrees, no_named, more_named, TreePairs, no_arms, more_arms, BoundTrees, no_bound, more_bound, PathTrees, no_paths, more_paths}
-use Rattle.pgo_model.specs.Names.{same_name-is}
+use Rattle.pgo_model.specs.ValueText.{is_digit, all_digits}
+use Rattle.pgo_model.specs.Names.{AreDifferent, same_name-is}
 use Rattle.pgo_model.specs.Written.{made, self_name}
-use Rattle.pgo_sections.specs.SectionsAgree.{Distinct}
 use Rattle.pgo_sections.specs.Code.{Place, Code, Empty, Skip, Let, Pick, Become, Set, Await, Assert, Print, If, Either, Seq, Goto, Yield, Read, Write, Codes, no_codes, more_codes, content_name, content_places, value_name}
 use Rattle.pgo_sections.specs.Among.{is_among}
 use Rattle.pgo_sections.specs.Plain.{All, Plain, PlainAll, PlainArms, PlainFields, PlainLet, PlainBound, PlainPaths}
-use Rattle.pgo_sections.specs.PlainTest.{is_digit_code, all_digit_codes, digits_behind, looks_made, all_names, is_plain, plain_all, plain_arms, plain_fields, plain_let, plain_bound, plain_paths, is_bindable, is_alone, is_applied, plain_tree, known_index, plain_code, plain_codes, distinct_names, is_written, is_place, all_places, NamesTestIsSound}
+use Rattle.pgo_sections.specs.PlainTest.{digits_behind, looks_made, all_names, is_plain, plain_all, plain_arms, plain_fields, plain_let, plain_bound, plain_paths, is_bindable, is_alone, is_applied, plain_tree, known_index, plain_code, plain_codes, distinct_names, is_written, is_place, all_places, NamesTestIsSound}
 use Rattle.pgo_sections.specs.WellFormed.{NotMade, Bindable, Alone, Applied, PlainTree, KnownIndex, PlainCode, PlainCodes}
 
 and_true : (a b : Bool) → a && b ≡ true → (a ≡ true) × (b ≡ true)
@@ -28,28 +29,28 @@ or_right : (a b : Bool) → b ≡ true → a || b ≡ true
 or_right true b h = refl
 or_right false b h = h
 
-digit_code : (d : ℕ) → d < 10 → is_digit_code (digit_glyph false d) ≡ true
+digit_code : (d : ℕ) → d < 10 → is_digit (digit_glyph false d) ≡ true
 digit_code d h = go (nat_lt d 10) refl
   where
-    go : (b : Bool) → nat_lt d 10 ≡ b → is_digit_code (if b then 48 + d else (if false then 55 + d else 87 + d)) ≡ true
+    go : (b : Bool) → nat_lt d 10 ≡ b → is_digit (if b then 48 + d else (if false then 55 + d else 87 + d)) ≡ true
     go true e = grind (arith, h)
     go false e = absurd (grind (arith, h, e))
 
-onto_digits : (k n : ℕ) (acc : List ℕ) → all_digit_codes acc ≡ true → all_digit_codes (digits_onto k 10 false n acc) ≡ true
+onto_digits : (k n : ℕ) (acc : List ℕ) → all_digits acc ≡ true → all_digits (digits_onto k 10 false n acc) ≡ true
 onto_digits zero n acc h = h
 onto_digits (suc k) n acc h =
-    let here : all_digit_codes (digit_glyph false (n % 10) ∷ acc) ≡ true = (let pos : 0 < 10 = omega arith in ap (λ b. b && all_digit_codes acc) (digit_code (n % 10) (mod-lt n pos)) ∙ h) in
+    let here : all_digits (digit_glyph false (n % 10) ∷ acc) ≡ true = (let pos : 0 < 10 = omega arith in ap (λ b. b && all_digits acc) (digit_code (n % 10) (mod-lt n pos)) ∙ h) in
     go (n / 10 == 0) here (onto_digits k (n / 10) (digit_glyph false (n % 10) ∷ acc) here)
   where
-    go : (b : Bool) → all_digit_codes (digit_glyph false (n % 10) ∷ acc) ≡ true → all_digit_codes (digits_onto k 10 false (n / 10) (digit_glyph false (n % 10) ∷ acc)) ≡ true → all_digit_codes (if b then digit_glyph false (n % 10) ∷ acc else digits_onto k 10 false (n / 10) (digit_glyph false (n % 10) ∷ acc)) ≡ true
+    go : (b : Bool) → all_digits (digit_glyph false (n % 10) ∷ acc) ≡ true → all_digits (digits_onto k 10 false (n / 10) (digit_glyph false (n % 10) ∷ acc)) ≡ true → all_digits (if b then digit_glyph false (n % 10) ∷ acc else digits_onto k 10 false (n / 10) (digit_glyph false (n % 10) ∷ acc)) ≡ true
     go true x y = x
     go false x y = y
 
-decimal_digits : (n : ℕ) → all_digit_codes (decimal n) ≡ true
+decimal_digits : (n : ℕ) → all_digits (decimal n) ≡ true
 unfolding digits
 decimal_digits n = onto_digits 64 n [] refl
 
-made_looks : (b ds : List ℕ) → all_digit_codes ds ≡ true → looks_made (b ++ 95 ∷ 95 ∷ ds) ≡ true
+made_looks : (b ds : List ℕ) → all_digits ds ≡ true → looks_made (b ++ 95 ∷ 95 ∷ ds) ≡ true
 made_looks [] ds h = ap (λ x. x || looks_made (95 ∷ ds)) h
 made_looks (x ∷ b) ds h = or_right (nat_eq x 95 && digits_behind (b ++ 95 ∷ 95 ∷ ds)) (looks_made (b ++ 95 ∷ 95 ∷ ds)) (made_looks b ds h)
 
@@ -170,7 +171,7 @@ module _ (vs : List Name) where
   plain_sound ps ws e h =
       tree_sound (is_alone vs ps ws) (is_applied vs ps ws) (is_bindable vs) (Alone vs ps ws) (Applied vs ps ws) (Bindable vs) (λ x k. alone_sound ps ws x k) (λ x k. applied_sound ps ws x k) bindable_sound e h
 
-  index_sound : (ws : List Name) (i : Option Name) → known_index vs ws i ≡ true → KnownIndex vs ws i
+  index_sound : (ws : List Name) (i : Option Name) → known_index vs ws i ≡ true → KnownIndex ws i
   index_sound ws None h = tt
   index_sound ws (Some i) h = h
 
@@ -220,9 +221,17 @@ all_among f (y ∷ vs) h x is = let p = and_true (f y) (all_names f vs) h in go 
     go true e k fy more = ap f (same_name-is x y e) ∙ fy
     go false e k fy more = more k
 
-distinct_sound : (vs : List Name) → distinct_names vs ≡ true → Distinct vs
+all_apart : (x : Name) (ys : List Name) → is_among x ys ≡ false → AllByRecursion (λ y. same_name x y ≡ false) ys
+all_apart x [] h = tt
+all_apart x (y ∷ ys) h = go (same_name x y) refl h (all_apart x ys)
+  where
+    go : (b : Bool) → same_name x y ≡ b → b || is_among x ys ≡ false → (is_among x ys ≡ false → AllByRecursion (λ y. same_name x y ≡ false) ys) → AllByRecursion (λ y. same_name x y ≡ false) (y ∷ ys)
+    go true e k more = absurd (grind (arith, k))
+    go false e k more = (e, more k)
+
+distinct_sound : (vs : List Name) → distinct_names vs ≡ true → AreDifferent vs
 distinct_sound [] h = tt
-distinct_sound (x ∷ xs) h = let p = and_true (not (is_among x xs)) (distinct_names xs) h in (not_true (is_among x xs) p.0, distinct_sound xs p.1)
+distinct_sound (x ∷ xs) h = let p = and_true (not (is_among x xs)) (distinct_names xs) h in (all_apart x xs (not_true (is_among x xs) p.0), distinct_sound xs p.1)
 
 places_sound : (gs os : List Name) (ps : List (Name × Place)) → all_places gs os ps ≡ true → (x : Name) (p : Place) → find x ps ≡ Some p → is_place gs os p ≡ true
 places_sound gs os [] h x p e = absurd (grind (arith, e))

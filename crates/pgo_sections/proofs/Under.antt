@@ -19,7 +19,7 @@ abbrev pub names : Names → List Name
 names [] = []
 names (p ∷ Δ) = p.0 ∷ names Δ
 
-abbrev Long : ℕ → List (List Data) → Type 0
+abbrev pub Long : ℕ → List (List Data) → Type 0
 Long n [] = Unit {0}
 Long n (c ∷ cs) = (length c ≡ n) × Long n cs
 
@@ -35,25 +35,25 @@ long_spread : (n : ℕ) (ms : List Data) (cs : List (List Data)) → Long n cs �
 long_spread n [] cs h = tt
 long_spread n (m ∷ ms) cs h = long_append (suc n) (put m cs) (spread ms cs) (long_put n m cs h) (long_spread n ms cs h)
 
-long_choices : (mss : List (List Data)) → Long (length mss) (choices mss)
+pub long_choices : (mss : List (List Data)) → Long (length mss) (choices mss)
 long_choices [] = (refl, tt)
 long_choices (ms ∷ rest) = long_spread (length rest) ms (choices rest) (long_choices rest)
 
-each_long : {B : Type 0} → (n : ℕ) (f g : List Data → Option B) (cs : List (List Data)) → Long n cs → ((c : List Data) → length c ≡ n → f c ≡ g c) → each f cs ≡ each g cs
+pub each_long : {B : Type 0} → (n : ℕ) (f g : List Data → Option B) (cs : List (List Data)) → Long n cs → ((c : List Data) → length c ≡ n → f c ≡ g c) → each f cs ≡ each g cs
 each_long n f g [] h e = refl
 each_long n f g (c ∷ cs) h e =
     let p = e c h.0 in let q = each_long n f g cs h.1 e in λ i. both (λ b bs. Some (b ∷ bs)) (p i) (q i)
 
-sets_names : (bs : List (Name × List Data)) → length (sets_over bs) ≡ length (names_over bs)
+pub sets_names : (bs : List (Name × List Data)) → length (sets_over bs) ≡ length (names_over bs)
 sets_names [] = refl
 sets_names (b ∷ bs) = ap suc (sets_names bs)
 
-values_names : (xs : List Name) (vs : List Data) (Γ : Names) → length vs ≡ length xs → names (name_values xs vs Γ) ≡ below xs (names Γ)
+pub values_names : (xs : List Name) (vs : List Data) (Γ : Names) → length vs ≡ length xs → names (name_values xs vs Γ) ≡ below xs (names Γ)
 values_names [] vs Γ h = refl
 values_names (x ∷ xs) [] Γ h = absurd (omega (arith, h))
 values_names (x ∷ xs) (v ∷ vs) Γ h = values_names xs vs ((x, Some v) ∷ Γ) (omega (arith, h))
 
-values_before : (xs : List Name) (vs : List Data) (Γ env : Names) → name_values xs vs (Γ ++ env) ≡ name_values xs vs Γ ++ env
+pub values_before : (xs : List Name) (vs : List Data) (Γ env : Names) → name_values xs vs (Γ ++ env) ≡ name_values xs vs Γ ++ env
 values_before [] vs Γ env = refl
 values_before (x ∷ xs) [] Γ env = refl
 values_before (x ∷ xs) (v ∷ vs) Γ env = values_before xs vs ((x, Some v) ∷ Γ) env
@@ -74,7 +74,7 @@ some_both f None q c e = absurd (grind (arith, e))
 some_both f (Some a) None c e = absurd (grind (arith, e))
 some_both f (Some a) (Some b) c e = (a, b, refl, refl, e)
 
-ranges_names : (bs : BoundTrees) (s : Scope) (over : List (Name × List Data)) → ranges bs s ≡ Some over → names_over over ≡ names_bound bs
+pub ranges_names : (bs : BoundTrees) (s : Scope) (over : List (Name × List Data)) → ranges bs s ≡ Some over → names_over over ≡ names_bound bs
 ranges_names no_bound s over e = ap names_over (sym (some_is _ _ e))
 ranges_names (more_bound xs r bs) s over e =
     let b = some_both (λ ms rest. Some (over_each xs ms rest)) (option_and_then members_of (sem r s).value) (ranges bs s) over e in

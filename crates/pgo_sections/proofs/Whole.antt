@@ -3,14 +3,14 @@ use Rattle.std.proofs.Common.{◌≡◌, ℕ, suc, ◌-◌, ◌<◌, ◌^◌, Bo
 use Rattle.pgo_base.specs.Data.{Data, string}
 use Rattle.pgo_base.specs.Lookup.{Name, Names, Vars, same_name, find}
 use Rattle.pgo_base.specs.Tree.{name}
-use Rattle.pgo_model.specs.Names.{same_name-self, same_name-is}
+use Rattle.pgo_model.specs.Names.{AreDifferent, same_name-self, same_name-is}
 use Rattle.pgo_model.specs.Operators.{apply, both}
 use Rattle.pgo_model.specs.Options.{on}
 use Rattle.pgo_model.specs.Outcome.{NoValue, Next, Stuck, Nowhere}
 use Rattle.pgo_model.specs.State.{is_shallow}
 use Rattle.pgo_model.specs.Val.{or_else, sem, plain, call_def, meanings, index_of}
 use Rattle.pgo_model.specs.Written.{pc, self_name}
-use Rattle.pgo_sections.specs.SectionsAgree.{Distinct, IsPlace, Fit, PathAgrees, SectionsAgree}
+use Rattle.pgo_sections.specs.SectionsAgree.{IsPlace, Fit, PathAgrees, SectionsAgree}
 use Rattle.pgo_sections.specs.Blocks.{HasBlocks}
 use Rattle.pgo_sections.specs.Code.{Place, Whole, Own, Code}
 use Rattle.pgo_sections.specs.Macros.{exec}
@@ -135,7 +135,7 @@ module _ (a : PathContext) (k : Context) (t : Vars) (f : Fit a k t) where
     where
       forward : EndsIn a env (settled a.variables cur) l k.start t → J l ch
       forward h =
-          closed_is k l ch k.start t (f.after ∙ sym f.before) (subst Distinct (sym f.before) f.distinct) (λ x is.
+          closed_is k l ch k.start t (f.after ∙ sym f.before) (subst AreDifferent (sym f.before) f.distinct) (λ x is.
           let among : is_among x a.variables ≡ true = ap (λ xs. is_among x xs) (sym f.before) ∙ is in
           let at_n = nth_among a.variables x among in
           let old = there x among in

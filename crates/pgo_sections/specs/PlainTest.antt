@@ -1,23 +1,17 @@
 -- A test for code whose names are well formed.
-use Rattle.std.specs.Prelude.{◌≡◌, ℕ, Bool, true, false, not, ◌&&◌, ◌||◌, nat_eq, nat_le, is_some, is_none, List, [], ◌∷◌, Option, Some, None}
+use Rattle.std.specs.Prelude.{◌≡◌, ℕ, Bool, true, false, not, ◌&&◌, ◌||◌, nat_eq, is_some, is_none, List, [], ◌∷◌, Option, Some, None}
 use Rattle.pgo_base.specs.Lookup.{Name, same_name, find}
 use Rattle.pgo_base.specs.Tree.{Tree, name, primed, number, text, truth, at, word, unary, binary, product, cond_of, case_of, case_other, let_in, quantified, choose, tuple, set_of, filter_of, image, fun_of, fun_set, record_of, record_set, except, index, field, call, unchanged, Trees, no_trees, more_trees, NamedTrees, no_named, more_named, TreePairs, no_arms, more_arms, BoundTrees, no_bound, more_bound, PathTrees, no_paths, more_paths}
+use Rattle.pgo_model.specs.Names.{AreDifferent}
+use Rattle.pgo_model.specs.ValueText.{all_digits}
 use Rattle.pgo_model.specs.Written.{self_name}
-use Rattle.pgo_sections.specs.SectionsAgree.{Distinct}
 use Rattle.pgo_sections.specs.Code.{Place, Whole, Own, Code, Empty, Skip, Let, Pick, Become, Set, Await, Assert, Print, If, Either, Seq, Goto, Yield, Read, Write, Codes, no_codes, more_codes, content_name, content_places, value_name}
 use Rattle.pgo_sections.specs.Among.{is_among}
 use Rattle.pgo_sections.specs.WellFormed.{NotMade, PlainCode}
 
-abbrev pub is_digit_code : ℕ → Bool
-is_digit_code c = nat_le 48 c && nat_le c 57
-
-abbrev pub all_digit_codes : List ℕ → Bool
-all_digit_codes [] = true
-all_digit_codes (c ∷ cs) = is_digit_code c && all_digit_codes cs
-
 abbrev pub digits_behind : List ℕ → Bool
 digits_behind [] = false
-digits_behind (c ∷ cs) = nat_eq c 95 && all_digit_codes cs
+digits_behind (c ∷ cs) = nat_eq c 95 && all_digits cs
 
 -- two underscores and digits at the end
 abbrev pub looks_made : List ℕ → Bool
@@ -157,7 +151,7 @@ names_pass vs gs os ps =
 
 -- what `Fit` asks of these names
 pub record NamesFit (vs gs os : List Name) (ps : List (Name × Place)) : Type 0 where
-  pub distinct : Distinct vs
+  pub distinct : AreDifferent vs
   pub written : (x : Name) → is_among x vs ≡ true → NotMade x × (same_name x self_name ≡ false)
   pub globals : (x : Name) → is_among x gs ≡ true → is_among x vs ≡ true
   pub owns : (x : Name) → is_among x os ≡ true → is_among x vs ≡ true

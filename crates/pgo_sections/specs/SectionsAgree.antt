@@ -1,7 +1,8 @@
 -- The promise of the expansion: it allows exactly the steps that the section allows.
-use Rattle.std.specs.Prelude.{◌≡◌, ◌<◌, ◌^◌, true, false, List, [], ◌∷◌, ◌↔◌, Some}
+use Rattle.std.specs.Prelude.{◌≡◌, ◌<◌, ◌^◌, true, false, List, [], ◌∷◌, map, ◌↔◌, Some}
 use Rattle.pgo_base.specs.Data.{Data}
 use Rattle.pgo_base.specs.Lookup.{Name, Vars, same_name, find}
+use Rattle.pgo_model.specs.Names.{AreDifferent}
 use Rattle.pgo_model.specs.State.{is_shallow}
 use Rattle.pgo_model.specs.Val.{meanings, call_def}
 use Rattle.pgo_model.specs.Written.{self_name}
@@ -16,13 +17,7 @@ use Rattle.pgo_sections.specs.Expansion.{PathContext, Path}
 use Rattle.pgo_sections.specs.WellFormed.{NotMade, PlainCode}
 
 abbrev pub keys : {A : Type 0} → List (Name × A) → List Name
-keys [] = []
-keys (p ∷ ps) = p.0 ∷ keys ps
-
--- no name stands twice
-abbrev pub Distinct : List Name → Type 0
-Distinct [] = Unit {0}
-Distinct (x ∷ xs) = (is_among x xs ≡ false) × Distinct xs
+keys ps = map (λ p. p.0) ps
 
 -- a global, or an own variable of the instance
 abbrev pub IsPlace : Context → Place → Type 0
@@ -38,7 +33,7 @@ pub record Fit (a : PathContext) (k : Context) (t : Vars) : Type 0 where
   pub before : keys k.start ≡ a.variables
   pub after : keys t ≡ a.variables
   pub shallow : is_shallow t ≡ true
-  pub distinct : Distinct a.variables
+  pub distinct : AreDifferent a.variables
   pub written : (x : Name) → is_among x a.variables ≡ true → NotMade x × (same_name x self_name ≡ false)
   pub inside : (p : Place) → IsPlace k p → is_among (variable_of p) a.variables ≡ true
   pub places : (x : Name) (p : Place) → find x k.places ≡ Some p → IsPlace k p

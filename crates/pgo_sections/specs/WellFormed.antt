@@ -11,6 +11,11 @@ use Rattle.pgo_sections.specs.Plain.{Plain}
 abbrev pub NotMade : Name → Type 0
 NotMade x = (b : Name) (m : ℕ) → same_name x (made b m) ≡ false
 
+-- an index stands under a name that the code bound
+abbrev pub KnownIndex : List Name → Option Name → Type 0
+KnownIndex ws None = Unit {0}
+KnownIndex ws (Some i) = is_among i ws ≡ true
+
 -- vs: the written names of the variables
 module _ (vs : List Name) where
   -- what an expression may bind: it hides no name that the expansion puts into it
@@ -29,11 +34,6 @@ module _ (vs : List Name) where
 
   abbrev pub PlainTree : List (Name × Place) → List Name → Tree → Type 0
   PlainTree places ws e = Plain (Alone places ws) (Applied places ws) Bindable e
-
-  -- an index stands under a name that the code bound
-  abbrev pub KnownIndex : List Name → Option Name → Type 0
-  KnownIndex ws None = Unit {0}
-  KnownIndex ws (Some i) = is_among i ws ≡ true
 
   abbrev mutual
     pub PlainCode : List Name → List (Name × Place) → List Name → Code → Type 0

@@ -130,11 +130,11 @@ module _ (vs : List Name) (bad : Name → Bool) (free : Name → Type 0) (m : Ma
       go None y e k = absurd (grind (arith, e))
       go (Some y') y e k = k.1
 
-  content_avoids : (above : List Name) (ren : Renames) (cur : Current) (g : Name) (i : Option Name) → AllGood above ren → AllGood above cur → bad g ≡ false → KnownIndex vs (sources ren) i → Avoids bad (content_tree ren cur g i)
+  content_avoids : (above : List Name) (ren : Renames) (cur : Current) (g : Name) (i : Option Name) → AllGood above ren → AllGood above cur → bad g ≡ false → KnownIndex (sources ren) i → Avoids bad (content_tree ren cur g i)
   content_avoids above ren cur g None r c h k = current_avoids above cur (Whole g) c h
   content_avoids above ren cur g (Some i) r c h k = (current_avoids above cur (Whole g) c h, (made_avoids above ren i r k, tt))
 
-  put_avoids : (above : List Name) (ren : Renames) (cur : Current) (g : Name) (i : Option Name) (e : Tree) → AllGood above ren → AllGood above cur → bad g ≡ false → KnownIndex vs (sources ren) i → Avoids bad e → Avoids bad (content_put ren cur g i e)
+  put_avoids : (above : List Name) (ren : Renames) (cur : Current) (g : Name) (i : Option Name) (e : Tree) → AllGood above ren → AllGood above cur → bad g ≡ false → KnownIndex (sources ren) i → Avoids bad e → Avoids bad (content_put ren cur g i e)
   put_avoids above ren cur g None e r c h k a = a
   put_avoids above ren cur g (Some i) e r c h k a =
       (current_avoids above cur (Whole g) c h, ((made_avoids above ren i r k, tt), a, tt))
@@ -187,17 +187,17 @@ module _ (vs : List Name) (bad : Name → Bool) (free : Name → Type 0) (m : Ma
   becoming_good above p None cur h c = c
   becoming_good above p (Some y) cur h c = (h, c)
 
-  put_back_named : (above : List Name) (ren : Renames) (cur : Current) (g : Name) (i : Option Name) (e : Tree) (n : ℕ) (k : OnGo) → AllGood above ren → AllGood above cur → bad g ≡ false → KnownIndex vs (sources ren) i → Avoids bad e → GoNamed above k → IsNamed bad free above (put_back ren cur g i e n k)
+  put_back_named : (above : List Name) (ren : Renames) (cur : Current) (g : Name) (i : Option Name) (e : Tree) (n : ℕ) (k : OnGo) → AllGood above ren → AllGood above cur → bad g ≡ false → KnownIndex (sources ren) i → Avoids bad e → GoNamed above k → IsNamed bad free above (put_back ren cur g i e n k)
   put_back_named above ren cur g i e n k r c h x a go =
       (m.made_free g (suc n), put_avoids above ren cur g i e r c h x a, go (made g (suc n) ∷ above) ((g, made g (suc n)) ∷ cur) (suc n) (one_more above (made g (suc n))) (made_good above g (suc n), all_cons above (made g (suc n)) cur c))
 
-  left_named : (b : Bool) (above : List Name) (ren : Renames) (cur : Current) (g : Name) (i : Option Name) (e : Tree) (n : ℕ) (k : OnGo) → AllGood above ren → AllGood above cur → bad g ≡ false → KnownIndex vs (sources ren) i → Avoids bad e → GoNamed above k → IsNamed bad free above (left_behind b ren cur g i e n k)
+  left_named : (b : Bool) (above : List Name) (ren : Renames) (cur : Current) (g : Name) (i : Option Name) (e : Tree) (n : ℕ) (k : OnGo) → AllGood above ren → AllGood above cur → bad g ≡ false → KnownIndex (sources ren) i → Avoids bad e → GoNamed above k → IsNamed bad free above (left_behind b ren cur g i e n k)
   left_named false above ren cur g i e n k r c h x a go = go above cur n (λ y h. h) c
   left_named true above ren cur g i e n k r c h x a go = put_back_named above ren cur g i e n k r c h x a go
 
   read_named : (ps : List (Name × Place)) (d : Code) (w g : Name) (i : Option Name) (above : List Name) (ren : Renames) (cur : Current) (k : OnGo) (j : OnJump) (y : OnYield)
       → ((last : List Name) (z : Name) (cur' : Current) (n : ℕ) → AllGood last ((w, z) ∷ ren) → AllGood last cur' → GoNamed last k → JumpNamed last j → YieldNamed last y → IsNamed bad free last (expand ps d ((w, z) ∷ ren) cur' n k j y))
-      → bad g ≡ false → KnownIndex vs (sources ren) i → AllGood above ren → AllGood above cur → GoNamed above k → JumpNamed above j → YieldNamed above y
+      → bad g ≡ false → KnownIndex (sources ren) i → AllGood above ren → AllGood above cur → GoNamed above k → JumpNamed above j → YieldNamed above y
       → (more : List Name) (e' : Tree) (mem : Current) (n' : ℕ) → Within above more → AllGood more mem → Avoids bad e' → IsNamed bad free more (read_then ps d w g i ren cur k j y e' mem n')
   read_named ps d w g i above ren cur k j y inner g_ok i_ok r c gk gj gy more e' mem n' w1 c' a' =
       let v = made val_base (suc n') in
@@ -211,7 +211,7 @@ module _ (vs : List Name) (bad : Name → Bool) (free : Name → Type 0) (m : Ma
             inner last v cur' n'' ((w3 v (made_good more val_base (suc n')).0, m.made_good val_base (suc n')), all_within above last ren w4 r) c'' (go_more above last k w4 gk) (jump_more above last j w4 gj) (yield_more above last y w4 gy)),
       )
 
-  write_named : (g : Name) (i : Option Name) (above : List Name) (ren : Renames) (cur : Current) (k : OnGo) → bad g ≡ false → KnownIndex vs (sources ren) i → AllGood above ren → AllGood above cur → GoNamed above k
+  write_named : (g : Name) (i : Option Name) (above : List Name) (ren : Renames) (cur : Current) (k : OnGo) → bad g ≡ false → KnownIndex (sources ren) i → AllGood above ren → AllGood above cur → GoNamed above k
       → (more : List Name) (e' : Tree) (mem : Current) (n' : ℕ) → Within above more → AllGood more mem → Avoids bad e' → IsNamed bad free more (write_then g i ren cur k e' mem n')
   write_named g i above ren cur k g_ok i_ok r c gk more e' mem n' w1 c' a' =
       let v = made new_base (suc n') in

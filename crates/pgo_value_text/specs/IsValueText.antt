@@ -4,7 +4,8 @@ use Rattle.pgo_base.specs.Data.{Data, boolean, integer, string, model, set, func
 use Rattle.pgo_base.specs.Pairs.{pairs_in_order}
 use Rattle.pgo_base.specs.Sets.{in_order, IsIn}
 use Rattle.pgo_model.specs.Operators.{fits_i64, sequence_at, most_members}
-use Rattle.pgo_model.specs.ValueText.{is_digit, is_identifier, string_text, truth_text}
+use Rattle.pgo_model.specs.ValueText.{is_identifier, string_text, truth_text}
+pub use Rattle.pgo_model.specs.ValueText.{all_digits}
 use Rattle.pgo_model.specs.IsBundle.{all_string_bytes}
 
 -- how deep a text may nest
@@ -28,10 +29,6 @@ all_blank (b ∷ bs) = is_blank b && all_blank bs
 -- an identifier that may stand in a value text
 abbrev pub is_name : List ℕ → Bool
 is_name x = is_identifier x && nat_le (length x) most_bytes
-
-abbrev pub all_digits : List ℕ → Bool
-all_digits [] = true
-all_digits (b ∷ bs) = is_digit b && all_digits bs
 
 -- one digit or more; leading zeros may stand among them
 abbrev pub are_digits : List ℕ → Bool

@@ -10,9 +10,9 @@ use Rattle.pgo_model.specs.MachineLists.{nth_left, nth_below}
 use Rattle.pgo_model.specs.MachineAccounts.{equal_or, append_none}
 use Rattle.pgo_model.specs.Accounts.{journal, Accounts, Contended, JointAccounts, Told as MachineTold, IsAmong, ReachedBefore, ReachedJournal}
 use Rattle.pgo_workers.specs.Walk.{Own, Walk, Stop, Touch, At, Agrees, Within, visits, ending}
-use Rattle.pgo_workers.specs.View.{Refusal, IsHeld, IsFull, Taking, Told, World, state}
+use Rattle.pgo_workers.specs.View.{Refusal, IsHeld, IsFull, Taking, Told, World, places, state}
 use Rattle.pgo_workers.specs.Worker.{Program, rules_of}
-use Rattle.pgo_workers.specs.Sentences.{refusals, downs, Sub, SNone, SHere, SOver, flat, last_of, granted, resources_at, Shows, EachTaking, Ends, held_last, Closes, Tells, AccountsOfOne, Past, History, Runs, IsOwn}
+use Rattle.pgo_workers.specs.Sentences.{refusals, downs, Sub, SNone, SHere, SOver, flat, last_of, granted, Shows, EachTaking, Ends, held_last, Closes, Tells, AccountsOfOne, Past, History, Runs, IsOwn}
 use Rattle.pgo_workers.specs.Holds as holds
 
 some_same : {A : Type 0} (x y : A) → Some x ≡ Some y → x ≡ y
@@ -289,7 +289,7 @@ module _ {S D : Type 0} (W : World S D) (P : Program S D) (Reaches : ℕ → ℕ
           let others : List ℕ = s.1.0 in
           let v = s.1.2 (W.value (state W entries a.0)) a.2 in
           let t = trace_there h j a.0 past.own last a.1 a.3 s.0 ∙ v.2 ∙ ap (λ r. v.0 ++ (r ∷ v.1)) c.2 in
-          let are : resources_at last.held ≡ others = s.1.1.0 ∙ ap (λ o. elim o as (λ o. List ℕ) [ None ↦ others ++ (last.resource ∷ []) | Some h ↦ others ]) c.3 in
+          let are : places last.held ≡ others = s.1.1.0 ∙ ap (λ o. elim o as (λ o. List ℕ) [ None ↦ others ++ (last.resource ∷ []) | Some h ↦ others ]) c.3 in
           let mine : among r others ≡ true = ap (λ i. among i others) (sym named) ∙ ap (among m.resource) (sym (c.4 ∙ are)) ∙ granted_has ms m has granted_ in
           let before = among_at r v.0 (holds.accessed r v.0 [] (ap (among r) v.3 ∙ mine) (λ z. let y : true ≡ false = sym z in absurd (grind (arith, y)))) in
           let new : among q v.0 ≡ false = (holds.not_accessed q v.0 [] (ap (among q) v.3 ∙ ap (λ i. among i others) (sym c.2) ∙ s.1.1.1)).0 in

@@ -166,8 +166,8 @@ module _ {S D : Type 0} (W : World S D) (P : Program S D) (Reaches : ℕ → ℕ
       ends w b d w.own (Held r h) (aborted d.held) t.same (held_aborted b d t.held) (sound_aborted d.held sound) (back_aborted d.held sound) (m.own ∙ sym own) (own_then_seen W P Reaches Good runs w b d t.grows m.own_then)
       (accounts_refused w b d (Held r h) m t.grows (subst (λ n. length d.entries ≤ n) (t.same.steps ∙ m.steps) room) ((λ e. t.other (e ∙ sym m.instance)), t.there, inl reach) (λ y. tt) u.may)
       (refused_lists w b d (Held r h) (aborted d.held) (λ t. answers take (refuses (IsHeld r h) t)) (take ∷ []) m on t.grows t.told (λ t. (refl, refl, refl)) (SNone (flat (map passing (aborted d.held))))
-      ((own ∙ sym m.own, shows W P Reaches Good runs w b (readied_of W P w.phase) r leave rest (rest_of W P w w.phase) take is fresh u refl (holds.resources_at_values d.held ∙ ap resources_of t.held, fresh) (λ f a. subst (λ l. Agrees l f) vals a)), tt)
-      (λ t q whole. inr (take, holds.last_of_append q.now take, refl, refl, holds.granted_append q.now (take ∷ []) ∙ nil_append (granted q.now) ∙ (q.taken whole).granted_is ∙ sym (holds.resources_at_values d.held ∙ ap resources_of t'.held)))
+      ((own ∙ sym m.own, shows W P Reaches Good runs w b (readied_of W P w.phase) r leave rest (rest_of W P w w.phase) take is fresh u refl (holds.places_values d.held ∙ ap resources_of t.held, fresh) (λ f a. subst (λ l. Agrees l f) vals a)), tt)
+      (λ t q whole. inr (take, holds.last_of_append q.now take, refl, refl, holds.granted_append q.now (take ∷ []) ∙ nil_append (granted q.now) ∙ (q.taken whole).granted_is ∙ sym (holds.places_values d.held ∙ ap resources_of t'.held)))
       (λ t q h. history_takes W P Reaches Good runs w.number b.entries w.records t.takes q.now take h))
       m
     where

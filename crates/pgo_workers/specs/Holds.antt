@@ -5,9 +5,9 @@ use Rattle.pgo_base.specs.Data.{Data}
 use Rattle.pgo_model.specs.Machine.{Entry, Record, Step, Noted, Held, Down, Full, among, nth}
 use Rattle.pgo_model.specs.MachineAccounts.{equal_or}
 use Rattle.pgo_workers.specs.Walk.{Own, At, Agrees, replaced, taken_after, among_append, append_assoc}
-use Rattle.pgo_workers.specs.View.{Shown, raised, Hold, Taking, IsHeld, IsFull, World, hold_at, resources_of, values_of, nows_of, with_content, aborted, committed, EachHold, IsSteady, stretch, passing, Others, Once, changed, renewed, own_left}
+use Rattle.pgo_workers.specs.View.{Shown, raised, Hold, Taking, IsHeld, IsFull, World, hold_at, resources_of, values_of, nows_of, with_content, aborted, committed, EachHold, IsSteady, stretch, passing, Others, Once, changed, places, renewed, own_left}
 use Rattle.pgo_workers.specs.Worker.{changes_of}
-use Rattle.pgo_workers.specs.Sentences.{refusals, downs, Sub, SNone, SHere, SOver, flat, last_of, granted, resources_at, held_last, EachTaking, changes_at, IsOwn}
+use Rattle.pgo_workers.specs.Sentences.{refusals, downs, Sub, SNone, SHere, SOver, flat, last_of, granted, held_last, EachTaking, changes_at, IsOwn}
 
 some_same : {A : Type 0} (x y : A) → Some x ≡ Some y → x ≡ y
 some_same x y h = grind arith
@@ -25,9 +25,9 @@ pub nows_append : (a b : List Hold) → nows_of (a ++ b) ≡ nows_of a ++ nows_o
 nows_append [] b = refl
 nows_append (h ∷ a) b = ap (λ l. (h.resource, h.content.current) ∷ l) (nows_append a b)
 
-pub resources_at_values : (hs : List Hold) → resources_at (values_of hs) ≡ resources_of hs
-resources_at_values [] = refl
-resources_at_values (h ∷ hs) = ap (λ l. h.resource ∷ l) (resources_at_values hs)
+pub places_values : (hs : List Hold) → places (values_of hs) ≡ resources_of hs
+places_values [] = refl
+places_values (h ∷ hs) = ap (λ l. h.resource ∷ l) (places_values hs)
 
 pub each_append : (Q : Hold → Type 0) (a b : List Hold) → EachHold Q a → EachHold Q b → EachHold Q (a ++ b)
 each_append Q [] b h k = k

@@ -350,7 +350,7 @@ module _ {S D : Type 0} (W : World S D) (P : Program S D) (Reaches : ℕ → ℕ
       lists s e u fresh own res = go b.told refl e
         where
           shown : Shows (P.tree w.number (attempt w) w.own) take
-          shown = shows w b (readied_of W P w.phase) r leave rest (rest_of W P w w.phase) take is fresh u refl (holds.resources_at_values c.held ∙ res, fresh)
+          shown = shows w b (readied_of W P w.phase) r leave rest (rest_of W P w w.phase) take is fresh u refl (holds.places_values c.held ∙ res, fresh)
               (λ f a. agrees_first (values_of b.held) _ f (subst (λ l. Agrees l f) (ap values_of t.held ∙ holds.values_append b.held _) a))
 
           go : (o : Option Told) → b.told ≡ o → untold o (answers take) ≡ Some s → Lists W P Reaches Good (record w { phase = Walking (Touch r leave rest) 0; taken = w.taken ++ (r ∷ []) }) c s

@@ -3,6 +3,7 @@ pub mod View
 pub mod Worker
 pub mod Sentences
 pub mod Worlds
+pub mod Programs
 pub mod Operations
 pub mod Holds
 pub mod OneAccounts

@@ -1,10 +1,10 @@
 -- What a longer journal, and a further record, do to what one instance's records say.
 use Rattle.std.proofs.Common.{◌≡◌, ◌≤◌, ◌<◌, ℕ, zero, suc, ◌+◌, Bool, true, false, List, [], ◌∷◌, ◌++◌, length, Some, refl, sym, ap, ◌∙◌, subst, arith, ◌⊎◌, inl, inr, length-append}
 use Rattle.std.specs.Prelude.{if◌then◌else◌, nat_eq}
-use Rattle.pgo_model.specs.Outcome.{Next, Blocked, NoValue, AssertFails}
+use Rattle.pgo_model.specs.Outcome.{Next}
 use Rattle.pgo_model.specs.Machine.{Entry, Note, Record, Step, Noted, Held, Down, Full, last_ends, nth}
 use Rattle.pgo_model.specs.MachineLists.{nth_left, nth_last, nth_below, nth_end}
-use Rattle.pgo_model.specs.MachineAccounts.{equal_or}
+use Rattle.pgo_model.specs.MachineAccounts.{full_ends, equal_or}
 use Rattle.pgo_model.specs.Accounts.{ComesAfter}
 use Rattle.pgo_workers.specs.Walk.{Own}
 use Rattle.pgo_workers.specs.View.{World, along, Others, OtherNotes, notes_of, state}
@@ -13,22 +13,6 @@ use Rattle.pgo_workers.specs.Sentences.{Tells, AccountsOfOne, AllGood, OwnThen}
 
 some_same : {A : Type 0} (x y : A) → Some x ≡ Some y → x ≡ y
 some_same x y h = grind arith
-
-skip : (y z : Record) (l : List Record) → last_ends (y ∷ (z ∷ l)) ≡ last_ends (z ∷ l)
-skip (Step n) z l = refl
-skip (Noted Blocked p) z l = refl
-skip (Noted NoValue p) z l = refl
-skip (Noted AssertFails p) z l = refl
-skip (Held r h) z l = refl
-skip (Down r o) z l = refl
-skip (Full n) z l = refl
-
-full_ends : (l : List Record) (i q : ℕ) → nth l i ≡ Some (Full q) → suc i ≡ length l → last_ends l ≡ true
-full_ends [] i q h e = absurd (grind (arith, h))
-full_ends (y ∷ []) zero q h e = let y' : y ≡ Full q = grind (arith, h) in ap (λ y. last_ends (y ∷ [])) y'
-full_ends (y ∷ (z ∷ l)) zero q h e = absurd (omega (arith, e))
-full_ends (y ∷ []) (suc i) q h e = absurd (omega (arith, e))
-full_ends (y ∷ (z ∷ l)) (suc i) q h e = skip y z l ∙ full_ends (z ∷ l) i q h (let e' : suc i ≡ length (z ∷ l) = omega (arith, e) in e')
 
 -- a longer journal has the same states along the former entries
 pub along_below : {S D : Type 0} (f : S → D → S) (s : S) (l k : List (Entry D)) (n : ℕ) → n ≤ length l → along f s (l ++ k) n ≡ along f s l n

@@ -46,18 +46,13 @@ abbrev pub granted : List Taking → List ℕ
 granted [] = []
 granted (m ∷ ms) = (elim (m.refusal) as (λ o. List ℕ) [ None ↦ m.resource ∷ granted ms | Some h ↦ granted ms ])
 
--- what a take says besides its resource: the resources of the values, without its own where it was granted
-abbrev pub resources_at : List At → List ℕ
-resources_at [] = []
-resources_at (v ∷ vs) = v.0 ∷ resources_at vs
-
 -- the trace has r, with `others` taken before
 abbrev pub ReachedAfter : ℕ → List ℕ → List ℕ → Type 0
 ReachedAfter r others trace = (p q : List ℕ) × (trace ≡ p ++ (r ∷ q)) × (taken_after p [] ≡ others)
 
--- the resources that were held besides, at an answered take
+-- the resources that were held besides, at an answered take: those of the values, without its own where it was granted
 abbrev pub OthersAt : Taking → List ℕ → Type 0
-OthersAt m others = (resources_at m.held ≡ (elim (m.refusal) as (λ o. List ℕ) [ None ↦ others ++ (m.resource ∷ []) | Some h ↦ others ])) × (among m.resource others ≡ false)
+OthersAt m others = (places m.held ≡ (elim (m.refusal) as (λ o. List ℕ) [ None ↦ others ++ (m.resource ∷ []) | Some h ↦ others ])) × (among m.resource others ≡ false)
 
 -- on all values that agree with the member, the walk has its resource, after the others then held
 abbrev pub Shows : Walk → Taking → Type 0
@@ -80,7 +75,7 @@ abbrev pub Closes : Walk → List Taking → Record → Type 0
 Closes w ms (Step n) = Unit {0}
 Closes w ms (Noted kind p) = Unit {0}
 Closes w ms (Held r h) =
-    (r ≡ journal) ⊎ ((m : Taking) × (last_of ms ≡ Some m) × (m.resource ≡ r) × (m.refusal ≡ Some h) × (granted ms ≡ resources_at m.held))
+    (r ≡ journal) ⊎ ((m : Taking) × (last_of ms ≡ Some m) × (m.resource ≡ r) × (m.refusal ≡ Some h) × (granted ms ≡ places m.held))
 Closes w ms (Down r o) = Ends w (held_last ms) × (among r (granted ms) ≡ true) × ((f : ℕ → Data) → Agrees (held_last ms) f → among r (visits w f) ≡ true)
 Closes w ms (Full n) = Ends w (held_last ms)
 

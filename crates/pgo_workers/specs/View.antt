@@ -186,6 +186,7 @@ abbrev pub Once : List ℕ → Type 0
 Once [] = Unit {0}
 Once (r ∷ rs) = (among r rs ≡ false) × Once rs
 
+-- the resources of the values
 abbrev pub places : List At → List ℕ
 places [] = []
 places (v ∷ vs) = v.0 ∷ places vs

@@ -14,7 +14,8 @@ use Rattle.pgo_sections.specs.Expansion.{With as EWith}
 use Rattle.pgo_sections.specs.Nodes.{nodes, arms_total}
 use Rattle.pgo_sections.proofs.Here.{sources, among_found}
 use Rattle.pgo_written.specs.Formed.{Formed, RangeFormed}
-use Rattle.pgo_written.specs.FormedCode.{IsBase, IsText, Alone, IndexBound, CodeFormed, CodesFormed, ExpansionFormed, ExpansionsFormed}
+use Rattle.pgo_sections.specs.WellFormed.{KnownIndex}
+use Rattle.pgo_written.specs.FormedCode.{IsBase, IsText, Alone, CodeFormed, CodesFormed, ExpansionFormed, ExpansionsFormed}
 use Rattle.pgo_written.proofs.FormedTrees.{well_formed, range_well, replaced_formed, range_replaced, bound_name}
 use Rattle.pgo_written.proofs.WrittenNames as written_names
 use Rattle.pgo_written.proofs.WrittenNames.{base_name, self_is_name}
@@ -161,11 +162,11 @@ module _ (held : List Name) where
     range_formed : (e : Tree) → RangeFormed (Alone ps (sources ren)) e → RangeFormed IsName (current_tree ps ren cur e)
     range_formed e h = range_replaced (Alone ps (sources ren)) IsName (current_name ps ren cur) stands [] tt e h
 
-  content_formed : (ren : Renames) (cur : Current) (g : Name) (i : Option Name) → StandForNames ren → Holds held cur → IsBase g → IndexBound (sources ren) i → Formed IsName (content_tree ren cur g i)
+  content_formed : (ren : Renames) (cur : Current) (g : Name) (i : Option Name) → StandForNames ren → Holds held cur → IsBase g → KnownIndex (sources ren) i → Formed IsName (content_tree ren cur g i)
   content_formed ren cur g None r c h k = current_formed cur (Whole g) c (inl (base_name g h))
   content_formed ren cur g (Some i) r c h k = (current_formed cur (Whole g) c (inl (base_name g h)), (index_name ren i r k, tt))
 
-  put_formed : (ren : Renames) (cur : Current) (g : Name) (i : Option Name) (e : Tree) → StandForNames ren → Holds held cur → IsBase g → IndexBound (sources ren) i → Formed IsName e → Formed IsName (content_put ren cur g i e)
+  put_formed : (ren : Renames) (cur : Current) (g : Name) (i : Option Name) (e : Tree) → StandForNames ren → Holds held cur → IsBase g → KnownIndex (sources ren) i → Formed IsName e → Formed IsName (content_put ren cur g i e)
   put_formed ren cur g None e r c h k a = a
   put_formed ren cur g (Some i) e r c h k a =
       (current_formed cur (Whole g) c (inl (base_name g h)), ((index_name ren i r k, tt), a, tt))
@@ -181,13 +182,13 @@ module _ (held : List Name) where
   abbrev YieldFormed : OnYield → Type 0
   YieldFormed y = (e : Tree) (cur : Current) (n : ℕ) → Formed IsName e → Holds held cur → n + nodes (y e cur n) ≤ most → ExpansionFormed (y e cur n)
 
-  put_back_formed : (ren : Renames) (cur : Current) (g : Name) (i : Option Name) (e : Tree) (n : ℕ) (k : OnGo) → StandForNames ren → Holds held cur → IsBase g → IndexBound (sources ren) i → Formed IsName e → GoFormed k
+  put_back_formed : (ren : Renames) (cur : Current) (g : Name) (i : Option Name) (e : Tree) (n : ℕ) (k : OnGo) → StandForNames ren → Holds held cur → IsBase g → KnownIndex (sources ren) i → Formed IsName e → GoFormed k
       → n + nodes (put_back ren cur g i e n k) ≤ most → ExpansionFormed (put_back ren cur g i e n k)
   put_back_formed ren cur g i e n k r c h x a go fits =
       let z = made_fits g n _ _ h fits in
       (z, well_formed (content_put ren cur g i e) (put_formed ren cur g i e r c h x a), go ((g, made g (suc n)) ∷ cur) (suc n) (holds_more held g (made g (suc n)) cur z c) (bound_fits n _ _ fits))
 
-  left_formed : (b : Bool) (ren : Renames) (cur : Current) (g : Name) (i : Option Name) (e : Tree) (n : ℕ) (k : OnGo) → StandForNames ren → Holds held cur → IsBase g → IndexBound (sources ren) i → Formed IsName e → GoFormed k
+  left_formed : (b : Bool) (ren : Renames) (cur : Current) (g : Name) (i : Option Name) (e : Tree) (n : ℕ) (k : OnGo) → StandForNames ren → Holds held cur → IsBase g → KnownIndex (sources ren) i → Formed IsName e → GoFormed k
       → n + nodes (left_behind b ren cur g i e n k) ≤ most → ExpansionFormed (left_behind b ren cur g i e n k)
   left_formed false ren cur g i e n k r c h x a go fits = go cur n c fits
   left_formed true ren cur g i e n k r c h x a go fits = put_back_formed ren cur g i e n k r c h x a go fits
@@ -197,7 +198,7 @@ Block = content_name ∷ []
 
 read_formed : (held : List Name) (ps : List (Name × Place)) (d : Code) (w g : Name) (i : Option Name) (ren : Renames) (cur : Current) (k : OnGo) (j : OnJump) (y : OnYield)
     → ((z : Name) → IsName z → GoFormed held (λ cur' n''. expand ps d ((w, z) ∷ ren) cur' n'' k j y))
-    → IsBase g → IndexBound (sources ren) i → StandForNames ren → Holds held cur → YieldFormed Block (read_then ps d w g i ren cur k j y)
+    → IsBase g → KnownIndex (sources ren) i → StandForNames ren → Holds held cur → YieldFormed Block (read_then ps d w g i ren cur k j y)
 read_formed held ps d w g i ren cur k j y inner h x r c e' mem n' a m fits =
     let v = made val_base (suc n') in
     let z = made_fits val_base n' _ _ (refl, omega arith) fits in (
@@ -206,7 +207,7 @@ read_formed held ps d w g i ren cur k j y inner h x r c e' mem n' a m fits =
       left_formed held (is_assigned mem) ren cur g i (current mem (Whole content_name)) (suc n') (λ cur' n''. expand ps d ((w, v) ∷ ren) cur' n'' k j y) r c h x (current_formed Block mem (Whole content_name) m (inr refl)) (inner v z) (bound_fits n' _ _ fits),
     )
 
-write_formed : (held : List Name) (g : Name) (i : Option Name) (ren : Renames) (cur : Current) (k : OnGo) → IsBase g → IndexBound (sources ren) i → StandForNames ren → Holds held cur → GoFormed held k → YieldFormed Block (write_then g i ren cur k)
+write_formed : (held : List Name) (g : Name) (i : Option Name) (ren : Renames) (cur : Current) (k : OnGo) → IsBase g → KnownIndex (sources ren) i → StandForNames ren → Holds held cur → GoFormed held k → YieldFormed Block (write_then g i ren cur k)
 write_formed held g i ren cur k h x r c go e' mem n' a m fits =
     let z = made_fits new_base n' _ _ (refl, omega arith) fits in
     (z, well_formed e' a, put_back_formed held ren cur g i (name (made new_base (suc n'))) (suc n') k r c h x z go (bound_fits n' _ _ fits))

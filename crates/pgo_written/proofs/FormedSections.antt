@@ -22,7 +22,8 @@ use Rattle.pgo_meaning.specs.Labels.{own, labelled, within, within_branches, wit
 use Rattle.pgo_meaning.specs.MacrosPlaced.{unmarked}
 use Rattle.pgo_meaning.specs.Statements.{Setting, Part, Index, Field, part_tree, index_of, label_of, alone, to_variable, assigned, steps, assign_all, assignment_code, bind_name, bind_names, code, branches, arms, in_order}
 use Rattle.pgo_written.specs.Formed.{Formed, AllFormed, SomeFormed, RangeFormed}
-use Rattle.pgo_written.specs.FormedCode.{IsShort, IsBase, IsText, Alone, IndexBound, CodeFormed, CodesFormed}
+use Rattle.pgo_sections.specs.WellFormed.{KnownIndex}
+use Rattle.pgo_written.specs.FormedCode.{IsShort, IsBase, IsText, Alone, CodeFormed, CodesFormed}
 use Rattle.pgo_written.specs.FormedStatements.{Known, OriginFormed, PathFormed, AssignmentsFormed, WithsFormed, in_with, AreIdentifiers, LabelFormed, StatementFormed, EachFormed, LabeledFormed, GuardedFormed}
 use Rattle.pgo_written.proofs.FormedTrees.{weaker, bound_name}
 use Rattle.pgo_written.proofs.FormedReads.{MappedFormed, AllMapped, InScope, lower, ReadWhole, ReadElement, ReadsFrom, hoist, range_hoist}
@@ -76,7 +77,7 @@ parts_more ws us [] a h = tt
 parts_more ws us (Index i ∷ ps) a h = (a i h.0, parts_more ws us ps a h.1)
 parts_more ws us (Field x ∷ ps) a h = (h.0, parts_more ws us ps a h.1)
 
-index_there : (ws : List Name) (ps : List Part) → PartsIn ws ps → IndexBound ws (index_of ps)
+index_there : (ws : List Name) (ps : List Part) → PartsIn ws ps → KnownIndex ws (index_of ps)
 index_there ws [] h = tt
 index_there ws (Index i ∷ []) h = h.0
 index_there ws (Index i ∷ (p ∷ ps)) h = tt

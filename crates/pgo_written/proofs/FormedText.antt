@@ -12,7 +12,6 @@ use Rattle.pgo_expr_read.specs.declared.table.Form.TheVariants as form
 use Rattle.pgo_expr_read.specs.declared.table.Operator.{Operator}
 use Rattle.pgo_expr_read.specs.declared.table.Operator.TheVariants as operator
 use Rattle.pgo_expr_read.specs.declared.read.Ending.{Ending}
-use Rattle.pgo_expr_read.specs.declared.sign.Sign.TheVariants as sign
 use Rattle.pgo_expr_read.specs.Kinds as kind
 use Rattle.pgo_expr_read.specs.Kinds.{Kind, Thing, between}
 use Rattle.pgo_expr_read.specs.Spells.{Spelled, Range, Item, Behind, Items, names, more_names, applied, extended, product_of_two, appended, joined, infix_of}
@@ -187,8 +186,8 @@ module _ (N : Name → Type 0) (m : Bool) (names_stand : (x : Name) → IsName x
     formed (s.image {xs = xs} {ys = ys} apart d r) h = let q = told_parts m xs _ h.2 in (formed d q.0, q.1.2.0, formed_range r (told_parts m ys _ q.1.2.2.2).0)
     formed (s.fun_of {xs = xs} {ys = ys} {bs = bs} i d) h = let q = told_parts m xs _ h.2 in (some_binders bs (formed_items i q.0), formed d (told_parts m ys _ q.1.2).0)
     formed (s.fun_set {xs = xs} {ys = ys} apart d d') h = let q = told_parts m xs _ h.2 in (formed d q.0, formed d' (told_parts m ys _ q.1.2).0)
-    formed (s.record_of {xs = xs} {ds = ds} i) h = some_fields sign.MapsTo ds (formed_items i (told_parts m xs _ h.2).0)
-    formed (s.record_set {xs = xs} {ds = ds} i) h = some_fields sign.Colon ds (formed_items i (told_parts m xs _ h.2).0)
+    formed (s.record_of {xs = xs} {ds = ds} i) h = some_fields symbol.MapsTo ds (formed_items i (told_parts m xs _ h.2).0)
+    formed (s.record_set {xs = xs} {ds = ds} i) h = some_fields symbol.Colon ds (formed_items i (told_parts m xs _ h.2).0)
     formed (s.except {xs = xs} {ys = ys} {us = us} apart d i) h = let q = told_parts m xs _ h.2 in (formed d q.0, some_updates us (formed_items i (told_parts m ys _ q.1.2).0))
     formed (s.unchanged {x = x} {xs = xs}) h = let q = told_parts m (names x xs) _ h.2.2 in (q.0.0, names_told m xs q.0.2)
     formed (s.quantified {xs = xs} {bs = bs} i d) h = let q = told_parts m xs _ h.2 in (some_binders bs (formed_items i q.0), formed d q.1.2)

@@ -3,8 +3,8 @@ use Rattle.std.proofs.Common.{ℕ, Bool, true, false, List, [], ◌∷◌, ◌++
 use Rattle.std.specs.List.{AllByRecursion}
 use Rattle.pgo_lexer.specs.declared.symbol.Symbol.TheVariants as symbol
 use Rattle.pgo_lexer.specs.declared.token.Lexeme.{Lexeme}
-use Rattle.pgo_mpcal_read.specs.Leaves.{IsName, IsExpression, Items}
-use Rattle.pgo_mpcal_read.specs.Leaves as leaf
+use Rattle.pgo_mpcal_read.specs.Elements.{IsName, IsExpression, Items}
+use Rattle.pgo_mpcal_read.specs.Elements as elements
 use Rattle.pgo_mpcal_read.specs.Spells.{IsHeader, IsPart, declarations_of, SpellsTokens}
 use Rattle.pgo_mpcal_read.specs.Spells as spells
 use Rattle.pgo_mpcal_read.specs.Statements.{IsOrigin}
@@ -32,7 +32,7 @@ use Rattle.pgo_written.proofs.FormedSpelled.{AllOk, cut, plain_expression, plain
 use Rattle.pgo_written.proofs.FormedTokens.{tokens_told, ok_plain, ok_macro}
 
 name_of : (b : Bool) (xs : List Lexeme) (x : PlacedName) → IsName xs x → AllOk b xs → NameShort x
-name_of b xs x leaf.name h = h.0.0
+name_of b xs x elements.name h = h.0.0
 
 origin_of : (xs : List Lexeme) (o : Origin) → IsOrigin xs o → AllOk false xs → StartFormed o
 origin_of xs o (m.equals d) h = plain_expression d h.1

@@ -1,5 +1,5 @@
 -- Which code has well-formed expressions, and which expansions.
-use Rattle.std.specs.Prelude.{◌≡◌, ◌≤◌, ◌⊎◌, ℕ, true, IsTrue, List, [], ◌∷◌, length, Option, Some, None}
+use Rattle.std.specs.Prelude.{◌≡◌, ◌≤◌, ◌⊎◌, ℕ, true, IsTrue, List, [], ◌∷◌, length, Some}
 use Rattle.std.specs.List.{AllByRecursion}
 use Rattle.pgo_base.specs.Lookup.{Name, find}
 use Rattle.pgo_model.specs.ValueText.{is_identifier}
@@ -8,6 +8,7 @@ use Rattle.pgo_expr_write.specs.WellFormed.{IsWellFormed, IsName, is_string_byte
 use Rattle.pgo_sections.specs.Among.{is_among}
 use Rattle.pgo_sections.specs.Code.{Place, Code, Empty, Skip, Let, Pick, Become, Set, Await, Assert, Print, If, Either, Seq, Goto, Yield, Read, Write, Codes, no_codes, more_codes, content_places, value_name}
 use Rattle.pgo_sections.specs.Expansion.{Expansion, With, In, Skip as ESkip, Await as EAwait, Assert as EAssert, Print as EPrint, If as EIf, Either as EEither, End, Expansions, no_expansions, more_expansions}
+use Rattle.pgo_sections.specs.WellFormed.{KnownIndex}
 use Rattle.pgo_written.specs.Formed.{Formed, RangeFormed}
 
 -- an identifier of at most 128 bytes
@@ -26,11 +27,6 @@ IsText s = IsTrue (all_are is_string_byte s)
 abbrev pub Alone : List (Name × Place) → List Name → Name → Type 0
 Alone ps ws x = IsName x ⊎ ((is_among x ws ≡ true) ⊎ ((p : Place) × (find x ps ≡ Some p)))
 
--- an index stands under a name that the code bound
-abbrev pub IndexBound : List Name → Option Name → Type 0
-IndexBound ws None = Unit {0}
-IndexBound ws (Some i) = is_among i ws ≡ true
-
 abbrev mutual
   pub CodeFormed : List (Name × Place) → List Name → Code → Type 0
   CodeFormed ps ws Empty = Unit {0}
@@ -47,8 +43,8 @@ abbrev mutual
   CodeFormed ps ws (Seq c d) = CodeFormed ps ws c × CodeFormed ps ws d
   CodeFormed ps ws (Goto l) = IsText l
   CodeFormed ps ws (Yield e) = Formed (Alone ps ws) e
-  CodeFormed ps ws (Read w g i m c) = IsBase g × IndexBound ws i × CodeFormed content_places [] m × CodeFormed ps (w ∷ ws) c
-  CodeFormed ps ws (Write g i w m) = IsBase g × IndexBound ws i × (is_among w ws ≡ true) × CodeFormed content_places (value_name ∷ []) m
+  CodeFormed ps ws (Read w g i m c) = IsBase g × KnownIndex ws i × CodeFormed content_places [] m × CodeFormed ps (w ∷ ws) c
+  CodeFormed ps ws (Write g i w m) = IsBase g × KnownIndex ws i × (is_among w ws ≡ true) × CodeFormed content_places (value_name ∷ []) m
 
   pub CodesFormed : List (Name × Place) → List Name → Codes → Type 0
   CodesFormed ps ws no_codes = Unit {0}

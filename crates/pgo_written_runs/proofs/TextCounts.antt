@@ -8,8 +8,8 @@ use Rattle.pgo_lexer.specs.declared.symbol.Junction.{Junction}
 use Rattle.pgo_lexer.specs.declared.symbol.Symbol.{Symbol}
 use Rattle.pgo_lexer.specs.declared.symbol.Symbol.TheVariants as symbol
 use Rattle.pgo_lexer.specs.declared.token.Lexeme.{Lexeme}
-use Rattle.pgo_mpcal_read.specs.Leaves.{Behind, Items, InBrackets}
-use Rattle.pgo_mpcal_read.specs.Leaves as leaf
+use Rattle.pgo_mpcal_read.specs.Elements.{Behind, Items, InBrackets}
+use Rattle.pgo_mpcal_read.specs.Elements as elements
 use Rattle.pgo_mpcal_read.specs.Spells.{SpellsTokens}
 use Rattle.pgo_mpcal_read.specs.Spells as spells
 use Rattle.pgo_mpcal_read.specs.Texts.{SpellsSpec}
@@ -56,17 +56,17 @@ mutual
 
 module _ {A : Type 0} (Item : List Lexeme → A → Type 0) where
   behind_long : (v : Symbol) (xs : List Lexeme) (as' : List A) → Behind Item v xs as' → length as' ≤ length xs
-  behind_long v xs as' leaf.no_more = omega arith
-  behind_long v xs as' (leaf.one_more {xs = ys} {ys = zs} {as' = bs} i r) =
+  behind_long v xs as' elements.no_more = omega arith
+  behind_long v xs as' (elements.one_more {xs = ys} {ys = zs} {as' = bs} i r) =
       let n = behind_long v zs bs r in let x = length-append ys zs in omega (arith, n, x)
 
   in_brackets_long : (xs : List Lexeme) (as' : List A) → InBrackets Item xs as' → length as' ≤ length xs
-  in_brackets_long xs as' leaf.empty = omega arith
-  in_brackets_long xs as' (leaf.some c {xs = ys} {as' = bs} i) =
-      let n = items_long symbol.Comma ys bs i in let x = length-append ys (leaf.at c (symbol.Close bracket.Round) ∷ []) in omega (arith, n, x)
+  in_brackets_long xs as' elements.empty = omega arith
+  in_brackets_long xs as' (elements.some c {xs = ys} {as' = bs} i) =
+      let n = items_long symbol.Comma ys bs i in let x = length-append ys (elements.at c (symbol.Close bracket.Round) ∷ []) in omega (arith, n, x)
     where
       items_long : (v : Symbol) (xs : List Lexeme) (as' : List A) → Items Item v xs as' → length as' ≤ suc (length xs)
-      items_long v xs as' (leaf.items {xs = ys} {ys = zs} {as' = bs} i r) =
+      items_long v xs as' (elements.items {xs = ys} {ys = zs} {as' = bs} i r) =
           let n = behind_long v zs bs r in let x = length-append ys zs in omega (arith, n, x)
 
 some_tokens : (xs : List Lexeme) (d : Declaration) → IsDeclaration xs d → 1 ≤ length xs
@@ -123,7 +123,7 @@ module _ (most : ℕ) where
 
   tokens_short : (hs as' : List Lexeme) (s : Spec) → SpellsTokens hs as' s → length as' ≤ most → AllByRecursion Short s.archetypes
   tokens_short hs as' s (spells.spec c {xs = xs} head plain units shallow some) h =
-      units_short units (let x = length-append xs (leaf.at c (symbol.Close bracket.Curly) ∷ []) in omega (arith, h, x))
+      units_short units (let x = length-append xs (elements.at c (symbol.Close bracket.Curly) ∷ []) in omega (arith, h, x))
 
 pub archetypes_short : (text : List ℕ) (s : Spec) → SpellsSpec text s → AllByRecursion (λ a. length a.params + length a.locals ≤ 524288) s.archetypes
 archetypes_short text s d =

@@ -9,7 +9,8 @@ returns-in-Ok c =
 
 pub returns-in-Err-Syntax : goal.returns-in-Err-Syntax
 returns-in-Err-Syntax c =
-    answers.syntax _ (λ s h. subst (λ e. IsOrNoMemory (Err e) s) c.in-Err-Syntax.field-0-is (c.in-Err-Syntax.ensures.only s h))
+    answers.syntax _ (rw c.in-Err-Syntax.field-0-is at c.in-Err-Syntax.ensures.within)
+    (λ s h. subst (λ e. IsOrNoMemory (Err e) s) c.in-Err-Syntax.field-0-is (c.in-Err-Syntax.ensures.only s h))
 
 pub returns-in-Err-NoMemory : goal.returns-in-Err-NoMemory
 returns-in-Err-NoMemory c = answers.no_memory

@@ -2,7 +2,7 @@ use Rattle.std.proofs.Common.{◌≡◌, ◌≤◌, ◌++◌, length, map, arith
 use Rattle.std.proofs.lemmas.List.{append-nil, drop_all}
 use Rattle.std.proofs.lemmas.Bool.Decides.{nat_tests}
 use Rattle.std.specs.Prelude.{Some, None, option_map, ◌==◌, false, IfOk}
-use Rattle.pgo_base.specs.BindingsView.{nth}
+use Rattle.pgo_base.specs.Lookup.{nth}
 use Rattle.pgo_base.specs.View.{data_of}
 use Rattle.pgo_model.specs.Val.{index_of}
 use Rattle.pgo_eval.specs.Choices.{chosen}

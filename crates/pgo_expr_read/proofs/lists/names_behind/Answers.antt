@@ -1,9 +1,9 @@
 use Rattle.std.proofs.Common.{rules, arith}
 use Rattle.std.proofs.lemmas.Grind.{common_steps}
-use Rattle.pgo_expr_read.specs.declared.sign.Sign.TheVariants as sign
+use Rattle.pgo_lexer.specs.declared.symbol.Symbol.TheVariants as sign
 use Rattle.pgo_expr_read.specs.Lookahead.{sees}
 use Rattle.pgo_expr_read.specs.Reading.{folded, one_more_name}
-use Rattle.pgo_expr_read.proofs.Turns.{turn_more, no_more}
+use Rattle.pgo_expr_read.proofs.Steps.{turn_more, no_more}
 use Rattle.pgo_expr_read.proofs.lists.names_behind.Goals as goal
 
 pub returns-then-not-sees : goal.returns-then-not-sees

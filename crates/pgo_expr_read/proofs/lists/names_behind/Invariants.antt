@@ -1,5 +1,5 @@
 use Rattle.std.proofs.Common.{◌≡◌, ◌-◌, length}
-use Rattle.pgo_expr_read.specs.declared.sign.Sign.TheVariants as sign
+use Rattle.pgo_lexer.specs.declared.symbol.Symbol.TheVariants as sign
 use Rattle.pgo_expr_read.specs.Lookahead.{sees}
 use Rattle.pgo_expr_read.specs.Reading.{folded, one_more_name}
 use Rattle.pgo_expr_read.proofs.lists.names_behind.Given as goal

@@ -1,7 +1,7 @@
 use Rattle.std.proofs.Common.{rules, arith}
 use Rattle.std.proofs.lemmas.Grind.{common_steps}
 use Rattle.pgo_expr_read.specs.Reading.{openers}
-use Rattle.pgo_expr_read.proofs.Turns.{turn_more, no_more}
+use Rattle.pgo_expr_read.proofs.Steps.{turn_more, no_more}
 use Rattle.pgo_expr_read.proofs.operators.openers.Goals as goal
 
 pub returns-in-None : goal.returns-in-None

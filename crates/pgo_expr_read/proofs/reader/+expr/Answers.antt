@@ -1,6 +1,7 @@
 use Rattle.std.proofs.Common.{◌≡◌, ap, arith}
 use Rattle.pgo_expr_read.specs.Reading.{expr}
-use Rattle.pgo_expr_read.proofs.Turns.{syntax_err, reads_level}
+use Rattle.pgo_expr_read.proofs.Steps.{syntax_err}
+use Rattle.pgo_expr_read.proofs.Turns.{reads_level}
 use Rattle.pgo_expr_read.proofs.reader.+expr.Goals as goal
 
 pub returns-then-limit-eq0 : goal.returns-then-limit-eq0

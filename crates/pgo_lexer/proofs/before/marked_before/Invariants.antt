@@ -1,6 +1,6 @@
--- What the loop keeps: the fault does not move to the right.
-use Rattle.std.proofs.Common.{◌≤◌}
+-- What the loop keeps: the tokens that were taken, and the state behind them.
+use Rattle.pgo_lexer.proofs.PrefixMarks.{Taken}
 use Rattle.pgo_lexer.proofs.before.marked_before.Given as goal
 
 abbrev pub invariant-loop-lexeme : goal.invariant-loop-lexeme
-invariant-loop-lexeme l = l.first ≤ l.fn.fault
+invariant-loop-lexeme l = Taken l.fn.fault l.fn.tokens l.lexeme-iterator.rest.items l.marker

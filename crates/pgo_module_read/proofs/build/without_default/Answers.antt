@@ -11,6 +11,6 @@ returns-then-is_same c =
 
 pub returns-else-is_same : goal.returns-else-is_same
 returns-else-is_same c =
-    refused _ c.at-else-is_same.result c.at-else-is_same.ensures
+    refused _ c.at-else-is_same.result c.at-else-is_same.ensures.syntax
     (default_other c.args.names c.pop.new.self.items c.in-Some.last (sym c.into_vec-list.ensures ∙ c.in-Some.ensures.items)
     (ap (λ z. same_bytes z default_init_value) (sym c.as_bytes.ensures) ∙ sym c.is_same.ensures ∙ c.if-is_same.false))

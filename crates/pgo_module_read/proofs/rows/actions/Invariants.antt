@@ -1,5 +1,6 @@
 use Rattle.std.proofs.Common.{◌≡◌, ◌-◌, length, []}
-use Rattle.pgo_mpcal_read.specs.Reading.{one_more, folded}
+use Rattle.pgo_expr_read.specs.Steps.{folded}
+use Rattle.pgo_mpcal_read.specs.Reading.{one_more}
 use Rattle.pgo_module_read.specs.Reading.{is_action, action}
 use Rattle.pgo_module_read.proofs.rows.actions.Given as goal
 

@@ -1,7 +1,7 @@
 use Rattle.std.proofs.Common.{◌≡◌, ◌-◌, length}
 use Rattle.pgo_mpcal_read.specs.Reading.{sees_name}
 use Rattle.pgo_mpcal_read.specs.ReadingUnits.{one_more_declaration}
-use Rattle.pgo_mpcal_read.specs.Reading.{folded}
+use Rattle.pgo_expr_read.specs.Steps.{folded}
 use Rattle.pgo_mpcal_read.proofs.declarations.declarations_behind.Given as goal
 
 abbrev pub invariant-loop-turn : goal.invariant-loop-turn

@@ -1,7 +1,7 @@
 use Rattle.std.proofs.Common.{rules, arith}
 use Rattle.std.proofs.lemmas.Grind.{common_steps}
 use Rattle.pgo_mpcal_read.specs.ReadingSpec.{more_dashes}
-use Rattle.pgo_mpcal_read.proofs.Turns.{turn_more, no_more}
+use Rattle.pgo_expr_read.proofs.Steps.{turn_more, no_more}
 use Rattle.pgo_mpcal_read.proofs.header.more_dashes.Goals as goal
 
 pub returns-then-not-sees_minus : goal.returns-then-not-sees_minus

@@ -1,6 +1,6 @@
 use Rattle.std.proofs.Common.{◌≡◌, ◌-◌, length}
 use Rattle.pgo_mpcal_read.specs.ReadingSpec.{some_left, part}
-use Rattle.pgo_mpcal_read.specs.Reading.{folded}
+use Rattle.pgo_expr_read.specs.Steps.{folded}
 use Rattle.pgo_mpcal_read.proofs.header.parts.Given as goal
 
 abbrev pub invariant-loop-turn : goal.invariant-loop-turn

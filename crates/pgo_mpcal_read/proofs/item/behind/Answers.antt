@@ -1,8 +1,9 @@
 use Rattle.std.proofs.Common.{rules, arith}
 use Rattle.std.proofs.lemmas.Grind.{common_steps}
 use Rattle.pgo_mpcal_read.specs.Signs.{sees}
-use Rattle.pgo_mpcal_read.specs.Reading.{one_behind, folded}
-use Rattle.pgo_mpcal_read.proofs.Turns.{turn_more, no_more}
+use Rattle.pgo_expr_read.specs.Steps.{folded}
+use Rattle.pgo_mpcal_read.specs.Reading.{one_behind}
+use Rattle.pgo_expr_read.proofs.Steps.{turn_more, no_more}
 use Rattle.pgo_mpcal_read.proofs.item.behind.Goals as goal
 
 pub returns-then-not-sees : goal.returns-then-not-sees

@@ -1,6 +1,7 @@
 use Rattle.std.proofs.Common.{◌≡◌, ◌-◌, length}
 use Rattle.pgo_mpcal_read.specs.Signs.{sees}
-use Rattle.pgo_mpcal_read.specs.Reading.{one_behind, folded}
+use Rattle.pgo_expr_read.specs.Steps.{folded}
+use Rattle.pgo_mpcal_read.specs.Reading.{one_behind}
 use Rattle.pgo_mpcal_read.proofs.item.behind.Given as goal
 
 abbrev pub invariant-loop-turn : goal.invariant-loop-turn

@@ -1,7 +1,8 @@
 use Rattle.std.proofs.Common.{rules, arith}
 use Rattle.std.proofs.lemmas.Grind.{common_steps}
-use Rattle.pgo_mpcal_read.specs.Reading.{one_more, folded}
-use Rattle.pgo_mpcal_read.proofs.Turns.{turn_more, no_more}
+use Rattle.pgo_expr_read.specs.Steps.{folded}
+use Rattle.pgo_mpcal_read.specs.Reading.{one_more}
+use Rattle.pgo_expr_read.proofs.Steps.{turn_more, no_more}
 use Rattle.pgo_mpcal_read.proofs.item.row.Goals as goal
 
 pub returns-then-not-is_next : goal.returns-then-not-is_next

@@ -1,5 +1,6 @@
 use Rattle.std.proofs.Common.{◌≡◌, ◌-◌, length, []}
-use Rattle.pgo_mpcal_read.specs.Reading.{one_more, folded}
+use Rattle.pgo_expr_read.specs.Steps.{folded}
+use Rattle.pgo_mpcal_read.specs.Reading.{one_more}
 use Rattle.pgo_mpcal_read.proofs.item.row.Given as goal
 
 abbrev pub invariant-loop-turn : goal.invariant-loop-turn

@@ -4,8 +4,8 @@ use Rattle.pgo_lexer.specs.declared.symbol.Symbol.TheVariants as symbol
 use Rattle.pgo_mpcal_read.specs.Signs.{sees}
 use Rattle.pgo_mpcal_read.specs.Reading.{expression}
 use Rattle.pgo_mpcal_read.specs.Reading.{one_behind}
-use Rattle.pgo_mpcal_read.specs.Reading.{folded}
-use Rattle.pgo_mpcal_read.proofs.Turns.{turn_more, no_more}
+use Rattle.pgo_expr_read.specs.Steps.{folded}
+use Rattle.pgo_expr_read.proofs.Steps.{turn_more, no_more}
 use Rattle.pgo_mpcal_read.proofs.names.expressions_behind.Goals as goal
 
 pub returns-then-not-sees : goal.returns-then-not-sees

@@ -3,7 +3,7 @@ use Rattle.pgo_lexer.specs.declared.symbol.Symbol.TheVariants as symbol
 use Rattle.pgo_mpcal_read.specs.Signs.{sees}
 use Rattle.pgo_mpcal_read.specs.Reading.{expression}
 use Rattle.pgo_mpcal_read.specs.Reading.{one_behind}
-use Rattle.pgo_mpcal_read.specs.Reading.{folded}
+use Rattle.pgo_expr_read.specs.Steps.{folded}
 use Rattle.pgo_mpcal_read.proofs.names.expressions_behind.Given as goal
 
 abbrev pub invariant-loop-turn : goal.invariant-loop-turn

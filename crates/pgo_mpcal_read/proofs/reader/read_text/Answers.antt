@@ -1,7 +1,7 @@
 use Rattle.std.proofs.Common.{rules, arith, List, subst}
 use Rattle.std.proofs.lemmas.Grind.{common_steps}
 use Rattle.pgo_lexer.specs.declared.token.Lexeme.{Lexeme}
-use Rattle.pgo_mpcal_read.specs.Reading.{Makes}
+use Rattle.pgo_expr_read.specs.Steps.{Makes}
 use Rattle.pgo_mpcal_read.specs.ReadingSpec.{spec}
 use Rattle.pgo_mpcal_read.proofs.Spelled.{found_text, only_text, only_err}
 use Rattle.pgo_mpcal_read.proofs.reader.read_text.Goals as goal

@@ -1,6 +1,7 @@
 use Rattle.std.proofs.Common.{◌≡◌, ap, arith}
 use Rattle.pgo_mpcal_read.specs.ReadingStatements.{statement}
-use Rattle.pgo_mpcal_read.proofs.Turns.{syntax_err, reads_form}
+use Rattle.pgo_expr_read.proofs.Steps.{syntax_err}
+use Rattle.pgo_mpcal_read.proofs.Turns.{reads_form}
 use Rattle.pgo_mpcal_read.proofs.statements.+statement.Goals as goal
 
 pub returns-then-limit-eq0 : goal.returns-then-limit-eq0

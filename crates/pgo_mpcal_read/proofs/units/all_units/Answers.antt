@@ -2,8 +2,8 @@ use Rattle.std.proofs.Common.{rules, arith}
 use Rattle.std.proofs.lemmas.Grind.{common_steps}
 use Rattle.pgo_mpcal_read.specs.ReadingStatements.{goes_on}
 use Rattle.pgo_mpcal_read.specs.ReadingSpec.{unit}
-use Rattle.pgo_mpcal_read.specs.Reading.{folded}
-use Rattle.pgo_mpcal_read.proofs.Turns.{turn_more, no_more}
+use Rattle.pgo_expr_read.specs.Steps.{folded}
+use Rattle.pgo_expr_read.proofs.Steps.{turn_more, no_more}
 use Rattle.pgo_mpcal_read.proofs.units.all_units.Goals as goal
 
 pub returns-then-sees : goal.returns-then-sees

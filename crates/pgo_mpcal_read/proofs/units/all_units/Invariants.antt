@@ -2,7 +2,7 @@ use Rattle.std.proofs.Common.{◌≡◌, ◌-◌, length}
 use Rattle.pgo_mpcal_read.specs.ReadingStatements.{goes_on}
 use Rattle.pgo_mpcal_read.specs.ReadingSpec.{unit}
 use Rattle.pgo_mpcal_read.specs.Units.{no_units}
-use Rattle.pgo_mpcal_read.specs.Reading.{folded}
+use Rattle.pgo_expr_read.specs.Steps.{folded}
 use Rattle.pgo_mpcal_read.proofs.units.all_units.Given as goal
 
 abbrev pub invariant-loop-turn : goal.invariant-loop-turn

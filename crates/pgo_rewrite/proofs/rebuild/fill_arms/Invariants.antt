@@ -6,5 +6,5 @@ use Rattle.pgo_rewrite.proofs.rebuild.fill_arms.Given as goal
 
 abbrev pub invariant-loop-item : goal.invariant-loop-item
 invariant-loop-item l =
-    (map arm_tree l.all.items ++ spec.fill_arms (arms (map arm_tree (drop l._item-index l._item-items))) l.parts ≡ spec.fill_arms (arms l.list) l.initial.parts)
+    (l.all ++ spec.fill_arms (arms (map arm_tree (drop l._item-index l._item-items))) l.parts ≡ spec.fill_arms (arms l.list) l.initial.parts)
     × (spec.behind_arms (arms (map arm_tree (drop l._item-index l._item-items))) l.parts ≡ spec.behind_arms (arms l.list) l.initial.parts)

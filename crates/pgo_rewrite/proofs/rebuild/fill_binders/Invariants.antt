@@ -6,5 +6,5 @@ use Rattle.pgo_rewrite.proofs.rebuild.fill_binders.Given as goal
 
 abbrev pub invariant-loop-item : goal.invariant-loop-item
 invariant-loop-item l =
-    (map bound_tree l.all.items ++ spec.fill_bound (bound (map bound_tree (drop l.item-index l.item-items))) l.parts ≡ spec.fill_bound (bound l.list) l.initial.parts)
+    (l.all ++ spec.fill_bound (bound (map bound_tree (drop l.item-index l.item-items))) l.parts ≡ spec.fill_bound (bound l.list) l.initial.parts)
     × (spec.behind_bound (bound (map bound_tree (drop l.item-index l.item-items))) l.parts ≡ spec.behind_bound (bound l.list) l.initial.parts)

@@ -6,5 +6,5 @@ use Rattle.pgo_rewrite.proofs.rebuild.fill_exprs.Given as goal
 
 abbrev pub invariant-loop-item : goal.invariant-loop-item
 invariant-loop-item l =
-    (map tree l.all.items ++ spec.fill_trees (trees (map tree (drop l._item-index l._item-items))) l.parts ≡ spec.fill_trees (trees l.list) l.initial.parts)
+    (l.all ++ spec.fill_trees (trees (map tree (drop l._item-index l._item-items))) l.parts ≡ spec.fill_trees (trees l.list) l.initial.parts)
     × (spec.behind_trees (trees (map tree (drop l._item-index l._item-items))) l.parts ≡ spec.behind_trees (trees l.list) l.initial.parts)

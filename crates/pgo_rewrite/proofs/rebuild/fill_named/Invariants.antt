@@ -6,5 +6,5 @@ use Rattle.pgo_rewrite.proofs.rebuild.fill_named.Given as goal
 
 abbrev pub invariant-loop-item : goal.invariant-loop-item
 invariant-loop-item l =
-    (map named_tree l.all.items ++ spec.fill_named (named (map named_tree (drop l.item-index l.item-items))) l.parts ≡ spec.fill_named (named l.list) l.initial.parts)
+    (l.all ++ spec.fill_named (named (map named_tree (drop l.item-index l.item-items))) l.parts ≡ spec.fill_named (named l.list) l.initial.parts)
     × (spec.behind_named (named (map named_tree (drop l.item-index l.item-items))) l.parts ≡ spec.behind_named (named l.list) l.initial.parts)

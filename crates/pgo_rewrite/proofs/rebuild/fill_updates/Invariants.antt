@@ -6,5 +6,5 @@ use Rattle.pgo_rewrite.proofs.rebuild.fill_updates.Given as goal
 
 abbrev pub invariant-loop-item : goal.invariant-loop-item
 invariant-loop-item l =
-    (map path_tree l.all.items ++ spec.fill_paths (paths (map path_tree (drop l.item-index l.item-items))) l.parts ≡ spec.fill_paths (paths l.list) l.initial.parts)
+    (l.all ++ spec.fill_paths (paths (map path_tree (drop l.item-index l.item-items))) l.parts ≡ spec.fill_paths (paths l.list) l.initial.parts)
     × (spec.behind_paths (paths (map path_tree (drop l.item-index l.item-items))) l.parts ≡ spec.behind_paths (paths l.list) l.initial.parts)

@@ -6,4 +6,4 @@ use Rattle.pgo_scope.specs.Assigned.{assigned_arguments}
 use Rattle.pgo_scope.proofs.assigned.add_arguments.Given as goal
 
 abbrev pub invariant-loop-i : goal.invariant-loop-i
-invariant-loop-i l = l.out.items ++ assigned_arguments l.s l.u (map see_ways (drop l.i l.params)) (map tree (drop l.i l.args)) ≡ l.initial.out.items ++ assigned_arguments l.s l.u (map see_ways l.params) (map tree l.args)
+invariant-loop-i l = l.out.items ++ assigned_arguments l.units.spec.now l.u (map see_ways (drop l.i l.params)) (map tree (drop l.i l.args)) ≡ l.initial.out.items ++ assigned_arguments l.units.spec.now l.u (map see_ways l.params) (map tree l.args)

@@ -6,4 +6,4 @@ use Rattle.pgo_scope.specs.Mapped.{arguments_findings}
 use Rattle.pgo_scope.proofs.mapped.add_arguments.Given as goal
 
 abbrev pub invariant-loop-i : goal.invariant-loop-i
-invariant-loop-i l = l.out.items ++ arguments_findings l.s l.around (map see_ways (drop l.i l.params)) (map tree (drop l.i l.args)) ≡ l.initial.out.items ++ arguments_findings l.s l.around (map see_ways l.params) (map tree l.args)
+invariant-loop-i l = l.out.items ++ arguments_findings l.units.spec.now l.around (map see_ways (drop l.i l.params)) (map tree (drop l.i l.args)) ≡ l.initial.out.items ++ arguments_findings l.units.spec.now l.around (map see_ways l.params) (map tree l.args)

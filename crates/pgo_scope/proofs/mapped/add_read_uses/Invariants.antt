@@ -5,4 +5,4 @@ use Rattle.pgo_scope.specs.Mapped.{read_use}
 use Rattle.pgo_scope.proofs.mapped.add_read_uses.Given as goal
 
 abbrev pub invariant-loop-u : goal.invariant-loop-u
-invariant-loop-u l = l.out.items ++ each_use (read_use l.s) (drop l.u-index l.uses) ≡ l.initial.out.items ++ each_use (read_use l.s) l.uses
+invariant-loop-u l = l.out.items ++ each_use (read_use l.units.spec.now) (drop l.u-index l.uses) ≡ l.initial.out.items ++ each_use (read_use l.units.spec.now) l.uses

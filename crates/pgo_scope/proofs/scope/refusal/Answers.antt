@@ -16,5 +16,5 @@ returns c =
     let q = (λ i. (names, map see_tests (c.as_slice-4.ensures.value i))) ∙ c.in_ok-captures.ensures ∙ (λ i. captures_by ((t i).macros) (c.as_slice-2.ensures i)) in
     let us = c.as_slice-5.ensures.value ∙ c.in_ok-uses.ensures in
     subst (λ (x : Context). IfOk c.first_of.result (λ r. r ≡ first_broken (map (λ r. found_by r x) all_rules)))
-    (λ i. record { spec = c.args.s.now; tables = t i; known = k i; captures = q i; uses = us i })
+    (λ i. record { spec = c.in_ok-units.ensures i; tables = t i; known = k i; captures = q i; uses = us i })
     c.first_of.ensures

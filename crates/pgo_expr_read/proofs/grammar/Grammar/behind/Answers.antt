@@ -1,7 +1,8 @@
 use Rattle.std.proofs.Common.{rules, arith}
 use Rattle.std.proofs.lemmas.Grind.{common_steps}
-use Rattle.pgo_expr_read.specs.Reading.{folded, goes_at, follows, pass_at, more_at}
-use Rattle.pgo_expr_read.proofs.Turns.{turn_more, no_more}
+use Rattle.pgo_expr_read.specs.Kinds.{follows}
+use Rattle.pgo_expr_read.specs.Reading.{folded, goes_at, pass_at, more_at}
+use Rattle.pgo_expr_read.proofs.Steps.{turn_more, no_more}
 use Rattle.pgo_expr_read.proofs.grammar.Grammar.behind.Goals as goal
 
 pub returns-then-not-goes : goal.returns-then-not-goes

@@ -1,5 +1,6 @@
 use Rattle.std.proofs.Common.{◌≡◌, ◌-◌, length}
-use Rattle.pgo_expr_read.specs.Reading.{folded, goes_at, follows, pass_at, more_at}
+use Rattle.pgo_expr_read.specs.Kinds.{follows}
+use Rattle.pgo_expr_read.specs.Reading.{folded, goes_at, pass_at, more_at}
 use Rattle.pgo_expr_read.proofs.grammar.Grammar.behind.Given as goal
 
 abbrev pub invariant-loop-turn : goal.invariant-loop-turn

@@ -1,7 +1,7 @@
 use Rattle.std.proofs.Common.{◌<◌, arith, sym}
 use Rattle.pgo_expr_read.specs.Reading.{expr}
 use Rattle.pgo_expr_read.specs.Table.{prefix_least}
-use Rattle.pgo_expr_read.proofs.Turns.{syntax_err}
+use Rattle.pgo_expr_read.proofs.Steps.{syntax_err}
 use Rattle.pgo_expr_read.proofs.Levels.{low_prefix}
 use Rattle.pgo_expr_read.proofs.grammar.Grammar.level.Goals as goal
 

@@ -1,7 +1,7 @@
 use Rattle.std.proofs.Common.{rules, arith}
 use Rattle.std.proofs.lemmas.Grind.{common_steps}
 use Rattle.pgo_expr_read.specs.Reading.{expr, more}
-use Rattle.pgo_expr_read.proofs.Turns.{turn_more, no_more}
+use Rattle.pgo_expr_read.proofs.Steps.{turn_more, no_more}
 use Rattle.pgo_expr_read.proofs.grammar.Grammar.more.Goals as goal
 
 pub returns-in_err-next : goal.returns-in_err-next

@@ -3,7 +3,7 @@ use Rattle.pgo_lexer.specs.declared.symbol.Keyword.TheVariants as keyword
 use Rattle.pgo_lexer.specs.declared.symbol.Symbol.TheVariants as symbol
 use Rattle.pgo_mpcal_read.specs.Signs.{sees}
 use Rattle.pgo_mpcal_read.specs.ReadingStatements.{one_more_or, statement}
-use Rattle.pgo_mpcal_read.specs.Reading.{folded}
+use Rattle.pgo_expr_read.specs.Steps.{folded}
 use Rattle.pgo_mpcal_read.proofs.statements.Statements.alternatives_behind.Given as goal
 
 abbrev pub invariant-loop-turn : goal.invariant-loop-turn

@@ -1,8 +1,8 @@
 use Rattle.std.proofs.Common.{rules, arith}
 use Rattle.std.proofs.lemmas.Grind.{common_steps}
 use Rattle.pgo_mpcal_read.specs.ReadingStatements.{sees_else_if, one_more_branch, statement}
-use Rattle.pgo_mpcal_read.specs.Reading.{folded}
-use Rattle.pgo_mpcal_read.proofs.Turns.{turn_more, no_more}
+use Rattle.pgo_expr_read.specs.Steps.{folded}
+use Rattle.pgo_expr_read.proofs.Steps.{turn_more, no_more}
 use Rattle.pgo_mpcal_read.proofs.statements.Statements.branches_behind.Goals as goal
 
 pub returns-then-not-sees_else_if : goal.returns-then-not-sees_else_if

@@ -1,6 +1,6 @@
 use Rattle.std.proofs.Common.{◌≡◌, ◌-◌, length}
 use Rattle.pgo_mpcal_read.specs.ReadingStatements.{sees_else_if, one_more_branch, statement}
-use Rattle.pgo_mpcal_read.specs.Reading.{folded}
+use Rattle.pgo_expr_read.specs.Steps.{folded}
 use Rattle.pgo_mpcal_read.proofs.statements.Statements.branches_behind.Given as goal
 
 abbrev pub invariant-loop-turn : goal.invariant-loop-turn

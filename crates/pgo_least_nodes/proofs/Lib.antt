@@ -1,0 +1,4 @@
+pub mod Numbers
+pub mod Paths
+pub mod CodeLaws
+pub mod SectionLaws
