@@ -8,9 +8,9 @@ use Rattle.pgo_syntax.specs.Statement.{Statement, labeled}
 use Rattle.pgo_labels.specs.declared.errors.LabelError.TheVariants.{NeedsLabel}
 use Rattle.pgo_labels.specs.declared.finding.Finding.{Finding}
 use Rattle.pgo_labels.specs.Inside.{Item, with_inside}
-use Rattle.pgo_labels.specs.Labels.{last_before}
-use Rattle.pgo_labels.specs.Jumps.{unlabeled_places, behind_jumps, jumps, loop_of, in_block}
-use Rattle.pgo_labels.specs.Rules.{found_at, labels, missing, needs_label}
+use Rattle.pgo_labels.specs.Labels.{labels}
+use Rattle.pgo_labels.specs.Findings.{found_at}
+use Rattle.pgo_labels.specs.NeedsLabel.{unlabeled_places, behind_jumps, jumps, loop_of, in_block, missing, last_before, needs_label}
 use Rattle.pgo_bound.specs.Runs.{archetype_named}
 use Rattle.pgo_bound.specs.Among.{none_left, none_right, empty_map}
 

@@ -1,4 +1,4 @@
--- Each variable of a specification is a thing that is written, as often as it stands.
+-- Each variable of a specification is a name of the written module, as often as it stands.
 use Rattle.std.proofs.Common.{◌≡◌, ◌≤◌, ℕ, suc, ◌+◌, Bool, true, false, if◌then◌else◌, List, [], ◌∷◌, ◌++◌, map, Option, Some, None, refl, ap, ◌∙◌, arith}
 use Rattle.std.specs.List.{AllByRecursion, filter_map, flat_map, cons_option}
 use Rattle.pgo_base.specs.Lookup.{Name, same_name, find}
@@ -16,9 +16,9 @@ use Rattle.pgo_syntax.specs.declared.spec.Spec.{Spec}
 use Rattle.pgo_uses.specs.AllUses.{all_uses, archetype_uses, variable_names}
 use Rattle.pgo_uses.specs.Heads.{declared_names, definition_names, shared_names}
 use Rattle.pgo_uses.specs.Tables.{all_definitions}
-use Rattle.pgo_scope.specs.declared.things.Thing.{Thing}
+use Rattle.pgo_scope.specs.declared.module_names.ModuleName.{ModuleName}
 use Rattle.pgo_scope.specs.TextOrder.{in_text_order}
-use Rattle.pgo_scope.specs.Clash.{fixed_names, fixed_things, shared_things, bound_things, value_names, labels_from, own_names, own_rows, or_none, own_things, process_things, things_with, name_clashes}
+use Rattle.pgo_scope.specs.Clash.{fixed_names, fixed_module_names, shared_module_names, bound_module_names, value_names, labels_from, own_names, own_rows, or_none, own_module_names, process_module_names, module_names_with, name_clashes}
 use Rattle.pgo_bound.specs.Runs.{Handed, handed_from, archetype_named}
 use Rattle.pgo_bound.specs.State as bind
 use Rattle.pgo_accept.proofs.Counted.{one_if, times, times-append, times-map_append}
@@ -27,22 +27,22 @@ use Rattle.pgo_accept.proofs.Fitting.{Fits, ArgumentsFit, is_stray}
 
 -- ---- globals and fixed names
 
-fixed_written : (x : Name) (ns : List Name) → writes x (fixed_things ns) ≡ times x ns
+fixed_written : (x : Name) (ns : List Name) → writes x (fixed_module_names ns) ≡ times x ns
 fixed_written x [] = refl
 fixed_written x (n ∷ ns) = ap (λ k. one_if (same_name x n) + k) (fixed_written x ns)
 
-pc_written : (x : Name) → times x (pc ∷ []) ≤ writes x (fixed_things fixed_names)
+pc_written : (x : Name) → times x (pc ∷ []) ≤ writes x (fixed_module_names fixed_names)
 pc_written x = omega (arith, fixed_written x fixed_names)
 
-shared-append : (x : Name) (ms ns : List PlacedName) → writes x (shared_things (ms ++ ns)) ≡ writes x (shared_things ms) + writes x (shared_things ns)
+shared-append : (x : Name) (ms ns : List PlacedName) → writes x (shared_module_names (ms ++ ns)) ≡ writes x (shared_module_names ms) + writes x (shared_module_names ns)
 shared-append x [] ns = omega arith
 shared-append x (m ∷ ms) ns = omega (arith, shared-append x ms ns)
 
-declared_written : (x : Name) (ds : List Declaration) → writes x (shared_things (declared_names ds)) ≡ times x (map (λ d. d.name.name) ds)
+declared_written : (x : Name) (ds : List Declaration) → writes x (shared_module_names (declared_names ds)) ≡ times x (map (λ d. d.name.name) ds)
 declared_written x [] = refl
 declared_written x (d ∷ ds) = ap (λ k. one_if (same_name x d.name.name) + k) (declared_written x ds)
 
-globals_written : (x : Name) (s : Spec) → times x (map (λ d. d.name.name) s.globals) ≤ writes x (shared_things (shared_names s))
+globals_written : (x : Name) (s : Spec) → times x (map (λ d. d.name.name) s.globals) ≤ writes x (shared_module_names (shared_names s))
 globals_written x s =
     omega (arith, shared-append x (s.constants ++ definition_names (all_definitions s)) (declared_names s.globals), declared_written x s.globals)
 
@@ -93,20 +93,20 @@ found_own x j (b ∷ bs) a h = go (same_name x b.name.name) h (found_own x (suc 
     go true e r = let same : b ≡ a = cc in (j, ap (λ d. Some (own_names j d)) same)
     go false e r = r e
 
-own_written : (x : Name) (p : Process) (ns : List Name) → writes x (own_things p ns) ≡ times x (map (written p.name.name) ns)
+own_written : (x : Name) (p : Process) (ns : List Name) → writes x (own_module_names p ns) ≡ times x (map (written p.name.name) ns)
 own_written x p [] = refl
 own_written x p (n ∷ ns) = ap (λ k. one_if (same_name x (written p.name.name n)) + k) (own_written x p ns)
 
 process_written : (x : Name) (p : Process) (as' : List Archetype) → ArgumentsFit as' p
-    → times x (map (written p.name.name) (bind.names_or_none p (archetype_named p.archetype.name as'))) ≤ writes x (own_things p (or_none (find p.archetype.name (own_rows 0 as'))))
+    → times x (map (written p.name.name) (bind.names_or_none p (archetype_named p.archetype.name as'))) ≤ writes x (own_module_names p (or_none (find p.archetype.name (own_rows 0 as'))))
 process_written x p as' h = go (archetype_named p.archetype.name as') refl
   where
     go : (o : Option Archetype) → archetype_named p.archetype.name as' ≡ o
-        → times x (map (written p.name.name) (bind.names_or_none p o)) ≤ writes x (own_things p (or_none (find p.archetype.name (own_rows 0 as'))))
+        → times x (map (written p.name.name) (bind.names_or_none p o)) ≤ writes x (own_module_names p (or_none (find p.archetype.name (own_rows 0 as'))))
     go None e = omega arith
     go (Some a) e =
         let r = found_own p.archetype.name 0 as' a e in
-        let o = ap (λ z. writes x (own_things p (or_none z))) r.1 ∙ own_written x p (own_names r.0 a) in
+        let o = ap (λ z. writes x (own_module_names p (or_none z))) r.1 ∙ own_written x p (own_names r.0 a) in
         let c = names_counted (written p.name.name) x p r.0 a (h a e) in
         omega (arith, o, c)
 
@@ -116,38 +116,38 @@ abbrev own_variables : List Archetype → List Process → List Name
 own_variables as' ps = flat_map (λ p. map (written p.name.name) (bind.names_or_none p (archetype_named p.archetype.name as'))) ps
 
 own_variables_written : (x : Name) (as' : List Archetype) (ps : List Process) → AllByRecursion (ArgumentsFit as') ps
-    → times x (own_variables as' ps) ≤ writes x (process_things (own_rows 0 as') ps)
+    → times x (own_variables as' ps) ≤ writes x (process_module_names (own_rows 0 as') ps)
 own_variables_written x as' [] h = omega arith
 own_variables_written x as' (p ∷ ps) h =
-    let own = own_things p (or_none (find p.archetype.name (own_rows 0 as'))) in
+    let own = own_module_names p (or_none (find p.archetype.name (own_rows 0 as'))) in
     let a = times-append x (map (written p.name.name) (bind.names_or_none p (archetype_named p.archetype.name as'))) (own_variables as' ps) in
-    let b = writes-append x own (process_things (own_rows 0 as') ps) in
+    let b = writes-append x own (process_module_names (own_rows 0 as') ps) in
     let c = process_written x p as' h.0 in
     let d = own_variables_written x as' ps h.1 in
     omega (arith, a, b, c, d)
 
-pub process_names_written : (x : Name) (as' : List Archetype) (ps : List Process) → times x (map (λ p. p.name.name) ps) ≤ writes x (process_things (own_rows 0 as') ps)
+pub process_names_written : (x : Name) (as' : List Archetype) (ps : List Process) → times x (map (λ p. p.name.name) ps) ≤ writes x (process_module_names (own_rows 0 as') ps)
 process_names_written x as' [] = omega arith
 process_names_written x as' (p ∷ ps) =
-    let own = own_things p (or_none (find p.archetype.name (own_rows 0 as'))) in
-    omega (arith, writes-append x own (process_things (own_rows 0 as') ps), process_names_written x as' ps)
+    let own = own_module_names p (or_none (find p.archetype.name (own_rows 0 as'))) in
+    omega (arith, writes-append x own (process_module_names (own_rows 0 as') ps), process_names_written x as' ps)
 
 -- ---- the whole
 
-abbrev all_things : Spec → List Thing
-all_things s = things_with s (all_uses s)
+abbrev all_module_names : Spec → List ModuleName
+all_module_names s = module_names_with s (all_uses s)
 
-once : (x : Name) (s : Spec) → name_clashes s ≡ [] → writes x (all_things s) ≤ 1
-once x s h = let r = written_once x [] (all_things s) h (omega arith) in omega (arith, r)
+once : (x : Name) (s : Spec) → name_clashes s ≡ [] → writes x (all_module_names s) ≤ 1
+once x s h = let r = written_once x [] (all_module_names s) h (omega arith) in omega (arith, r)
 
 -- what the parts of it write
-parts_written : (x : Name) (s : Spec) → writes x (all_things s)
-    ≡ writes x (fixed_things fixed_names) + (writes x (shared_things (shared_names s)) + writes x (bound_things (all_uses s)) + writes x (process_things (own_rows 0 s.archetypes) s.processes))
+parts_written : (x : Name) (s : Spec) → writes x (all_module_names s)
+    ≡ writes x (fixed_module_names fixed_names) + (writes x (shared_module_names (shared_names s)) + writes x (bound_module_names (all_uses s)) + writes x (process_module_names (own_rows 0 s.archetypes) s.processes))
 parts_written x s =
-    let shared = shared_things (shared_names s) in
-    let bound = bound_things (all_uses s) in
-    let own = process_things (own_rows 0 s.archetypes) s.processes in
-    let a = writes-append x (fixed_things fixed_names) (in_text_order (λ t. t.place) (shared ++ own ++ bound)) in
+    let shared = shared_module_names (shared_names s) in
+    let bound = bound_module_names (all_uses s) in
+    let own = process_module_names (own_rows 0 s.archetypes) s.processes in
+    let a = writes-append x (fixed_module_names fixed_names) (in_text_order (λ t. t.place) (shared ++ own ++ bound)) in
     let b = writes_in_order x (λ t. t.place) (shared ++ own ++ bound) in
     let c = writes-append x (shared ++ own) bound in
     let d = writes-append x shared own in

@@ -1,29 +1,29 @@
--- Where no two things clash, each name is written at most once by what isn't bound.
+-- Where no two names clash, each name is written at most once by what isn't bound.
 use Rattle.std.proofs.Common.{◌≡◌, ◌≤◌, ℕ, ◌+◌, Bool, true, false, not, ◌&&◌, if◌then◌else◌, List, [], ◌∷◌, ◌++◌, refl, ap, sym, ◌∙◌, arith}
 use Rattle.std.specs.Prelude.{nat_le}
 use Rattle.pgo_base.specs.Lookup.{Name, same_name}
 use Rattle.pgo_model.specs.Names.{same_name-self, same_name-is}
 use Rattle.pgo_scope.specs.declared.errors.ScopeError.TheVariants as errors
 use Rattle.pgo_scope.specs.declared.finding.Finding.{Finding}
-use Rattle.pgo_scope.specs.declared.things.Thing.{Thing}
+use Rattle.pgo_scope.specs.declared.module_names.ModuleName.{ModuleName}
 use Rattle.pgo_scope.specs.TextOrder.{in_place, in_text_order}
 use Rattle.pgo_scope.specs.Clash.{clash, clash_with, clashes_from}
 use Rattle.pgo_bound.specs.Among.{none_left, none_right}
 use Rattle.pgo_accept.proofs.Counted.{one_if}
 
 -- what isn't bound, and is written so
-abbrev pub is_written : Name → Thing → Bool
+abbrev pub is_written : Name → ModuleName → Bool
 is_written x t = not t.bound && same_name x t.written
 
-abbrev pub writes : Name → List Thing → ℕ
+abbrev pub writes : Name → List ModuleName → ℕ
 writes x [] = 0
 writes x (t ∷ ts) = one_if (is_written x t) + writes x ts
 
-pub writes-append : (x : Name) (ts us : List Thing) → writes x (ts ++ us) ≡ writes x ts + writes x us
+pub writes-append : (x : Name) (ts us : List ModuleName) → writes x (ts ++ us) ≡ writes x ts + writes x us
 writes-append x [] us = omega arith
 writes-append x (t ∷ ts) us = omega (arith, writes-append x ts us)
 
-writes_in_place : (x : Name) (place : Thing → ℕ) (t : Thing) (us : List Thing) → writes x (in_place place t us) ≡ writes x (t ∷ us)
+writes_in_place : (x : Name) (place : ModuleName → ℕ) (t : ModuleName) (us : List ModuleName) → writes x (in_place place t us) ≡ writes x (t ∷ us)
 writes_in_place x place t [] = refl
 writes_in_place x place t (u ∷ us) = go (nat_le (place t) (place u)) (writes_in_place x place t us)
   where
@@ -31,7 +31,7 @@ writes_in_place x place t (u ∷ us) = go (nat_le (place t) (place u)) (writes_i
     go true r = refl
     go false r = omega (arith, r)
 
-pub writes_in_order : (x : Name) (place : Thing → ℕ) (ts : List Thing) → writes x (in_text_order place ts) ≡ writes x ts
+pub writes_in_order : (x : Name) (place : ModuleName → ℕ) (ts : List ModuleName) → writes x (in_text_order place ts) ≡ writes x ts
 writes_in_order x place [] = refl
 writes_in_order x place (t ∷ ts) = omega (arith, writes_in_place x place t (in_text_order place ts), writes_in_order x place ts)
 
@@ -46,7 +46,7 @@ not_true true h = absurd (cc)
 not_true false h = refl
 
 -- two that are written so clash
-written_clash : (x : Name) (t u : Thing) → is_written x t ≡ true → is_written x u ≡ true → clash t u ≡ true
+written_clash : (x : Name) (t u : ModuleName) → is_written x t ≡ true → is_written x u ≡ true → clash t u ≡ true
 written_clash x t u h g =
     let p = both_true (not t.bound) (same_name x t.written) h in
     let q = both_true (not u.bound) (same_name x u.written) g in
@@ -59,7 +59,7 @@ found_none true f rest h = absurd (cc)
 found_none false f rest h = (refl, h)
 
 -- where t clashes with none, none is written as t is
-written_alone : (x : Name) (us : List Thing) (t : Thing) → clash_with us t ≡ [] → is_written x t ≡ true → writes x us ≡ 0
+written_alone : (x : Name) (us : List ModuleName) (t : ModuleName) → clash_with us t ≡ [] → is_written x t ≡ true → writes x us ≡ 0
 written_alone x [] t h g = refl
 written_alone x (u ∷ us) t h g =
     let r = found_none (clash t u) (record { place = t.place; error = errors.NameClash u.shown t.shown }) (clash_with us t) h in
@@ -69,7 +69,7 @@ written_alone x (u ∷ us) t h g =
     go true e n k = absurd (let c = written_clash x t u g e in cc)
     go false e n k = omega (arith, k)
 
-pub written_once : (x : Name) (before ts : List Thing) → clashes_from before ts ≡ [] → writes x before ≤ 1 → writes x before + writes x ts ≤ 1
+pub written_once : (x : Name) (before ts : List ModuleName) → clashes_from before ts ≡ [] → writes x before ≤ 1 → writes x before + writes x ts ≤ 1
 written_once x before [] h k = omega (arith, k)
 written_once x before (t ∷ ts) h k =
     let c = none_left (clash_with before t) (clashes_from (before ++ t ∷ []) ts) h in

@@ -11,12 +11,12 @@ use Rattle.pgo_syntax.specs.declared.spec.Spec.{Spec}
 use Rattle.pgo_syntax.specs.Statement.{Statement, skip, assign, if_then, if_else, while_do, either_of, await_that, with_in, print_out, assert_that, go_to, call_macro, yield_as, block, Statements, no_statements, more_statements, LabeledStatements, no_labeled, more_labeled, GuardedStatements, no_guarded, more_guarded, labeled, place_of}
 use Rattle.pgo_labels.specs.declared.errors.LabelError.TheVariants.{NeedsLabel, UnknownLabel}
 use Rattle.pgo_labels.specs.Inside.{Item, inside, inside_all, inside_labeled, inside_guarded, with_inside}
-use Rattle.pgo_labels.specs.Jumps.{behind_jumps, in_block, is_loop, loop_of, needing, unlabeled_places}
 use Rattle.pgo_labels.specs.Labels as found
-use Rattle.pgo_labels.specs.Labels.{labels_of, targets_of, target, last_before}
+use Rattle.pgo_labels.specs.NeedsLabel.{behind_jumps, in_block, is_loop, loop_of, needing, unlabeled_places, last_before}
 use Rattle.pgo_labels.specs.Refusal.{label_refusal}
 use Rattle.pgo_labels.specs.Rules as rules
 use Rattle.pgo_labels.specs.Rules.{found_at, missing, needs_label, label_in_with, label_in_macro, label_in_mapping, unknown_label, label_twice, reserved_done, yield_rule, too_many_labels}
+use Rattle.pgo_labels.specs.UnknownLabel.{targets_of, target}
 use Rattle.pgo_labels.specs.declared.finding.Finding.{Finding}
 use Rattle.pgo_bound.specs.Among.{IsAmong, among_left, among_right, among_filter, among_flat_map, empty_map, empty_none, from_map}
 use Rattle.pgo_bound.specs.Sound.{labels_among}

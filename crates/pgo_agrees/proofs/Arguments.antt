@@ -14,8 +14,8 @@ use Rattle.pgo_uses.specs.declared.uses.Home.{Home}
 use Rattle.pgo_uses.specs.declared.uses.Shape.{Shape}
 use Rattle.pgo_uses.specs.declared.uses.Shape.TheVariants.{Bare, OneIndex, Further}
 use Rattle.pgo_uses.specs.declared.uses.Use.{Use}
-use Rattle.pgo_scope.specs.Ways.{join, left_base, left_shape, left_uses}
-use Rattle.pgo_scope.specs.declared.ways.Ways.{Ways}
+use Rattle.pgo_scope.specs.Usage.{join, left_base, left_shape, left_uses}
+use Rattle.pgo_scope.specs.declared.usage.Usage.{Usage}
 use Rattle.pgo_meaning.specs.MacrosPlaced.{with_step, left_of}
 use Rattle.pgo_agrees.specs.Spoken.{Spoken}
 use Rattle.pgo_agrees.proofs.Zip.{any_flags}
@@ -130,11 +130,11 @@ module _ (N : List Name → Bool → Bool → Name → Type 0) (C B W : Name →
 
     -- ---- the argument
 
-    pub record Given (ns : List Name) (a : Around) (w : Ways) (t : Tree) : Type 0 where
+    pub record Given (ns : List Name) (a : Around) (w : Usage) (t : Tree) : Type 0 where
       pub reads : (h i : Bool) → reads_so w h i ≡ true → AllByRecursion R (uses [] (record a { hidden = h; indexed = i }) t)
       pub writes : (h : Shape) → writes_so w h ≡ true → (x : Name) × (left_base t ≡ Some x) × A ns (join (left_shape t) h) x × AllByRecursion R (left_uses [] (inside a) t)
 
-    pub handed_so : (ns : List Name) (a : Around) (w : Ways) (t : Tree) → IsAt home passed a → a.hidden ≡ false → Spoken t → First ns t → Given ns a w t → Handed C B Common N W A Y ns w t
+    pub handed_so : (ns : List Name) (a : Around) (w : Usage) (t : Tree) → IsAt home passed a → a.hidden ≡ false → Spoken t → First ns t → Given ns a w t → Handed C B Common N W A Y ns w t
     handed_so ns a w t at' q s f g = record {
       reads = λ h i e. argument_stands ns (record a { hidden = h; indexed = i }) t at' s f (g.reads h i e);
       writes = λ h e.

@@ -24,7 +24,7 @@ use Rattle.pgo_uses.specs.declared.uses.Form.TheVariants as forms
 use Rattle.pgo_uses.specs.declared.uses.Home.{Home}
 use Rattle.pgo_uses.specs.declared.uses.Home.TheVariants as homes
 use Rattle.pgo_uses.specs.declared.uses.Use.{Use}
-use Rattle.pgo_scope.specs.Clash.{itself, fixed_names, fixed_things, shared_things}
+use Rattle.pgo_scope.specs.Clash.{itself, fixed_names, fixed_module_names, shared_module_names}
 use Rattle.pgo_scope.specs.Unknown.{is_constant, is_common, is_own, means}
 use Rattle.pgo_syntax.specs.Statement.{labeled}
 use Rattle.pgo_bound.specs.Among.{IsAmong, among_left, among_right, among_append, all_at}
@@ -42,7 +42,7 @@ use Rattle.pgo_agrees.proofs.Kept.{NoFindings, NoLabelFindings}
 use Rattle.pgo_agrees.proofs.Meanings.{IsCommon, IsApplicable, named_row, row_test, operators_not_self, common_apart, applicable_apart, applicable_not_self, alone_means, alone_no_global, applied_is, common_here}
 use Rattle.pgo_agrees.proofs.Names.{and_right, false_or}
 use Rattle.pgo_agrees.proofs.Stands.{or_in}
-use Rattle.pgo_agrees.proofs.Things.{writes_some, counted, shared_among, bound_not_fixed}
+use Rattle.pgo_agrees.proofs.WrittenNames.{writes_some, counted, shared_among, bound_not_fixed}
 use Rattle.pgo_agrees.proofs.Uses.{FineUse, fine_use, of_global, of_archetype, of_process}
 use Rattle.pgo_agrees.proofs.Variables.{not_among, variable_is}
 use Rattle.pgo_agrees.proofs.Weaker.{plain}
@@ -162,8 +162,8 @@ module _ (s : Spec) (k : NoFindings s) (labels : NoLabelFindings s) (fit : AllBy
   constant_not_self : (x : Name) → among_rows x (name_rows s.constants) ≡ true → x ≡ self_name → ⊥
   constant_not_self x e f =
       let n = named_row x s.constants e in
-      let c = writes_some x (itself false n.0.name n.0.place) (shared_things s.constants) (shared_among n.0 s.constants n.1) (ap (same_name x) (sym n.2) ∙ same_name-self x) in
-      let m = writes_some x (itself false self_name 0) (fixed_things fixed_names) (inr (inr (inr (inr (inr (inr (inr (inl refl)))))))) (ap (same_name x) (sym f) ∙ same_name-self x) in
+      let c = writes_some x (itself false n.0.name n.0.place) (shared_module_names s.constants) (shared_among n.0 s.constants n.1) (ap (same_name x) (sym n.2) ∙ same_name-self x) in
+      let m = writes_some x (itself false self_name 0) (fixed_module_names fixed_names) (inr (inr (inr (inr (inr (inr (inr (inl refl)))))))) (ap (same_name x) (sym f) ∙ same_name-self x) in
       let a = counted s k.clashes x in
       omega (arith, c, m, a)
 

@@ -35,7 +35,7 @@ use Rattle.pgo_agrees.proofs.Meanings.{IsCommon, IsApplicable, defined_row, row_
 use Rattle.pgo_agrees.proofs.Names.{or_left, or_right, and_left, and_right, single, identifier_bytes}
 use Rattle.pgo_agrees.proofs.Placing.{has_bang, Declared}
 use Rattle.pgo_agrees.proofs.Stands.{Stands, or_in, or_first, or_second}
-use Rattle.pgo_agrees.proofs.Things.{bound_not_fixed}
+use Rattle.pgo_agrees.proofs.WrittenNames.{bound_not_fixed}
 use Rattle.pgo_agrees.proofs.Uses.{FineUse}
 use Rattle.pgo_model.specs.ValueText.{is_word_byte, all_word_bytes}
 

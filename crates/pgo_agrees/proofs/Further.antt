@@ -13,19 +13,19 @@ use Rattle.pgo_uses.specs.Heads.{definition_names, shared_names}
 use Rattle.pgo_uses.specs.Tables.{all_definitions}
 use Rattle.pgo_uses.specs.declared.uses.Use.{Use}
 use Rattle.pgo_uses.specs.declared.uses.Form.TheVariants as forms
-use Rattle.pgo_scope.specs.Clash.{itself, fixed_names, fixed_things, shared_things, or_none, own_thing, own_things, process_things, name_clashes}
-use Rattle.pgo_scope.specs.declared.things.Thing.{Thing}
+use Rattle.pgo_scope.specs.Clash.{itself, fixed_names, fixed_module_names, shared_module_names, or_none, own_module_name, own_module_names, process_module_names, name_clashes}
+use Rattle.pgo_scope.specs.declared.module_names.ModuleName.{ModuleName}
 use Rattle.pgo_bound.specs.Among.{IsAmong, among_left, among_right, among_append, among_map, from_map}
 use Rattle.pgo_bound.specs.State.{variables_of}
 use Rattle.pgo_sections.specs.Among.{is_among}
 use Rattle.pgo_accept.proofs.Fitting.{ArgumentsFit}
 use Rattle.pgo_accept.proofs.WrittenOnce.{writes}
 use Rattle.pgo_agrees.proofs.Names.{has_mark, written_marked}
-use Rattle.pgo_agrees.proofs.Things.{writes_some, counted, bound_apart, bound_not_fixed, process_among, written_by, rows_of}
+use Rattle.pgo_agrees.proofs.WrittenNames.{writes_some, counted, bound_apart, bound_not_fixed, process_among, written_by, rows_of}
 use Rattle.pgo_agrees.proofs.Variables.{IsVariable, variable_is, not_among, is_among_there, others_none, not_self, bound_no_variable}
 
 abbrev pub further_written : Spec → List Name
-further_written s = proc_set ∷ terminating ∷ map (λ (t : Thing). t.written) (written_by s)
+further_written s = proc_set ∷ terminating ∷ map (λ (t : ModuleName). t.written) (written_by s)
 
 -- the variables, and these
 abbrev pub names_written : Spec → List Name
@@ -49,45 +49,45 @@ variables_among s x h = fewer_left x (variables_of s) (further_written s) h
 
 -- ---- what processes write
 
-own_there : (p : Process) (t : Thing) (ys : List Name) → IsAmong t (own_things p ys) → (y : Name) × IsAmong y ys × (t ≡ own_thing p y)
+own_there : (p : Process) (t : ModuleName) (ys : List Name) → IsAmong t (own_module_names p ys) → (y : Name) × IsAmong y ys × (t ≡ own_module_name p y)
 own_there p t [] a = absurd a
 own_there p t (y ∷ ys) (inl e) = (y, inl refl, e)
 own_there p t (y ∷ ys) (inr a) = let r = own_there p t ys a in (r.0, inr r.1, r.2)
 
-abbrev OfSome : List (Name × List Name) → Thing → List Process → Type 0
+abbrev OfSome : List (Name × List Name) → ModuleName → List Process → Type 0
 OfSome rows t ps =
     ((p : Process) × IsAmong p ps × (t.written ≡ p.name.name))
     ⊎ ((p : Process) × (y : Name) × IsAmong p ps × IsAmong y (or_none (find p.archetype.name rows)) × (t.written ≡ written p.name.name y))
 
-of_some : (rows : List (Name × List Name)) (t : Thing) (ps : List Process) → IsAmong t (process_things rows ps) → OfSome rows t ps
+of_some : (rows : List (Name × List Name)) (t : ModuleName) (ps : List Process) → IsAmong t (process_module_names rows ps) → OfSome rows t ps
 of_some rows t [] a = absurd a
-of_some rows t (p ∷ ps) (inl e) = inl (p, inl refl, ap (λ (u : Thing). u.written) e)
-of_some rows t (p ∷ ps) (inr a) = go (among_append t (own_things p (or_none (find p.archetype.name rows))) (process_things rows ps) a) (of_some rows t ps)
+of_some rows t (p ∷ ps) (inl e) = inl (p, inl refl, ap (λ (u : ModuleName). u.written) e)
+of_some rows t (p ∷ ps) (inr a) = go (among_append t (own_module_names p (or_none (find p.archetype.name rows))) (process_module_names rows ps) a) (of_some rows t ps)
   where
     later : OfSome rows t ps → OfSome rows t (p ∷ ps)
     later (inl r) = inl (r.0, inr r.1, r.2)
     later (inr r) = inr (r.0, r.1, inr r.2, r.3, r.4)
 
-    go : IsAmong t (own_things p (or_none (find p.archetype.name rows))) ⊎ IsAmong t (process_things rows ps) → (IsAmong t (process_things rows ps) → OfSome rows t ps) → OfSome rows t (p ∷ ps)
+    go : IsAmong t (own_module_names p (or_none (find p.archetype.name rows))) ⊎ IsAmong t (process_module_names rows ps) → (IsAmong t (process_module_names rows ps) → OfSome rows t ps) → OfSome rows t (p ∷ ps)
     go (inl b) more =
         let r = own_there p t (or_none (find p.archetype.name rows)) b in
-        inr (p, r.0, inl refl, r.1, ap (λ (u : Thing). u.written) r.2)
+        inr (p, r.0, inl refl, r.1, ap (λ (u : ModuleName). u.written) r.2)
     go (inr b) more = later (more b)
 
-pub process_itself : (rows : List (Name × List Name)) (p : Process) (ps : List Process) → IsAmong p ps → IsAmong (itself false p.name.name p.name.place) (process_things rows ps)
+pub process_itself : (rows : List (Name × List Name)) (p : Process) (ps : List Process) → IsAmong p ps → IsAmong (itself false p.name.name p.name.place) (process_module_names rows ps)
 process_itself rows p [] a = absurd a
 process_itself rows p (q ∷ ps) (inl e) = inl (ap (λ (r : Process). itself false r.name.name r.name.place) e)
 process_itself rows p (q ∷ ps) (inr a) =
-    inr (among_right (itself false p.name.name p.name.place) (own_things q (or_none (find q.archetype.name rows))) (process_things rows ps) (process_itself rows p ps a))
+    inr (among_right (itself false p.name.name p.name.place) (own_module_names q (or_none (find q.archetype.name rows))) (process_module_names rows ps) (process_itself rows p ps a))
 
 pub further_is : (s : Spec) (x : Name) → IsAmong x (further_written s) → IsFurther s x
 further_is s x (inl e) = is_proc_set e
 further_is s x (inr (inl e)) = is_terminating e
 further_is s x (inr (inr a)) =
-    let m = from_map (λ (t : Thing). t.written) x (written_by s) a in
+    let m = from_map (λ (t : ModuleName). t.written) x (written_by s) a in
     go m.0 m.2 (of_some (rows_of s) m.0 s.processes m.1)
   where
-    go : (t : Thing) → x ≡ t.written → OfSome (rows_of s) t s.processes → IsFurther s x
+    go : (t : ModuleName) → x ≡ t.written → OfSome (rows_of s) t s.processes → IsFurther s x
     go t e (inl r) = is_process r.0 r.1 (e ∙ r.2)
     go t e (inr r) = is_written r.0 r.1 r.2 r.3 (e ∙ r.4)
 
@@ -102,16 +102,16 @@ taken_is s x a = go (among_append x (variables_of s) (further_written s) a)
 
 module _ (s : Spec) (h : name_clashes s ≡ []) (fit : AllByRecursion (ArgumentsFit s.archetypes) s.processes) where
   abbrev pub Others : Name → ℕ
-  Others x = writes x (shared_things s.constants) + writes x (shared_things (definition_names (all_definitions s)))
+  Others x = writes x (shared_module_names s.constants) + writes x (shared_module_names (definition_names (all_definitions s)))
 
   others_further : (x : Name) → IsFurther s x → Others x ≡ 0
   others_further x (is_proc_set e) =
       let c = counted s h x in
-      let k = writes_some x (itself false proc_set 0) (fixed_things fixed_names) (inr (inl refl)) (ap (same_name x) (sym e) ∙ same_name-self x) in
+      let k = writes_some x (itself false proc_set 0) (fixed_module_names fixed_names) (inr (inl refl)) (ap (same_name x) (sym e) ∙ same_name-self x) in
       omega (arith, c, k)
   others_further x (is_terminating e) =
       let c = counted s h x in
-      let k = writes_some x (itself false terminating 0) (fixed_things fixed_names) (inr (inr (inr (inr (inr (inl refl)))))) (ap (same_name x) (sym e) ∙ same_name-self x) in
+      let k = writes_some x (itself false terminating 0) (fixed_module_names fixed_names) (inr (inr (inr (inr (inr (inl refl)))))) (ap (same_name x) (sym e) ∙ same_name-self x) in
       omega (arith, c, k)
   others_further x (is_process p a e) =
       let c = counted s h x in
@@ -119,7 +119,7 @@ module _ (s : Spec) (h : name_clashes s ≡ []) (fit : AllByRecursion (Arguments
       omega (arith, c, k)
   others_further x (is_written p y a b e) =
       let c = counted s h x in
-      let k = writes_some x (own_thing p y) (written_by s) (process_among (rows_of s) p y s.processes a b) (ap (same_name x) (sym e) ∙ same_name-self x) in
+      let k = writes_some x (own_module_name p y) (written_by s) (process_among (rows_of s) p y s.processes a b) (ap (same_name x) (sym e) ∙ same_name-self x) in
       omega (arith, c, k)
 
   pub others_taken : (x : Name) → IsTaken s x → Others x ≡ 0
@@ -141,7 +141,7 @@ module _ (s : Spec) (h : name_clashes s ≡ []) (fit : AllByRecursion (Arguments
   further_not_self x (is_process p a e) f =
       let c = counted s h x in
       let k = writes_some x (itself false p.name.name p.name.place) (written_by s) (process_itself (rows_of s) p s.processes a) (ap (same_name x) (sym e) ∙ same_name-self x) in
-      let m = writes_some x (itself false self_name 0) (fixed_things fixed_names) (inr (inr (inr (inr (inr (inr (inr (inl refl)))))))) (ap (same_name x) (sym f) ∙ same_name-self x) in
+      let m = writes_some x (itself false self_name 0) (fixed_module_names fixed_names) (inr (inr (inr (inr (inr (inr (inr (inl refl)))))))) (ap (same_name x) (sym f) ∙ same_name-self x) in
       omega (arith, c, k, m)
   further_not_self x (is_written p y a b e) f =
       let r : has_mark x ≡ false = ap has_mark f in
@@ -157,9 +157,9 @@ module _ (s : Spec) (h : name_clashes s ≡ []) (fit : AllByRecursion (Arguments
   bound_not_further u a f (is_proc_set e) = bound_not_fixed s h u a f proc_set (inr (inl refl)) (sym e)
   bound_not_further u a f (is_terminating e) = bound_not_fixed s h u a f terminating (inr (inr (inr (inr (inr (inl refl)))))) (sym e)
   bound_not_further u a f (is_process p b e) =
-      bound_apart s h u a f (itself false p.name.name p.name.place) (among_right (itself false p.name.name p.name.place) (shared_things (shared_names s)) (written_by s) (process_itself (rows_of s) p s.processes b)) refl (sym e)
+      bound_apart s h u a f (itself false p.name.name p.name.place) (among_right (itself false p.name.name p.name.place) (shared_module_names (shared_names s)) (written_by s) (process_itself (rows_of s) p s.processes b)) refl (sym e)
   bound_not_further u a f (is_written p y b c e) =
-      bound_apart s h u a f (own_thing p y) (among_right (own_thing p y) (shared_things (shared_names s)) (written_by s) (process_among (rows_of s) p y s.processes b c)) refl (sym e)
+      bound_apart s h u a f (own_module_name p y) (among_right (own_module_name p y) (shared_module_names (shared_names s)) (written_by s) (process_among (rows_of s) p y s.processes b c)) refl (sym e)
 
   pub bound_not_taken : (u : Use) → IsAmong u (all_uses s) → u.form ≡ forms.Bound → IsTaken s u.name → ⊥
   bound_not_taken u a f (inl v) = bound_no_variable s h fit u a f v
@@ -171,6 +171,6 @@ further_among s x (is_proc_set e) = inl e
 further_among s x (is_terminating e) = inr (inl e)
 further_among s x (is_process p a e) =
     let t = itself false p.name.name p.name.place in
-    inr (inr (subst (λ z. IsAmong z (map (λ (u : Thing). u.written) (written_by s))) (sym e) (among_map (λ (u : Thing). u.written) t (written_by s) (process_itself (rows_of s) p s.processes a))))
+    inr (inr (subst (λ z. IsAmong z (map (λ (u : ModuleName). u.written) (written_by s))) (sym e) (among_map (λ (u : ModuleName). u.written) t (written_by s) (process_itself (rows_of s) p s.processes a))))
 further_among s x (is_written p y a b e) =
-    inr (inr (subst (λ z. IsAmong z (map (λ (u : Thing). u.written) (written_by s))) (sym e) (among_map (λ (u : Thing). u.written) (own_thing p y) (written_by s) (process_among (rows_of s) p y s.processes a b))))
+    inr (inr (subst (λ z. IsAmong z (map (λ (u : ModuleName). u.written) (written_by s))) (sym e) (among_map (λ (u : ModuleName). u.written) (own_module_name p y) (written_by s) (process_among (rows_of s) p y s.processes a b))))

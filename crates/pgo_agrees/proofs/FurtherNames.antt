@@ -14,7 +14,7 @@ use Rattle.pgo_uses.specs.AllUses.{parameter_names, variable_names, parameter_us
 use Rattle.pgo_uses.specs.Heads.{head_names, unit_names, named_by}
 use Rattle.pgo_uses.specs.StatementUses.{uses_of_block}
 use Rattle.pgo_uses.specs.declared.uses.Home.TheVariants as homes
-use Rattle.pgo_labels.specs.Rules.{reserved_done}
+use Rattle.pgo_labels.specs.ReservedDone.{reserved_done}
 use Rattle.pgo_scope.specs.Clash.{or_none}
 use Rattle.pgo_scope.specs.Underscores.{has_double, double_name}
 use Rattle.pgo_scope.specs.declared.errors.ScopeError.TheVariants as errors

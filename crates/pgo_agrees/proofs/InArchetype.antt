@@ -30,7 +30,7 @@ use Rattle.pgo_uses.specs.declared.uses.Use.{Use}
 use Rattle.pgo_scope.specs.Findings.{found_if, found_where}
 use Rattle.pgo_scope.specs.Mapped.{some_process, mapped_kind, mapped_among, mapped_of, mapped_in, wrong_read, wrong_write, mapped_read, mapped_write, mapped_use_of}
 use Rattle.pgo_scope.specs.Underscores.{has_double}
-use Rattle.pgo_scope.specs.Ways.{known_macros}
+use Rattle.pgo_scope.specs.Usage.{macro_table}
 use Rattle.pgo_scope.specs.declared.errors.ScopeError.TheVariants as errors
 use Rattle.pgo_scope.specs.declared.mapped.Mapped.{Mapped as Kind}
 use Rattle.pgo_scope.specs.declared.mapped.Mapped.TheVariants.{ByElement}
@@ -292,7 +292,7 @@ module _ (s : Spec) (k : NoFindings s) (fit : AllByRecursion (ArgumentsFit s.arc
 
     pub alone_read : (u : Use) → FineUse s u → IsAt (homes.Body j) false u.around → u.form ≡ forms.Alone → MayRead u.around.hidden u.around.indexed u.name
     alone_read u f w e =
-        let g = subst (λ z. mapped_use_of s (known_macros s.macros) u z ≡ []) e f.mapped in
+        let g = subst (λ z. mapped_use_of s (macro_table s.macros) u z ≡ []) e f.mapped in
         read_fine u w.0 (ap (λ b. found_where (not b) (mapped_read s u)) (sym w.1) ∙ g)
 
     pub written_fine : (a : Around) (x : Name) (h : Shape) → a.home ≡ homes.Body j → mapped_write s a x h ≡ [] → kind x ≡ ByElement → h ≡ OneIndex
@@ -300,4 +300,4 @@ module _ (s : Spec) (k : NoFindings s) (fit : AllByRecursion (ArgumentsFit s.arc
         may_write h x (ap (λ z. wrong_write h (mapped_in s z x)) (sym e) ∙ found_nothing (wrong_write h (mapped_in s a.home x)) a.place (errors.MappedReadHere x) f)
 
     pub assigned_fine : (ns : List Name) (u : Use) (h : Shape) → FineUse s u → IsAt (homes.Body j) false u.around → u.form ≡ forms.Assigned h → RunAssigned ns h u.name
-    assigned_fine ns u h f w e = (single u.name f.double, written_fine u.around u.name h w.0 (subst (λ z. mapped_use_of s (known_macros s.macros) u z ≡ []) e f.mapped))
+    assigned_fine ns u h f w e = (single u.name f.double, written_fine u.around u.name h w.0 (subst (λ z. mapped_use_of s (macro_table s.macros) u z ≡ []) e f.mapped))

@@ -21,9 +21,9 @@ use Rattle.pgo_uses.specs.declared.uses.Shape.{Shape}
 use Rattle.pgo_uses.specs.declared.uses.Use.{Use}
 use Rattle.pgo_scope.specs.Assigned.{parameter_in, may_assign, assigned_arguments, assigned_of}
 use Rattle.pgo_scope.specs.Unknown.{may_call, knows_self}
-use Rattle.pgo_scope.specs.Ways.{Known as WaysKnown, join, left_shape, left_uses, read_way, write_way, ways_if, no_ways, passed_ways, call_ways, use_ways, ways_in, known_from, known_macros, each_parameter}
+use Rattle.pgo_scope.specs.Usage.{MacroTable, join, left_shape, left_uses, read_usage, write_usage, usage_if, no_usage, passed_usage, call_usage, usage_by, usage_in, macro_table_from, macro_table, each_parameter}
 use Rattle.pgo_scope.specs.declared.errors.ScopeError.TheVariants as errors
-use Rattle.pgo_scope.specs.declared.ways.Ways.{Ways}
+use Rattle.pgo_scope.specs.declared.usage.Usage.{Usage}
 use Rattle.pgo_bound.specs.Among.{IsAmong, among_left, among_right, all_at, some_is}
 use Rattle.pgo_bound.specs.Sound.{labels_among}
 use Rattle.pgo_accept.proofs.Fitting.{ArgumentsFit}
@@ -74,7 +74,7 @@ last_length : {A : Type 0} (xs : List A) (x : A) → length (xs ++ x ∷ []) ≡
 last_length [] x = refl
 last_length (z ∷ xs) x = ap suc (last_length xs x)
 
-later_get : (ms : List Macro) (known : WaysKnown) (i j : ℕ) (r : List (Name × Ways)) → slice_get known.1 j ≡ Some r → slice_get (known_from known i ms).1 j ≡ Some r
+later_get : (ms : List Macro) (known : MacroTable) (i j : ℕ) (r : List (Name × Usage)) → slice_get known.1 j ≡ Some r → slice_get (macro_table_from known i ms).1 j ≡ Some r
 later_get [] known i j r h = h
 later_get (m ∷ ms) known i j r h =
     later_get ms (known.0, known.1 ++ each_parameter known (macro_uses i m) (names_of m.params) ∷ []) (suc i) j r (prefix_get known.1 (each_parameter known (macro_uses i m) (names_of m.params) ∷ []) j r h)
@@ -104,18 +104,18 @@ less_or_more (suc j) (suc i) = go (less_or_more j i)
 
 module _ (s : Spec) (k : NoFindings s) (fit : AllByRecursion (ArgumentsFit s.archetypes) s.processes) (of_text : IsOfText s) (unlabelled : AreUnlabelled s.macros) where
   -- ---- one macro, where those before it are known
-  module _ (m : Macro) (m_among : IsAmong m s.macros) (i : ℕ) (at_i : slice_get s.macros i ≡ Some m) (there : (u : Use) → IsAmong u (macro_uses i m) → FineUse s u) (none : labels_among (labeled m.body) ≡ []) (known : List (List (Name × Ways))) (bs : Bodies) (before : (x : Name) (j : ℕ) → first_at x (macro_rows s.macros) ≡ Some j → j < i → (o : MacroOk s k fit of_text bs x j) × (slice_get known j ≡ Some (rows o.ways (names_of o.macro.it.params)))) where
+  module _ (m : Macro) (m_among : IsAmong m s.macros) (i : ℕ) (at_i : slice_get s.macros i ≡ Some m) (there : (u : Use) → IsAmong u (macro_uses i m) → FineUse s u) (none : labels_among (labeled m.body) ≡ []) (known : List (List (Name × Usage))) (bs : Bodies) (before : (x : Name) (j : ℕ) → first_at x (macro_rows s.macros) ≡ Some j → j < i → (o : MacroOk s k fit of_text bs x j) × (slice_get known j ≡ Some (rows o.ways (names_of o.macro.it.params)))) where
     abbrev pub qs : List Name
     qs = names_of m.params
 
     abbrev pub us : List Use
     us = macro_uses i m
 
-    abbrev pub K : WaysKnown
+    abbrev pub K : MacroTable
     K = (macro_rows s.macros, known)
 
-    abbrev pub w : Name → Ways
-    w x = ways_in K x us
+    abbrev pub w : Name → Usage
+    w x = usage_in K x us
 
     abbrev N : List Name → Bool → Bool → Name → Type 0
     N = MacroName (C s k fit of_text) (B s k fit of_text) (Common s k fit of_text) qs w
@@ -176,9 +176,9 @@ module _ (s : Spec) (k : NoFindings s) (fit : AllByRecursion (ArgumentsFit s.arc
     own_read : (u : Use) → P u → IsAt (homes.Macro i) false u.around → u.form ≡ forms.Alone → J u.around.hidden u.around.indexed u.name
     own_read u p g e mem =
         (use_among K u.name us u p.1).reads u.around.hidden u.around.indexed
-        (ap (λ f. reads_so (use_ways K u.name u f) u.around.hidden u.around.indexed) e
-        ∙ ap (λ b. reads_so (ways_if (not b && same_name u.name u.name) (read_way u.around.hidden u.around.indexed)) u.around.hidden u.around.indexed) g.1
-        ∙ ap (λ b. reads_so (ways_if b (read_way u.around.hidden u.around.indexed)) u.around.hidden u.around.indexed) (same_name-self u.name)
+        (ap (λ f. reads_so (usage_by K u.name u f) u.around.hidden u.around.indexed) e
+        ∙ ap (λ b. reads_so (usage_if (not b && same_name u.name u.name) (read_usage u.around.hidden u.around.indexed)) u.around.hidden u.around.indexed) g.1
+        ∙ ap (λ b. reads_so (usage_if b (read_usage u.around.hidden u.around.indexed)) u.around.hidden u.around.indexed) (same_name-self u.name)
         ∙ read_way_is u.around.hidden u.around.indexed)
 
     may_be : (x : Name) → may_assign s (homes.Macro i) x ≡ true → is_member x qs ≡ true
@@ -186,23 +186,23 @@ module _ (s : Spec) (k : NoFindings s) (fit : AllByRecursion (ArgumentsFit s.arc
 
     own_assigned : (ns : List Name) (u : Use) (h : Shape) → P u → IsAt (homes.Macro i) false u.around → u.form ≡ forms.Assigned h → A ns h u.name
     own_assigned ns u h p g e = (
-      may_be u.name (ap (λ z. may_assign s z u.name) (sym g.0) ∙ not_false (may_assign s u.around.home u.name) (nothing_if (not (may_assign s u.around.home u.name)) u.around.place (errors.AssignedNotRef u.name) (subst (λ f. assigned_of s (known_macros s.macros) u f ≡ []) e p.0.assigned))),
+      may_be u.name (ap (λ z. may_assign s z u.name) (sym g.0) ∙ not_false (may_assign s u.around.home u.name) (nothing_if (not (may_assign s u.around.home u.name)) u.around.place (errors.AssignedNotRef u.name) (subst (λ f. assigned_of s (macro_table s.macros) u f ≡ []) e p.0.assigned))),
       (use_among K u.name us u p.1).writes h
-          (ap (λ f. writes_so (use_ways K u.name u f) h) e ∙ ap (λ b. writes_so (ways_if b (write_way h)) h) (same_name-self u.name) ∙ write_way_is h),
+          (ap (λ f. writes_so (usage_by K u.name u f) h) e ∙ ap (λ b. writes_so (usage_if b (write_usage h)) h) (same_name-self u.name) ∙ write_way_is h),
     )
 
     -- ---- a call in the body
     module _ (u : Use) (ts : List Tree) (p : P u) (form : u.form ≡ forms.Called ts) (home : u.around.home ≡ homes.Macro i) (j : ℕ) (first : first_at u.name (macro_rows s.macros) ≡ Some j) (o : MacroOk s k fit of_text bs u.name j) (row : slice_get known j ≡ Some (rows o.ways (names_of o.macro.it.params))) where
-      passed : (x y : Name) (t : Tree) → InPairs (x, o.ways x) t (rows o.ways (names_of o.macro.it.params)) ts → Among (passed_ways (o.ways x) u.around y t) (w y)
+      passed : (x y : Name) (t : Tree) → InPairs (x, o.ways x) t (rows o.ways (names_of o.macro.it.params)) ts → Among (passed_usage (o.ways x) u.around y t) (w y)
       passed x y t h =
-          among_trans (passed_ways (o.ways x) u.around y t) (use_ways K y u u.form) (w y) (subst (λ f. Among (passed_ways (o.ways x) u.around y t) (use_ways K y u f)) (sym form) (subst (λ qs. Among (passed_ways (o.ways x) u.around y t) (call_ways qs u.around y ts)) (sym (parameters_are s k fit of_text K u.name j o.ways (names_of o.macro.it.params) refl first row)) (call_among no_ways (x, o.ways x) t (rows o.ways (names_of o.macro.it.params)) u.around y ts h))) (use_among K y us u p.1)
+          among_trans (passed_usage (o.ways x) u.around y t) (usage_by K y u u.form) (w y) (subst (λ f. Among (passed_usage (o.ways x) u.around y t) (usage_by K y u f)) (sym form) (subst (λ qs. Among (passed_usage (o.ways x) u.around y t) (call_usage qs u.around y ts)) (sym (parameters_are s k fit of_text K u.name j o.ways (names_of o.macro.it.params) refl first row)) (call_among no_usage (x, o.ways x) t (rows o.ways (names_of o.macro.it.params)) u.around y ts h))) (use_among K y us u p.1)
 
       given : (ns : List Name) (x : Name) (t : Tree) → InPairs (x, o.ways x) t (rows o.ways (names_of o.macro.it.params)) ts → Given N (C s k fit of_text) (B s k fit of_text) W A ⊥ (Common s k fit of_text) (Inside s k fit of_text qs) R J (homes.Macro i) false joins ns u.around (o.ways x) t
       given ns x t h = record {
         reads = λ a b e. all_among R (uses [] (record u.around { hidden = a; indexed = b }) t) (λ v c f g. (passed x v.name t h).reads v.around.hidden v.around.indexed ((passed_read (o.ways x) u.around v.name t a b e).reads v.around.hidden v.around.indexed (read_among (uses [] (record u.around { hidden = a; indexed = b }) t) v c f)));
         writes = λ a e.
-            (let full = parameters_are s k fit of_text (known_macros s.macros) u.name j o.ways (names_of o.macro.it.params) (all_names s k fit of_text) first o.known in
-            let none = subst (λ f. assigned_of s (known_macros s.macros) u f ≡ []) form p.0.assigned in
+            (let full = parameters_are s k fit of_text (macro_table s.macros) u.name j o.ways (names_of o.macro.it.params) (all_names s k fit of_text) first o.known in
+            let none = subst (λ f. assigned_of s (macro_table s.macros) u f ≡ []) form p.0.assigned in
             let found = assigned_at s u (x, o.ways x) t (rows o.ways (names_of o.macro.it.params)) ts h (subst (λ qs. assigned_arguments s u qs ts ≡ []) full none) in
             let b = assigned_base s k fit of_text u x (o.ways x) t a e found in
             (b.0, b.1, (may_be b.0 (ap (λ z. may_assign s z b.0) (sym home) ∙ b.2), (passed x b.0 t h).writes (join (left_shape t) a) ((passed_write (o.ways x) u.around b.0 t a e).writes (join (left_shape t) a) (base_among a u.around b.0 t b.1))), all_among R (left_uses [] (inside u.around) t) (λ v c f g. (passed x v.name t h).reads v.around.hidden v.around.indexed ((passed_write (o.ways x) u.around v.name t a e).reads v.around.hidden v.around.indexed ((path_among a u.around v.name t).reads v.around.hidden v.around.indexed (read_among (left_uses [] (inside u.around) t) v c f))))));
@@ -261,7 +261,7 @@ module _ (s : Spec) (k : NoFindings s) (fit : AllByRecursion (ArgumentsFit s.arc
 
   -- ---- all macros, each with those before it
 
-  abbrev Before : Bodies → List (List (Name × Ways)) → ℕ → Type 0
+  abbrev Before : Bodies → List (List (Name × Usage)) → ℕ → Type 0
   Before bs known i = (x : Name) (j : ℕ) → first_at x (macro_rows s.macros) ≡ Some j → j < i → (o : MacroOk s k fit of_text bs x j) × (slice_get known j ≡ Some (rows o.ways (names_of o.macro.it.params)))
 
   all_unlabelled : (m : Macro) (ms : List Macro) → AreUnlabelled ms → IsAmong m ms → labels_among (labeled m.body) ≡ []
@@ -278,7 +278,7 @@ module _ (s : Spec) (k : NoFindings s) (fit : AllByRecursion (ArgumentsFit s.arc
   uses_there m i h u a = fine_use s k u (of_macro_at s m i h u a)
 
   -- one more macro is known
-  step : (m : Macro) (ms : List Macro) (i : ℕ) (bs : Bodies) (known : List (List (Name × Ways))) → slice_get s.macros i ≡ Some m → length known ≡ i → known_from (macro_rows s.macros, known ++ each_parameter (macro_rows s.macros, known) (macro_uses i m) (names_of m.params) ∷ []) (suc i) ms ≡ known_macros s.macros → Before bs known i
+  step : (m : Macro) (ms : List Macro) (i : ℕ) (bs : Bodies) (known : List (List (Name × Usage))) → slice_get s.macros i ≡ Some m → length known ≡ i → macro_table_from (macro_rows s.macros, known ++ each_parameter (macro_rows s.macros, known) (macro_uses i m) (names_of m.params) ∷ []) (suc i) ms ≡ macro_table s.macros → Before bs known i
       → Before ((m.name.name, record { parameters = map (λ (p : PlacedName). p.name) m.params; statement = placed bs (block 0 (labeled m.body)) }) ∷ bs) (known ++ each_parameter (macro_rows s.macros, known) (macro_uses i m) (names_of m.params) ∷ []) (suc i)
   step m ms i bs known at_i size full before x j first below = go (less_or_same j i below)
     where
@@ -305,7 +305,7 @@ module _ (s : Spec) (k : NoFindings s) (fit : AllByRecursion (ArgumentsFit s.arc
             record {
               macro = record { it = m; at' = ap (slice_get s.macros) e ∙ at_i; named = ap (λ (z : Macro). z.name.name) (sym same) ∙ f.named; row = f.row ∙ ap (λ (z : Macro). Some (length z.params)) same };
               ways = ways;
-              known = sym (ap (λ (z : WaysKnown). slice_get z.1 j) full) ∙ later_get ms (macro_rows s.macros, known ++ each_parameter (macro_rows s.macros, known) (macro_uses i m) (names_of m.params) ∷ []) (suc i) j (rows ways (names_of m.params)) here;
+              known = sym (ap (λ (z : MacroTable). slice_get z.1 j) full) ∙ later_get ms (macro_rows s.macros, known ++ each_parameter (macro_rows s.macros, known) (macro_uses i m) (names_of m.params) ∷ []) (suc i) j (rows ways (names_of m.params)) here;
               body = record { parameters = map (λ (p : PlacedName). p.name) m.params; statement = placed bs (block 0 (labeled m.body)) };
               found = ap (λ b. if b then Some (record { parameters = map (λ (p : PlacedName). p.name) m.params; statement = placed bs (block 0 (labeled m.body)) }) else find x bs) (ap (λ y. same_name y m.name.name) (sym f.named ∙ ap (λ (z : Macro). z.name.name) same) ∙ same_name-self m.name.name);
               parameters = names_map m.params;
@@ -315,7 +315,7 @@ module _ (s : Spec) (k : NoFindings s) (fit : AllByRecursion (ArgumentsFit s.arc
             here,
           )
 
-  all_from : (ms : List Macro) (i : ℕ) (bs : Bodies) (known : List (List (Name × Ways))) → ((n : ℕ) → slice_get s.macros (i + n) ≡ slice_get ms n) → length known ≡ i → known_from (macro_rows s.macros, known) i ms ≡ known_macros s.macros → Before bs known i
+  all_from : (ms : List Macro) (i : ℕ) (bs : Bodies) (known : List (List (Name × Usage))) → ((n : ℕ) → slice_get s.macros (i + n) ≡ slice_get ms n) → length known ≡ i → macro_table_from (macro_rows s.macros, known) i ms ≡ macro_table s.macros → Before bs known i
       → (x : Name) (j : ℕ) → first_at x (macro_rows s.macros) ≡ Some j → MacroOk s k fit of_text (bodies_with bs ms) x j
   all_from [] i bs known tail size full before x j first = go (less_or_more j i)
     where

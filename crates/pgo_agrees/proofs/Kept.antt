@@ -20,12 +20,12 @@ use Rattle.pgo_scope.specs.Rules.{context_of, found_by}
 use Rattle.pgo_scope.specs.Twice.{captures, repeated_in, declared_twice, reserved_name, hiding_use, capture_use}
 use Rattle.pgo_scope.specs.Underscores.{double_name, double_use}
 use Rattle.pgo_scope.specs.Unknown.{unknown_use, unknown_heads}
-use Rattle.pgo_scope.specs.Ways.{known_macros}
+use Rattle.pgo_scope.specs.Usage.{macro_table}
 use Rattle.pgo_labels.specs.declared.errors.LabelError.{LabelError}
 use Rattle.pgo_labels.specs.declared.finding.Finding as labels
 use Rattle.pgo_labels.specs.Least.{sooner_of, least}
-use Rattle.pgo_labels.specs.Refusal.{findings, first_refusal, label_refusal}
-use Rattle.pgo_labels.specs.Rules.{label_in_with, label_in_macro, label_in_mapping, label_twice, reserved_done, yield_rule}
+use Rattle.pgo_labels.specs.Refusal.{first_refusal, label_refusal}
+use Rattle.pgo_labels.specs.Rules.{findings, label_in_with, label_in_macro, label_in_mapping, label_twice, reserved_done, yield_rule}
 use Rattle.pgo_bound.specs.Among.{IsAmong, none_left, none_right}
 
 -- ---- names
@@ -63,8 +63,8 @@ pub record NoFindings (s : Spec) : Type 0 where
   pub hiding : each_use (hiding_use (tables_of s)) (all_uses s) ≡ []
   pub arity : each_use (arity_use (tables_of s)) (all_uses s) ≡ []
   pub globals : each_use (global_finding (tables_of s)) (all_uses s) ≡ []
-  pub assigned : each_use (assigned_use s (known_macros s.macros)) (all_uses s) ≡ []
-  pub mapped : each_use (mapped_use s (known_macros s.macros)) (all_uses s) ≡ []
+  pub assigned : each_use (assigned_use s (macro_table s.macros)) (all_uses s) ≡ []
+  pub mapped : each_use (mapped_use s (macro_table s.macros)) (all_uses s) ≡ []
   pub clashes : name_clashes s ≡ []
   pub double_heads : each_name double_name (head_names s) ≡ []
   pub doubles : each_use double_use (all_uses s) ≡ []

@@ -19,9 +19,9 @@ use Rattle.pgo_uses.specs.declared.uses.Around.{Around}
 use Rattle.pgo_uses.specs.declared.uses.Form.TheVariants as forms
 use Rattle.pgo_uses.specs.declared.uses.Home.TheVariants as homes
 use Rattle.pgo_uses.specs.declared.uses.Use.{Use}
-use Rattle.pgo_scope.specs.Clash.{value_names, new_label, labels_from, own_names, own_rows, or_none, own_thing, own_things, process_things, name_clashes}
-use Rattle.pgo_scope.specs.declared.things.Thing.{Thing}
-use Rattle.pgo_labels.specs.Rules.{reserved_done}
+use Rattle.pgo_scope.specs.Clash.{value_names, new_label, labels_from, own_names, own_rows, or_none, own_module_name, own_module_names, process_module_names, name_clashes}
+use Rattle.pgo_scope.specs.declared.module_names.ModuleName.{ModuleName}
+use Rattle.pgo_labels.specs.ReservedDone.{reserved_done}
 use Rattle.pgo_bound.specs.Among.{IsAmong, among_left, among_right, among_append, from_map, nth_among, none_flat_map}
 use Rattle.pgo_bound.specs.Instances.{archetype_among}
 use Rattle.pgo_bound.specs.Runs.{archetype_named}
@@ -40,7 +40,7 @@ use Rattle.pgo_meaning.specs.Sections.{sections_of}
 use Rattle.pgo_meaning.specs.Statements.{label_of}
 use Rattle.pgo_meaning.proofs.LabelSections.{sections_are}
 use Rattle.pgo_agrees.specs.Accepted.{AreSmall}
-use Rattle.pgo_agrees.proofs.Things.{writes_some, counted, rows_of}
+use Rattle.pgo_agrees.proofs.WrittenNames.{writes_some, counted, rows_of}
 use Rattle.pgo_agrees.proofs.Unlabelled.{none_is_done}
 
 -- ---- a label is used as a label
@@ -164,9 +164,9 @@ found_own x j (b ∷ bs) a h = go (same_name x b.name.name) h (found_own x (suc 
     go true e r = let same : b ≡ a = cc in (j, ap (λ d. Some (own_names j d)) same)
     go false e r = r e
 
-own_thing_among : (p : Process) (y : Name) (ys : List Name) → IsAmong y ys → IsAmong (own_thing p y) (own_things p ys)
+own_thing_among : (p : Process) (y : Name) (ys : List Name) → IsAmong y ys → IsAmong (own_module_name p y) (own_module_names p ys)
 own_thing_among p y [] a = absurd a
-own_thing_among p y (z ∷ ys) (inl e) = inl (ap (own_thing p) e)
+own_thing_among p y (z ∷ ys) (inl e) = inl (ap (own_module_name p) e)
 own_thing_among p y (z ∷ ys) (inr a) = inr (own_thing_among p y ys a)
 
 there : {A : Type 0} (l : Name) (x : A) (xs : List (Name × A)) → find l xs ≡ Some x → IsAmong l (map (λ c. c.0) xs)
@@ -200,12 +200,12 @@ module _ (s : Spec) (clashes : name_clashes s ≡ []) (unlabelled : AreUnlabelle
       let f = found_own p.archetype.name 0 s.archetypes a e in
       (m.0, subst (λ o. IsAmong m.0 (or_none o)) (sym f.1) (label_own f.0 a m.0 m.1), m.2 ∙ label_written p.name.name m.0 not_done)
 
-  abbrev own_of : Process → List Thing
-  own_of p = own_things p (or_none (find p.archetype.name (rows_of s)))
+  abbrev own_of : Process → List ModuleName
+  own_of p = own_module_names p (or_none (find p.archetype.name (rows_of s)))
 
   own_count : (p : Process) (y l : Name) → IsAmong y (or_none (find p.archetype.name (rows_of s))) → l ≡ written p.name.name y → 1 ≤ writes l (own_of p)
   own_count p y l a e =
-      writes_some l (own_thing p y) (own_of p) (own_thing_among p y (or_none (find p.archetype.name (rows_of s))) a) (ap (same_name l) (sym e) ∙ same_name-self l)
+      writes_some l (own_module_name p y) (own_of p) (own_thing_among p y (or_none (find p.archetype.name (rows_of s))) a) (ap (same_name l) (sym e) ∙ same_name-self l)
 
   -- no tree of another process has the label
   no_tree : (q : Process) (l : Name) → writes l (own_of q) ≡ 0 → find l (process_expansions s q) ≡ None
@@ -219,26 +219,26 @@ module _ (s : Spec) (clashes : name_clashes s ≡ []) (unlabelled : AreUnlabelle
           by None k = ap (option_map (expansion (variables_of s) (places_of q.name.name a (process_bindings s q a)))) k
           by (Some c) k = absurd (let t = label_thing q a e l c k in let n = own_count q t.0 l t.1 t.2 in omega (arith, n, z))
 
-  all_there : (p : Process) (y l : Name) (ps : List Process) → IsAmong p ps → IsAmong y (or_none (find p.archetype.name (rows_of s))) → l ≡ written p.name.name y → 1 ≤ writes l (process_things (rows_of s) ps)
+  all_there : (p : Process) (y l : Name) (ps : List Process) → IsAmong p ps → IsAmong y (or_none (find p.archetype.name (rows_of s))) → l ≡ written p.name.name y → 1 ≤ writes l (process_module_names (rows_of s) ps)
   all_there p y l [] a h e = absurd a
   all_there p y l (q ∷ ps) (inl f) h e =
       let n = subst (λ (r : Process). 1 ≤ writes l (own_of r)) f (own_count p y l h e) in
-      let w = writes-append l (own_of q) (process_things (rows_of s) ps) in
+      let w = writes-append l (own_of q) (process_module_names (rows_of s) ps) in
       omega (arith, n, w)
   all_there p y l (q ∷ ps) (inr a) h e =
       let n = all_there p y l ps a h e in
-      let w = writes-append l (own_of q) (process_things (rows_of s) ps) in
+      let w = writes-append l (own_of q) (process_module_names (rows_of s) ps) in
       omega (arith, n, w)
 
-  one_tree : (p : Process) (y l : Name) (x : Expansion) → IsAmong y (or_none (find p.archetype.name (rows_of s))) → l ≡ written p.name.name y → find l (process_expansions s p) ≡ Some x → (ps : List Process) → IsAmong p ps → writes l (process_things (rows_of s) ps) ≤ 1 → find l (flat_map (process_expansions s) ps) ≡ Some x
+  one_tree : (p : Process) (y l : Name) (x : Expansion) → IsAmong y (or_none (find p.archetype.name (rows_of s))) → l ≡ written p.name.name y → find l (process_expansions s p) ≡ Some x → (ps : List Process) → IsAmong p ps → writes l (process_module_names (rows_of s) ps) ≤ 1 → find l (flat_map (process_expansions s) ps) ≡ Some x
   one_tree p y l x h e f [] a w = absurd a
   one_tree p y l x h e f (q ∷ ps) (inl k) w =
       find_append l (process_expansions s q) (flat_map (process_expansions s) ps) ∙ ap (λ o. or_that o (find l (flat_map (process_expansions s) ps))) (ap (λ r. find l (process_expansions s r)) (sym k) ∙ f)
   one_tree p y l x h e f (q ∷ ps) (inr a) w =
       let n = all_there p y l ps a h e in
-      let v = writes-append l (own_of q) (process_things (rows_of s) ps) in
+      let v = writes-append l (own_of q) (process_module_names (rows_of s) ps) in
       let z : writes l (own_of q) ≡ 0 = omega (arith, n, v, w) in
-      let rest : writes l (process_things (rows_of s) ps) ≤ 1 = omega (arith, v, w) in
+      let rest : writes l (process_module_names (rows_of s) ps) ≤ 1 = omega (arith, v, w) in
       find_append l (process_expansions s q) (flat_map (process_expansions s) ps) ∙ ap (λ o. or_that o (find l (flat_map (process_expansions s) ps))) (no_tree q l z) ∙ one_tree p y l x h e f ps a rest
 
   -- the tree of a label
@@ -251,7 +251,7 @@ module _ (s : Spec) (clashes : name_clashes s ≡ []) (unlabelled : AreUnlabelle
       let t = label_thing p a e l c h in
       let own = ap (λ o. find l (on [] o (λ a. expansions_of (variables_of s) s.macros p.name.name a (process_bindings s p a)))) e ∙ here in
       let n = counted s clashes l in
-      let w : writes l (process_things (rows_of s) s.processes) ≤ 1 = omega (arith, n) in
+      let w : writes l (process_module_names (rows_of s) s.processes) ≤ 1 = omega (arith, n) in
       (one_tree p t.0 l (f c) t.1 t.2 own s.processes b w, here)
 
 -- ---- few names are bound on a path

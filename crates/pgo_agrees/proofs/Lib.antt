@@ -1,7 +1,7 @@
 pub mod Kept
 pub mod Unlabelled
 pub mod Names
-pub mod Things
+pub mod WrittenNames
 pub mod Instances
 pub mod Heads
 pub mod Uses

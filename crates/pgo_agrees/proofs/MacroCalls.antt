@@ -21,9 +21,9 @@ use Rattle.pgo_scope.specs.Arity.{or_number, arity_of}
 use Rattle.pgo_scope.specs.Assigned.{may_assign, assigned_argument, assigned_if}
 use Rattle.pgo_scope.specs.Findings.{found_if, found_where}
 use Rattle.pgo_scope.specs.Unknown.{may_call, is_unknown}
-use Rattle.pgo_scope.specs.Ways.{Known as WaysKnown, known_from, each_parameter, known_macros, known_at, or_none, parameters_of, is_assigned, left_base}
+use Rattle.pgo_scope.specs.Usage.{MacroTable, macro_table_from, each_parameter, macro_table, item_at, or_none, parameters_of, is_assigned, left_base}
 use Rattle.pgo_scope.specs.declared.errors.ScopeError.TheVariants as errors
-use Rattle.pgo_scope.specs.declared.ways.Ways.{Ways}
+use Rattle.pgo_scope.specs.declared.usage.Usage.{Usage}
 use Rattle.pgo_accept.proofs.Fitting.{ArgumentsFit}
 use Rattle.pgo_meaning.specs.MacrosPlaced.{Body, Bodies, handed}
 use Rattle.pgo_agrees.specs.Accepted.{IsOfText}
@@ -47,8 +47,8 @@ module _ (s : Spec) (k : NoFindings s) (fit : AllByRecursion (ArgumentsFit s.arc
   -- a macro whose body, with the macros before it in place, is known to be fine
   pub record MacroOk (bs : Bodies) (x : Name) (j : ℕ) : Type 0 where
     pub macro : FirstMacro s.macros x j
-    pub ways : Name → Ways
-    pub known : slice_get (known_macros s.macros).1 j ≡ Some (rows ways (names_of macro.it.params))
+    pub ways : Name → Usage
+    pub known : slice_get (macro_table s.macros).1 j ≡ Some (rows ways (names_of macro.it.params))
     pub body : Body
     pub found : find x bs ≡ Some body
     pub parameters : body.parameters ≡ names_of macro.it.params
@@ -70,15 +70,15 @@ module _ (s : Spec) (k : NoFindings s) (fit : AllByRecursion (ArgumentsFit s.arc
       let same = not_false (nat_eq n (length ts)) (nothing_if (not (nat_eq n (length ts))) u.around.place (errors.Arity u.name (length ts)) h) in
       names_length m.it.params ∙ number_is (length m.it.params) (length ts) (subst (λ o. nat_eq (or_number o (length ts)) (length ts) ≡ true) m.row same)
 
-  kept_names : (ms : List Macro) (known : WaysKnown) (i : ℕ) → (known_from known i ms).0 ≡ known.0
+  kept_names : (ms : List Macro) (known : MacroTable) (i : ℕ) → (macro_table_from known i ms).0 ≡ known.0
   kept_names [] known i = refl
   kept_names (m ∷ ms) known i = kept_names ms (known.0, known.1 ++ each_parameter known (macro_uses i m) (names_of m.params) ∷ []) (suc i)
 
-  pub parameters_are : (known : WaysKnown) (x : Name) (j : ℕ) (w : Name → Ways) (ns : List Name) → known.0 ≡ macro_rows s.macros → first_at x (macro_rows s.macros) ≡ Some j → slice_get known.1 j ≡ Some (rows w ns) → parameters_of known x ≡ rows w ns
+  pub parameters_are : (known : MacroTable) (x : Name) (j : ℕ) (w : Name → Usage) (ns : List Name) → known.0 ≡ macro_rows s.macros → first_at x (macro_rows s.macros) ≡ Some j → slice_get known.1 j ≡ Some (rows w ns) → parameters_of known x ≡ rows w ns
   parameters_are known x j w ns n e f =
-      ap (λ rs. or_none (known_at (first_at x rs) known.1)) n ∙ ap (λ o. or_none (known_at o known.1)) e ∙ ap or_none f
+      ap (λ rs. or_none (item_at (first_at x rs) known.1)) n ∙ ap (λ o. or_none (item_at o known.1)) e ∙ ap or_none f
 
-  pub all_names : (known_macros s.macros).0 ≡ macro_rows s.macros
+  pub all_names : (macro_table s.macros).0 ≡ macro_rows s.macros
   all_names = kept_names s.macros (macro_rows s.macros, []) 0
 
   -- ---- the call, in a unit of these names
@@ -106,7 +106,7 @@ module _ (s : Spec) (k : NoFindings s) (fit : AllByRecursion (ArgumentsFit s.arc
         }
 
   -- ---- an argument that is assigned
-  pub assigned_base : (u : Use) (p : Name) (w : Ways) (t : Tree) (h : Shape) → writes_so w h ≡ true → assigned_if s u p w t ≡ [] → (x : Name) × (left_base t ≡ Some x) × (may_assign s u.around.home x ≡ true)
+  pub assigned_base : (u : Use) (p : Name) (w : Usage) (t : Tree) (h : Shape) → writes_so w h ≡ true → assigned_if s u p w t ≡ [] → (x : Name) × (left_base t ≡ Some x) × (may_assign s u.around.home x ≡ true)
   assigned_base u p w t h e f = go (left_base t) refl (is_none (is_assigned w) (is h e) f)
     where
       is : (h : Shape) → writes_so w h ≡ true → is_assigned w ≡ true

@@ -17,7 +17,7 @@ use Rattle.pgo_uses.specs.declared.uses.Form.TheVariants as forms
 use Rattle.pgo_uses.specs.declared.uses.Home.TheVariants as homes
 use Rattle.pgo_uses.specs.declared.uses.Use.{Use}
 use Rattle.pgo_scope.specs.Arity.{or_number, takes, other_number, arity_of}
-use Rattle.pgo_scope.specs.Clash.{itself, fixed_names, fixed_things, shared_things}
+use Rattle.pgo_scope.specs.Clash.{itself, fixed_names, fixed_module_names, shared_module_names}
 use Rattle.pgo_scope.specs.Globals.{is_global}
 use Rattle.pgo_scope.specs.Twice.{is_reserved, reserved_name}
 use Rattle.pgo_scope.specs.Underscores.{has_double}
@@ -30,7 +30,7 @@ use Rattle.pgo_agrees.specs.Accepted.{IsOfText}
 use Rattle.pgo_agrees.proofs.Kept.{NoFindings, nothing_if, not_false, none_of_name}
 use Rattle.pgo_agrees.proofs.Names.{single, written_marked, has_mark}
 use Rattle.pgo_agrees.proofs.Stands.{or_in}
-use Rattle.pgo_agrees.proofs.Things.{writes_some, counted, shared_among}
+use Rattle.pgo_agrees.proofs.WrittenNames.{writes_some, counted, shared_among}
 use Rattle.pgo_agrees.proofs.Uses.{FineUse}
 use Rattle.pgo_agrees.proofs.Variables.{is_global as a_global, is_place, is_own, global_shared, shared_single}
 use Rattle.pgo_agrees.proofs.Further.{IsTaken, is_proc_set, is_terminating, is_process, is_written, others_taken, taken_not_self}
@@ -126,14 +126,14 @@ module _ (s : Spec) (k : NoFindings s) (fit : AllByRecursion (ArgumentsFit s.arc
   constant_apart : (x : Name) → is_among x (name_rows s.constants) ≡ true → IsTaken s x → ⊥
   constant_apart x h v =
       let n = named_row x s.constants h in
-      let c = writes_some x (itself false n.0.name n.0.place) (shared_things s.constants) (shared_among n.0 s.constants n.1) (ap (same_name x) (sym n.2) ∙ same_name-self x) in
+      let c = writes_some x (itself false n.0.name n.0.place) (shared_module_names s.constants) (shared_among n.0 s.constants n.1) (ap (same_name x) (sym n.2) ∙ same_name-self x) in
       let z = others_taken s k.clashes fit x v in
       omega (arith, c, z)
 
   definition_apart : (x : Name) → is_among x (definition_rows (all_definitions s)) ≡ true → IsTaken s x → ⊥
   definition_apart x h v =
       let d = defined_row x (all_definitions s) h in
-      let c = writes_some x (itself false d.0.name.name d.0.name.place) (shared_things (definition_names (all_definitions s))) (shared_among d.0.name (definition_names (all_definitions s)) (defined_name d.0 (all_definitions s) d.1)) (ap (same_name x) (sym d.2) ∙ same_name-self x) in
+      let c = writes_some x (itself false d.0.name.name d.0.name.place) (shared_module_names (definition_names (all_definitions s))) (shared_among d.0.name (definition_names (all_definitions s)) (defined_name d.0 (all_definitions s) d.1)) (ap (same_name x) (sym d.2) ∙ same_name-self x) in
       let z = others_taken s k.clashes fit x v in
       omega (arith, c, z)
 
@@ -233,8 +233,8 @@ module _ (s : Spec) (k : NoFindings s) (fit : AllByRecursion (ArgumentsFit s.arc
       not_here : x ≡ self_name → ⊥
       not_here f =
           let d = defined_row x (all_definitions s) e in
-          let c = writes_some x (itself false d.0.name.name d.0.name.place) (shared_things (definition_names (all_definitions s))) (shared_among d.0.name (definition_names (all_definitions s)) (defined_name d.0 (all_definitions s) d.1)) (ap (same_name x) (sym d.2) ∙ same_name-self x) in
-          let m = writes_some x (itself false self_name 0) (fixed_things fixed_names) (inr (inr (inr (inr (inr (inr (inr (inl refl)))))))) (ap (same_name x) (sym f) ∙ same_name-self x) in
+          let c = writes_some x (itself false d.0.name.name d.0.name.place) (shared_module_names (definition_names (all_definitions s))) (shared_among d.0.name (definition_names (all_definitions s)) (defined_name d.0 (all_definitions s) d.1)) (ap (same_name x) (sym d.2) ∙ same_name-self x) in
+          let m = writes_some x (itself false self_name 0) (fixed_module_names fixed_names) (inr (inr (inr (inr (inr (inr (inr (inl refl)))))))) (ap (same_name x) (sym f) ∙ same_name-self x) in
           let a = counted s k.clashes x in
           omega (arith, c, m, a)
 

@@ -19,7 +19,7 @@ use Rattle.pgo_syntax.specs.declared.process.Process.{Process}
 use Rattle.pgo_syntax.specs.declared.spec.Spec.{Spec}
 use Rattle.pgo_uses.specs.AllUses.{archetype_uses, variable_names}
 use Rattle.pgo_uses.specs.Heads.{declared_names}
-use Rattle.pgo_scope.specs.Clash.{fixed_names, fixed_things, shared_things, value_names, labels_from, own_names, or_none, own_things, process_things}
+use Rattle.pgo_scope.specs.Clash.{fixed_names, fixed_module_names, shared_module_names, value_names, labels_from, own_names, or_none, own_module_names, process_module_names}
 use Rattle.pgo_labels.specs.Labels.{labels_of, is_among as among_labels}
 use Rattle.pgo_labels.specs.Inside.{with_inside}
 use Rattle.pgo_labels.specs.Rules.{repeated, found_at, label_twice}
@@ -40,7 +40,7 @@ use Rattle.pgo_agrees.proofs.FurtherNames.{label_names, tree_names}
 use Rattle.pgo_agrees.proofs.Kept.{NoFindings, NoLabelFindings}
 use Rattle.pgo_agrees.proofs.Labels.{found_own, body_label}
 use Rattle.pgo_agrees.proofs.Names.{or_left, or_right}
-use Rattle.pgo_agrees.proofs.Things.{counted, rows_of}
+use Rattle.pgo_agrees.proofs.WrittenNames.{counted, rows_of}
 use Rattle.pgo_agrees.proofs.Unlabelled.{body_names, placed_name}
 use Rattle.pgo_agrees.proofs.Variables.{among_is}
 
@@ -156,7 +156,7 @@ values_counted f x n (p ∷ ps) (e ∷ es) h = go p.kind e h.0 (values_counted f
     go (kinds.Ref extent) (arguments.Value place t) g r = absurd (cc)
     go (kinds.Ref extent) (arguments.Ref y f) g r = r
 
-own_written : (x : Name) (p : Process) (ns : List Name) → writes x (own_things p ns) ≡ times x (map (written p.name.name) ns)
+own_written : (x : Name) (p : Process) (ns : List Name) → writes x (own_module_names p ns) ≡ times x (map (written p.name.name) ns)
 own_written x p [] = refl
 own_written x p (n ∷ ns) = ap (λ k. one_if (same_name x (written p.name.name n)) + k) (own_written x p ns)
 
@@ -178,43 +178,43 @@ names_counted x p j a h twice =
 
 module _ (s : Spec) (k : NoFindings s) (labels : NoLabelFindings s) where
   process_counted : (x : Name) (p : Process) → ArgumentsFit s.archetypes p
-      → times x (map (written p.name.name) (bind.own_names s p)) + times x (map (λ l. l.0) (process_expansions s p)) ≤ writes x (own_things p (or_none (find p.archetype.name (rows_of s))))
+      → times x (map (written p.name.name) (bind.own_names s p)) + times x (map (λ l. l.0) (process_expansions s p)) ≤ writes x (own_module_names p (or_none (find p.archetype.name (rows_of s))))
   process_counted x p h =
       let e : times x (map (λ l. l.0) (process_expansions s p)) ≡ times x (label_names s k labels p (archetype_named p.archetype.name s.archetypes)) = ap (times x) (tree_names s k labels p) in
       let g = go (archetype_named p.archetype.name s.archetypes) refl in
       omega (arith, e, g)
     where
       go : (o : Option Archetype) → archetype_named p.archetype.name s.archetypes ≡ o
-          → times x (map (written p.name.name) (bind.names_or_none p o)) + times x (label_names s k labels p o) ≤ writes x (own_things p (or_none (find p.archetype.name (rows_of s))))
+          → times x (map (written p.name.name) (bind.names_or_none p o)) + times x (label_names s k labels p o) ≤ writes x (own_module_names p (or_none (find p.archetype.name (rows_of s))))
       go None e = omega arith
       go (Some a) e =
           let r = found_own p.archetype.name 0 s.archetypes a e in
-          let o = ap (λ z. writes x (own_things p (or_none z))) r.1 ∙ own_written x p (own_names r.0 a) in
+          let o = ap (λ z. writes x (own_module_names p (or_none z))) r.1 ∙ own_written x p (own_names r.0 a) in
           let c = names_counted x p r.0 a (h a e) (none_flat_map label_twice a s.archetypes labels.twice (archetype_among p.archetype.name s.archetypes a e)) in
           omega (arith, o, c)
 
   abbrev own_variables : List Process → List Name
   own_variables ps = flat_map (λ p. map (written p.name.name) (bind.own_names s p)) ps
 
-  processes_counted : (x : Name) (ps : List Process) → AllByRecursion (ArgumentsFit s.archetypes) ps → times x (own_variables ps) + times x (process_names s ps) ≤ writes x (process_things (rows_of s) ps)
+  processes_counted : (x : Name) (ps : List Process) → AllByRecursion (ArgumentsFit s.archetypes) ps → times x (own_variables ps) + times x (process_names s ps) ≤ writes x (process_module_names (rows_of s) ps)
   processes_counted x [] h = omega arith
   processes_counted x (p ∷ ps) h =
-      let own = own_things p (or_none (find p.archetype.name (rows_of s))) in
+      let own = own_module_names p (or_none (find p.archetype.name (rows_of s))) in
       let trees = map (λ l. l.0) (process_expansions s p) in
       let a = times-append x (map (written p.name.name) (bind.own_names s p)) (own_variables ps) in
       let b = times-append x trees (p.name.name ∷ process_names s ps) in
-      let c = writes-append x own (process_things (rows_of s) ps) in
+      let c = writes-append x own (process_module_names (rows_of s) ps) in
       let d = process_counted x p h.0 in
       let e = processes_counted x ps h.1 in
       omega (arith, a, b, c, d, e)
 
   -- ---- the whole
 
-  fixed_written : (x : Name) (ns : List Name) → writes x (fixed_things ns) ≡ times x ns
+  fixed_written : (x : Name) (ns : List Name) → writes x (fixed_module_names ns) ≡ times x ns
   fixed_written x [] = refl
   fixed_written x (n ∷ ns) = ap (λ j. one_if (same_name x n) + j) (fixed_written x ns)
 
-  declared_written : (x : Name) (ds : List Declaration) → writes x (shared_things (declared_names ds)) ≡ times x (map (λ (d : Declaration). d.name.name) ds)
+  declared_written : (x : Name) (ds : List Declaration) → writes x (shared_module_names (declared_names ds)) ≡ times x (map (λ (d : Declaration). d.name.name) ds)
   declared_written x [] = refl
   declared_written x (d ∷ ds) = ap (λ j. one_if (same_name x d.name.name) + j) (declared_written x ds)
 

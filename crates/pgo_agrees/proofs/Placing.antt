@@ -19,8 +19,8 @@ use Rattle.pgo_uses.specs.StatementUses.{shape_of, origin_tree}
 use Rattle.pgo_uses.specs.declared.uses.Shape.{Shape}
 use Rattle.pgo_uses.specs.declared.uses.Shape.TheVariants.{Bare, OneIndex, Further}
 use Rattle.pgo_scope.specs.Underscores.{has_double}
-use Rattle.pgo_scope.specs.Ways.{join}
-use Rattle.pgo_scope.specs.declared.ways.Ways.{Ways}
+use Rattle.pgo_scope.specs.Usage.{join}
+use Rattle.pgo_scope.specs.declared.usage.Usage.{Usage}
 use Rattle.pgo_sections.specs.Among.{is_among}
 use Rattle.pgo_meaning.specs.MacrosPlaced.{marked, Arguments, argument, put_tree, put_step, left_of, put_left, put_assignment, put_origin, with_marked, put_names, under_names, put, put_each, put_among, put_guarded, Body, Bodies, handed, walked, placed, placed_each, placed_among, placed_guarded}
 use Rattle.pgo_agrees.proofs.Fine.{in_with, MayLabel, PathFine, AssignsFine, WithsFine, Fine, EachFine, LabeledFine, GuardedFine}
@@ -30,13 +30,13 @@ use Rattle.pgo_agrees.proofs.Stands.{Stands, Meet, Above, or_first, or_second}
 use Rattle.pgo_agrees.proofs.Weaker.{weaker}
 
 -- ---- ways in which a parameter stands
-abbrev pub reads_so : Ways → Bool → Bool → Bool
+abbrev pub reads_so : Usage → Bool → Bool → Bool
 reads_so w false false = w.plain
 reads_so w false true = w.indexed
 reads_so w true false = w.hidden
 reads_so w true true = w.hidden_indexed
 
-abbrev pub writes_so : Ways → Shape → Bool
+abbrev pub writes_so : Usage → Shape → Bool
 writes_so w Bare = w.bare
 writes_so w OneIndex = w.one_index
 writes_so w Further = w.further
@@ -98,11 +98,11 @@ module _ (C B Common : Name → Type 0) where
   Declared x = (has_double x ≡ false) × ((y : Name) → C y → same_name y x ≡ false)
 
   -- in a macro's body, with the names of its parameters and the ways in which they stand
-  abbrev pub MacroName : List Name → (Name → Ways) → List Name → Bool → Bool → Name → Type 0
+  abbrev pub MacroName : List Name → (Name → Usage) → List Name → Bool → Bool → Name → Type 0
   MacroName qs w ns h i x =
       ((is_among x ns ≡ true) × Declared x) ⊎ (((is_member x qs ≡ true) × (reads_so (w x) h i ≡ true)) ⊎ Common x)
 
-  abbrev pub MacroAssigned : List Name → (Name → Ways) → List Name → Shape → Name → Type 0
+  abbrev pub MacroAssigned : List Name → (Name → Usage) → List Name → Shape → Name → Type 0
   MacroAssigned qs w ns h x = (is_member x qs ≡ true) × (writes_so (w x) h ≡ true)
 
   abbrev pub MacroWith : List Name → Name → Type 0
@@ -128,7 +128,7 @@ module _ (C B Common : Name → Type 0) where
     LeftGood ns h t = (l : Left) × (left_of t ≡ Some l) × A ns (join (shape_of l.path) h) l.name.name × PathOk ns l.path
 
     -- an argument in the ways in which its parameter stands
-    pub record Handed (ns : List Name) (w : Ways) (t : Tree) : Type 0 where
+    pub record Handed (ns : List Name) (w : Usage) (t : Tree) : Type 0 where
       pub reads : (h i : Bool) → reads_so w h i ≡ true → Stands (N ns) C B [] h i t
       pub writes : (h : Shape) → writes_so w h ≡ true → LeftGood ns h t
 
@@ -142,13 +142,13 @@ module _ (C B Common : Name → Type 0) where
           (weaker (N ns) C B (N (z ∷ ns)) C B (λ h i x n. ok.more_names z x ns h i n) (λ x c. c) (λ x b. b) [] [] false false e (same_above []) h.0, path_more z ns ss h.1)
       path_more z ns (step.Field x ∷ ss) h = path_more z ns ss h
 
-      handed_more : (z : Name) (ns : List Name) (w : Ways) (t : Tree) → Handed ns w t → Handed (z ∷ ns) w t
+      handed_more : (z : Name) (ns : List Name) (w : Usage) (t : Tree) → Handed ns w t → Handed (z ∷ ns) w t
       handed_more z ns w t g = record {
         reads = λ h i e. weaker (N ns) C B (N (z ∷ ns)) C B (λ h i x n. ok.more_names z x ns h i n) (λ x c. c) (λ x b. b) [] [] h i t (same_above []) (g.reads h i e);
         writes = λ h e. (let l = g.writes h e in (l.0, l.1, ok.more_assigned z l.0.name.name ns (join (shape_of l.0.path) h) l.2, path_more z ns l.0.path l.3));
       }
 
-      module _ (qs : List Name) (w : Name → Ways) where
+      module _ (qs : List Name) (w : Name → Usage) where
         -- what stands for the names of the body
         pub record Standing (es : Arguments) (ns ms : List Name) : Type 0 where
           pub with' : (x : Name) → is_among x ns ≡ true → (find x es ≡ Some (name (marked x))) × (is_among (marked x) ms ≡ true) × Declared x × (is_member x qs ≡ false)
@@ -320,7 +320,7 @@ module _ (C B Common : Name → Type 0) where
         pub body : Body
         pub found : find m.name bs ≡ Some body
         pub parameters : List Name
-        pub ways : Name → Ways
+        pub ways : Name → Usage
         pub fine : Fine (MacroName parameters ways) C B (MacroWith parameters) (MacroAssigned parameters ways) AnyCall ⊥ false [] body.statement
         pub arguments : Standing parameters ways (handed body.parameters ts) [] ns
 

@@ -28,14 +28,14 @@ use Rattle.pgo_scope.specs.Assigned.{ref_names, assignable_in, may_assign, assig
 use Rattle.pgo_scope.specs.Findings.{found_where, each_use}
 use Rattle.pgo_scope.specs.Mapped.{read_of, read_use, argument_read, base_written, argument_written, argument_reads, argument_findings, arguments_findings, mapped_use_of}
 use Rattle.pgo_scope.specs.Unknown.{may_call}
-use Rattle.pgo_scope.specs.Ways.{join, left_base, left_shape, left_uses, known_macros}
+use Rattle.pgo_scope.specs.Usage.{join, left_base, left_shape, left_uses, macro_table}
 use Rattle.pgo_scope.specs.declared.finding.Finding.{Finding}
-use Rattle.pgo_scope.specs.declared.ways.Ways.{Ways}
+use Rattle.pgo_scope.specs.declared.usage.Usage.{Usage}
 use Rattle.pgo_bound.specs.Among.{IsAmong, among_right, all_at, none_left, none_right}
 use Rattle.pgo_bound.specs.Runs.{archetype_named}
 use Rattle.pgo_heads.specs.Refusals.{bind_refusal}
 use Rattle.pgo_accept.proofs.Fitting.{ArgumentsFit}
-use Rattle.pgo_labels.specs.Rules.{label_in_with}
+use Rattle.pgo_labels.specs.LabelHere.{label_in_with}
 use Rattle.pgo_sections.specs.Among.{is_among}
 use Rattle.pgo_meaning.specs.LabelSections.{AreUnlabelled}
 use Rattle.pgo_meaning.specs.MacrosPlaced.{marked as marked', bodies, placed_among}
@@ -147,7 +147,7 @@ module _ (s : Spec) (k : NoFindings s) (fit : AllByRecursion (ArgumentsFit s.arc
       go (inr e) = member_last x (parameter_names a.params) (variable_names a.locals) e
 
   -- ---- a call
-  read_found : (b : Around) (w : Ways) (t : Tree) → argument_reads s b w t ≡ [] → (h i : Bool) → reads_so w h i ≡ true → argument_read s b h i t ≡ []
+  read_found : (b : Around) (w : Usage) (t : Tree) → argument_reads s b w t ≡ [] → (h i : Bool) → reads_so w h i ≡ true → argument_read s b h i t ≡ []
   read_found b w t f h i e = go h i e
     where
       first : found_where w.plain (argument_read s b false false t) ++ found_where w.indexed (argument_read s b false true t) ++ found_where w.hidden (argument_read s b true false t) ≡ []
@@ -162,13 +162,13 @@ module _ (s : Spec) (k : NoFindings s) (fit : AllByRecursion (ArgumentsFit s.arc
       go true false e = where_true w.hidden (argument_read s b true false t) e (none_right (found_where w.plain (argument_read s b false false t) ++ found_where w.indexed (argument_read s b false true t)) (found_where w.hidden (argument_read s b true false t)) first)
       go true true e = where_true w.hidden_indexed (argument_read s b true true t) e (none_right (found_where w.plain (argument_read s b false false t) ++ found_where w.indexed (argument_read s b false true t) ++ found_where w.hidden (argument_read s b true false t)) (found_where w.hidden_indexed (argument_read s b true true t)) f)
 
-  record Found (b : Around) (w : Ways) (t : Tree) : Type 0 where
+  record Found (b : Around) (w : Usage) (t : Tree) : Type 0 where
     pub reads : argument_reads s b w t ≡ []
     pub bare : found_where w.bare (argument_written s b Bare t) ≡ []
     pub one : found_where w.one_index (argument_written s b OneIndex t) ≡ []
     pub more : found_where w.further (argument_written s b Further t) ≡ []
 
-  found : (b : Around) (w : Ways) (t : Tree) → argument_findings s b w t ≡ [] → Found b w t
+  found : (b : Around) (w : Usage) (t : Tree) → argument_findings s b w t ≡ [] → Found b w t
   found b w t f =
       let r = argument_reads s b w t in
       let x = found_where w.bare (argument_written s b Bare t) in
@@ -178,7 +178,7 @@ module _ (s : Spec) (k : NoFindings s) (fit : AllByRecursion (ArgumentsFit s.arc
       let f2 = none_left (r ++ x) y f3 in
       record { reads = none_left r x f2; bare = none_right r x f2; one = none_right (r ++ x) y f3; more = none_right (r ++ x ++ y) z f }
 
-  written_found : (b : Around) (w : Ways) (t : Tree) → Found b w t → (h : Shape) → writes_so w h ≡ true → argument_written s b h t ≡ []
+  written_found : (b : Around) (w : Usage) (t : Tree) → Found b w t → (h : Shape) → writes_so w h ≡ true → argument_written s b h t ≡ []
   written_found b w t f Bare e = where_true w.bare (argument_written s b Bare t) e f.bare
   written_found b w t f OneIndex e = where_true w.one_index (argument_written s b OneIndex t) e f.one
   written_found b w t f Further e = where_true w.further (argument_written s b Further t) e f.more
@@ -187,9 +187,9 @@ module _ (s : Spec) (k : NoFindings s) (fit : AllByRecursion (ArgumentsFit s.arc
       → (ns : List Name) (x : Name) (t : Tree) → InPairs (x, o.ways x) t (rows o.ways (names_of o.macro.it.params)) ts → Given N (C s k fit of_text) (B s k fit of_text) (D s k fit of_text) A ⊥ (Common s k fit of_text) (Inside s k fit of_text qs) R J (homes.Body j) false joins ns u.around (o.ways x) t
   given u ts n o f form home first ns x t h =
       let names = names_of o.macro.it.params in
-      let full = parameters_are s k fit of_text (known_macros s.macros) u.name n o.ways names (all_names s k fit of_text) first o.known in
-      let mapped = mapped_at s u.around (x, o.ways x) t (rows o.ways names) ts h (subst (λ qs. arguments_findings s u.around qs ts ≡ []) full (subst (λ g. mapped_use_of s (known_macros s.macros) u g ≡ []) form f.mapped)) in
-      let assigned = assigned_at s u (x, o.ways x) t (rows o.ways names) ts h (subst (λ qs. assigned_arguments s u qs ts ≡ []) full (subst (λ g. assigned_of s (known_macros s.macros) u g ≡ []) form f.assigned)) in
+      let full = parameters_are s k fit of_text (macro_table s.macros) u.name n o.ways names (all_names s k fit of_text) first o.known in
+      let mapped = mapped_at s u.around (x, o.ways x) t (rows o.ways names) ts h (subst (λ qs. arguments_findings s u.around qs ts ≡ []) full (subst (λ g. mapped_use_of s (macro_table s.macros) u g ≡ []) form f.mapped)) in
+      let assigned = assigned_at s u (x, o.ways x) t (rows o.ways names) ts h (subst (λ qs. assigned_arguments s u qs ts ≡ []) full (subst (λ g. assigned_of s (macro_table s.macros) u g ≡ []) form f.assigned)) in
       let all = found u.around (o.ways x) t mapped in
       record {
         reads = λ b c e. all_empty (read_use s) (uses [] (record u.around { hidden = b; indexed = c }) t) (read_found u.around (o.ways x) t all.reads b c e);

@@ -26,8 +26,8 @@ use Rattle.pgo_uses.specs.AllUses.{archetype_uses}
 use Rattle.pgo_uses.specs.Heads.{declared_names}
 use Rattle.pgo_uses.specs.declared.uses.Shape.{Shape}
 use Rattle.pgo_uses.specs.declared.uses.Use.{Use}
-use Rattle.pgo_scope.specs.Clash.{itself, own_thing, shared_things}
-use Rattle.pgo_labels.specs.Rules.{label_in_mapping}
+use Rattle.pgo_scope.specs.Clash.{itself, own_module_name, shared_module_names}
+use Rattle.pgo_labels.specs.LabelHere.{label_in_mapping}
 use Rattle.pgo_bound.specs.Among.{IsAmong, among_map, from_map, from_flat_map, from_filter_map, nth_among, some_is, mapped_some}
 use Rattle.pgo_bound.specs.BoundOf.{bound_of}
 use Rattle.pgo_bound.specs.Runs.{Handed, archetype_named, mapping_named, mapping_without, mapping_by, speaking, target_of, binding_of, kind_of_extents}
@@ -58,7 +58,7 @@ use Rattle.pgo_agrees.proofs.Meanings.{applicable_apart, applicable_single, appl
 use Rattle.pgo_agrees.proofs.Closed.{apart}
 use Rattle.pgo_agrees.proofs.Placing.{AnyCall}
 use Rattle.pgo_agrees.proofs.Places.{PlaceFrom, is_own, is_whole, hands, binds, place_from, found_there, handed_among, handed_global, unmapped_whole, bound_whole, target_whole}
-use Rattle.pgo_agrees.proofs.Things.{writes_some, counted, shared_among, written_by}
+use Rattle.pgo_agrees.proofs.WrittenNames.{writes_some, counted, shared_among, written_by}
 use Rattle.pgo_agrees.proofs.Uses.{FineUse}
 use Rattle.pgo_agrees.proofs.Variables.{own_there}
 
@@ -93,8 +93,8 @@ module _ (s : Spec) (consts : List (Name × Data)) (k : NoFindings s) (fit : All
   own_not_global p a y b e c d f g =
       let x = written p.name.name y in
       let n = counted s k.clashes x in
-      let v = writes_some x (itself false d.name.name d.name.place) (shared_things (declared_names s.globals)) (shared_among d.name (declared_names s.globals) (declared_there d s.globals f)) (ap (same_name x) g ∙ same_name-self x) in
-      let w = writes_some x (own_thing p y) (written_by s) (own_there s fit p a y b e c) (same_name-self x) in
+      let v = writes_some x (itself false d.name.name d.name.place) (shared_module_names (declared_names s.globals)) (shared_among d.name (declared_names s.globals) (declared_there d s.globals f)) (ap (same_name x) g ∙ same_name-self x) in
+      let w = writes_some x (own_module_name p y) (written_by s) (own_there s fit p a y b e c) (same_name-self x) in
       omega (arith, n, v, w)
 
   own_unbound : (p : Process) (a : Archetype) (y : Name) → IsAmong p s.processes → archetype_named p.archetype.name s.archetypes ≡ Some a → IsAmong y (names_with p a) → is_by_element (kind_in (bound_of s consts) (written p.name.name y)) ≡ false

@@ -18,7 +18,7 @@ use Rattle.pgo_scope.specs.Mapped.{mapped_use_of, mapped_use}
 use Rattle.pgo_scope.specs.Twice.{hiding_of, hiding_use}
 use Rattle.pgo_scope.specs.Underscores.{has_double, double_use}
 use Rattle.pgo_scope.specs.Unknown.{is_unknown, unknown_use}
-use Rattle.pgo_scope.specs.Ways.{known_macros}
+use Rattle.pgo_scope.specs.Usage.{macro_table}
 use Rattle.pgo_scope.specs.declared.errors.ScopeError.TheVariants as errors
 use Rattle.pgo_bound.specs.Among.{IsAmong, among_left, among_right}
 use Rattle.pgo_agrees.proofs.Kept.{NoFindings, nothing_if, none_of_use}
@@ -31,8 +31,8 @@ pub record FineUse (s : Spec) (u : Use) : Type 0 where
   pub hiding : hiding_of (tables_of s) u u.form ≡ false
   pub arity : arity_of (tables_of s) u u.form ≡ []
   pub global : is_global (tables_of s) u u.form ≡ false
-  pub assigned : assigned_of s (known_macros s.macros) u u.form ≡ []
-  pub mapped : mapped_use_of s (known_macros s.macros) u u.form ≡ []
+  pub assigned : assigned_of s (macro_table s.macros) u u.form ≡ []
+  pub mapped : mapped_use_of s (macro_table s.macros) u u.form ≡ []
   pub double : has_double u.name ≡ false
 
 pub fine_use : (s : Spec) → NoFindings s → (u : Use) → IsAmong u (all_uses s) → FineUse s u
@@ -44,8 +44,8 @@ fine_use s k u a =
       hiding = nothing_if (hiding_of ts u u.form) u.around.place (errors.Twice u.name) (none_of_use (hiding_use ts) (all_uses s) k.hiding u a);
       arity = none_of_use (arity_use ts) (all_uses s) k.arity u a;
       global = nothing_if (is_global ts u u.form) u.around.place (errors.GlobalInArchetype u.name) (none_of_use (global_finding ts) (all_uses s) k.globals u a);
-      assigned = none_of_use (assigned_use s (known_macros s.macros)) (all_uses s) k.assigned u a;
-      mapped = none_of_use (mapped_use s (known_macros s.macros)) (all_uses s) k.mapped u a;
+      assigned = none_of_use (assigned_use s (macro_table s.macros)) (all_uses s) k.assigned u a;
+      mapped = none_of_use (mapped_use s (macro_table s.macros)) (all_uses s) k.mapped u a;
       double = nothing_if (has_double u.name) u.around.place (errors.DoubleUnderscore u.name) (none_of_use double_use (all_uses s) k.doubles u a);
     }
 

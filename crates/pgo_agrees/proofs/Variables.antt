@@ -25,7 +25,7 @@ use Rattle.pgo_uses.specs.declared.uses.Around.{Around}
 use Rattle.pgo_uses.specs.declared.uses.Home.TheVariants as homes
 use Rattle.pgo_uses.specs.declared.uses.Use.{Use}
 use Rattle.pgo_uses.specs.declared.uses.Form.TheVariants as forms
-use Rattle.pgo_scope.specs.Clash.{itself, fixed_names, fixed_things, shared_things, value_names, labels_from, own_names, own_rows, or_none, own_thing, name_clashes}
+use Rattle.pgo_scope.specs.Clash.{itself, fixed_names, fixed_module_names, shared_module_names, value_names, labels_from, own_names, own_rows, or_none, own_module_name, name_clashes}
 use Rattle.pgo_scope.specs.Underscores.{has_double, double_name}
 use Rattle.pgo_scope.specs.declared.errors.ScopeError.TheVariants as errors
 use Rattle.pgo_bound.specs.Among.{IsAmong, among_left, among_right, among_append, from_map, from_flat_map, all_at}
@@ -40,7 +40,7 @@ use Rattle.pgo_sections.specs.WellFormed.{NotMade}
 use Rattle.pgo_agrees.specs.Accepted.{IsOfText, ArchetypeOfText, ParameterOfText, DeclarationOfText}
 use Rattle.pgo_agrees.proofs.Kept.{NoFindings, nothing_if, none_of_name}
 use Rattle.pgo_agrees.proofs.Names.{single, written_single, written_marked, has_mark, identifier_letter}
-use Rattle.pgo_agrees.proofs.Things.{writes_some, counted, shared_among, process_among, bound_apart, bound_not_fixed, written_by, rows_of}
+use Rattle.pgo_agrees.proofs.WrittenNames.{writes_some, counted, shared_among, process_among, bound_apart, bound_not_fixed, written_by, rows_of}
 use Rattle.pgo_agrees.proofs.Uses.{FineUse, fine_use, of_archetype}
 use Rattle.pgo_model.specs.ValueText.{has_letter, is_identifier}
 
@@ -147,7 +147,7 @@ found_own x j (b ∷ bs) a h = go (same_name x b.name.name) h (found_own x (suc 
 
 module _ (s : Spec) (fit : AllByRecursion (ArgumentsFit s.archetypes) s.processes) where
   -- what a process has as its own is a thing that is written
-  pub own_there : (p : Process) (a : Archetype) (y : Name) → IsAmong p s.processes → archetype_named p.archetype.name s.archetypes ≡ Some a → IsAmong y (names_with p a) → IsAmong (own_thing p y) (written_by s)
+  pub own_there : (p : Process) (a : Archetype) (y : Name) → IsAmong p s.processes → archetype_named p.archetype.name s.archetypes ≡ Some a → IsAmong y (names_with p a) → IsAmong (own_module_name p y) (written_by s)
   own_there p a y b e c =
       let values = filter_map handed_value (handed_from 1 a.params p.arguments) in
       let locals = map (λ (d : Declaration). d.name.name) a.locals in
@@ -175,28 +175,28 @@ global_shared s d a = among_right d.name (s.constants ++ definition_names (all_d
 module _ (s : Spec) (h : name_clashes s ≡ []) (fit : AllByRecursion (ArgumentsFit s.archetypes) s.processes) where
   -- a name that is written of a variable is written by nothing else
   abbrev pub Others : Name → ℕ
-  Others x = writes x (shared_things s.constants) + writes x (shared_things (definition_names (all_definitions s)))
+  Others x = writes x (shared_module_names s.constants) + writes x (shared_module_names (definition_names (all_definitions s)))
 
   pub others_none : (x : Name) → IsVariable s x → Others x ≡ 0
   others_none x (is_global d a e) =
       let c = counted s h x in
-      let k = writes_some x (itself false d.name.name d.name.place) (shared_things (declared_names s.globals)) (shared_among d.name (declared_names s.globals) (declared_there d s.globals a)) (ap (same_name x) (sym e) ∙ same_name-self x) in
+      let k = writes_some x (itself false d.name.name d.name.place) (shared_module_names (declared_names s.globals)) (shared_among d.name (declared_names s.globals) (declared_there d s.globals a)) (ap (same_name x) (sym e) ∙ same_name-self x) in
       omega (arith, c, k)
   others_none x (is_place e) =
       let c = counted s h x in
-      let k = writes_some x (itself false pc 0) (fixed_things fixed_names) (inr (inr (inr (inr (inr (inr (inl refl))))))) (ap (same_name x) (sym e) ∙ same_name-self x) in
+      let k = writes_some x (itself false pc 0) (fixed_module_names fixed_names) (inr (inr (inr (inr (inr (inr (inl refl))))))) (ap (same_name x) (sym e) ∙ same_name-self x) in
       omega (arith, c, k)
   others_none x (is_own p a y b e n q) =
       let c = counted s h x in
-      let k = writes_some x (own_thing p y) (written_by s) (own_there s fit p a y b e n) (ap (same_name x) (sym q) ∙ same_name-self x) in
+      let k = writes_some x (own_module_name p y) (written_by s) (own_there s fit p a y b e n) (ap (same_name x) (sym q) ∙ same_name-self x) in
       omega (arith, c, k)
 
   -- none is `self`
   pub not_self : (x : Name) → IsVariable s x → x ≡ self_name → ⊥
   not_self x (is_global d a e) f =
       let c = counted s h x in
-      let k = writes_some x (itself false d.name.name d.name.place) (shared_things (declared_names s.globals)) (shared_among d.name (declared_names s.globals) (declared_there d s.globals a)) (ap (same_name x) (sym e) ∙ same_name-self x) in
-      let m = writes_some x (itself false self_name 0) (fixed_things fixed_names) (inr (inr (inr (inr (inr (inr (inr (inl refl)))))))) (ap (same_name x) (sym f) ∙ same_name-self x) in
+      let k = writes_some x (itself false d.name.name d.name.place) (shared_module_names (declared_names s.globals)) (shared_among d.name (declared_names s.globals) (declared_there d s.globals a)) (ap (same_name x) (sym e) ∙ same_name-self x) in
+      let m = writes_some x (itself false self_name 0) (fixed_module_names fixed_names) (inr (inr (inr (inr (inr (inr (inr (inl refl)))))))) (ap (same_name x) (sym f) ∙ same_name-self x) in
       omega (arith, c, k, m)
   not_self x (is_place e) f = let q : pc ≡ self_name = sym e ∙ f in let r : has_p pc ≡ has_p self_name = ap has_p q in cc
     where
@@ -211,10 +211,10 @@ module _ (s : Spec) (h : name_clashes s ≡ []) (fit : AllByRecursion (Arguments
   -- what an expression binds is no variable
   pub bound_no_variable : (u : Use) → IsAmong u (all_uses s) → u.form ≡ forms.Bound → IsVariable s u.name → ⊥
   bound_no_variable u a f (is_global d b e) =
-      bound_apart s h u a f (itself false d.name.name d.name.place) (among_left (itself false d.name.name d.name.place) (shared_things (shared_names s)) (written_by s) (shared_among d.name (shared_names s) (global_shared s d b))) refl (sym e)
+      bound_apart s h u a f (itself false d.name.name d.name.place) (among_left (itself false d.name.name d.name.place) (shared_module_names (shared_names s)) (written_by s) (shared_among d.name (shared_names s) (global_shared s d b))) refl (sym e)
   bound_no_variable u a f (is_place e) = bound_not_fixed s h u a f pc (inr (inr (inr (inr (inr (inr (inl refl))))))) (sym e)
   bound_no_variable u a f (is_own p r y b e n q) =
-      bound_apart s h u a f (own_thing p y) (among_right (own_thing p y) (shared_things (shared_names s)) (written_by s) (own_there s fit p r y b e n)) refl (sym q)
+      bound_apart s h u a f (own_module_name p y) (among_right (own_module_name p y) (shared_module_names (shared_names s)) (written_by s) (own_there s fit p r y b e n)) refl (sym q)
 
 -- ---- a variable's name is no made name
 

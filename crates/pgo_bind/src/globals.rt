@@ -6,7 +6,7 @@ ghost use Rattle.pgo_heads.specs.Views.{run_view, global_view};
 use crate::values::global_start;
 use pgo_definitions::definitions::EvaluatedDefinitions;
 use pgo_heads::globals::GlobalStart;
-use pgo_heads::kinds::kind_of;
+use pgo_heads::kinds::Kinds;
 use pgo_heads::runs::Run;
 use pgo_syntax::spec::Spec;
 use std::alloc::{AllocError, Global};
@@ -20,9 +20,10 @@ pub fn globals_of<'a>(
 ) -> Result<Vec<GlobalStart<'a>>, AllocError>
     ensures { IfOk result (λ v. map global_view v.items ≡ specs.globals_of spec.now defs.now (map run_view runs.now)) }
 {
+    let kinds = Kinds::new(alloc, runs)?;
     let mut list = Vec::new(alloc);
     for declaration in spec.globals.as_slice() {
-        let kind = kind_of(&declaration.name.name, runs);
+        let kind = kinds.kind_of(&declaration.name.name);
         let start = global_start(alloc, defs, &declaration.initial)?;
         list.push(GlobalStart {
             declaration,

@@ -6,8 +6,11 @@
 
 pub mod bind;
 pub mod errors;
+mod findings;
 mod globals;
-mod initial;
+mod init_empty;
+mod init_no_value;
+mod local_sets;
 mod runs;
 mod start;
 mod used;

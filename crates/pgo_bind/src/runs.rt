@@ -9,7 +9,8 @@ ghost use Rattle.pgo_heads.specs.Views.{run_view};
 use crate::values::closed_value;
 use pgo_base::value::Value;
 use pgo_definitions::definitions::EvaluatedDefinitions;
-use pgo_heads::runs::{Run, archetype_named, matched};
+use pgo_heads::named_archetypes::NamedArchetypes;
+use pgo_heads::runs::{Run, matched};
 use pgo_syntax::archetype::Archetype;
 use pgo_syntax::binding::Origin;
 use pgo_syntax::process::Process;
@@ -97,10 +98,10 @@ pub fn runs_of<'a>(
 ) -> Result<Vec<Run<'a>>, AllocError>
     ensures { IfOk result (λ v. map run_view v.items ≡ specs.runs_of spec.now defs.now) }
 {
-    let archetypes = spec.archetypes.as_slice();
+    let archetypes = NamedArchetypes::new(alloc, spec.archetypes.as_slice())?;
     let mut list = Vec::new(alloc);
     for p in spec.processes.as_slice() {
-        match archetype_named(&p.archetype.name, archetypes) {
+        match archetypes.get(&p.archetype.name) {
             None => continue,
             Some(a) => {
                 list.push(run_with(alloc, defs, p, a)?)?;

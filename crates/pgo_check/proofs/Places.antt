@@ -8,7 +8,7 @@ use Rattle.pgo_base.specs.Exact.{data_itself}
 use Rattle.pgo_model.specs.Variables.{place_of}
 use Rattle.pgo_model.specs.Operators.{apply, lookup}
 use Rattle.pgo_model.specs.Written.{pc}
-use Rattle.pgo_check.proofs.Replaced.{same_exact}
+use Rattle.pgo_sets.proofs.Replacing.{same_exact}
 
 -- names that the test finds the same are one name
 pub name_is : (x y : Name) → (same_name x y ≡ true → x ≡ y) × (x ≡ y → same_name x y ≡ true)

@@ -2,10 +2,8 @@
 ghost use Rattle.std.specs.Prelude.{◌≡◌, ◌<◌, ◌↔◌, ◌&&◌, ◌∷◌, [], ℕ, if◌then◌else◌, length, IsTrue, map, Option, Some, None, option_map, IfOk};
 ghost use Rattle.pgo_base.specs.Lookup.{find};
 ghost use Rattle.pgo_base.specs.View.{data_of, named_data, pair_of};
-ghost use Rattle.pgo_base.specs.Order.{data_cmp};
-ghost use Rattle.std.specs.List.Sorted.{IsStrictlySortedBy};
-ghost use Rattle.pgo_model.specs.Operators.{lookup, replace_at, same_data};
-ghost use Rattle.pgo_base.specs.Data.{string, keys};
+ghost use Rattle.pgo_model.specs.Operators.{lookup};
+ghost use Rattle.pgo_base.specs.Data.{string};
 ghost use Rattle.pgo_model.specs.Acts.{Acts};
 ghost use Rattle.pgo_model.specs.Variables.{place_of};
 ghost use Rattle.pgo_model.specs.Log.{after_changes, are_in, changed, is_in, with_part};
@@ -24,6 +22,7 @@ use pgo_base::log::{Change, Component, Entry};
 use pgo_base::scope::State;
 use pgo_base::text::Text;
 use pgo_base::value::{Fun, Value};
+use pgo_sets::functions::replaced;
 use std::alloc::{AllocError, Global};
 
 /// A function with another value at an index in its domain.
@@ -222,42 +221,4 @@ fn value_at<'a>(pairs: &'a [(Value, Value)], key: &Value) -> Option<&'a Value>
         }
     }
     None
-}
-
-/// The pairs of a function with another value at one key; where the key is not there, the same pairs.
-fn replaced(
-    alloc: Global,
-    f: &Fun,
-    key: &Value,
-    value: &Value,
-) -> Result<Vec<(Value, Value)>, AllocError>
-    ensures pairs { IfOk result (λ ps. map pair_of ps.items ≡ replace_at (data_of key.now) (data_of value.now) f.now) }
-    ensures sorted { IfOk result (λ ps. IsStrictlySortedBy data_cmp (keys (map pair_of ps.items))) }
-{
-    let old = f.in_order();
-    let mut pairs = Vec::with_capacity(alloc, old.len())?;
-    let mut left = true;
-    for p in old {
-        let is_here = is_at(left, key, &p.0);
-        let v = one_of(is_here, value, &p.1).copy(alloc)?;
-        pairs.push((p.0.copy(alloc)?, v))?;
-        if is_here {
-            left = false;
-        }
-    }
-    Ok(pairs)
-}
-
-/// Whether the key is still to be found, and is this one.
-fn is_at(left: bool, key: &Value, other: &Value) -> bool
-    ensures { result ≡ left && same_data (data_of key.now) (data_of other.now) }
-{
-    left && compare(key, other).is_eq()
-}
-
-/// The first where the test is true, else the second.
-fn one_of<'a>(test: bool, first: &'a Value, second: &'a Value) -> &'a Value
-    ensures { result.now ≡ (if test then first.now else second.now) }
-{
-    if test { first } else { second }
 }

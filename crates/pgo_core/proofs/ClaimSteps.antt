@@ -8,10 +8,10 @@ use Rattle.pgo_workers.proofs.Components.{and_parts}
 use Rattle.pgo_resource.specs.declared.taken.Taken.{Taken}
 use Rattle.pgo_resource.specs.PlainRows.{taken_of, apart, without_taken}
 use Rattle.pgo_resource.specs.PlainSets.{eq_turned}
-use Rattle.pgo_resource.proofs.PlainPlaces.{drop_one, taken_without}
+use Rattle.pgo_resource.proofs.PlainPlaces.{apart_parts, drop_one, taken_without}
 use Rattle.pgo_core.specs.declared.claims.Claim.{Claim}
 use Rattle.pgo_core.specs.Claims.{claimed, taken_in, taken_by, holder_of, without_claim, are_within, before}
-use Rattle.pgo_core.specs.ClaimLaws.{apart_more, some_by}
+use Rattle.pgo_core.specs.ClaimLaws.{some_by}
 
 -- ---- who holds what
 
@@ -127,7 +127,7 @@ among_behind r q rs n h = sym (ap (λ b. if b then true else among r rs) (eq_tur
 module _ (n r k : ℕ) where
   -- who holds r holds the first claim of it
   first_is : (c : Claim) (cs : List Claim) → apart n (claimed (c ∷ cs)) ≡ true → among r (taken_of (taken_by k (c ∷ cs))) ≡ true → nat_eq c.resource r ≡ true → nat_eq c.holder k ≡ true
-  first_is c cs a h e = let m = apart_more n c.resource (claimed cs) a in go (nat_eq c.holder k) m.1 h
+  first_is c cs a h e = let m = apart_parts n c.resource (claimed cs) a in go (nat_eq c.holder k) m.1 h
     where
       go : (b : Bool) → among c.resource (claimed cs) ≡ false → among r (taken_of (if b then taken_in c ∷ taken_by k cs else taken_by k cs)) ≡ true → b ≡ true
       go true out h = refl
@@ -142,7 +142,7 @@ module _ (n r k : ℕ) where
 
   pub taken_without_own : (cs : List Claim) → apart n (claimed cs) ≡ true → among r (taken_of (taken_by k cs)) ≡ true → taken_by k (without_claim cs r) ≡ without_taken (taken_by k cs) r
   taken_without_own [] a h = refl
-  taken_without_own (c ∷ cs) a h = let m = apart_more n c.resource (claimed cs) a in go (nat_eq c.resource r) refl (first_is c cs a h) (λ e. taken_without_own cs m.2 (still_held c cs e h))
+  taken_without_own (c ∷ cs) a h = let m = apart_parts n c.resource (claimed cs) a in go (nat_eq c.resource r) refl (first_is c cs a h) (λ e. taken_without_own cs m.2 (still_held c cs e h))
     where
       over : (x : Bool) → nat_eq c.resource r ≡ false → taken_by k (without_claim cs r) ≡ without_taken (taken_by k cs) r
           → (if x then taken_in c ∷ taken_by k (without_claim cs r) else taken_by k (without_claim cs r)) ≡ without_taken (if x then taken_in c ∷ taken_by k cs else taken_by k cs) r
@@ -156,7 +156,7 @@ module _ (n r k : ℕ) where
 
   pub taken_without_else : (j : ℕ) → (j ≡ k → ⊥) → (cs : List Claim) → apart n (claimed cs) ≡ true → among r (taken_of (taken_by k cs)) ≡ true → taken_by j (without_claim cs r) ≡ taken_by j cs
   taken_without_else j ne [] a h = refl
-  taken_without_else j ne (c ∷ cs) a h = let m = apart_more n c.resource (claimed cs) a in go (nat_eq c.resource r) refl (first_is c cs a h) (λ e. taken_without_else j ne cs m.2 (still_held c cs e h))
+  taken_without_else j ne (c ∷ cs) a h = let m = apart_parts n c.resource (claimed cs) a in go (nat_eq c.resource r) refl (first_is c cs a h) (λ e. taken_without_else j ne cs m.2 (still_held c cs e h))
     where
       not_j : nat_eq c.holder k ≡ true → (x : Bool) → nat_eq c.holder j ≡ x → taken_by j cs ≡ (if x then taken_in c ∷ taken_by j cs else taken_by j cs)
       not_j e true f = absurd (ne (sym ((equal_or c.holder j true f).0 refl) ∙ (equal_or c.holder k true e).0 refl))

@@ -1,27 +1,15 @@
 -- What instances hold, one by one.
 use Rattle.std.proofs.Common.{◌≡◌, ◌<◌, ℕ, Bool, true, false, List, [], ◌∷◌, refl, ap, ◌∙◌, arith}
-use Rattle.std.specs.Prelude.{if◌then◌else◌, nat_eq, nat_lt}
+use Rattle.std.specs.Prelude.{if◌then◌else◌, nat_eq}
 use Rattle.pgo_base.specs.Data.{Data}
 use Rattle.pgo_model.specs.Machine.{among}
 use Rattle.pgo_workers.specs.View.{Shown, resources_of}
 use Rattle.pgo_resource.specs.declared.taken.Taken.{Taken}
 use Rattle.pgo_resource.specs.PlainRows.{taken_of, apart, rows}
 use Rattle.pgo_resource.specs.PlainSets.{eq_turned, among_there}
+use Rattle.pgo_resource.proofs.PlainPlaces.{apart_parts, apart_made}
 use Rattle.pgo_core.specs.declared.claims.Claim.{Claim}
 use Rattle.pgo_core.specs.Claims.{claimed, taken_in, taken_by}
-
-pub apart_more : (n q : ℕ) (rs : List ℕ) → apart n (q ∷ rs) ≡ true → (q < n) × (among q rs ≡ false) × (apart n rs ≡ true)
-apart_more n q rs h = go (nat_lt q n) (among q rs) refl refl h
-  where
-    go : (a b : Bool) → nat_lt q n ≡ a → among q rs ≡ b → (if a then if b then false else apart n rs else false) ≡ true → (q < n) × (among q rs ≡ false) × (apart n rs ≡ true)
-    go true false a b h = (grind (arith, a), b, h)
-    go true true a b h = absurd (grind (arith, h))
-    go false b a e h = absurd (grind (arith, h))
-
-pub apart_made : (n q : ℕ) (rs : List ℕ) → q < n → among q rs ≡ false → apart n rs ≡ true → apart n (q ∷ rs) ≡ true
-apart_made n q rs near out rest =
-    let t : nat_lt q n ≡ true = grind (arith, near) in
-    ap (λ b. if b then if among q rs then false else apart n rs else false) t ∙ ap (λ b. if b then false else apart n rs) out ∙ rest
 
 pub among_made : (r q : ℕ) (rs : List ℕ) → nat_eq q r ≡ false → among r rs ≡ false → among r (q ∷ rs) ≡ false
 among_made r q rs n h = ap (λ b. if b then true else among r rs) (eq_turned r q ∙ n) ∙ h
@@ -44,7 +32,7 @@ some_by k r cs h = go (among r (claimed cs)) refl
 
 pub by_apart : (n k : ℕ) (cs : List Claim) → apart n (claimed cs) ≡ true → apart n (taken_of (taken_by k cs)) ≡ true
 by_apart n k [] h = refl
-by_apart n k (c ∷ cs) h = let m = apart_more n c.resource (claimed cs) h in go (nat_eq c.holder k) m.0 m.1 (by_apart n k cs m.2)
+by_apart n k (c ∷ cs) h = let m = apart_parts n c.resource (claimed cs) h in go (nat_eq c.holder k) m.0 m.1 (by_apart n k cs m.2)
   where
     go : (b : Bool) → c.resource < n → among c.resource (claimed cs) ≡ false → apart n (taken_of (taken_by k cs)) ≡ true → apart n (taken_of (if b then taken_in c ∷ taken_by k cs else taken_by k cs)) ≡ true
     go true near out ih = apart_made n c.resource (taken_of (taken_by k cs)) near (none_by k c.resource cs out) ih
@@ -53,7 +41,7 @@ by_apart n k (c ∷ cs) h = let m = apart_more n c.resource (claimed cs) h in go
 -- a resource has one holder
 pub one_holder : (n i j r : ℕ) (cs : List Claim) → apart n (claimed cs) ≡ true → among r (taken_of (taken_by i cs)) ≡ true → among r (taken_of (taken_by j cs)) ≡ true → i ≡ j
 one_holder n i j r [] h a b = absurd (grind (arith, a))
-one_holder n i j r (c ∷ cs) h a b = let m = apart_more n c.resource (claimed cs) h in go (nat_eq c.holder i) (nat_eq c.holder j) refl refl m.1 a b (one_holder n i j r cs m.2)
+one_holder n i j r (c ∷ cs) h a b = let m = apart_parts n c.resource (claimed cs) h in go (nat_eq c.holder i) (nat_eq c.holder j) refl refl m.1 a b (one_holder n i j r cs m.2)
   where
     here : (k : ℕ) → among c.resource (claimed cs) ≡ false → nat_eq r c.resource ≡ true → among r (taken_of (taken_by k cs)) ≡ true → ⊥
     here k out e t = let same : r ≡ c.resource = grind (arith, e) in let s = some_by k r cs t in grind (arith, out, s, ap (λ x. among x (claimed cs)) same)

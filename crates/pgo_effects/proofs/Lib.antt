@@ -11,3 +11,4 @@ pub mod StatementLaws
 pub mod PlaceLaws
 pub mod LeftLaws
 pub mod ChangedLaws
+pub mod LocalLaws

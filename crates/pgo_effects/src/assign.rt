@@ -52,7 +52,7 @@ fn after(k: u64) -> Result<u64, AllocError>
 /// Adds the reads of an expression and a name for the value of what is left; gives the number of the name's place.
 fn bind_place<'a>(
     alloc: Global,
-    setting: Setting<'a>,
+    setting: Setting<'a, '_>,
     base: &[u8],
     e: &Expr,
     used: u64,
@@ -70,7 +70,7 @@ fn bind_place<'a>(
 /// Adds what comes before a step of a path.
 fn add_step<'a>(
     alloc: Global,
-    setting: Setting<'a>,
+    setting: Setting<'a, '_>,
     step: &Step,
     used: u64,
     effects: &mut Vec<Effect<'a>>,
@@ -90,7 +90,7 @@ fn add_step<'a>(
 /// Adds what comes before the steps of a path.
 fn add_steps<'a>(
     alloc: Global,
-    setting: Setting<'a>,
+    setting: Setting<'a, '_>,
     path: &[Step],
     used: u64,
     effects: &mut Vec<Effect<'a>>,
@@ -153,7 +153,7 @@ fn changed(alloc: Global, x: &Text, path: &[PathPart], w: Text) -> Result<Expr, 
 }
 
 /// The base of the name of a variable's part that is changed.
-fn base_of(alloc: Global, setting: Setting<'_>, p: &Place) -> Result<Text, AllocError>
+fn base_of(alloc: Global, setting: Setting<'_, '_>, p: &Place) -> Result<Text, AllocError>
     ensures { IfOk result (λ b. b ≡ (if (setting_view setting.entry).is_block then codes_spec.old_base else codes_spec.variable_of (place_view p.now))) }
 {
     if setting.is_block() {
@@ -168,7 +168,7 @@ fn base_of(alloc: Global, setting: Setting<'_>, p: &Place) -> Result<Text, Alloc
 /// The place becomes what the name stands for.
 fn to_whole<'a>(
     alloc: Global,
-    setting: Setting<'a>,
+    setting: Setting<'a, '_>,
     w: Text,
     p: Place,
 ) -> Result<Change<'a>, AllocError>
@@ -185,7 +185,7 @@ fn to_whole<'a>(
 /// The part of the place at the end of the path becomes what the name stands for.
 fn to_variable<'a>(
     alloc: Global,
-    setting: Setting<'a>,
+    setting: Setting<'a, '_>,
     x: &Text,
     path: &[PathPart],
     w: Text,
@@ -206,7 +206,7 @@ fn to_variable<'a>(
 /// The variable becomes what the name stands for, where it is no mapped parameter.
 fn assigned_place<'a>(
     alloc: Global,
-    setting: Setting<'a>,
+    setting: Setting<'a, '_>,
     x: &Text,
     path: &[PathPart],
     w: Text,
@@ -223,7 +223,7 @@ fn assigned_place<'a>(
 /// The variable, or the part of it at the end of the path, becomes what the name stands for.
 fn assigned<'a>(
     alloc: Global,
-    setting: Setting<'a>,
+    setting: Setting<'a, '_>,
     x: &Text,
     path: &[PathPart],
     w: Text,
@@ -240,7 +240,7 @@ fn assigned<'a>(
 /// Adds what comes before an assignment, in which each argument is in place, and gives what it does then.
 fn add_put_assignment<'a>(
     alloc: Global,
-    setting: Setting<'a>,
+    setting: Setting<'a, '_>,
     left: &Left,
     right: &Expr,
     used: u64,
@@ -258,7 +258,7 @@ fn add_put_assignment<'a>(
 /// The same of an assignment of the text.
 fn add_assignment<'a>(
     alloc: Global,
-    setting: Setting<'a>,
+    setting: Setting<'a, '_>,
     around: &Around<'_>,
     a: &Assignment,
     used: u64,
@@ -274,7 +274,7 @@ fn add_assignment<'a>(
 /// Adds what comes before assignments, and gives what they do then.
 fn add_assignments<'a>(
     alloc: Global,
-    setting: Setting<'a>,
+    setting: Setting<'a, '_>,
     around: &Around<'_>,
     list: &[Assignment],
     effects: &mut Vec<Effect<'a>>,
@@ -294,7 +294,7 @@ fn add_assignments<'a>(
 /// All assignments, one behind the other.
 fn assign_all<'a>(
     alloc: Global,
-    setting: Setting<'a>,
+    setting: Setting<'a, '_>,
     around: &Around<'_>,
     list: &[Assignment],
 ) -> Result<Piece<'a>, AllocError>
@@ -340,7 +340,7 @@ fn alone(
 /// The right side, where `$variable := e` is the one assignment and the statements are a mapping macro's.
 fn alone_in_block(
     alloc: Global,
-    setting: Setting<'_>,
+    setting: Setting<'_, '_>,
     around: &Around<'_>,
     list: &[Assignment],
 ) -> Result<Option<Expr>, AllocError>
@@ -369,7 +369,7 @@ fn set_content<'a>(alloc: Global, e: Expr) -> Result<Piece<'a>, AllocError>
 /// `left := e || left := e`
 pub(crate) fn assign_piece<'a>(
     alloc: Global,
-    setting: Setting<'a>,
+    setting: Setting<'a, '_>,
     around: &Around<'_>,
     list: &[Assignment],
 ) -> Result<Piece<'a>, AllocError>

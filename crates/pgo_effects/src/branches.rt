@@ -39,7 +39,7 @@ fn otherwise_todo<'a>(
 /// A branch, and those behind it.
 fn branch_piece<'a>(
     alloc: Global,
-    setting: Setting<'a>,
+    setting: Setting<'a, '_>,
     around: &Around<'a>,
     branch: &'a Branch,
     rest: &'a [Branch],
@@ -63,7 +63,7 @@ fn branch_piece<'a>(
 /// The branches of an `if`.
 pub(crate) fn branches_piece<'a>(
     alloc: Global,
-    setting: Setting<'a>,
+    setting: Setting<'a, '_>,
     around: &Around<'a>,
     list: &'a [Branch],
     otherwise: Option<&'a Stmt>,
@@ -82,7 +82,7 @@ pub(crate) fn branches_piece<'a>(
 /// `while (e) t`
 pub(crate) fn while_piece<'a>(
     alloc: Global,
-    setting: Setting<'a>,
+    setting: Setting<'a, '_>,
     around: &Around<'a>,
     condition: &Expr,
     body: &'a Stmt,
@@ -156,7 +156,7 @@ fn then_piece<'a>(
 /// The statements of a block up to the first label.
 pub(crate) fn order_piece<'a>(
     alloc: Global,
-    setting: Setting<'a>,
+    setting: Setting<'a, '_>,
     around: &Around<'a>,
     list: &'a [Labeled],
 ) -> Result<Piece<'a>, AllocError>

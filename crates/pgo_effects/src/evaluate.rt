@@ -99,7 +99,7 @@ fn add_reads<'a>(
 /// places are in use.
 pub(crate) fn evaluate_put<'a>(
     alloc: Global,
-    setting: Setting<'a>,
+    setting: Setting<'a, '_>,
     e: &Expr,
     used: u64,
     effects: &mut Vec<Effect<'a>>,
@@ -115,7 +115,7 @@ pub(crate) fn evaluate_put<'a>(
 /// Adds the reads that come before an expression of the text, and gives what is left of it and how many places are in use.
 pub(crate) fn evaluate<'a>(
     alloc: Global,
-    setting: Setting<'a>,
+    setting: Setting<'a, '_>,
     around: &Around<'_>,
     e: &Expr,
     used: u64,
@@ -130,7 +130,7 @@ pub(crate) fn evaluate<'a>(
 /// The reads that come before an expression of the text, where no place is in use, and what is left of it.
 pub(crate) fn evaluate_alone<'a>(
     alloc: Global,
-    setting: Setting<'a>,
+    setting: Setting<'a, '_>,
     around: &Around<'_>,
     e: &Expr,
 ) -> Result<(Vec<Effect<'a>>, Expr), AllocError>

@@ -8,6 +8,7 @@ mod called;
 mod calls;
 pub mod change;
 mod evaluate;
+pub mod indexed_archetype;
 mod lefts;
 pub mod names;
 pub mod piece;

@@ -150,7 +150,7 @@ fn name_under(
 /// Adds what binds a name, where this expression is in the place of its origin's.
 fn add_binding<'a>(
     alloc: Global,
-    setting: Setting<'a>,
+    setting: Setting<'a, '_>,
     origin: &Origin,
     name: Text,
     e: &Expr,
@@ -181,7 +181,7 @@ fn binding_effect<'a>(origin: &Origin, base: Text, name: Text, e: Expr) -> Effec
 /// Adds what binds a name of a `with`, and gives the arguments behind it.
 fn add_name<'a>(
     alloc: Global,
-    setting: Setting<'a>,
+    setting: Setting<'a, '_>,
     layers: Vec<Arguments>,
     w: &WithName,
     effects: &mut Vec<Effect<'a>>,
@@ -197,7 +197,7 @@ fn add_name<'a>(
 /// Adds what binds the names of a `with`, and gives the arguments behind them.
 fn add_names<'a>(
     alloc: Global,
-    setting: Setting<'a>,
+    setting: Setting<'a, '_>,
     layers: Vec<Arguments>,
     names: &[WithName],
     effects: &mut Vec<Effect<'a>>,
@@ -246,7 +246,7 @@ pub(crate) fn under<'a>(
 /// `with (v = e, w \in S) s`
 pub(crate) fn with_piece<'a>(
     alloc: Global,
-    setting: Setting<'a>,
+    setting: Setting<'a, '_>,
     around: &Around<'a>,
     names: &[WithName],
     body: &'a Stmt,

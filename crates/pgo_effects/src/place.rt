@@ -6,12 +6,11 @@ ghost use Rattle.pgo_effects.specs.SettingView.{setting_view};
 ghost use Rattle.pgo_meaning.specs.Parameters.{local_places, parameter_places, places_of};
 ghost use Rattle.pgo_sections.specs.Code.{content_places};
 
+use crate::indexed_archetype::IndexedArchetype;
 use crate::setting::Setting;
 use crate::written::written_name;
 use pgo_base::text::Text;
-use pgo_syntax::archetype::Archetype;
 use pgo_syntax::bound::{Binding, Target};
-use pgo_syntax::declaration::Declaration;
 use std::alloc::{AllocError, Global};
 
 /// A variable as a whole, or its part at `self`.
@@ -77,19 +76,18 @@ fn parameter_place(
 }
 
 /// The place of a local.
+#[tactic(auto, using(crate::proofs::LocalLaws::local_found))]
 fn local_place(
     alloc: Global,
     process: &Text,
-    locals: &[Declaration],
+    archetype: &IndexedArchetype<'_>,
     x: &Text,
 ) -> Result<Option<Place>, AllocError>
-    ensures { IfOk result (λ p. option_map place_view p ≡ find x.now (local_places process.now locals.now)) }
+    ensures { IfOk result (λ p. option_map place_view p ≡ find x.now (local_places process.now archetype.now.locals)) }
 {
-    for d in locals {
-        if x.is(&d.name.name) {
-            let x = written_name(alloc, process.as_bytes(), &d.name.name)?;
-            return Ok(Some(Place::Own(x)));
-        }
+    if archetype.has_local(x) {
+        let x = written_name(alloc, process.as_bytes(), x)?;
+        return Ok(Some(Place::Own(x)));
     }
     Ok(None)
 }
@@ -98,7 +96,7 @@ fn local_place(
 fn process_place(
     alloc: Global,
     process: &Text,
-    archetype: &Archetype,
+    archetype: &IndexedArchetype<'_>,
     bindings: &[Binding],
     x: &Text,
 ) -> Result<Option<Place>, AllocError>
@@ -108,7 +106,7 @@ fn process_place(
     if found.is_some() {
         return Ok(found);
     }
-    local_place(alloc, process, archetype.locals.as_slice(), x)
+    local_place(alloc, process, archetype, x)
 }
 
 /// The place of a name of a mapping macro's block: the content.
@@ -127,7 +125,7 @@ fn block_place(alloc: Global, x: &Text) -> Result<Option<Place>, AllocError>
 /// block the content. Of two that have the name, the parameter.
 pub fn place_named(
     alloc: Global,
-    setting: Setting<'_>,
+    setting: Setting<'_, '_>,
     x: &Text,
 ) -> Result<Option<Place>, AllocError>
     ensures { IfOk result (λ p. option_map place_view p ≡ find x.now (setting_view setting.entry).places) }

@@ -3,22 +3,22 @@ ghost use Rattle.std.specs.Prelude.{◌≡◌};
 ghost use Rattle.pgo_meaning.specs.Parameters.{all_mapped};
 ghost use Rattle.pgo_effects.specs.SettingView.{setting_view};
 
+use crate::indexed_archetype::IndexedArchetype;
 use pgo_base::text::Text;
-use pgo_syntax::archetype::Archetype;
 use pgo_syntax::bound::Binding;
 
 /// Whose statements they are: those of a process that runs an archetype with these bindings, or those of a mapping macro.
 #[derive(Clone, Copy)]
-pub enum Setting<'a> {
+pub enum Setting<'a, 'i> {
     Process {
         name: &'a Text,
-        archetype: &'a Archetype,
+        archetype: &'i IndexedArchetype<'a>,
         bindings: &'a [Binding],
     },
     Block,
 }
 
-impl<'a> Setting<'a> {
+impl<'a, 'i> Setting<'a, 'i> {
     /// The process's name, empty in a block.
     pub fn process(self) -> &'a [u8]
         ensures { result.now ≡ (setting_view self.entry).process }

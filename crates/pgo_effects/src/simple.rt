@@ -32,7 +32,7 @@ pub(crate) fn last_alone<'a>(alloc: Global, last: Last<'a>) -> Piece<'a>
 /// `await e`
 pub(crate) fn await_piece<'a>(
     alloc: Global,
-    setting: Setting<'a>,
+    setting: Setting<'a, '_>,
     around: &Around<'_>,
     e: &Expr,
 ) -> Result<Piece<'a>, AllocError>
@@ -48,7 +48,7 @@ pub(crate) fn await_piece<'a>(
 /// `assert e`
 pub(crate) fn assert_piece<'a>(
     alloc: Global,
-    setting: Setting<'a>,
+    setting: Setting<'a, '_>,
     around: &Around<'_>,
     e: &Expr,
 ) -> Result<Piece<'a>, AllocError>
@@ -64,7 +64,7 @@ pub(crate) fn assert_piece<'a>(
 /// `print e`
 pub(crate) fn print_piece<'a>(
     alloc: Global,
-    setting: Setting<'a>,
+    setting: Setting<'a, '_>,
     around: &Around<'_>,
     e: &Expr,
 ) -> Result<Piece<'a>, AllocError>
@@ -92,7 +92,7 @@ pub(crate) fn yield_piece<'a>(
 /// `goto x`
 pub(crate) fn goto_piece<'a>(
     alloc: Global,
-    setting: Setting<'a>,
+    setting: Setting<'a, '_>,
     x: &Text,
 ) -> Result<Piece<'a>, AllocError>
     ensures { IfOk result (λ p. (s : Meant) → piece_code s p ≡ codes.Goto (label_of (setting_view setting.entry).process x.now)) }

@@ -29,7 +29,7 @@ use std::alloc::{AllocError, Global};
 /// One level of a statement.
 fn statement_piece<'a>(
     alloc: Global,
-    setting: Setting<'a>,
+    setting: Setting<'a, '_>,
     around: &Around<'a>,
     t: &'a Stmt,
 ) -> Result<Piece<'a>, AllocError>
@@ -60,7 +60,7 @@ fn statement_piece<'a>(
 /// One level of a part of the text.
 fn part_piece<'a>(
     alloc: Global,
-    setting: Setting<'a>,
+    setting: Setting<'a, '_>,
     around: &Around<'a>,
     part: Part<'a>,
 ) -> Result<Piece<'a>, AllocError>
@@ -77,7 +77,7 @@ fn part_piece<'a>(
 /// The jump to a label.
 fn jump_piece<'a>(
     alloc: Global,
-    setting: Setting<'a>,
+    setting: Setting<'a, '_>,
     label: Option<&'a Text>,
 ) -> Result<Piece<'a>, AllocError>
     ensures { IfOk result (λ p. (s : Meant) → piece_code s p ≡ codes_spec.Goto (label_at (setting_view setting.entry) (option_map (λ x. x.now) label.entry))) }
@@ -117,7 +117,7 @@ fn yielded_piece<'a>(alloc: Global, x: &[u8]) -> Result<Piece<'a>, AllocError>
 /// Err where there is no memory, or a statement has 2^64 places or more.
 pub fn unfold<'a>(
     alloc: Global,
-    setting: Setting<'a>,
+    setting: Setting<'a, '_>,
     todo: &Todo<'a>,
 ) -> Result<Piece<'a>, AllocError>
     ensures { IfOk result (λ p. piece_code (setting_view setting.entry) p ≡ code_of (setting_view setting.entry) todo.now) }

@@ -22,7 +22,7 @@ pub(crate) fn written_name(alloc: Global, p: &[u8], x: &Text) -> Result<Text, Al
 /// The written name of a label in the setting; `Done` stays as it is.
 ///
 /// Err where there is no memory.
-pub fn written_label(alloc: Global, setting: Setting<'_>, x: &Text) -> Result<Text, AllocError>
+pub fn written_label(alloc: Global, setting: Setting<'_, '_>, x: &Text) -> Result<Text, AllocError>
     ensures { IfOk result (λ t. t ≡ label_of (setting_view setting.entry).process x.now) }
 {
     let done = Text::from_slice(alloc, b"Done")?;

@@ -8,7 +8,7 @@ use pgo_base::consts::Consts;
 use pgo_base::results::both;
 use pgo_base::text::Text;
 use pgo_base::value::Value;
-use pgo_heads::definitions::given_value;
+use pgo_heads::given_values::GivenValues;
 use pgo_syntax::name::PlacedName;
 use pgo_syntax::spec::Spec;
 use std::alloc::{AllocError, Global};
@@ -31,13 +31,13 @@ fn add_constant(
 fn listed(
     alloc: Global,
     declared: &[PlacedName],
-    consts: &[(Text, Value)],
+    given: &GivenValues<'_>,
 ) -> Result<Vec<(Text, Value)>, AllocError>
-    ensures { IfOk result (λ v. map named_data v.items ≡ filter_map (named_constant (map named_data consts.now)) declared.now) }
+    ensures { IfOk result (λ v. map named_data v.items ≡ filter_map (named_constant given.now) declared.now) }
 {
     let mut list = Vec::new(alloc);
     for c in declared {
-        if let Some(value) = given_value(consts, &c.name) {
+        if let Some(value) = given.get(&c.name) {
             add_constant(alloc, &mut list, &c.name, value)?;
         }
     }
@@ -48,6 +48,7 @@ fn listed(
 pub fn declared_constants(alloc: Global, spec: &Spec, consts: &Consts) -> Result<Consts, AllocError>
     ensures { IfOk result (λ c. c ≡ constants_with spec.now consts.now) }
 {
-    let list = listed(alloc, spec.constants.as_slice(), consts.as_slice())?;
+    let given = GivenValues::new(alloc, consts.as_slice())?;
+    let list = listed(alloc, spec.constants.as_slice(), &given)?;
     Ok(Consts::from_vec(list))
 }

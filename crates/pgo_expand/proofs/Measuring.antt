@@ -79,3 +79,12 @@ nothing_spent l h =
 
 pub told : (l h n g : ℕ) → n ≡ l → g ≡ capped h → ◌≡◌ {A = Option (ℕ × ℕ)} (Some (l, capped h)) (Some (n, g))
 told l h n g a b = (λ i. Some (sym a i, sym b i))
+
+-- behind a tree of this size
+pub spent_size : (o : Option ℕ) (h g a b : ℕ) → ◌≡◌ {A = Option (ℕ × ℕ)} (Some (a, b)) (option_map {U = ℕ × ℕ} (λ l. (l, capped g)) o) → option_map {U = ℕ × ℕ} (λ m. (m, capped (max h g))) o ≡ Some (a, capped (max h b))
+spent_size None h g a b e = absurd (cc)
+spent_size (Some m) h g a b e =
+    let pair : ◌≡◌ {A = ℕ × ℕ} (a, b) (m, capped g) = cc in
+    let one : m ≡ a = sym (ap (λ p. p.0) pair) in
+    let two : capped g ≡ b = sym (ap (λ p. p.1) pair) in
+    λ i. Some (one i, ((let q : capped (max h g) ≡ capped (max h (capped g)) = omega arith in q) ∙ ap (λ x. capped (max h x)) two) i)

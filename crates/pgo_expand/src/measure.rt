@@ -15,6 +15,7 @@ use crate::heads::joined_all;
 use crate::labels::bindings;
 use crate::start::start;
 use pgo_base::text::Text;
+use pgo_effects::indexed_archetype::IndexedArchetype;
 use pgo_effects::setting::Setting;
 use pgo_heads::runs::archetype_named;
 use pgo_measure::heights::joined;
@@ -62,10 +63,10 @@ fn told_apart(now: Left) -> Left
 }
 
 /// What is left behind the trees of sections; nothing where they have more nodes.
-fn behind_sections<'a>(
+fn behind_sections<'a, 'i>(
     alloc: Global,
     names: &Names,
-    setting: Setting<'a>,
+    setting: Setting<'a, 'i>,
     sections: &[Section<'a>],
     left: Left,
 ) -> Result<Option<Left>, AllocError>
@@ -85,10 +86,10 @@ fn behind_sections<'a>(
 }
 
 /// What is left behind the trees of sections, where the calls of their actions count besides.
-fn behind_labels<'a>(
+fn behind_labels<'a, 'i>(
     alloc: Global,
     names: &Names,
-    setting: Setting<'a>,
+    setting: Setting<'a, 'i>,
     sections: &[Section<'a>],
     left: Left,
 ) -> Result<Option<Left>, AllocError>
@@ -103,12 +104,12 @@ fn behind_labels<'a>(
 }
 
 /// What is left behind the trees of a process that runs an archetype.
-fn behind_archetype(
+fn behind_archetype<'a>(
     alloc: Global,
-    spec: &Spec,
+    spec: &'a Spec,
     names: &Names,
-    process: &Process,
-    archetype: &Archetype,
+    process: &'a Process,
+    archetype: &'a Archetype,
     left: Left,
 ) -> Result<Option<Left>, AllocError>
     requires { AreUnlabelled spec.now.macros }
@@ -116,16 +117,17 @@ fn behind_archetype(
 {
     let bindings = bindings(alloc, spec, process, archetype)?;
     let name = &process.name.name;
+    let indexed = IndexedArchetype::new(alloc, archetype)?;
     let setting = Setting::Process {
         name,
-        archetype,
+        archetype: &indexed,
         bindings: bindings.as_slice(),
     };
     let found = sections(
         alloc,
         spec.macros.as_slice(),
         name,
-        archetype,
+        &indexed,
         bindings.as_slice(),
     )?;
     behind_labels(alloc, names, setting, found.as_slice(), left)

@@ -10,6 +10,7 @@ ghost use Rattle.pgo_walk.specs.SettingPlaces.{places_in};
 use pgo_effects::setting::Setting;
 use pgo_section_list::sections::Section;
 use pgo_walk::frames::State;
+use pgo_walk::made::Made;
 use pgo_walk::pushes::{push_code, push_codes};
 use pgo_walk::stack::Stack;
 use std::alloc::{AllocError, Global};
@@ -17,14 +18,14 @@ use std::alloc::{AllocError, Global};
 /// A section of which nothing is done: what is still to be done has its expansion.
 ///
 /// Err where there is no memory.
-pub fn start<'a>(
+pub fn start<'a, 'i>(
     alloc: Global,
-    setting: Setting<'a>,
+    setting: Setting<'a, 'i>,
     section: &Section<'a>,
-) -> Result<State<'a>, AllocError>
+) -> Result<State<'a, 'i>, AllocError>
     ensures { IfOk result (λ s. (vs : List Name) → left_in vs s ≡ expansion vs (places_in setting.entry) (section_view (setting_view setting.entry) section.now).1) }
 {
-    let none = Stack::new(alloc);
+    let none = Made::new(alloc);
     let mut frames = Stack::new(alloc);
     push_code(alloc, &mut frames, setting, &none, &section.end)?;
     push_codes(alloc, &mut frames, setting, &none, section.todos.as_slice())?;

@@ -15,6 +15,7 @@ use crate::start::start;
 use pgo_base::items::Items;
 use pgo_base::results::both;
 use pgo_base::text::Text;
+use pgo_effects::indexed_archetype::IndexedArchetype;
 use pgo_effects::setting::Setting;
 use pgo_heads::runs::archetype_named;
 use pgo_pluscal::part::Part;
@@ -31,10 +32,10 @@ use std::alloc::{AllocError, Global};
 const MOST_BRANCHES: u64 = 600;
 
 /// The tree of a section, by its label.
-fn section_tree<'a>(
+fn section_tree<'a, 'i>(
     alloc: Global,
     variables: &[Text],
-    setting: Setting<'a>,
+    setting: Setting<'a, 'i>,
     section: &Section<'a>,
 ) -> Result<(Text, Part), AllocError>
     ensures label { IfOk result (λ p. p.0 ≡ (section_view (setting_view setting.entry) section.now).0) }
@@ -46,10 +47,10 @@ fn section_tree<'a>(
 }
 
 /// The trees of sections by their labels.
-fn trees_of<'a>(
+fn trees_of<'a, 'i>(
     alloc: Global,
     variables: &[Text],
-    setting: Setting<'a>,
+    setting: Setting<'a, 'i>,
     sections: &[Section<'a>],
 ) -> Result<Vec<(Text, Part)>, AllocError>
     ensures { IfOk result (λ v. v.items ≡ map (λ c. (c.0, expansion variables.now (places_in setting.entry) c.1)) (map (section_view (setting_view setting.entry)) sections.now)) }
@@ -62,28 +63,29 @@ fn trees_of<'a>(
 }
 
 /// The trees of a process that runs an archetype.
-fn archetype_trees(
+fn archetype_trees<'a>(
     alloc: Global,
-    spec: &Spec,
+    spec: &'a Spec,
     variables: &[Text],
-    process: &Process,
-    archetype: &Archetype,
+    process: &'a Process,
+    archetype: &'a Archetype,
 ) -> Result<Trees, AllocError>
     requires { AreUnlabelled spec.now.macros }
     ensures { IfOk result (λ ts. ts ≡ expansions_of variables.now spec.now.macros process.now.name.name archetype.now (process_bindings spec.now process.now archetype.now)) }
 {
     let bindings = bindings(alloc, spec, process, archetype)?;
     let name = &process.name.name;
+    let indexed = IndexedArchetype::new(alloc, archetype)?;
     let setting = Setting::Process {
         name,
-        archetype,
+        archetype: &indexed,
         bindings: bindings.as_slice(),
     };
     let found = sections(
         alloc,
         spec.macros.as_slice(),
         name,
-        archetype,
+        &indexed,
         bindings.as_slice(),
     )?;
     Ok(Items::from_vec(trees_of(alloc, variables, setting, found.as_slice())?))

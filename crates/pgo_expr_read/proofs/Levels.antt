@@ -9,7 +9,7 @@ use Rattle.pgo_lexer.specs.declared.symbol.Symbol.TheVariants as y
 use Rattle.pgo_lexer.specs.declared.token.Token.{Token}
 use Rattle.pgo_lexer.specs.declared.token.Token.TheVariants as t
 use Rattle.pgo_expr_read.specs.declared.table.Form.TheVariants as form
-use Rattle.pgo_expr_read.specs.declared.lookahead.Lead.TheVariants as lead
+use Rattle.pgo_expr_read.specs.declared.lookahead.PrimaryForm.TheVariants as primaries
 use Rattle.pgo_expr_read.specs.declared.lookahead.Opener.{Opener}
 use Rattle.pgo_expr_read.specs.declared.read.Ending.{Ending}
 use Rattle.pgo_expr_read.specs.declared.read.Read.{Read}
@@ -17,7 +17,7 @@ use Rattle.pgo_expr_read.specs.Lookahead.{begin, opens}
 use Rattle.pgo_expr_read.specs.Table.{prefix_least}
 use Rattle.pgo_expr_read.specs.Reading.{Parser, Outcome, and_then, ◌>>=◌, give_at, raised, made, skip, on_opener, openers, prefixed, primary, primary_by, all_more, closes, from_least, level}
 
-opens_nothing : (i : List Token) (p : Prefix) → begin i ≡ lead.Prefix p → opens i ≡ None
+opens_nothing : (i : List Token) (p : Prefix) → begin i ≡ primaries.Prefix p → opens i ≡ None
 opens_nothing [] p h = refl
 opens_nothing (t.ListOpen op ∷ rest) p h = cc
 opens_nothing (t.Symbol (y.Open b.Round) ∷ rest) p h = cc
@@ -43,7 +43,7 @@ module _ (limit : ℕ) (ex : ℕ → Parser (Read Tree)) (least : ℕ) where
   low_application p (Some q) low = low_by (nat_lt q.0.height limit) p q.0.ending _ (e.unary p q.0.tree) q.1 low
   low_application p None low = refl
 
-  pub low_prefix : (i : List Token) (p : Prefix) → begin i ≡ lead.Prefix p → prefix_least p < least → level limit ex least i ≡ None
+  pub low_prefix : (i : List Token) (p : Prefix) → begin i ≡ primaries.Prefix p → prefix_least p < least → level limit ex least i ≡ None
   unfolding level primary prefixed
   low_prefix i p h low =
       ap (λ o. and_then o (λ os. primary limit ex >>= behind os)) (no_openers (length i) i (opens_nothing i p h))

@@ -11,8 +11,8 @@ use Rattle.pgo_lexer.specs.declared.token.Lexeme.{Lexeme}
 use Rattle.pgo_lexer.specs.declared.token.Token.{Token}
 use Rattle.pgo_lexer.specs.declared.token.Token.TheVariants as t
 use Rattle.pgo_expr_read.specs.declared.table.Operator.TheVariants as operator
-use Rattle.pgo_expr_read.specs.declared.lookahead.Lead.{Lead}
-use Rattle.pgo_expr_read.specs.declared.lookahead.Lead.TheVariants as lead
+use Rattle.pgo_expr_read.specs.declared.lookahead.PrimaryForm.{PrimaryForm}
+use Rattle.pgo_expr_read.specs.declared.lookahead.PrimaryForm.TheVariants as primaries
 use Rattle.pgo_expr_read.specs.declared.lookahead.Opener.{Opener}
 use Rattle.pgo_expr_read.specs.declared.lookahead.Opener.TheVariants as opener
 use Rattle.pgo_expr_read.specs.declared.lookahead.Next.{Next}
@@ -55,37 +55,37 @@ abbrev pub after : List Token → Next
 after [] = next.End
 after (token ∷ rest) = next_of token
 
-abbrev pub lead_of_symbol : Symbol → Lead
-lead_of_symbol (s.Truth b) = lead.Truth b
-lead_of_symbol s.At = lead.At
-lead_of_symbol (s.Word w.BooleanSet) = lead.Boolean
-lead_of_symbol (s.Infix op.Subtract) = lead.Prefix pre.Minus
-lead_of_symbol (s.Prefix pre.Minus) = lead.None
-lead_of_symbol (s.Prefix p) = lead.Prefix p
-lead_of_symbol (s.Open b.Angle) = lead.Tuple
-lead_of_symbol (s.Open b.Curly) = lead.Set
-lead_of_symbol (s.Open b.Square) = lead.Square
-lead_of_symbol (s.Quantifier q) = lead.Quantifier q
-lead_of_symbol s.Choose = lead.Choose
-lead_of_symbol s.If = lead.If
-lead_of_symbol s.Case = lead.Case
-lead_of_symbol s.Let = lead.Let
-lead_of_symbol s.Unchanged = lead.Unchanged
-lead_of_symbol s.Variable = lead.Variable
-lead_of_symbol s.Value = lead.Value
-lead_of_symbol _ = lead.None
+abbrev pub primary_of_symbol : Symbol → PrimaryForm
+primary_of_symbol (s.Truth b) = primaries.Truth b
+primary_of_symbol s.At = primaries.At
+primary_of_symbol (s.Word w.BooleanSet) = primaries.Boolean
+primary_of_symbol (s.Infix op.Subtract) = primaries.Prefix pre.Minus
+primary_of_symbol (s.Prefix pre.Minus) = primaries.None
+primary_of_symbol (s.Prefix p) = primaries.Prefix p
+primary_of_symbol (s.Open b.Angle) = primaries.Tuple
+primary_of_symbol (s.Open b.Curly) = primaries.Set
+primary_of_symbol (s.Open b.Square) = primaries.Square
+primary_of_symbol (s.Quantifier q) = primaries.Quantifier q
+primary_of_symbol s.Choose = primaries.Choose
+primary_of_symbol s.If = primaries.If
+primary_of_symbol s.Case = primaries.Case
+primary_of_symbol s.Let = primaries.Let
+primary_of_symbol s.Unchanged = primaries.Unchanged
+primary_of_symbol s.Variable = primaries.Variable
+primary_of_symbol s.Value = primaries.Value
+primary_of_symbol _ = primaries.None
 
-abbrev pub lead_of : Token → Lead
-lead_of (t.Name x) = lead.Name
-lead_of (t.Number n) = lead.Number n
-lead_of (t.Text x) = lead.Text
-lead_of (t.Symbol s) = lead_of_symbol s
-lead_of _ = lead.None
+abbrev pub primary_of : Token → PrimaryForm
+primary_of (t.Name x) = primaries.Name
+primary_of (t.Number n) = primaries.Number n
+primary_of (t.Text x) = primaries.Text
+primary_of (t.Symbol s) = primary_of_symbol s
+primary_of _ = primaries.None
 
 -- how the tokens begin an expression
-abbrev pub begin : List Token → Lead
-begin [] = lead.None
-begin (token ∷ rest) = lead_of token
+abbrev pub begin : List Token → PrimaryForm
+begin [] = primaries.None
+begin (token ∷ rest) = primary_of token
 
 -- what opens an expression that makes no node of its own
 abbrev pub opener_of : Token → Option Opener

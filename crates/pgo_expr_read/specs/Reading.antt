@@ -19,8 +19,8 @@ use Rattle.pgo_expr_read.specs.declared.table.Operator.{Operator}
 use Rattle.pgo_expr_read.specs.declared.table.Operator.TheVariants as operator
 use Rattle.pgo_expr_read.specs.declared.table.Form.{Form}
 use Rattle.pgo_expr_read.specs.declared.table.Form.TheVariants as form
-use Rattle.pgo_expr_read.specs.declared.lookahead.Lead.{Lead}
-use Rattle.pgo_expr_read.specs.declared.lookahead.Lead.TheVariants as lead
+use Rattle.pgo_expr_read.specs.declared.lookahead.PrimaryForm.{PrimaryForm}
+use Rattle.pgo_expr_read.specs.declared.lookahead.PrimaryForm.TheVariants as primaries
 use Rattle.pgo_expr_read.specs.declared.lookahead.Opener.{Opener}
 use Rattle.pgo_expr_read.specs.declared.lookahead.Opener.TheVariants as opener
 use Rattle.pgo_expr_read.specs.declared.lookahead.Next.{Next}
@@ -324,26 +324,26 @@ module _ (limit : ℕ) (ex : ℕ → Parser (Read Tree)) where
     x ← text
     leaf (e.text x)
 
-  abbrev pub primary_by : Lead → Parser (Read Tree)
-  primary_by lead.Name = named_form
-  primary_by (lead.Number n) = leaf_at (e.number n)
-  primary_by lead.Text = text_form
-  primary_by (lead.Truth b) = leaf_at (e.truth b)
-  primary_by lead.At = leaf_at e.at
-  primary_by lead.Boolean = leaf_at (e.word w.BooleanSet)
-  primary_by (lead.Prefix p) = prefixed p
-  primary_by lead.Tuple = tuple
-  primary_by lead.Set = set
-  primary_by lead.Square = square_form
-  primary_by (lead.Quantifier q) = quantified q
-  primary_by lead.Choose = choose
-  primary_by lead.If = cond_of
-  primary_by lead.Case = case_form
-  primary_by lead.Let = let_in
-  primary_by lead.Unchanged = unchanged
-  primary_by lead.Variable = leaf_at (e.name variable_name)
-  primary_by lead.Value = leaf_at (e.name value_name)
-  primary_by lead.None = λ i. None
+  abbrev pub primary_by : PrimaryForm → Parser (Read Tree)
+  primary_by primaries.Name = named_form
+  primary_by (primaries.Number n) = leaf_at (e.number n)
+  primary_by primaries.Text = text_form
+  primary_by (primaries.Truth b) = leaf_at (e.truth b)
+  primary_by primaries.At = leaf_at e.at
+  primary_by primaries.Boolean = leaf_at (e.word w.BooleanSet)
+  primary_by (primaries.Prefix p) = prefixed p
+  primary_by primaries.Tuple = tuple
+  primary_by primaries.Set = set
+  primary_by primaries.Square = square_form
+  primary_by (primaries.Quantifier q) = quantified q
+  primary_by primaries.Choose = choose
+  primary_by primaries.If = cond_of
+  primary_by primaries.Case = case_form
+  primary_by primaries.Let = let_in
+  primary_by primaries.Unchanged = unchanged
+  primary_by primaries.Variable = leaf_at (e.name variable_name)
+  primary_by primaries.Value = leaf_at (e.name value_name)
+  primary_by primaries.None = λ i. None
 
   unfoldable pub primary : Parser (Read Tree)
   primary i = primary_by (look.begin i) i

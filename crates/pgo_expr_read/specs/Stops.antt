@@ -3,6 +3,7 @@ use Rattle.std.specs.Prelude.{◌≡◌, ◌≤◌, ℕ, Bool, true, false, Resu
 use Rattle.pgo_lexer.specs.declared.errors.TextStop.{TextStop}
 use Rattle.pgo_lexer.specs.declared.errors.TextStop.TheVariants.{Syntax, NoMemory}
 use Rattle.pgo_lexer.specs.Answers.{IsSyntax}
+pub use Rattle.pgo_lexer.specs.Offsets.{IsWithin}
 
 -- both are refusals of the text, or both want of memory
 abbrev pub IsAsSevere : TextStop → TextStop → Type 0
@@ -17,8 +18,3 @@ IsKeptIf (Ok a) true result = result ≡ Ok a
 IsKeptIf (Ok a) false result = IsErrAnd result IsSyntax
 IsKeptIf (Err (Syntax n)) may_stand result = IsErrAnd result IsSyntax
 IsKeptIf (Err NoMemory) may_stand result = result ≡ Err NoMemory
-
--- the offset of a refusal is at most the length of the text
-abbrev pub IsWithin : (length : ℕ) → TextStop → Type 0
-IsWithin length (Syntax offset) = offset ≤ length
-IsWithin length NoMemory = Unit {0}

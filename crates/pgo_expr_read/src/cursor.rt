@@ -6,7 +6,8 @@ ghost use Rattle.pgo_expr_read.specs.Reading as spec;
 ghost use Rattle.pgo_expr_read.specs.Reading.{Reads};
 
 use crate::lookahead::{
-    Lead, Next, Opener, Square, form_of_second, is_name, lead_of_symbol, next_of_symbol, sees,
+    Next, Opener, PrimaryForm, Square, form_of_second, is_name, next_of_symbol, primary_of_symbol,
+    sees,
 };
 use pgo_base::expr::{Infix, Word};
 use pgo_base::text::Text;
@@ -83,17 +84,17 @@ impl<'a> Cursor<'a> {
     }
 
     /// How the tokens begin an expression.
-    pub fn begin(&self) -> Lead
+    pub fn begin(&self) -> PrimaryForm
         ensures { result ≡ look.begin self.now }
     {
         match self.rest {
-            [] => Lead::None,
+            [] => PrimaryForm::None,
             [lexeme, ..] => match &lexeme.token {
-                Token::Name(_) => Lead::Name,
-                Token::Number(number) => Lead::Number(*number),
-                Token::Text(_) => Lead::Text,
-                Token::Symbol(symbol) => lead_of_symbol(*symbol),
-                _ => Lead::None,
+                Token::Name(_) => PrimaryForm::Name,
+                Token::Number(number) => PrimaryForm::Number(*number),
+                Token::Text(_) => PrimaryForm::Text,
+                Token::Symbol(symbol) => primary_of_symbol(*symbol),
+                _ => PrimaryForm::None,
             },
         }
     }

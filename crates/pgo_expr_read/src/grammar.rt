@@ -9,7 +9,7 @@ ghost use Rattle.pgo_expr_read.specs.Reading.{Reads};
 
 use crate::cursor::Cursor;
 use crate::lists::{Between, OneExpr, OneField, is_case, names, pushed};
-use crate::lookahead::{Lead, Square};
+use crate::lookahead::{PrimaryForm, Square};
 use crate::read::{Ending, Read, part};
 use crate::table::{Form, prefix_least};
 use pgo_base::expr::{Arms, Expr, Exprs, Infix, Named, Prefix, Quantifier, Sub, Word};
@@ -537,25 +537,25 @@ impl<F: Fn(Global, &mut Cursor<'_>, u32, u8) -> Result<Read<Sub>, TextStop>> Gra
         ensures { Reads (spec.primary self.now.limit (spec.expr self.now.below) cursor.old) result cursor.new }
     {
         match cursor.begin() {
-            Lead::Name => self.named_form(cursor),
-            Lead::Number(number) => self.leaf_at(cursor, Expr::Number(number)),
-            Lead::Text => self.text_form(cursor),
-            Lead::Truth(truth) => self.leaf_at(cursor, Expr::Truth(truth)),
-            Lead::At => self.leaf_at(cursor, Expr::At),
-            Lead::Boolean => self.leaf_at(cursor, Expr::Word(Word::BooleanSet)),
-            Lead::Prefix(op) => self.prefixed(cursor, op),
-            Lead::Tuple => self.tuple(cursor),
-            Lead::Set => self.set(cursor),
-            Lead::Square => self.square_form(cursor),
-            Lead::Quantifier(quantifier) => self.quantified(cursor, quantifier),
-            Lead::Choose => self.choose(cursor),
-            Lead::If => self.cond_of(cursor),
-            Lead::Case => self.case_form(cursor),
-            Lead::Let => self.let_in(cursor),
-            Lead::Unchanged => self.unchanged(cursor),
-            Lead::Variable => self.name_at(cursor, b"$variable"),
-            Lead::Value => self.name_at(cursor, b"$value"),
-            Lead::None => Err(cursor.refuse()),
+            PrimaryForm::Name => self.named_form(cursor),
+            PrimaryForm::Number(number) => self.leaf_at(cursor, Expr::Number(number)),
+            PrimaryForm::Text => self.text_form(cursor),
+            PrimaryForm::Truth(truth) => self.leaf_at(cursor, Expr::Truth(truth)),
+            PrimaryForm::At => self.leaf_at(cursor, Expr::At),
+            PrimaryForm::Boolean => self.leaf_at(cursor, Expr::Word(Word::BooleanSet)),
+            PrimaryForm::Prefix(op) => self.prefixed(cursor, op),
+            PrimaryForm::Tuple => self.tuple(cursor),
+            PrimaryForm::Set => self.set(cursor),
+            PrimaryForm::Square => self.square_form(cursor),
+            PrimaryForm::Quantifier(quantifier) => self.quantified(cursor, quantifier),
+            PrimaryForm::Choose => self.choose(cursor),
+            PrimaryForm::If => self.cond_of(cursor),
+            PrimaryForm::Case => self.case_form(cursor),
+            PrimaryForm::Let => self.let_in(cursor),
+            PrimaryForm::Unchanged => self.unchanged(cursor),
+            PrimaryForm::Variable => self.name_at(cursor, b"$variable"),
+            PrimaryForm::Value => self.name_at(cursor, b"$value"),
+            PrimaryForm::None => Err(cursor.refuse()),
         }
     }
 }

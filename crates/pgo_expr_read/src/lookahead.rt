@@ -10,7 +10,7 @@ use pgo_lexer::token::{Lexeme, Token};
 
 /// How an expression may begin.
 #[derive(Clone, Copy)]
-pub enum Lead {
+pub enum PrimaryForm {
     Name,
     Number(i64),
     Text,
@@ -80,29 +80,29 @@ pub fn next_of_symbol(symbol: Symbol) -> Next
 }
 
 /// How this symbol begins an expression.
-pub fn lead_of_symbol(symbol: Symbol) -> Lead
-    ensures { result ≡ spec.lead_of_symbol symbol }
+pub fn primary_of_symbol(symbol: Symbol) -> PrimaryForm
+    ensures { result ≡ spec.primary_of_symbol symbol }
 {
     match symbol {
-        Symbol::Truth(truth) => Lead::Truth(truth),
-        Symbol::At => Lead::At,
-        Symbol::Word(Word::BooleanSet) => Lead::Boolean,
-        Symbol::Infix(Infix::Subtract) => Lead::Prefix(Prefix::Minus),
+        Symbol::Truth(truth) => PrimaryForm::Truth(truth),
+        Symbol::At => PrimaryForm::At,
+        Symbol::Word(Word::BooleanSet) => PrimaryForm::Boolean,
+        Symbol::Infix(Infix::Subtract) => PrimaryForm::Prefix(Prefix::Minus),
         // `-` is an infix symbol.
-        Symbol::Prefix(Prefix::Minus) => Lead::None,
-        Symbol::Prefix(op) => Lead::Prefix(op),
-        Symbol::Open(Bracket::Angle) => Lead::Tuple,
-        Symbol::Open(Bracket::Curly) => Lead::Set,
-        Symbol::Open(Bracket::Square) => Lead::Square,
-        Symbol::Quantifier(quantifier) => Lead::Quantifier(quantifier),
-        Symbol::Choose => Lead::Choose,
-        Symbol::If => Lead::If,
-        Symbol::Case => Lead::Case,
-        Symbol::Let => Lead::Let,
-        Symbol::Unchanged => Lead::Unchanged,
-        Symbol::Variable => Lead::Variable,
-        Symbol::Value => Lead::Value,
-        _ => Lead::None,
+        Symbol::Prefix(Prefix::Minus) => PrimaryForm::None,
+        Symbol::Prefix(op) => PrimaryForm::Prefix(op),
+        Symbol::Open(Bracket::Angle) => PrimaryForm::Tuple,
+        Symbol::Open(Bracket::Curly) => PrimaryForm::Set,
+        Symbol::Open(Bracket::Square) => PrimaryForm::Square,
+        Symbol::Quantifier(quantifier) => PrimaryForm::Quantifier(quantifier),
+        Symbol::Choose => PrimaryForm::Choose,
+        Symbol::If => PrimaryForm::If,
+        Symbol::Case => PrimaryForm::Case,
+        Symbol::Let => PrimaryForm::Let,
+        Symbol::Unchanged => PrimaryForm::Unchanged,
+        Symbol::Variable => PrimaryForm::Variable,
+        Symbol::Value => PrimaryForm::Value,
+        _ => PrimaryForm::None,
     }
 }
 

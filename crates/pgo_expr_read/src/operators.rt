@@ -9,7 +9,7 @@ use crate::ast::{applied, infix_of};
 use crate::cursor::Cursor;
 use crate::grammar::Grammar;
 use crate::lists::{Between, goes, pass};
-use crate::lookahead::{Lead, Next, Opener};
+use crate::lookahead::{Next, Opener, PrimaryForm};
 use crate::read::{Ending, Read, closed, left_height};
 use crate::stack::Openers;
 use crate::table::{Form, Operator, form_low, prefix_least, right_least, row, takes_left};
@@ -296,7 +296,7 @@ impl<F: Fn(Global, &mut Cursor<'_>, u32, u8) -> Result<Read<Sub>, TextStop>> Gra
     {
         let stop = cursor.refuse();
         // A prefix operator is refused by its own level, before its operand is read.
-        if let Lead::Prefix(op) = cursor.begin() {
+        if let PrimaryForm::Prefix(op) = cursor.begin() {
             if prefix_least(op) < least {
                 return Err(stop);
             }

@@ -1,82 +1,61 @@
 -- What a request says of each command, and that words ask for one command alone.
-use Rattle.std.proofs.Common.{◌≡◌, ◌+◌, inl, inr, ℕ, List, [], ◌∷◌, refl, ap, sym, ◌∙◌, subst, arith}
+use Rattle.std.proofs.Common.{◌≡◌, inl, inr, ℕ, List, [], refl, ap, sym, ◌∙◌, subst}
 use Rattle.pgo_base.specs.Data.{Data}
 use Rattle.pgo_base.specs.Lookup.{Name}
 use Rattle.pgo_model.specs.Core.{Settings}
 use Rattle.pgo_execute.specs.Schedules.{Schedule, Turns, Rounds}
-use Rattle.pgo_words.specs.Asks.{Command, Compile, Expand, Step, Run, Check, Load, Request, AsksBy}
+use Rattle.pgo_words.specs.Asks.{Command, Compile, Expand, Step, Run, Check, Load, Request, AsksBy, AsksOnly}
+use Rattle.pgo_words.specs.Reads.{name_of}
 use Rattle.pgo_words.specs.Settings.{default_settings}
+use Rattle.pgo_words.specs.declared.commands.CommandName.{CommandName}
+use Rattle.pgo_words.specs.declared.commands.CommandName.TheVariants as names
+use Rattle.pgo_words.proofs.ReadLaws.{one_command}
 use Rattle.pgo_front.specs.declared.target.Target.{Target}
 use Rattle.pgo_front.specs.declared.target.Target.TheVariants as targets
-use Rattle.pgo_front.specs.Asked.{AsksCheck, AsksOnly, ExecutesOnly, LoadsOnly, TranslatesOnly, command_to, command_under}
+use Rattle.pgo_front.specs.Asked.{AsksCheck, ExecutesOnly, LoadsOnly, TranslatesOnly, command_to, command_under}
 use Rattle.pgo_front.specs.Answers.{AsksNothing, AsksOfInput, AsksSomeExecution, AsksSomeLoad, AsksSomeTranslation, ReadsNothing}
 
 -- ---- one command alone
 
--- the sum of the bytes of the first word
-abbrev bytes_sum : List ℕ → ℕ
-bytes_sum [] = 0
-bytes_sum (b ∷ bs) = b + bytes_sum bs
+same_name : (words : List (List ℕ)) (k l : Command) (consts others : List (Name × Data)) (settings set : Settings)
+    → AsksBy k words consts settings → AsksBy l words others set → name_of k ≡ name_of l
+same_name words k l consts others settings set a b =
+    one_command words (record { command = k; consts = consts; settings = settings }) (record { command = l; consts = others; settings = set }) a b
 
-abbrev first_sum : List (List ℕ) → ℕ
-first_sum [] = 0
-first_sum (w ∷ ws) = bytes_sum w
-
--- that of each command
-abbrev number : Command → ℕ
-number Compile = 745
-number Expand = 640
-number (Step ts) = 444
-number Run = 341
-number Check = 510
-number (Load n) = 416
-
-number_is : (words : List (List ℕ)) (k : Command) (consts : List (Name × Data)) (settings : Settings) → AsksBy k words consts settings → first_sum words ≡ number k
-number_is words Compile consts settings a = ap first_sum a.words_are
-number_is words Expand consts settings a = ap first_sum a.words_are
-number_is words (Step ts) consts settings a = ap first_sum a.words_are
-number_is words Run consts settings a = ap first_sum a.words_are
-number_is words Check consts settings a = ap first_sum a.words_are
-number_is words (Load n) consts settings a = ap first_sum a.alone.words_are
-
-same_number : (words : List (List ℕ)) (k l : Command) (consts others : List (Name × Data)) (settings set : Settings)
-    → AsksBy k words consts settings → AsksBy l words others set → number k ≡ number l
-same_number words k l consts others settings set a b = sym (number_is words k consts settings a) ∙ number_is words l others set b
-
--- another number than those of runs, and than those of translations
-no_execution : (n : ℕ) → (444 ≡ n → ⊥) → (341 ≡ n → ⊥) → (schedule : Schedule) → number (command_under schedule) ≡ n → ⊥
+-- another command than those of runs, and than those of translations
+no_execution : (n : CommandName) → (names.Step ≡ n → ⊥) → (names.Run ≡ n → ⊥) → (schedule : Schedule) → name_of (command_under schedule) ≡ n → ⊥
 no_execution n a b (Turns ts) e = a e
 no_execution n a b Rounds e = b e
 
-no_translation : (n : ℕ) → (640 ≡ n → ⊥) → (745 ≡ n → ⊥) → (target : Target) → number (command_to target) ≡ n → ⊥
+no_translation : (n : CommandName) → (names.Expand ≡ n → ⊥) → (names.Compile ≡ n → ⊥) → (target : Target) → name_of (command_to target) ≡ n → ⊥
 no_translation n a b targets.Expansion e = a e
 no_translation n a b targets.Module e = b e
 
 pub execution_no_check : (words : List (List ℕ)) → AsksSomeExecution words → AsksCheck words → ⊥
 execution_no_check words a check =
-    no_execution 510 (λ e. omega (arith, e)) (λ e. omega (arith, e)) a.0 (same_number words (command_under a.0) Check a.2 [] a.1 default_settings a.3 check)
+    no_execution names.Check (λ e. cc) (λ e. cc) a.0 (same_name words (command_under a.0) Check a.2 [] a.1 default_settings a.3 check)
 
 pub execution_no_load : (words : List (List ℕ)) → AsksSomeExecution words → AsksSomeLoad words → ⊥
 execution_no_load words a load =
-    no_execution 416 (λ e. omega (arith, e)) (λ e. omega (arith, e)) a.0 (same_number words (command_under a.0) (Load load.0) a.2 [] a.1 default_settings a.3 load.1)
+    no_execution names.Load (λ e. cc) (λ e. cc) a.0 (same_name words (command_under a.0) (Load load.0) a.2 [] a.1 default_settings a.3 load.1)
 
 pub translation_no_check : (words : List (List ℕ)) → AsksSomeTranslation words → AsksCheck words → ⊥
 translation_no_check words a check =
-    no_translation 510 (λ e. omega (arith, e)) (λ e. omega (arith, e)) a.0 (same_number words (command_to a.0) Check a.1 [] default_settings default_settings a.2 check)
+    no_translation names.Check (λ e. cc) (λ e. cc) a.0 (same_name words (command_to a.0) Check a.1 [] default_settings default_settings a.2 check)
 
 pub translation_no_load : (words : List (List ℕ)) → AsksSomeTranslation words → AsksSomeLoad words → ⊥
 translation_no_load words a load =
-    no_translation 416 (λ e. omega (arith, e)) (λ e. omega (arith, e)) a.0 (same_number words (command_to a.0) (Load load.0) a.1 [] default_settings default_settings a.2 load.1)
+    no_translation names.Load (λ e. cc) (λ e. cc) a.0 (same_name words (command_to a.0) (Load load.0) a.1 [] default_settings default_settings a.2 load.1)
 
 pub translation_no_execution : (words : List (List ℕ)) → AsksSomeTranslation words → AsksSomeExecution words → ⊥
 translation_no_execution words a e =
-    no_execution (number (command_to a.0)) (λ n. no_translation 444 (λ m. omega (arith, m)) (λ m. omega (arith, m)) a.0 (sym n))
-    (λ n. no_translation 341 (λ m. omega (arith, m)) (λ m. omega (arith, m)) a.0 (sym n)) e.0
-    (same_number words (command_under e.0) (command_to a.0) e.2 a.1 e.1 default_settings e.3 a.2)
+    no_execution (name_of (command_to a.0)) (λ n. no_translation names.Step (λ m. cc) (λ m. cc) a.0 (sym n))
+    (λ n. no_translation names.Run (λ m. cc) (λ m. cc) a.0 (sym n)) e.0
+    (same_name words (command_under e.0) (command_to a.0) e.2 a.1 e.1 default_settings e.3 a.2)
 
 pub check_no_load : (words : List (List ℕ)) → AsksCheck words → AsksSomeLoad words → ⊥
 check_no_load words check load =
-    let n : 510 ≡ 416 = same_number words Check (Load load.0) [] [] default_settings default_settings check load.1 in omega (arith, n)
+    let n : names.Check ≡ names.Load = same_name words Check (Load load.0) [] [] default_settings default_settings check load.1 in cc
 
 -- a command that reads the input is no load
 pub input_no_load : (words : List (List ℕ)) → AsksOfInput words → AsksSomeLoad words → ⊥

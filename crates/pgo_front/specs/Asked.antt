@@ -4,7 +4,7 @@ use Rattle.pgo_base.specs.Data.{Data}
 use Rattle.pgo_base.specs.Lookup.{Name}
 use Rattle.pgo_model.specs.Core.{Settings}
 use Rattle.pgo_execute.specs.Schedules.{Schedule, Turns, Rounds}
-use Rattle.pgo_words.specs.Asks.{Command, Compile, Expand, Step, Run, Check, Load, Request, Asks, AsksBy}
+use Rattle.pgo_words.specs.Asks.{Command, Compile, Expand, Step, Run, Check, Load, AsksBy}
 use Rattle.pgo_words.specs.Settings.{default_settings}
 use Rattle.pgo_front.specs.declared.target.Target.{Target}
 use Rattle.pgo_front.specs.declared.target.Target.TheVariants as targets
@@ -36,10 +36,6 @@ abbrev pub AsksLoad : (size : ℕ) → List (List ℕ) → Type 0
 AsksLoad size words = AsksBy (Load size) words [] default_settings
 
 -- ---- and for nothing else
-
--- the words ask for this and for nothing else
-abbrev pub AsksOnly : List (List ℕ) → Request → Type 0
-AsksOnly words r = Asks words r × ((other : Request) → Asks words other → other ≡ r)
 
 abbrev pub ExecutesOnly : List (List ℕ) → Schedule → Settings → List (Name × Data) → Type 0
 ExecutesOnly words schedule settings consts =

@@ -2,7 +2,7 @@
 ghost use Rattle.std.specs.Prelude.{ℕ, List, IfOk, IfErr, ◌≡◌};
 ghost use Rattle.pgo_words.specs.View.{request_view};
 ghost use Rattle.pgo_front.specs.Answers.{AsksNothing};
-ghost use Rattle.pgo_front.specs.Asked.{AsksOnly};
+ghost use Rattle.pgo_words.specs.Asks.{AsksOnly};
 ghost use Rattle.pgo_front.specs.Makes.{AsksFor};
 
 use crate::target::Target;

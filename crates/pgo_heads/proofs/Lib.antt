@@ -5,3 +5,5 @@ pub mod Firsts
 pub mod Ordered
 pub mod KnownParts
 pub mod SameNames
+pub mod NamedGlobals
+pub mod SpokenLaws

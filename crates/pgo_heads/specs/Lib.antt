@@ -1,4 +1,17 @@
+pub mod Findings
+pub mod Limits
+pub mod LocalSets
+pub mod ConstMissing
+pub mod ConstUnknown
+pub mod BadMapping
+pub mod SameId
+pub mod IdsNoValue
+pub mod TooManyInstances
+pub mod TooManyResources
+pub mod InitNoValue
+pub mod InitEmpty
 pub mod Refusals
 pub mod Answers
 pub mod Views
 pub mod NameMaps
+pub mod Spoken

@@ -1,7 +1,7 @@
 // What the expressions of a specification see: its constants with their values, and its definitions.
-ghost use Rattle.std.specs.Prelude.{◌≡◌, ◌++◌, map, option_map, IfOk};
+ghost use Rattle.std.specs.Prelude.{◌≡◌, ◌++◌, map, IfOk};
 ghost use Rattle.std.specs.List.{filter_map};
-ghost use Rattle.pgo_base.specs.View.{data_of, named_data};
+ghost use Rattle.pgo_base.specs.View.{named_data};
 ghost use Rattle.pgo_bound.specs.Values as values;
 
 use crate::given_values::GivenValues;
@@ -14,19 +14,6 @@ use pgo_syntax::declaration::{Definition, Definitions};
 use pgo_syntax::name::PlacedName;
 use pgo_syntax::spec::Spec;
 use std::alloc::{AllocError, Global};
-
-/// The value that a constant is given: of several of one name the last counts.
-pub fn given_value<'a>(consts: &'a [(Text, Value)], name: &Text) -> Option<&'a Value>
-    ensures { option_map (λ r. data_of r.now) result ≡ values.given_value (map named_data consts.now) name.now }
-{
-    let mut found = None;
-    for c in consts {
-        if name.is(&c.0) {
-            found = Some(&c.1);
-        }
-    }
-    found
-}
 
 /// Each declared constant that is given, with its value, at the end.
 fn add_constants(

@@ -1,15 +1,63 @@
-// How the instances bind a global.
-ghost use Rattle.std.specs.Prelude.{◌≡◌, map};
-ghost use Rattle.std.specs.List.{filter_map};
+// How the instances bind the globals.
+ghost use Rattle.std.specs.Prelude.{◌≡◌, map, IfOk, OnOk};
+ghost use Rattle.pgo_base.specs.Lookup.{Name};
 ghost use Rattle.pgo_bound.specs.Runs as specs;
 ghost use Rattle.pgo_bound.specs.Kinds.{with_extent, all_extents};
+ghost use Rattle.pgo_heads.specs.NameMaps.{kind_in, with_binding, extent_if};
 ghost use Rattle.pgo_heads.specs.Views.{handed_view, run_view};
 
+use crate::name_map::NameMap;
 use crate::runs::{Handed, Run};
 use pgo_base::text::Text;
 use pgo_bound::kinds::Kind;
 use pgo_syntax::archetype::Extent;
 use pgo_syntax::process::Argument;
+use std::alloc::{AllocError, Global};
+use std::marker::Model;
+
+/// How the instances bind the globals. What is known of one is found without going over the arguments of all processes.
+#[derive(Drop)]
+pub struct Kinds<'l, 'a> {
+    runs: &'l [Run<'a>],
+    kinds: NameMap<'a, Kind>,
+}
+
+impl<'l, 'a> Model for Kinds<'l, 'a> {
+    ghost use Rattle.std.specs.Prelude.{◌≡◌, List, map};
+    ghost use Rattle.std.specs.Coded.{codes};
+    ghost use Rattle.pgo_base.specs.Code.{coded_data};
+    ghost use Rattle.pgo_base.specs.TreeCode.{coded_tree};
+    ghost use Rattle.pgo_base.specs.Lookup.{Name};
+    ghost use Rattle.pgo_syntax.specs.StatementCode.{coded_statement};
+    ghost use Rattle.pgo_bound.specs.Runs.{Run, kind_of};
+    ghost use Rattle.pgo_heads.specs.NameMaps.{kind_in};
+    ghost use Rattle.pgo_heads.specs.Views.{run_view};
+
+    ghost Value = { List Run };
+
+    ghost coded = { Prim.hlevel (codes, coded_data, coded_tree, coded_statement) };
+
+    ghost view = { λ s. map run_view s.runs.now };
+
+    ghost invariant = { λ s. (n : Name) → kind_in s.kinds.map n ≡ kind_of n (map run_view s.runs.now) };
+}
+
+impl<'l, 'a> Kinds<'l, 'a> {
+    /// What the instances of these processes bind.
+    pub fn new(alloc: Global, runs: &'l [Run<'a>]) -> Result<Kinds<'l, 'a>, AllocError>
+        ensures { IfOk result (λ k. k ≡ map run_view runs.now) }
+    {
+        let kinds = kinds_of(alloc, runs)?;
+        Ok(Kinds { runs, kinds })
+    }
+
+    /// What a global is among the resources, by the bindings of all instances.
+    pub fn kind_of(&self, name: &Text) -> Kind
+        ensures { result ≡ specs.kind_of name.now self.now }
+    {
+        self.kinds.get(name).unwrap_or(Kind::Unbound)
+    }
+}
 
 /// The kind with one binding more.
 fn with_extent(kind: Kind, extent: Extent) -> Kind
@@ -22,49 +70,49 @@ fn with_extent(kind: Kind, extent: Extent) -> Kind
     }
 }
 
-/// How an argument binds this global.
-fn extent_of(name: &Text, argument: &Argument) -> Option<Extent>
-    ensures { result ≡ specs.extent_of name.now argument.now }
+/// The kind of a global with one binding more.
+fn add_extent<'a>(
+    kinds: &mut NameMap<'a, Kind>,
+    name: &'a Text,
+    extent: Extent,
+) -> Result<(), AllocError>
+    ensures { OnOk result ((n : Name) → kind_in kinds.new.map n ≡ with_binding (kind_in kinds.old.map n) (extent_if n name.now extent)) }
+{
+    let before = kinds.get(name).unwrap_or(Kind::Unbound);
+    kinds.set(name, with_extent(before, extent))?;
+    Ok(())
+}
+
+/// The kind of each global with the binding of an argument more.
+fn add_argument<'a>(kinds: &mut NameMap<'a, Kind>, argument: &'a Argument) -> Result<(), AllocError>
+    ensures { OnOk result ((n : Name) → kind_in kinds.new.map n ≡ with_binding (kind_in kinds.old.map n) (specs.extent_of n argument.now)) }
 {
     match argument {
-        Argument::Value(..) => None,
-        Argument::Ref(global, extent) => {
-            if name.is(&global.name) {
-                Some(*extent)
-            } else {
-                None
-            }
-        }
+        Argument::Value(..) => Ok(()),
+        Argument::Ref(global, extent) => add_extent(kinds, &global.name, *extent),
     }
 }
 
-/// The kind with the bindings of a process more.
-fn kind_in(kind: Kind, name: &Text, handed: &[Handed<'_>]) -> Kind
-    ensures { result ≡ all_extents kind (specs.extents_in name.now (map handed_view handed.now)) }
+/// The kind of each global with the bindings of a process more.
+fn add_arguments<'a>(kinds: &mut NameMap<'a, Kind>, handed: &[Handed<'a>]) -> Result<(), AllocError>
+    ensures { OnOk result ((n : Name) → kind_in kinds.new.map n ≡ all_extents (kind_in kinds.old.map n) (specs.extents_in n (map handed_view handed.now))) }
 {
-    let mut so_far = kind;
     for h in handed {
-        match extent_of(name, h.argument) {
-            None => continue,
-            Some(extent) => {
-                so_far = with_extent(so_far, extent);
-                continue;
-            }
-        }
+        add_argument(kinds, h.argument)?;
     }
-    so_far
+    Ok(())
 }
 
-/// What a global is among the resources, by the bindings of all instances.
-pub fn kind_of(name: &Text, runs: &[Run<'_>]) -> Kind
-    ensures { result ≡ specs.kind_of name.now (map run_view runs.now) }
+/// The kind of each global by the bindings of all instances.
+fn kinds_of<'a>(alloc: Global, runs: &[Run<'a>]) -> Result<NameMap<'a, Kind>, AllocError>
+    ensures { IfOk result (λ m. (n : Name) → kind_in m.map n ≡ specs.kind_of n (map run_view runs.now)) }
 {
-    let mut kind = Kind::Unbound;
+    let mut kinds = NameMap::new(alloc);
     for r in runs {
         if r.has_ids() {
-            kind = kind_in(kind, name, r.handed.as_slice());
+            add_arguments(&mut kinds, r.handed.as_slice())?;
             continue;
         }
     }
-    kind
+    Ok(kinds)
 }

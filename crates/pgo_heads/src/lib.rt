@@ -5,19 +5,30 @@
 // `pgo_bind` does that. All that is public is for `pgo_bind` alone, which passes on `errors`.
 #![tactic(auto)]
 
-pub mod constants;
-pub mod declared_names;
+pub mod archetypes_run;
+mod arguments;
+pub mod bad_mapping;
+pub mod const_missing;
+pub mod const_unknown;
+mod declared_names;
 pub mod definitions;
 pub mod errors;
 pub mod findings;
-pub mod fitting;
 pub mod given_values;
 pub mod globals;
 pub mod identifiers;
+pub mod ids_no_value;
 pub mod instances;
 pub mod kinds;
 pub mod known;
 pub mod mapping;
-pub mod name_map;
+mod mapping_clauses;
+mod name_map;
+pub mod named_archetypes;
+mod named_globals;
+mod number_map;
 pub mod runs;
+pub mod same_id;
 pub mod start_values;
+pub mod too_many_instances;
+pub mod too_many_resources;

@@ -1,90 +1,19 @@
-// Which mapping clauses speak of an argument, and what a parameter stands for.
-ghost use Rattle.std.specs.Prelude.{◌≡◌, List, map, filter, option_map, IfOk};
-ghost use Rattle.pgo_syntax.specs.declared.process.MappingClause.{MappingClause};
+// What each parameter stands for.
+ghost use Rattle.std.specs.Prelude.{◌≡◌, option_map, IfOk};
 ghost use Rattle.pgo_bound.specs.Runs as specs;
+ghost use Rattle.pgo_heads.specs.Spoken.{mapping_by_first, spoken_view};
 ghost use Rattle.pgo_heads.specs.Views.{handed_view, run_view};
 
+use crate::mapping_clauses::{MappingClauses, Spoken};
 use crate::runs::{Handed, Run};
 use pgo_base::items::Copied;
 use pgo_base::text::Text;
 use pgo_syntax::archetype::Extent;
 use pgo_syntax::bound::{Binding, Mapping, Target};
 use pgo_syntax::macros::MappingMacro;
-use pgo_syntax::process::{Argument, MappingClause, MappingTarget};
+use pgo_syntax::process::Argument;
 use pgo_syntax::spec::Spec;
 use std::alloc::{AllocError, Global};
-
-/// Whether a clause is one by place, of this number.
-fn is_of_number(number: u64, target: &MappingTarget) -> bool
-    ensures { result ≡ specs.is_of_number number target.now }
-{
-    match target {
-        MappingTarget::Global { .. } => false,
-        MappingTarget::Argument { number: n, .. } => number == *n,
-    }
-}
-
-/// Whether a clause is one by name, of this global.
-fn is_of_name(global: &Text, target: &MappingTarget) -> bool
-    ensures { result ≡ specs.is_of_name global.now target.now }
-{
-    match target {
-        MappingTarget::Global { name, .. } => global.is(&name.name),
-        MappingTarget::Argument { .. } => false,
-    }
-}
-
-/// The clauses by place of this number.
-fn by_number<'a>(
-    alloc: Global,
-    number: u64,
-    clauses: &'a [MappingClause],
-) -> Result<Vec<&'a MappingClause>, AllocError>
-    ensures { IfOk result (λ v. map (λ r. r.now) v.items ≡ filter (λ c. specs.is_of_number number c.target) clauses.now) }
-{
-    let mut list = Vec::new(alloc);
-    for c in clauses {
-        if is_of_number(number, &c.target) {
-            list.push(c)?;
-            continue;
-        }
-    }
-    Ok(list)
-}
-
-/// The clauses by name of this global.
-fn by_name<'a>(
-    alloc: Global,
-    global: &Text,
-    clauses: &'a [MappingClause],
-) -> Result<Vec<&'a MappingClause>, AllocError>
-    ensures { IfOk result (λ v. map (λ r. r.now) v.items ≡ filter (λ c. specs.is_of_name global.now c.target) clauses.now) }
-{
-    let mut list = Vec::new(alloc);
-    for c in clauses {
-        if is_of_name(global, &c.target) {
-            list.push(c)?;
-            continue;
-        }
-    }
-    Ok(list)
-}
-
-/// The clauses that speak of the argument of this number, which is this global.
-pub fn speaking<'a>(
-    alloc: Global,
-    number: u64,
-    global: &Text,
-    clauses: &'a [MappingClause],
-) -> Result<Vec<&'a MappingClause>, AllocError>
-    ensures { IfOk result (λ v. map (λ r. r.now) v.items ≡ specs.speaking number global.now clauses.now) }
-{
-    let numbered = by_number(alloc, number, clauses)?;
-    if numbered.is_empty() {
-        return by_name(alloc, global, clauses);
-    }
-    Ok(numbered)
-}
 
 /// The first mapping macro of the name.
 fn mapping_named<'a>(name: &Text, mappings: &'a [MappingMacro]) -> Option<&'a MappingMacro>
@@ -108,29 +37,43 @@ fn mapping_without(extent: Extent) -> Option<Mapping>
     }
 }
 
-/// What these clauses make of an argument that they speak of.
+/// What the clauses that speak of an argument make of it.
 fn mapping_by(
     alloc: Global,
     spec: &Spec,
     extent: Extent,
-    clauses: &[&MappingClause],
+    spoken: Option<Spoken<'_>>,
 ) -> Result<Option<Mapping>, AllocError>
-    ensures { IfOk result (λ m. m ≡ specs.mapping_by spec.now extent (map (λ r. r.now) clauses.now)) }
+    ensures { IfOk result (λ m. m ≡ mapping_by_first spec.now extent (option_map spoken_view spoken.entry)) }
 {
-    let Some(clause) = clauses.first() else {
+    let Some(by) = spoken else {
         return Ok(mapping_without(extent));
     };
-    match mapping_named(&clause.mapping.name, spec.mappings.as_slice()) {
+    match mapping_named(&by.first.mapping.name, spec.mappings.as_slice()) {
         None => Ok(None),
         Some(m) => Ok(Some(Mapping::Macro(m.copy(alloc)?))),
     }
+}
+
+/// What a process makes of the argument of this number, which is this global.
+fn mapping_of(
+    alloc: Global,
+    spec: &Spec,
+    clauses: &MappingClauses<'_>,
+    number: u64,
+    global: &Text,
+    extent: Extent,
+) -> Result<Option<Mapping>, AllocError>
+    ensures { IfOk result (λ m. m ≡ specs.mapping_by spec.now extent (specs.speaking number global.now clauses.now)) }
+{
+    mapping_by(alloc, spec, extent, clauses.speaking(number, global))
 }
 
 /// What a parameter stands for that is handed this argument.
 fn target_of(
     alloc: Global,
     spec: &Spec,
-    clauses: &[MappingClause],
+    clauses: &MappingClauses<'_>,
     number: u64,
     argument: &Argument,
 ) -> Result<Target, AllocError>
@@ -139,8 +82,7 @@ fn target_of(
     match argument {
         Argument::Value(_, e) => Ok(Target::Value(e.copy(alloc)?)),
         Argument::Ref(global, extent) => {
-            let by = speaking(alloc, number, &global.name, clauses)?;
-            let mapping = mapping_by(alloc, spec, *extent, by.as_slice())?;
+            let mapping = mapping_of(alloc, spec, clauses, number, &global.name, *extent)?;
             Ok(Target::Global {
                 name: global.name.copy(alloc)?,
                 extent: *extent,
@@ -154,7 +96,7 @@ fn target_of(
 fn binding_of(
     alloc: Global,
     spec: &Spec,
-    clauses: &[MappingClause],
+    clauses: &MappingClauses<'_>,
     h: &Handed<'_>,
 ) -> Result<Binding, AllocError>
     ensures { IfOk result (λ b. b ≡ specs.binding_of spec.now clauses.now (handed_view h.now)) }
@@ -170,10 +112,10 @@ fn binding_of(
 pub fn bindings_of(alloc: Global, spec: &Spec, run: &Run<'_>) -> Result<Vec<Binding>, AllocError>
     ensures { IfOk result (λ v. v.items ≡ specs.bindings_of spec.now (run_view run.now)) }
 {
-    let clauses = run.process.clauses.as_slice();
+    let clauses = MappingClauses::new(alloc, run.process.clauses.as_slice())?;
     let mut list = Vec::with_capacity(alloc, run.handed.len())?;
     for h in &run.handed {
-        list.push(binding_of(alloc, spec, clauses, h)?)?;
+        list.push(binding_of(alloc, spec, &clauses, h)?)?;
     }
     Ok(list)
 }

@@ -1,4 +1,2 @@
 pub mod Sound
-pub mod Replaced
-pub mod Places
 pub mod Reached

@@ -7,7 +7,7 @@ use Rattle.pgo_labels.specs.declared.items.Item.{Item as Lent}
 use Rattle.pgo_labels.specs.Inside.{Item}
 use Rattle.pgo_labels.specs.Parts.{see, items, alternative_items, branch_items}
 use Rattle.pgo_labels.specs.ItemEnds.{all_items_end, items_end}
-use Rattle.pgo_labels.specs.Yields.{has_yield, ends_in_yield, row_ends, all_end, branches_end}
+use Rattle.pgo_labels.specs.YieldRule.{has_yield, ends_in_yield, row_ends, all_end, branches_end}
 
 pub labeled_end : (ls : LabeledStatements) → items_end (items ls) ≡ row_ends ls
 labeled_end no_labeled = refl

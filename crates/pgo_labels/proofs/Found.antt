@@ -6,10 +6,9 @@ use Rattle.pgo_syntax.specs.declared.name.PlacedName.{PlacedName}
 use Rattle.pgo_labels.specs.declared.finding.Finding.{Finding}
 use Rattle.pgo_labels.specs.declared.finding.Rule.{Rule}
 use Rattle.pgo_labels.specs.declared.errors.LabelError.TheVariants.{NeedsLabel}
-use Rattle.pgo_labels.specs.Labels.{last_before}
-use Rattle.pgo_labels.specs.Errors.{error_of}
+use Rattle.pgo_labels.specs.NeedsLabel.{last_before}
+use Rattle.pgo_labels.specs.Findings.{error_of, found_at}
 use Rattle.pgo_labels.specs.Least.{least}
-use Rattle.pgo_labels.specs.Rules.{found_at}
 use Rattle.pgo_labels.proofs.Leasts.{least-map}
 
 abbrev pub found_by : Rule → Name → PlacedName → Finding

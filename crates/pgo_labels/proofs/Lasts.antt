@@ -5,7 +5,7 @@ use Rattle.pgo_syntax.specs.declared.statement.Labeled.{Labeled}
 use Rattle.pgo_syntax.specs.Statement.{labeled}
 use Rattle.pgo_syntax.specs.StatementSize.{height, labeled_height}
 use Rattle.pgo_syntax.specs.StatementView.{statement, labeled_pair}
-use Rattle.pgo_labels.specs.Jumps.{jumps, last_jumps}
+use Rattle.pgo_labels.specs.NeedsLabel.{jumps, last_jumps}
 
 pub record IsLast (ls : List Labeled) (l : Labeled) : Type 0 where
   pub low : height (statement l.statement) ≤ labeled_height (labeled (map labeled_pair ls))

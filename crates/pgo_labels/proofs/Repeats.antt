@@ -6,7 +6,7 @@ use denote.Ref.{Bor}
 use Rattle.pgo_syntax.specs.declared.name.PlacedName.{PlacedName}
 use Rattle.pgo_labels.specs.Labels.{is_among}
 use Rattle.pgo_labels.specs.Lent.{lent}
-use Rattle.pgo_labels.specs.Rules.{repeated}
+use Rattle.pgo_labels.specs.LabelTwice.{repeated}
 
 pub front_of : (xs : List (Bor PlacedName)) (i : ℕ) (x : Bor PlacedName) → i < length xs → x ≡ get_or xs i x → lent (drop i xs) ≡ x.now ∷ lent (drop (i + 1) xs)
 front_of xs i x h e = ap lent (drop_more xs i x h) ∙ ap (λ y. y.now ∷ lent (drop (i + 1) xs)) (sym e)

@@ -1,7 +1,7 @@
 -- Rows of statements that end in a `yield`, as lists.
 use Rattle.std.specs.Prelude.{Bool, true, false, ◌&&◌, not, List, [], ◌∷◌}
 use Rattle.pgo_labels.specs.Inside.{Item}
-use Rattle.pgo_labels.specs.Yields.{has_yield, ends_in_yield}
+use Rattle.pgo_labels.specs.YieldRule.{has_yield, ends_in_yield}
 
 -- each ends in a `yield`
 abbrev pub all_items_end : List Item → Bool

@@ -1,16 +1,18 @@
 // Whether the labels of a specification stand where they must.
 ghost use Rattle.std.specs.Prelude.{◌≡◌, map, flat_map, option_map, IfOk};
-ghost use Rattle.pgo_labels.specs.Errors as rules_of;
 ghost use Rattle.pgo_labels.specs.Least.{least};
 ghost use Rattle.pgo_labels.specs.Refusal.{Answers, label_refusal, first_refusal};
 ghost use Rattle.pgo_labels.specs.Rules as finds;
 
 use crate::errors::LabelError;
 use crate::finding::{Finding, Rule, sooner};
-use crate::rules::{
-    label_in_macro, label_in_mapping, label_in_with, label_twice, needs_label, reserved_done,
-    too_many_labels, unknown_label, yield_rule,
-};
+use crate::label_here::{label_in_macro, label_in_mapping, label_in_with};
+use crate::label_twice::label_twice;
+use crate::needs_label::needs_label;
+use crate::reserved_done::reserved_done;
+use crate::too_many_labels::too_many_labels;
+use crate::unknown_label::unknown_label;
+use crate::yield_rule::yield_rule;
 use pgo_syntax::archetype::Archetype;
 use pgo_syntax::macros::{Macro, MappingMacro};
 use pgo_syntax::spec::Spec;
@@ -29,7 +31,7 @@ const RULES: [Rule; 7] = [
 
 /// What a rule finds first in an archetype.
 fn in_archetype(alloc: Global, rule: Rule, a: &Archetype) -> Result<Option<Finding>, AllocError>
-    ensures { IfOk result (λ f. f ≡ least (λ f. f.place) (rules_of.in_archetype rule a.now)) }
+    ensures { IfOk result (λ f. f ≡ least (λ f. f.place) (finds.in_archetype rule a.now)) }
 {
     match rule {
         Rule::NeedsLabel => needs_label(alloc, a),
@@ -48,7 +50,7 @@ fn in_archetypes(
     rule: Rule,
     list: &[Archetype],
 ) -> Result<Option<Finding>, AllocError>
-    ensures { IfOk result (λ f. f ≡ least (λ f. f.place) (flat_map (rules_of.in_archetype rule) list.now)) }
+    ensures { IfOk result (λ f. f ≡ least (λ f. f.place) (flat_map (finds.in_archetype rule) list.now)) }
 {
     let mut found = None;
     for a in list {
@@ -59,7 +61,7 @@ fn in_archetypes(
 }
 
 /// The first label in macros.
-fn in_macros(alloc: Global, list: &[Macro]) -> Result<Option<Finding>, AllocError>
+fn label_in_macros(alloc: Global, list: &[Macro]) -> Result<Option<Finding>, AllocError>
     ensures { IfOk result (λ f. f ≡ least (λ f. f.place) (flat_map finds.label_in_macro list.now)) }
 {
     let mut found = None;
@@ -71,7 +73,7 @@ fn in_macros(alloc: Global, list: &[Macro]) -> Result<Option<Finding>, AllocErro
 }
 
 /// The first label in mapping macros.
-fn in_mappings(alloc: Global, list: &[MappingMacro]) -> Result<Option<Finding>, AllocError>
+fn label_in_mappings(alloc: Global, list: &[MappingMacro]) -> Result<Option<Finding>, AllocError>
     ensures { IfOk result (λ f. f ≡ least (λ f. f.place) (flat_map finds.label_in_mapping list.now)) }
 {
     let mut found = None;
@@ -83,7 +85,10 @@ fn in_mappings(alloc: Global, list: &[MappingMacro]) -> Result<Option<Finding>, 
 }
 
 /// The first mapping macro that isn't as it must be.
-fn ill_yielded(alloc: Global, list: &[MappingMacro]) -> Result<Option<Finding>, AllocError>
+fn yield_rule_in_mappings(
+    alloc: Global,
+    list: &[MappingMacro],
+) -> Result<Option<Finding>, AllocError>
     ensures { IfOk result (λ f. f ≡ least (λ f. f.place) (flat_map finds.yield_rule list.now)) }
 {
     let mut found = None;
@@ -96,28 +101,28 @@ fn ill_yielded(alloc: Global, list: &[MappingMacro]) -> Result<Option<Finding>, 
 
 /// The first label that stands where none may.
 fn label_here(alloc: Global, spec: &Spec) -> Result<Option<Finding>, AllocError>
-    ensures { IfOk result (λ f. f ≡ least (λ f. f.place) (rules_of.in_spec Rule.LabelHere spec.now)) }
+    ensures { IfOk result (λ f. f ≡ least (λ f. f.place) (finds.in_spec Rule.LabelHere spec.now)) }
 {
     let archetypes = in_archetypes(alloc, Rule::LabelHere, spec.archetypes.as_slice())?;
-    let macros = in_macros(alloc, spec.macros.as_slice())?;
-    let mappings = in_mappings(alloc, spec.mappings.as_slice())?;
+    let macros = label_in_macros(alloc, spec.macros.as_slice())?;
+    let mappings = label_in_mappings(alloc, spec.mappings.as_slice())?;
     Ok(sooner(sooner(archetypes, macros), mappings))
 }
 
 /// What a rule finds first in a specification.
 fn in_spec(alloc: Global, rule: Rule, spec: &Spec) -> Result<Option<Finding>, AllocError>
-    ensures { IfOk result (λ f. f ≡ least (λ f. f.place) (rules_of.in_spec rule spec.now)) }
+    ensures { IfOk result (λ f. f ≡ least (λ f. f.place) (finds.in_spec rule spec.now)) }
 {
     match rule {
         Rule::LabelHere => label_here(alloc, spec),
-        Rule::YieldRule => ill_yielded(alloc, spec.mappings.as_slice()),
+        Rule::YieldRule => yield_rule_in_mappings(alloc, spec.mappings.as_slice()),
         _ => in_archetypes(alloc, rule, spec.archetypes.as_slice()),
     }
 }
 
 /// What the first of these rules that finds something finds first.
 fn first_found(alloc: Global, rules: &[Rule], spec: &Spec) -> Result<Option<Finding>, AllocError>
-    ensures { IfOk result (λ f. option_map (λ f. f.error) f ≡ first_refusal (map (λ r. rules_of.in_spec r spec.now) rules.now)) }
+    ensures { IfOk result (λ f. option_map (λ f. f.error) f ≡ first_refusal (map (λ r. finds.in_spec r spec.now) rules.now)) }
 {
     for rule in rules {
         let found = in_spec(alloc, *rule, spec)?;

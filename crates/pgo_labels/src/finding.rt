@@ -1,9 +1,8 @@
 // What a rule finds: a place and the refusal there.
 ghost use Rattle.std.specs.Prelude.{◌≡◌, map, Some, IfOk, option_copied};
 ghost use Rattle.pgo_labels.specs.Lent.{lent};
-ghost use Rattle.pgo_labels.specs.Errors.{error_of};
 ghost use Rattle.pgo_labels.specs.Least.{sooner_of, least};
-ghost use Rattle.pgo_labels.specs.Rules.{found_at};
+ghost use Rattle.pgo_labels.specs.Findings.{error_of, found_at};
 
 use crate::errors::LabelError;
 use pgo_base::text::Text;

@@ -3,13 +3,16 @@
 
 mod checker;
 pub mod errors;
-mod expressions;
 mod finding;
 mod items;
-mod jumps;
+mod label_here;
+mod label_twice;
 mod name_set;
 mod names;
-mod rules;
-mod yields;
+mod needs_label;
+mod reserved_done;
+mod too_many_labels;
+mod unknown_label;
+mod yield_rule;
 
 pub use checker::labels;

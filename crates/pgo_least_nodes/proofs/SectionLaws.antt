@@ -1,7 +1,7 @@
 -- The expansions of an archetype's labels have together what is counted of its statements.
 use Rattle.std.proofs.Common.{◌≡◌, ◌≤◌, ℕ, ◌+◌, List, [], ◌∷◌, ◌++◌, Some, None, arith}
 use Rattle.pgo_base.specs.Lookup.{Name}
-use Rattle.pgo_meaning.specs.Labels.{own, within, within_branches, within_arms, within_order}
+use Rattle.pgo_meaning.specs.Labels.{within, within_branches, within_arms, within_order}
 use Rattle.pgo_meaning.specs.MacrosPlaced.{Bodies, bodies, placed, placed_each, placed_among, placed_guarded}
 use Rattle.pgo_meaning.specs.Parameters.{all_mapped, places_of}
 use Rattle.pgo_meaning.specs.Sections.{sections_of}

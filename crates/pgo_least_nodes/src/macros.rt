@@ -1,6 +1,6 @@
 // The counts of macros, and of an archetype that calls them.
-ghost use Rattle.std.specs.Prelude.{◌≡◌, ◌≤◌, List, IfOk, map, reverse, true};
-ghost use Rattle.pgo_base.specs.Lookup.{Name, find};
+ghost use Rattle.std.specs.Prelude.{◌≡◌, IfOk};
+ghost use Rattle.pgo_base.specs.Lookup.{find};
 ghost use Rattle.pgo_least_nodes.specs.Counts as spec;
 ghost use Rattle.pgo_least_nodes.specs.Counts.{table};
 

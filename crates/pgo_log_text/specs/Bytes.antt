@@ -1,10 +1,12 @@
 -- The parts of a line as functions on bytes, in the shape of the code.
-use Rattle.std.specs.Prelude.{ℕ, zero, suc, ◌+◌, ◌-◌, ◌*◌, ◌^◌, Bool, true, false, not, ◌&&◌, ◌||◌, nat_eq, nat_lt, if◌then◌else◌, List, [], ◌∷◌, take, drop, Option, Some, None}
-use Rattle.std.specs.List.{prefix_len}
+use Rattle.std.specs.Prelude.{ℕ, zero, suc, ◌+◌, ◌-◌, Bool, true, false, not, ◌&&◌, ◌||◌, nat_eq, nat_lt, if◌then◌else◌, List, [], ◌∷◌, take, drop, Option, Some, None}
 use Rattle.pgo_base.specs.Data.{Data}
 use Rattle.pgo_base.specs.Lookup.{Name}
 use Rattle.pgo_model.specs.ValueText.{is_digit, is_word_byte, same_bytes, value_text}
 use Rattle.pgo_model.specs.IsBundle.{count_limit, is_read_name}
+pub use Rattle.pgo_value_text.specs.Parsers.{give}
+pub use Rattle.pgo_value_text.specs.Reading.{expect, begins, front, behind, most}
+unfoldable pub use Rattle.pgo_value_text.specs.Reading.{natural_from}
 use Rattle.pgo_value_text.specs.Reading.{whole}
 use Rattle.pgo_log_text.specs.declared.value.Place.{Place}
 use Rattle.pgo_log_text.specs.declared.value.Place.TheVariants.{Outside, Quoted, Escaped}
@@ -20,18 +22,6 @@ abbrev pub is_behind_value : List ℕ → Bool
 is_behind_value [] = true
 is_behind_value (b ∷ bs) = nat_eq b 10 || nat_eq b 93
 
--- these bytes
-abbrev pub expect : List ℕ → Parser (Unit {0})
-expect [] bs = Some (tt, bs)
-expect (w ∷ ws) [] = None
-expect (w ∷ ws) (b ∷ bs) = if nat_eq w b then expect ws bs else None
-
--- whether these bytes are next
-abbrev pub begins : List ℕ → List ℕ → Bool
-begins [] bs = true
-begins (w ∷ ws) [] = false
-begins (w ∷ ws) (b ∷ bs) = nat_eq w b && begins ws bs
-
 -- the next n bytes
 abbrev pub taken : ℕ → Parser (List ℕ)
 taken zero bs = Some ([], bs)
@@ -43,25 +33,7 @@ abbrev pub at_end : List ℕ → Bool
 at_end [] = true
 at_end (b ∷ bs) = false
 
--- ---- runs
-
--- the bytes at the front that pass a test, and those behind them
-abbrev pub front : (ℕ → Bool) → List ℕ → List ℕ
-front p bs = take (prefix_len p bs) bs
-
-abbrev pub behind : (ℕ → Bool) → List ℕ → List ℕ
-behind p bs = drop (prefix_len p bs) bs
-
 -- ---- numbers
-
--- the greatest number of 64 bits
-abbrev pub most : ℕ
-most = 2 ^ 64 - 1
-
--- the value of digits behind a value, where all are digits and no value on the way is too great
-unfoldable pub natural_from : ℕ → List ℕ → Option ℕ
-natural_from n [] = Some n
-natural_from n (b ∷ bs) = if is_digit b then (if nat_lt most (n * 10 + (b - 48)) then None else natural_from (n * 10 + (b - 48)) bs) else None
 
 -- one byte, or some of which the first is no zero
 abbrev pub is_shortest : List ℕ → Bool
@@ -71,10 +43,6 @@ is_shortest (b ∷ (c ∷ bs)) = not (nat_eq b 48)
 
 unfoldable pub natural_of : List ℕ → Option ℕ
 natural_of bs = if is_shortest bs then natural_from 0 bs else None
-
-abbrev pub give : {A : Type 0} → Option A → Parser A
-give (Some a) i = Some (a, i)
-give None i = None
 
 -- a number of 64 bits
 unfoldable pub natural : Parser ℕ

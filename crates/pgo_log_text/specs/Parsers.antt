@@ -1,28 +1,8 @@
 -- Readers as functions on bytes: what one gives, and the bytes behind it.
 use Rattle.std.specs.Prelude.{◌≡◌, ℕ, List, Option, Some, None, Result, Ok, Err}
+pub use Rattle.pgo_value_text.specs.Parsers.{Outcome, Parser, and_then, ◌>>=◌, ◌>>◌, pure}
 use Rattle.pgo_log_text.specs.declared.errors.LineStop.{LineStop}
 use Rattle.pgo_log_text.specs.declared.errors.LineStop.TheVariants.{BadLine, NoMemory}
-
-abbrev pub Outcome : Type 0 → Type 0
-Outcome A = Option (A × List ℕ)
-
-abbrev pub Parser : Type 0 → Type 0
-Parser A = List ℕ → Outcome A
-
-abbrev pub and_then : {A B : Type 0} → Outcome A → (A → Parser B) → Outcome B
-and_then (Some p) f = f p.0 p.1
-and_then None f = None
-
-infixl 10 ◌>>=◌
-abbrev pub ◌>>=◌ : {A B : Type 0} → Parser A → (A → Parser B) → Parser B
-p >>= f = λ i. and_then (p i) f
-
-infixl 10 ◌>>◌
-abbrev pub ◌>>◌ : {A B : Type 0} → Parser A → Parser B → Parser B
-p >> q = p >>= (λ _. q)
-
-abbrev pub pure : {A : Type 0} → A → Parser A
-pure a = λ i. Some (a, i)
 
 abbrev pub fails : {A : Type 0} → Parser A
 fails = λ i. None

@@ -4,7 +4,7 @@ use Rattle.pgo_base.specs.Data.{Data}
 use Rattle.pgo_base.specs.Lookup.{Name}
 use Rattle.pgo_model.specs.Module.{Module}
 use Rattle.pgo_model.specs.Log.{Log}
-use Rattle.pgo_module_spells.specs.Spells.{SpellsModule}
+use Rattle.pgo_module_spells.specs.Spells.{SpellsModule, SpellsAlone}
 use Rattle.pgo_log_text.specs.declared.errors.LineStop.{LineStop}
 use Rattle.pgo_log_text.specs.declared.errors.LineStop.TheVariants as parts
 use Rattle.pgo_log_text.specs.declared.errors.LogStop.{LogStop}
@@ -42,9 +42,8 @@ stop_of NoMemory = parts.NoMemory
 -- ---- the module of a bundle
 
 -- the bytes spell this module, and no other
-pub record SpellsOnly (bytes : List ℕ) (m : Module) : Type 0 where
-  pub spells : SpellsModule bytes m
-  pub only : (n : Module) → SpellsModule bytes n → n ≡ m
+abbrev pub SpellsOnly : List ℕ → Module → Type 0
+SpellsOnly = SpellsAlone
 
 -- the bytes spell no module
 abbrev pub SpellsNone : List ℕ → Type 0

@@ -12,13 +12,13 @@ ghost use Rattle.pgo_model.specs.Core.{Settings};
 ghost use Rattle.pgo_model.specs.Log.{Effect};
 ghost use Rattle.pgo_model.specs.Machine.{Finished};
 ghost use Rattle.pgo_model.specs.System.{System};
-ghost use Rattle.pgo_log_text.specs.ReadBundle.{IsReadBundle, IsOnlyBundle, IsRefused, SpellsOnly, HasNoModule};
+ghost use Rattle.pgo_log_text.specs.ReadBundle.{IsReadBundle, IsOnlyBundle, IsRefused, IsStopped, SpellsOnly, SpellsNone, HasNoModule};
 
 use crate::cursor::Cursor;
-use crate::errors::LogStop;
+use crate::errors::{LineStop, LogStop};
 use crate::head::{constants_part, module_part};
-use crate::line::{line_at, line_before, log_line};
-use crate::lines::{are_named, log_of};
+use crate::line::{line_before, log_line, module_line, part_line};
+use crate::lines::log_of;
 use pgo_base::consts::Consts;
 use pgo_base::log::Log;
 use pgo_base::module::Module;
@@ -34,8 +34,8 @@ use std::alloc::Global;
 /// for its form alone.
 ///
 /// - `BadLog` comes where the text is no bundle. Its line counts from 1: it is the first line that no bundle has there, which
-///   is the line behind the last where the text ends too soon; where the constants aren't the module's, that of CONSTANTS. Within
-///   the module it is the line at which its reader stops, which is that of `vars` where lines behind that are of no written module.
+///   is the line behind the last where the text ends too soon. Within the module it is that of the first token that can't follow
+///   those before it in a module with the bundle's constants; where its constants are others, that of CONSTANTS.
 /// - `NoMemory` comes where there is no memory.
 ///
 /// Source: this project's choice.
@@ -49,34 +49,57 @@ pub fn read_bundle(alloc: Global, text: &[u8]) -> Result<(Module, Consts, Log), 
         Ok(consts) => consts,
         Err(stop) => return Err(stop.at_line(line_before(text, cursor.left()))),
     };
+    let before = cursor.left();
     let part = match module_part(&mut cursor) {
         Ok(part) => part,
-        Err(stop) => return Err(stop.at_line(line_before(text, cursor.left()))),
+        Err(stop) => {
+            let line = part_line(alloc, text, before, cursor.left(), &consts);
+            return Err(refused_at(stop, line));
+        }
     };
     let first = line_before(text, cursor.left().saturating_add(part.len()));
-    let module = match module_of(alloc, part, first) {
+    let module = match module_of(alloc, part, first, &consts) {
         Ok(module) => module,
         Err(stop) => return Err(stop),
     };
     match log_of(alloc, &mut cursor, &consts, &module) {
         Ok(log) => Ok((module, consts, log)),
         Err(stop) => {
-            let named = are_named(consts.as_slice(), module.constants.as_slice());
-            Err(stop.at_line(log_line(named, text, cursor.left(), part, first)))
+            let names = &module.constants;
+            let line = log_line(alloc, text, cursor.left(), part, first, &consts, names);
+            Err(refused_at(stop, line))
         }
     }
 }
 
-/// The module that the bytes spell, of which the first line has this number.
-fn module_of(alloc: Global, text: &[u8], first: usize) -> Result<Module, LogStop>
+/// The text is no bundle from this line on, or there was no memory, as there is none for the line where there is none.
+fn refused_at(stop: LineStop, line: Option<usize>) -> LogStop
+    ensures { (text : List ℕ) → IsStopped text stop → IsRefused text result }
+{
+    match line {
+        Some(line) => stop.at_line(line),
+        None => LogStop::NoMemory,
+    }
+}
+
+/// The bytes spell no module, from this line on.
+fn no_module(line: Option<usize>) -> LogStop
+    ensures { (bytes : List ℕ) → SpellsNone bytes → HasNoModule bytes result }
+{
+    match line {
+        Some(line) => LogStop::BadLog { line },
+        None => LogStop::NoMemory,
+    }
+}
+
+/// The module that the bytes spell, of which the first line has this number. These are the constants of the bundle.
+fn module_of(alloc: Global, text: &[u8], first: usize, consts: &Consts) -> Result<Module, LogStop>
     ensures ok { IfOk result (λ m. SpellsOnly text.now (module_view m)) }
     ensures refused { IfErr result (HasNoModule text.now) }
 {
     match read_module(alloc, text) {
         Ok(module) => Ok(module),
-        Err(TextStop::Syntax { offset }) => Err(LogStop::BadLog {
-            line: line_at(text, offset as usize, first),
-        }),
+        Err(TextStop::Syntax { .. }) => Err(no_module(module_line(alloc, text, first, consts))),
         Err(TextStop::NoMemory) => Err(LogStop::NoMemory),
     }
 }

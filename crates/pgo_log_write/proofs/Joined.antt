@@ -1,5 +1,5 @@
 -- Lines one behind the other, and fields of a line.
-use Rattle.std.proofs.Common.{◌≡◌, ◌<◌, ◌≤◌, ◌+◌, ◌-◌, min, ℕ, zero, suc, length, get_or, drop, List, [], ◌∷◌, ◌++◌, map, Some, refl, ap, sym, ◌∙◌, append_assoc, append-nil, add-one, drop-cons, arith}
+use Rattle.std.proofs.Common.{◌≡◌, ◌<◌, ◌≤◌, ◌+◌, ◌-◌, min, ℕ, zero, suc, length, get_or, drop, List, [], ◌∷◌, ◌++◌, map, Some, refl, ap, sym, ◌∙◌, append_assoc, append-nil, add-one, arith}
 use Rattle.std.proofs.lemmas.List.{length-map}
 use Rattle.std.specs.List.{flat_map}
 use Rattle.pgo_base.specs.declared.log.Change.{Change}
@@ -15,6 +15,7 @@ use Rattle.pgo_model.specs.ModuleText.{Line, line, flatten}
 use Rattle.pgo_model.specs.System.{Resource}
 use Rattle.pgo_syntax.specs.declared.bound.Instance.{Instance}
 use Rattle.pgo_journal.specs.declared.finished.Account.{Account}
+use Rattle.pgo_module_write.proofs.Joins.{flatten_more, lines_joined, drop_step}
 use Rattle.pgo_log_write.specs.declared.line.Field.{Field}
 use Rattle.pgo_log_write.specs.Fields.{field_text}
 use Rattle.pgo_log_write.specs.Lines.{account_rows, accounts_rows}
@@ -40,17 +41,6 @@ pub set_fields : (x v : List ℕ) → fields (codes "set" ∷ x ∷ codes "=" �
 set_fields x v = ap (λ t. codes "set " ++ t) (value_fields x v)
 
 -- ---- lines
-
-flatten_more : (ls ms : List Line) → flatten (ls ++ ms) ≡ flatten ls ++ flatten ms
-flatten_more [] ms = refl
-flatten_more (l ∷ ls) ms = ap (λ t. l ++ t) (flatten_more ls ms) ∙ sym (append_assoc l (flatten ls) (flatten ms))
-
-lines_joined : (a b d : List ℕ) (ls ms : List Line) → b ≡ a ++ flatten ls → d ≡ b ++ flatten ms → d ≡ a ++ flatten (ls ++ ms)
-lines_joined a b d ls ms e f =
-    f ∙ ap (λ t. t ++ flatten ms) e ∙ append_assoc a (flatten ls) (flatten ms) ∙ ap (λ t. a ++ t) (sym (flatten_more ls ms))
-
-drop_step : {A : Type 0} (xs : List A) (i : ℕ) (x : A) → i < length xs → x ≡ get_or xs i x → drop i xs ≡ x ∷ drop (i + 1) xs
-drop_step xs i x h e = rw (add-one, drop-cons xs i x, ← e)
 
 -- lines behind what was written, with those of the rest
 lines_step : (a b whole : List ℕ) (ls more all : List Line) → b ≡ a ++ flatten ls → all ≡ ls ++ more → a ++ flatten all ≡ whole → b ++ flatten more ≡ whole

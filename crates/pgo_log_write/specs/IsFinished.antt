@@ -4,19 +4,11 @@ use Rattle.pgo_model.specs.Core as core
 use Rattle.pgo_model.specs.Log.{Effect}
 use Rattle.pgo_model.specs.Machine as machine
 use Rattle.pgo_model.specs.System.{System}
+pub use Rattle.pgo_syntax.specs.RecordView.{ended}
 use Rattle.pgo_syntax.specs.RecordView.{result_view}
-use Rattle.pgo_syntax.specs.declared.records.End.{End}
-use Rattle.pgo_syntax.specs.declared.records.End.TheVariants as ends
 use Rattle.pgo_syntax.specs.declared.records.Record.{Record}
 use Rattle.pgo_journal.specs.declared.finished.Account.{Account}
 use Rattle.pgo_journal.specs.declared.finished.Finished.{Finished}
-
--- how an instance ended, as it lies in memory
-abbrev pub ended : core.End → End
-ended core.Done = ends.Done
-ended core.Stopped = ends.Stopped
-ended core.JournalFull = ends.Full
-ended core.Spent = ends.Spent
 
 -- what became of an attempt
 abbrev pub record_of : Record → machine.Record

@@ -16,6 +16,7 @@ use crate::turns::instructions;
 use pgo_base::module::Defs;
 use pgo_base::results::both;
 use pgo_code::program::{Code, Program, Section};
+use pgo_effects::indexed_archetype::IndexedArchetype;
 use pgo_effects::setting::Setting;
 use pgo_section_list::sections::{Section as Listed, sections};
 use pgo_syntax::bound::{Bound, Instance};
@@ -28,7 +29,7 @@ const MOST_TASKS: u64 = 4_294_967_296;
 /// The section of a label.
 fn section<'a>(
     alloc: Global,
-    names: &Names<'_, 'a>,
+    names: &Names<'_, '_, 'a>,
     listed: Listed<'a>,
     left: &mut u64,
 ) -> Result<Section<'a>, AllocError>
@@ -46,7 +47,7 @@ fn section<'a>(
 /// The sections of these labels.
 fn all_sections<'a>(
     alloc: Global,
-    names: &Names<'_, 'a>,
+    names: &Names<'_, '_, 'a>,
     listed: Vec<Listed<'a>>,
     left: &mut u64,
 ) -> Result<Vec<Section<'a>>, AllocError>
@@ -60,20 +61,21 @@ fn all_sections<'a>(
 }
 
 /// The sections of an instance, of which the names stand for these.
-fn sections_with<'a>(
+fn sections_with<'a, 't>(
     alloc: Global,
-    globals: &Globals<'a>,
+    globals: &'t Globals<'a>,
     i: &'a Instance,
-    slots: &[Slot],
+    slots: &'t [Slot],
     left: &mut u64,
 ) -> Result<Vec<Section<'a>>, AllocError>
     requires unlabelled { AreUnlabelled globals.now.bound.now.spec.macros }
     requires slots { slot_views slots.now ≡ targets_in globals.now.bound.now i.now }
     ensures { IfOk result (λ v. map bare_section v.items ≡ map (lowered_section (tables_in globals.now.bound.now i.entry.now)) (sections_of globals.now.bound.now.spec.macros i.entry.now.process i.entry.now.archetype i.entry.now.bindings)) }
 {
+    let indexed = IndexedArchetype::new(alloc, &i.archetype)?;
     let setting = Setting::Process {
         name: &i.process,
-        archetype: &i.archetype,
+        archetype: &indexed,
         bindings: i.bindings.as_slice(),
     };
     let names = Names {
@@ -85,7 +87,7 @@ fn sections_with<'a>(
         alloc,
         globals.bound.spec.macros.as_slice(),
         &i.process,
-        &i.archetype,
+        &indexed,
         i.bindings.as_slice(),
     )?;
     all_sections(alloc, &names, listed, left)

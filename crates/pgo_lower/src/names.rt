@@ -5,8 +5,8 @@ use pgo_effects::setting::Setting;
 
 /// Whose statements they are, what the names of parameters and locals stand for, and what globals are.
 #[derive(Clone, Copy)]
-pub struct Names<'t, 'a> {
-    pub setting: Setting<'a>,
+pub struct Names<'i, 't, 'a> {
+    pub setting: Setting<'a, 'i>,
     pub slots: &'t [Slot],
     pub globals: &'t Globals<'a>,
 }

@@ -32,7 +32,7 @@ pub fn count(made: &Stack<Instruction<'_>>) -> usize
 }
 
 /// A mapped parameter.
-fn content<'a>(names: &Names<'_, 'a>, mapped: Mapped<'a>) -> Content<'a>
+fn content<'a>(names: &Names<'_, '_, 'a>, mapped: Mapped<'a>) -> Content<'a>
     ensures mapped { result.mapped ≡ mapped.entry }
     ensures element { result.is_element ≡ by_element_in names.now.globals.now.bound.now mapped.entry.global.now }
     ensures whole { result.whole ≡ whole_in names.now.globals.now.bound.now mapped.entry.global.now }
@@ -48,7 +48,7 @@ fn content<'a>(names: &Names<'_, 'a>, mapped: Mapped<'a>) -> Content<'a>
 /// The name stands for the value of the expression.
 fn bind<'a>(
     alloc: Global,
-    names: &Names<'_, 'a>,
+    names: &Names<'_, '_, 'a>,
     name: Text,
     e: Expr,
 ) -> Result<Instruction<'a>, AllocError>
@@ -61,7 +61,7 @@ fn bind<'a>(
 /// The name stands for a member of the set.
 fn pick<'a>(
     alloc: Global,
-    names: &Names<'_, 'a>,
+    names: &Names<'_, '_, 'a>,
     name: Text,
     e: Expr,
 ) -> Result<Instruction<'a>, AllocError>
@@ -74,7 +74,7 @@ fn pick<'a>(
 /// What an effect is.
 fn effect_step<'a>(
     alloc: Global,
-    names: &Names<'_, 'a>,
+    names: &Names<'_, '_, 'a>,
     effect: Effect<'a>,
 ) -> Result<Instruction<'a>, AllocError>
     ensures { IfOk result (λ i. step_here i ≡ head (tables_of names.now) effect.entry) }
@@ -97,7 +97,7 @@ fn effect_step<'a>(
 /// Puts what effects are before what is made.
 pub fn add_effects<'a>(
     alloc: Global,
-    names: &Names<'_, 'a>,
+    names: &Names<'_, '_, 'a>,
     effects: Vec<Effect<'a>>,
     made: &mut Stack<Instruction<'a>>,
 ) -> Result<(), AllocError>
@@ -126,7 +126,7 @@ pub fn add_unbinds<'a>(
 /// The place becomes the value of the expression.
 fn set<'a>(
     alloc: Global,
-    names: &Names<'_, 'a>,
+    names: &Names<'_, '_, 'a>,
     place: Place,
     e: Expr,
 ) -> Result<Instruction<'a>, AllocError>
@@ -140,7 +140,7 @@ fn set<'a>(
 /// Puts what a change does before what is made.
 pub fn add_change<'a>(
     alloc: Global,
-    names: &Names<'_, 'a>,
+    names: &Names<'_, '_, 'a>,
     change: Change<'a>,
     made: &mut Stack<Instruction<'a>>,
 ) -> Result<(), AllocError>
@@ -164,7 +164,7 @@ pub fn add_change<'a>(
 /// Puts a wait for the expression before what is made.
 pub fn add_await<'a>(
     alloc: Global,
-    names: &Names<'_, 'a>,
+    names: &Names<'_, '_, 'a>,
     e: Expr,
     made: &mut Stack<Instruction<'a>>,
 ) -> Result<(), AllocError>
@@ -177,7 +177,7 @@ pub fn add_await<'a>(
 /// Puts a test of the expression before what is made.
 pub fn add_assert<'a>(
     alloc: Global,
-    names: &Names<'_, 'a>,
+    names: &Names<'_, '_, 'a>,
     e: Expr,
     made: &mut Stack<Instruction<'a>>,
 ) -> Result<(), AllocError>
@@ -190,7 +190,7 @@ pub fn add_assert<'a>(
 /// Puts the print of the expression before what is made.
 pub fn add_print<'a>(
     alloc: Global,
-    names: &Names<'_, 'a>,
+    names: &Names<'_, '_, 'a>,
     e: Expr,
     made: &mut Stack<Instruction<'a>>,
 ) -> Result<(), AllocError>

@@ -107,7 +107,7 @@ pub fn push_two<'a>(
 /// An `if`, of which the second branch is made first.
 pub fn begin_if<'a>(
     alloc: Global,
-    names: &Names<'_, 'a>,
+    names: &Names<'_, '_, 'a>,
     tasks: &mut Stack<Task<'a>>,
     made: &Stack<Instruction<'a>>,
     e: Expr,
@@ -177,7 +177,7 @@ pub fn in_order<'a>(
 /// What comes last.
 fn do_last<'a>(
     alloc: Global,
-    names: &Names<'_, 'a>,
+    names: &Names<'_, '_, 'a>,
     tasks: &mut Stack<Task<'a>>,
     made: &mut Stack<Instruction<'a>>,
     last: Last<'a>,
@@ -218,7 +218,11 @@ fn begin_piece<'a>(
 }
 
 /// One level of code.
-fn level<'a>(alloc: Global, setting: Setting<'a>, todo: Todo<'a>) -> Result<Piece<'a>, AllocError>
+fn level<'a>(
+    alloc: Global,
+    setting: Setting<'a, '_>,
+    todo: Todo<'a>,
+) -> Result<Piece<'a>, AllocError>
     ensures { IfOk result (λ p. piece_code (setting_view setting.entry) p ≡ code_of (setting_view setting.entry) todo.entry) }
 {
     unfold(alloc, setting, &todo)
@@ -227,7 +231,7 @@ fn level<'a>(alloc: Global, setting: Setting<'a>, todo: Todo<'a>) -> Result<Piec
 /// Code of which one level is looked at.
 fn do_code<'a>(
     alloc: Global,
-    names: &Names<'_, 'a>,
+    names: &Names<'_, '_, 'a>,
     tasks: &mut Stack<Task<'a>>,
     made: &mut Stack<Instruction<'a>>,
     todo: Todo<'a>,
@@ -259,7 +263,7 @@ fn end_arm<'a>(
 /// A task.
 fn turn<'a>(
     alloc: Global,
-    names: &Names<'_, 'a>,
+    names: &Names<'_, '_, 'a>,
     tasks: &mut Stack<Task<'a>>,
     made: &mut Stack<Instruction<'a>>,
     task: Task<'a>,
@@ -280,7 +284,7 @@ fn turn<'a>(
 /// Tasks until none is left; one is taken off `left` for each, and one at the end.
 fn run<'a>(
     alloc: Global,
-    names: &Names<'_, 'a>,
+    names: &Names<'_, '_, 'a>,
     tasks: &mut Stack<Task<'a>>,
     made: &mut Stack<Instruction<'a>>,
     left: &mut u64,
@@ -315,7 +319,7 @@ fn push_section<'a>(
 /// Err where there is no memory, or `left` isn't enough.
 pub(crate) fn instructions<'a>(
     alloc: Global,
-    names: &Names<'_, 'a>,
+    names: &Names<'_, '_, 'a>,
     todos: Vec<Todo<'a>>,
     end: Todo<'a>,
     left: &mut u64,

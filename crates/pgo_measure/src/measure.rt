@@ -27,8 +27,8 @@ use std::alloc::{AllocError, Global};
 
 /// What is still to be looked at: the state, and where its expansion stands.
 #[derive(Drop)]
-pub struct Pending<'a> {
-    pub state: State<'a>,
+pub struct Pending<'a, 'i> {
+    pub state: State<'a, 'i>,
     pub spot: Spot,
 }
 
@@ -40,9 +40,9 @@ pub struct Size {
 }
 
 /// The state is still to be looked at; nothing is where the limit is passed.
-fn go_on<'a>(
-    pending: &mut Stack<Pending<'a>>,
-    state: State<'a>,
+fn go_on<'a, 'i>(
+    pending: &mut Stack<Pending<'a, 'i>>,
+    state: State<'a, 'i>,
     next: Option<Tally>,
 ) -> Result<Option<Size>, AllocError>
     ensures { IfOk result (λ o. (vs gs : List Name) → behind_tally vs gs next (λ t. part t.spot (left_in vs state.entry) ∷ parts vs pending.old) ≡ behind_size vs gs o (parts vs pending.new)) }
@@ -63,10 +63,10 @@ fn go_on<'a>(
 }
 
 /// Both branches of a test are still to be looked at; nothing is where the limit is passed.
-fn branch_on<'a>(
-    pending: &mut Stack<Pending<'a>>,
-    a: State<'a>,
-    b: State<'a>,
+fn branch_on<'a, 'i>(
+    pending: &mut Stack<Pending<'a, 'i>>,
+    a: State<'a, 'i>,
+    b: State<'a, 'i>,
     next: Option<Tally>,
 ) -> Result<Option<Size>, AllocError>
     ensures { IfOk result (λ o. (vs gs : List Name) → behind_tally vs gs next (λ t. part t.spot (left_in vs a.entry) ∷ part t.spot (left_in vs b.entry) ∷ parts vs pending.old) ≡ behind_size vs gs o (parts vs pending.new)) }
@@ -155,9 +155,9 @@ fn arm_depth(spot: Spot, first: bool, behind: usize) -> u64
 }
 
 /// The arms of a choice are still to be looked at: arm i of n stands in n - i forms of the disjunction, and the first in n - 1.
-fn arms_on<'a>(
-    pending: &mut Stack<Pending<'a>>,
-    arms: Vec<State<'a>>,
+fn arms_on<'a, 'i>(
+    pending: &mut Stack<Pending<'a, 'i>>,
+    arms: Vec<State<'a, 'i>>,
     tally: Tally,
 ) -> Result<Option<Size>, AllocError>
     ensures { IfOk result (λ o. (vs gs : List Name) → measured vs gs tally.left tally.height (part tally.spot (Either (expansions (map (left_in vs) arms.entry.items))) ∷ parts vs pending.old) ≡ behind_size vs gs o (parts vs pending.new)) }
@@ -185,10 +185,10 @@ fn arms_on<'a>(
 }
 
 /// Behind a statement of which the state goes on.
-fn step_on<'a>(
+fn step_on<'a, 'i>(
     alloc: Global,
-    pending: &mut Stack<Pending<'a>>,
-    state: State<'a>,
+    pending: &mut Stack<Pending<'a, 'i>>,
+    state: State<'a, 'i>,
     tally: Tally,
     m: &Move,
 ) -> Result<Option<Size>, AllocError>
@@ -199,11 +199,11 @@ fn step_on<'a>(
 }
 
 /// Behind a test.
-fn test_on<'a>(
+fn test_on<'a, 'i>(
     alloc: Global,
-    pending: &mut Stack<Pending<'a>>,
-    a: State<'a>,
-    b: State<'a>,
+    pending: &mut Stack<Pending<'a, 'i>>,
+    a: State<'a, 'i>,
+    b: State<'a, 'i>,
     tally: Tally,
     e: &Sub,
 ) -> Result<Option<Size>, AllocError>
@@ -214,14 +214,14 @@ fn test_on<'a>(
 }
 
 /// Behind what a turn gives; the state is what is left behind that.
-fn event_on<'a>(
+fn event_on<'a, 'i>(
     alloc: Global,
     variables: &[Text],
     globals: &[Text],
-    pending: &mut Stack<Pending<'a>>,
+    pending: &mut Stack<Pending<'a, 'i>>,
     tally: Tally,
-    event: Event<'a>,
-    state: State<'a>,
+    event: Event<'a, 'i>,
+    state: State<'a, 'i>,
 ) -> Result<Option<Size>, AllocError>
     ensures { IfOk result (λ o. measured variables.now globals.now tally.left tally.height (part tally.spot (emitted variables.now event.entry (left_in variables.now state.entry)) ∷ parts variables.now pending.old) ≡ behind_size variables.now globals.now o (parts variables.now pending.new)) }
 {
@@ -235,13 +235,13 @@ fn event_on<'a>(
 }
 
 /// Behind a turn.
-fn turn_on<'a>(
+fn turn_on<'a, 'i>(
     alloc: Global,
     variables: &[Text],
     globals: &[Text],
-    pending: &mut Stack<Pending<'a>>,
+    pending: &mut Stack<Pending<'a, 'i>>,
     size: Size,
-    at: Pending<'a>,
+    at: Pending<'a, 'i>,
 ) -> Result<Option<Size>, AllocError>
     ensures { IfOk result (λ o. measured variables.now globals.now size.left size.height (pending_part variables.now at.entry ∷ parts variables.now pending.old) ≡ behind_size variables.now globals.now o (parts variables.now pending.new)) }
 {
@@ -256,13 +256,13 @@ fn turn_on<'a>(
 }
 
 /// Behind a turn; nothing where the code that comes first has more nodes than are left, of which no expression is made then.
-fn advance<'a>(
+fn advance<'a, 'i>(
     alloc: Global,
     variables: &[Text],
     globals: &[Text],
-    pending: &mut Stack<Pending<'a>>,
+    pending: &mut Stack<Pending<'a, 'i>>,
     size: Size,
-    at: Pending<'a>,
+    at: Pending<'a, 'i>,
 ) -> Result<Option<Size>, AllocError>
     ensures { IfOk result (λ o. measured variables.now globals.now size.left size.height (pending_part variables.now at.entry ∷ parts variables.now pending.old) ≡ behind_size variables.now globals.now o (parts variables.now pending.new)) }
 {
@@ -282,7 +282,7 @@ pub fn measure(
     alloc: Global,
     variables: &[Text],
     globals: &[Text],
-    state: State<'_>,
+    state: State<'_, '_>,
     left: u64,
 ) -> Result<Option<Size>, AllocError>
     ensures { IfOk result (λ o. option_map {U = ℕ × ℕ} (λ s. (s.left, s.height)) o ≡ option_map {U = ℕ × ℕ} (λ l. (l, capped (label_height variables.now globals.now (left_in variables.now state.entry)))) (left_after left (nodes (left_in variables.now state.entry)))) }

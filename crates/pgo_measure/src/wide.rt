@@ -14,7 +14,7 @@ use pgo_walk::frames::{Frame, Run, State};
 use std::alloc::{AllocError, Global};
 
 /// Whether the code that a run is at, if it has not been looked at yet, has more nodes than are left.
-fn is_run_wide(alloc: Global, run: &Run<'_>, left: u64) -> Result<bool, AllocError>
+fn is_run_wide(alloc: Global, run: &Run<'_, '_>, left: u64) -> Result<bool, AllocError>
     ensures { IfOk result (λ b. b ≡ true → left < least (code_left run.now)) }
 {
     if run.done < run.piece.effects.len() {
@@ -27,7 +27,7 @@ fn is_run_wide(alloc: Global, run: &Run<'_>, left: u64) -> Result<bool, AllocErr
 }
 
 /// The same of the code of a frame.
-fn is_frame_wide(alloc: Global, frame: &Frame<'_>, left: u64) -> Result<bool, AllocError>
+fn is_frame_wide(alloc: Global, frame: &Frame<'_, '_>, left: u64) -> Result<bool, AllocError>
     ensures { IfOk result (λ b. b ≡ true → (vs : List Name) (fs : List spec.Frame) (cur : Current) (n : ℕ) → left < nodes (spec.goes vs (frame_view frame.now ∷ fs) cur n)) }
 {
     match frame {
@@ -40,7 +40,7 @@ fn is_frame_wide(alloc: Global, frame: &Frame<'_>, left: u64) -> Result<bool, Al
 /// not made.
 ///
 /// Err as `is_wide` of `pgo_put_sizes`.
-pub fn is_too_wide(alloc: Global, state: &State<'_>, left: u64) -> Result<bool, AllocError>
+pub fn is_too_wide(alloc: Global, state: &State<'_, '_>, left: u64) -> Result<bool, AllocError>
     ensures { IfOk result (λ b. b ≡ true → (vs : List Name) → left < nodes (left_in vs state.now)) }
 {
     match state.frames.as_slice().split_last() {

@@ -19,7 +19,7 @@ use pgo_module_trees::small::name_of;
 use std::alloc::{AllocError, Global};
 
 /// All but the last of these names, which must be `defaultInitValue`.
-fn without_default(names: Names) -> Result<Names, TextStop>
+pub fn without_default(names: Names) -> Result<Names, TextStop>
     ensures { Makes (spec.without_default names) result }
 {
     let mut list = names.into_vec();
@@ -68,7 +68,7 @@ fn all_names(alloc: Global, names: &Names) -> Result<Exprs, AllocError>
 }
 
 /// The tuple of these names.
-fn tuple_of(alloc: Global, names: &Names) -> Result<Sub, AllocError>
+pub fn tuple_of(alloc: Global, names: &Names) -> Result<Sub, AllocError>
     ensures { IfOk result (λ t. t ≡ parts.tuple_of names.now) }
 {
     Sub::new(alloc, Expr::Tuple(all_names(alloc, names)?))

@@ -4,7 +4,7 @@ ghost use Rattle.pgo_lexer.specs.Answers.{Gives, ok_as};
 ghost use Rattle.pgo_module_spells.specs.Spells as spells;
 ghost use Rattle.pgo_module_read.specs.Cutting as spec;
 
-use pgo_lexer::bytes::{columns_behind, first, skip};
+use pgo_lexer::bytes::{columns_behind, first, opens, skip};
 use pgo_lexer::errors::TextStop;
 use pgo_lexer::piece::Piece;
 use pgo_lexer::symbol::Symbol;
@@ -88,20 +88,21 @@ fn add(
     }
 }
 
-/// The tokens of a text from an offset on, which stands in a column, up to the first two `==` that touch.
+/// Adds the tokens of a text from an offset on, which stands in a column, up to the first two `==` that touch. Those before a
+/// place that has no token are added too.
 fn module_tokens(
     alloc: Global,
     text: &[u8],
     column: usize,
     start: usize,
     limit: usize,
-) -> Result<Tokens, TextStop>
+    tokens: &mut Tokens,
+) -> Result<(), TextStop>
     requires small { length text.now ≤ 1152921504606846976 }
     requires within { start ≤ length text.now }
     requires near { column ≤ 8 * start }
-    ensures { Gives (spec.module_tokens limit (length text.now) None column start [] (drop start text.now)) result }
+    ensures { Gives (spec.module_tokens limit (length text.now) None column start tokens.old (drop start text.now)) (ok_as tokens.new result) }
 {
-    let mut tokens = Tokens::new(alloc);
     let mut rest = skip(text, start);
     let mut column = column;
     let mut at = start;
@@ -111,9 +112,9 @@ fn module_tokens(
         let length = p.length;
         let last = is_last(row, at, &p.token);
         let next = row_behind(row, at + length, &p.token);
-        add(&mut tokens, limit, column, at, p)?;
+        add(tokens, limit, column, at, p)?;
         if last {
-            return Ok(tokens);
+            return Ok(());
         }
         row = next;
         column = columns_behind(column, first(rest, length));
@@ -131,7 +132,8 @@ fn from_module(alloc: Global, text: &[u8], start: usize) -> Result<Tokens, TextS
     ensures { Gives (spec.from_module text.now start) result }
 {
     let column = column_at(text, start);
-    let unmarked = module_tokens(alloc, text, column, start, MOST_TOKENS)?;
+    let mut unmarked = Tokens::new(alloc);
+    module_tokens(alloc, text, column, start, MOST_TOKENS, &mut unmarked)?;
     marked(alloc, unmarked, text.len())
 }
 
@@ -146,5 +148,34 @@ pub fn cut(alloc: Global, text: &[u8]) -> Result<Tokens, TextStop>
     match module_from(text) {
         None => Err(TextStop::at(text.len())),
         Some(rest) => from_module(alloc, text, text.len().saturating_sub(rest.len())),
+    }
+}
+
+/// Where the tokens of a text end that has none at this offset: there, or, where a comment begins that doesn't end, behind the text.
+fn end_at(text: &[u8], offset: usize) -> usize {
+    if opens(skip(text, offset)) {
+        text.len()
+    } else {
+        offset
+    }
+}
+
+/// The tokens without marks of a module from the first line of MODULE on, as far as there are any, and where they end.
+pub fn front(alloc: Global, text: &[u8]) -> Result<(Tokens, usize), TextStop> {
+    if text.len() > MOST_BYTES {
+        return Err(TextStop::NoMemory);
+    }
+    let mut tokens = Tokens::new(alloc);
+    match module_from(text) {
+        None => Ok((tokens, text.len())),
+        Some(rest) => {
+            let start = text.len().saturating_sub(rest.len());
+            let column = column_at(text, start);
+            match module_tokens(alloc, text, column, start, MOST_TOKENS, &mut tokens) {
+                Ok(()) => Ok((tokens, text.len())),
+                Err(TextStop::Syntax { offset }) => Ok((tokens, end_at(text, offset as usize))),
+                Err(TextStop::NoMemory) => Err(TextStop::NoMemory),
+            }
+        }
     }
 }

@@ -3,9 +3,12 @@
 
 mod build;
 mod cut;
+mod difference;
+mod front;
 mod lines;
 mod processes;
 pub mod read;
+pub mod refusal;
 mod rows;
 mod same;
 mod steps;

@@ -75,7 +75,7 @@ fn last_modules(cursor: &mut Cursor<'_>) -> Result<(), TextStop>
 
 /// The lines of MODULE and of EXTENDS.
 #[tactic(auto, unfolding(crate::specs::Reading::heading))]
-fn heading(alloc: Global, cursor: &mut Cursor<'_>) -> Result<Text, TextStop>
+pub fn heading(alloc: Global, cursor: &mut Cursor<'_>) -> Result<Text, TextStop>
     ensures { Reads (spec.heading cursor.old) result cursor.new }
 {
     dashes(cursor)?;
@@ -89,7 +89,7 @@ fn heading(alloc: Global, cursor: &mut Cursor<'_>) -> Result<Text, TextStop>
 
 /// Names behind this word.
 #[tactic(auto, unfolding(crate::specs::Reading::names_behind))]
-fn names_behind(alloc: Global, cursor: &mut Cursor<'_>, word: &[u8]) -> Result<Names, TextStop>
+pub fn names_behind(alloc: Global, cursor: &mut Cursor<'_>, word: &[u8]) -> Result<Names, TextStop>
     ensures { Reads (spec.names_behind word.now cursor.old) result cursor.new }
 {
     cursor.expect_word(word)?;
@@ -98,7 +98,7 @@ fn names_behind(alloc: Global, cursor: &mut Cursor<'_>, word: &[u8]) -> Result<N
 }
 
 /// `Spec == Init /\ []`
-fn spec_begins(cursor: &mut Cursor<'_>) -> Result<(), TextStop>
+pub fn spec_begins(cursor: &mut Cursor<'_>) -> Result<(), TextStop>
     ensures { Reads (spec.fixed spec.spec_begins cursor.old) result cursor.new }
 {
     cursor.expect_word(b"Spec")?;
@@ -110,7 +110,7 @@ fn spec_begins(cursor: &mut Cursor<'_>) -> Result<(), TextStop>
 }
 
 /// `[Next]_vars`
-fn all_steps(cursor: &mut Cursor<'_>) -> Result<(), TextStop>
+pub fn all_steps(cursor: &mut Cursor<'_>) -> Result<(), TextStop>
     ensures { Reads (spec.fixed spec.all_steps cursor.old) result cursor.new }
 {
     cursor.expect(Symbol::Open(Bracket::Square))?;
@@ -144,7 +144,7 @@ fn title(alloc: Global, cursor: &mut Cursor<'_>) -> Result<(Text, Names), TextSt
 
 /// The definitions and the variables.
 #[tactic(auto, unfolding(crate::specs::Reading::definitions_and_variables))]
-fn definitions_and_variables(
+pub fn definitions_and_variables(
     alloc: Global,
     cursor: &mut Cursor<'_>,
 ) -> Result<(Defs, Names), TextStop>
@@ -231,7 +231,7 @@ fn whole_lines(alloc: Global, tokens: &[Lexeme], end: u64) -> Result<Lines, Text
 }
 
 /// The offset of the first `$variable` or `$value`.
-fn mapped(tokens: &[Lexeme]) -> Option<usize>
+pub fn mapped(tokens: &[Lexeme]) -> Option<usize>
     ensures { is_some result ≡ look.has_mapped (look.tokens_of tokens.now) }
 {
     for lexeme in tokens {

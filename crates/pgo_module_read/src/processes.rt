@@ -25,13 +25,13 @@ fn begins_underscore(bytes: &[u8]) -> bool
 }
 
 /// Whether a name begins with a process's name and `_`.
-fn is_action_of(process: &[u8], name: &[u8]) -> bool
+pub fn is_action_of(process: &[u8], name: &[u8]) -> bool
     ensures { result ≡ spec.is_action_of process.now name.now }
 {
     is_same(first(name, process.len()), process) && begins_underscore(skip(name, process.len()))
 }
 
-fn has_some(actions: &Actions) -> bool
+pub fn has_some(actions: &Actions) -> bool
     ensures { result ≡ spec.has_some actions.now }
 {
     match actions.as_slice() {
@@ -41,7 +41,7 @@ fn has_some(actions: &Actions) -> bool
 }
 
 /// The most label actions of a process: the body of its own definition calls each, and is no higher than an expression may be.
-const MOST_ACTIONS: usize = 511;
+pub const MOST_ACTIONS: usize = 511;
 
 /// Whether the process has label actions, no more than it may have, and this is the body of its own definition.
 fn is_own(alloc: Global, p: &WrittenProcess, own: &Sub) -> Result<bool, AllocError>

@@ -10,50 +10,19 @@ ghost use Rattle.pgo_module_read.specs.Building as spec;
 
 use crate::build::module_of;
 use crate::cut::cut;
-use crate::lines::{Lines, all_lines};
+use crate::lines::all_lines;
+use crate::refusal::refusal;
 use pgo_base::module::Module;
-use pgo_expr_read::stops::within;
-use pgo_lexer::bytes::is_same;
 use pgo_lexer::errors::TextStop;
-use pgo_lexer::token::{Lexeme, Token};
 use std::alloc::Global;
-
-fn is_vars(token: &Token) -> bool {
-    match token {
-        Token::Name(x) => is_same(x.as_bytes(), b"vars"),
-        _ => false,
-    }
-}
-
-/// The offset of the first `vars`, or the end.
-fn further_from(tokens: &[Lexeme], end: usize) -> usize {
-    for lexeme in tokens {
-        if is_vars(&lexeme.token) {
-            return lexeme.start;
-        }
-    }
-    end
-}
-
-/// The module of the lines of these tokens.
-fn module_at(alloc: Global, lines: Lines, at: usize) -> Result<Module, TextStop>
-    ensures { Makes (spec.module_of lines) result }
-{
-    match module_of(alloc, lines) {
-        Ok(m) => Ok(m),
-        Err(TextStop::Syntax { .. }) => Err(TextStop::at(at)),
-        Err(TextStop::NoMemory) => Err(TextStop::NoMemory),
-    }
-}
 
 /// The module of a text, as the functions on lists give it.
 fn module_in(alloc: Global, text: &[u8]) -> Result<Module, TextStop>
     ensures { Makes (spec.module_from_text text.now) result }
 {
     let marked = cut(alloc, text)?;
-    let tokens = marked.as_slice();
-    let lines = all_lines(alloc, tokens, text.len() as u64)?;
-    module_at(alloc, lines, further_from(tokens, text.len()))
+    let lines = all_lines(alloc, marked.as_slice(), text.len() as u64)?;
+    module_of(alloc, lines)
 }
 
 /// The module that a text spells.
@@ -69,10 +38,9 @@ fn read_text(alloc: Global, text: &[u8]) -> Result<Module, TextStop>
 /// choice).
 ///
 /// Expressions have at most height 512, and a text has at most 4294967295 tokens. `Syntax` comes exactly where the text
-/// spells no module. Its offset counts bytes from 0: it is that of the first token or byte that can't stand at its place, or
-/// the text's length; where the definitions behind the variables aren't those of a translation, it is that of the first
-/// `vars`. A text of more than 2^60 bytes, which no memory holds, or with a token of a name at 4 GiB or behind it is
-/// answered `NoMemory`.
+/// spells no module. Its offset counts bytes from 0: it is that of the first token or byte that can't follow those before it in
+/// any text of a module, or the text's length (`refusal`). A text of more than 2^60 bytes, which no memory holds, or with a
+/// token of a name at 4 GiB or behind it is answered `NoMemory`.
 pub fn read_module(alloc: Global, text: &[u8]) -> Result<Module, TextStop>
     ensures found { IfOk result (λ m. SpellsModule text.now (module_view m)) }
     // What the text spells is answered, unless memory runs out. So `Syntax` comes only where it spells nothing.
@@ -81,7 +49,8 @@ pub fn read_module(alloc: Global, text: &[u8]) -> Result<Module, TextStop>
 {
     match read_text(alloc, text) {
         Ok(m) => Ok(m),
-        Err(stop) => Err(within(stop, text.len())),
+        Err(TextStop::Syntax { .. }) => Err(refusal(alloc, text, None)),
+        Err(TextStop::NoMemory) => Err(TextStop::NoMemory),
     }
 }
 

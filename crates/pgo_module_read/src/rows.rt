@@ -31,7 +31,7 @@ pub fn bare(alloc: Global, names: PlacedNames) -> Result<Names, AllocError>
 }
 
 /// An expression of a module.
-fn expression(alloc: Global, cursor: &mut Cursor<'_>) -> Result<Sub, TextStop>
+pub fn expression(alloc: Global, cursor: &mut Cursor<'_>) -> Result<Sub, TextStop>
     ensures { Reads (spec.expression cursor.old) result cursor.new }
 {
     cursor.expression_within(alloc, MOST_HEIGHT)
@@ -109,7 +109,7 @@ pub fn definitions(alloc: Global, cursor: &mut Cursor<'_>) -> Result<Defs, TextS
 }
 
 /// `(self) ==`
-fn with_self(cursor: &mut Cursor<'_>) -> Result<(), TextStop>
+pub fn with_self(cursor: &mut Cursor<'_>) -> Result<(), TextStop>
     ensures { Reads (spec.fixed spec.with_self cursor.old) result cursor.new }
 {
     cursor.expect(Symbol::Open(Bracket::Round))?;

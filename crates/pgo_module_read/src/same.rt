@@ -11,7 +11,7 @@ use pgo_lexer::bytes::is_same;
 use std::alloc::{AllocError, Global};
 
 /// The canonical text of an expression.
-fn text_of(alloc: Global, e: &Expr) -> Result<Text, AllocError>
+pub fn text_of(alloc: Global, e: &Expr) -> Result<Text, AllocError>
     ensures { IfOk result (λ t. t ≡ expr_text false (tree e.now)) }
 {
     match write_expr(alloc, e) {

@@ -46,7 +46,7 @@ fn union_of<'a>(o: Infix, a: &'a Sub, b: &'a Sub) -> Option<(&'a Sub, &'a Sub)>
 }
 
 /// The sides of a `\cup`.
-fn union_parts(e: &Expr) -> Option<(&Sub, &Sub)>
+pub fn union_parts(e: &Expr) -> Option<(&Sub, &Sub)>
     ensures { option_map (λ p. (p.0.now, p.1.now)) result ≡ spec.union_parts (tree e.now) }
 {
     match e {

@@ -52,6 +52,11 @@ pub record SpellsModule (text : List ℕ) (m : Module) : Type 0 where
   pub parts : AreParts tokens (parts_of m)
   pub processes : HasProcesses m
 
+-- the text spells this module, and no other
+pub record SpellsAlone (text : List ℕ) (m : Module) : Type 0 where
+  pub spells : SpellsModule text m
+  pub only : (other : Module) → SpellsModule text other → other ≡ m
+
 -- an answer is this module, unless memory ran out
 abbrev pub IsOrNoMemory : Result in_memory.Module TextStop → Module → Type 0
 IsOrNoMemory (Ok m) wanted = module_view m ≡ wanted

@@ -1,6 +1,6 @@
 mod Split
 mod Words
-mod Joins
+pub mod Joins
 mod LinePieces
 mod FlatTokens
 mod Spaces

@@ -113,29 +113,29 @@ pub reach_yield : {p : Spot} {xs : List Lexeme} {e : Tree} → IsExpression xs e
 unfolding any_form
 reach_yield {p} {xs} {e} d = record { reads = λ ms n rest h f. some_depth ms (st.yield_as p.start e) n (at p (symbol.Keyword keyword.Yield) ∷ (xs ++ rest)) rest h (λ m h. one_gives ms m keyword.Yield p xs e rest d (omega arith) f.quiet) }
 
-assign_lead : {xs : List Lexeme} {a : Assignment} {as' : List Assignment} → Items IsAssignment symbol.Bars xs (a ∷ as') → (j : List Lexeme) → form_of (xs ++ j) ≡ statement_form.Assign
-assign_lead (elements.items (s.assignment k (s.named elements.nothing) e) m) j = refl
-assign_lead (elements.items (s.assignment k (s.named (elements.another (s.index o i) p)) e) m) j = refl
-assign_lead (elements.items (s.assignment k (s.named (elements.another s.field p)) e) m) j = refl
-assign_lead (elements.items (s.assignment k (s.variable p) e) m) j = refl
+assign_form_of : {xs : List Lexeme} {a : Assignment} {as' : List Assignment} → Items IsAssignment symbol.Bars xs (a ∷ as') → (j : List Lexeme) → form_of (xs ++ j) ≡ statement_form.Assign
+assign_form_of (elements.items (s.assignment k (s.named elements.nothing) e) m) j = refl
+assign_form_of (elements.items (s.assignment k (s.named (elements.another (s.index o i) p)) e) m) j = refl
+assign_form_of (elements.items (s.assignment k (s.named (elements.another s.field p)) e) m) j = refl
+assign_form_of (elements.items (s.assignment k (s.variable p) e) m) j = refl
 
 pub reach_assign : {xs : List Lexeme} {a : Assignment} {as' : List Assignment} → Items IsAssignment symbol.Bars xs (a ∷ as') → Reaches false false xs (st.assign a.left.name.place (a ∷ as'))
 unfolding any_form assign_form
 reach_assign {xs} {a} {as'} d = record {
   reads = λ ms n rest h f. some_depth ms (st.assign a.left.name.place (a ∷ as')) n (xs ++ rest) rest h (λ m h.
-      ap (λ l. form ms (suc m) (statement ms m) l (xs ++ rest)) (assign_lead d rest)
+      ap (λ l. form ms (suc m) (statement ms m) l (xs ++ rest)) (assign_form_of d rest)
       ∙ next_step _ _ _ _ _ (reach_items IsAssignment symbol.Bars assignment Quiet reach_assignment (λ p j. refl) xs (a ∷ as') d rest (f.quiet, f.no_bars)) (node_gives ms m 0 (st.assign a.left.name.place (a ∷ as')) rest (omega arith) h));
 }
 
-call_lead : (n : Spot) (x : Name) {xs : List Lexeme} {es : List Tree} → InBrackets IsExpression xs es → (j : List Lexeme) → form_of (word n x ∷ (xs ++ j)) ≡ statement_form.Call
-call_lead n x elements.empty j = refl
-call_lead n x (elements.some c d) j = refl
+call_form_of : (n : Spot) (x : Name) {xs : List Lexeme} {es : List Tree} → InBrackets IsExpression xs es → (j : List Lexeme) → form_of (word n x ∷ (xs ++ j)) ≡ statement_form.Call
+call_form_of n x elements.empty j = refl
+call_form_of n x (elements.some c d) j = refl
 
 pub reach_call : {n : Spot} {x : Name} {xs : List Lexeme} {es : List Tree} → InBrackets IsExpression xs es → Reaches false false (word n x ∷ xs) (st.call_macro n.start (placed n x) es)
 unfolding any_form call_form
 reach_call {n} {x} {xs} {es} d = record {
   reads = λ ms k rest h f. some_depth ms (st.call_macro n.start (placed n x) es) k (word n x ∷ (xs ++ rest)) rest h (λ m h.
-      ap (λ l. form ms (suc m) (statement ms m) l (word n x ∷ (xs ++ rest))) (call_lead n x d rest)
+      ap (λ l. form ms (suc m) (statement ms m) l (word n x ∷ (xs ++ rest))) (call_form_of n x d rest)
       ∙ next_step _ _ _ _ _ (reach_in_brackets IsExpression expression Quiet reach_expression (λ p j. refl) (λ p j. refl) (λ xs a d j. (heads.begins xs a d).no_close j) xs es d rest tt)
       (node_gives ms m (depth_of ms x) (st.call_macro n.start (placed n x) es) rest (omega arith) h));
 }
@@ -208,8 +208,8 @@ no_else_if_reads u v ms limit m (suc n) h acc rest low short f over = (
 pub reach_no_else_if : {u v : Bool} → ReachesElseIfs u v u v [] []
 reach_no_else_if {u} {v} = record { reads = no_else_if_reads u v }
 
-branch_lead : {u v : Bool} {xs : List Lexeme} {b : ℕ × (Tree × Statement)} → IsBranch u v xs b → (j : List Lexeme) → form_of (xs ++ j) ≡ statement_form.Keyword keyword.If
-branch_lead (s.branch c d r) j = refl
+branch_form_of : {u v : Bool} {xs : List Lexeme} {b : ℕ × (Tree × Statement)} → IsBranch u v xs b → (j : List Lexeme) → form_of (xs ++ j) ≡ statement_form.Keyword keyword.If
+branch_form_of (s.branch c d r) j = refl
 
 branch_if : {u v : Bool} {xs : List Lexeme} {b : ℕ × (Tree × Statement)} → IsBranch u v xs b → (j : List Lexeme) → sees (symbol.Keyword keyword.If) (xs ++ j) ≡ true
 branch_if (s.branch c d r) j = refl
@@ -250,7 +250,7 @@ reach_if_then {u} {v} {w} {z} {xs} {ys} {b} {bs} d r m = record {
       let after : Follows w z rest = record { quiet = f.quiet; no_bars = f.no_bars; stays = record { no_else = λ e. f.stays.no_else refl; no_or = f.stays.no_or } } in
       let more = m.reads ms (suc k) k (length (ys ++ rest)) (depth ms b.1.1) (b ∷ []) rest (omega (arith, h)) (let l = length-append ys rest in omega (arith, l)) after over in
       ap (any_form ms (suc k) (statement ms k)) (append_assoc xs ys rest)
-      ∙ ap (λ l. form ms (suc k) (statement ms k) l (xs ++ (ys ++ rest))) (branch_lead d (ys ++ rest))
+      ∙ ap (λ l. form ms (suc k) (statement ms k) l (xs ++ (ys ++ rest))) (branch_form_of d (ys ++ rest))
       ∙ next_step _ _ _ _ _ (r.reads ms (suc k) k (ys ++ rest) (omega (arith, h)) more.1)
       (next_step _ _ _ _ _ more.0
       (eat_false (symbol.Keyword keyword.Else) _ _ rest (f.stays.no_else refl)
@@ -269,7 +269,7 @@ reach_if_else {u} {v} {w'} {z} {z'} p {xs} {ys} {zs} {b} {bs} {a} d r m no_if fu
       let over : sees_else_if (at p (symbol.Keyword keyword.Else) ∷ (zs ++ rest)) ≡ false = sees_behind (symbol.Keyword keyword.If) zs rest full no_if in
       let more = m.reads ms (suc k) k (length (ys ++ (at p (symbol.Keyword keyword.Else) ∷ (zs ++ rest)))) (depth ms b.1.1) (b ∷ []) (at p (symbol.Keyword keyword.Else) ∷ (zs ++ rest)) (omega (arith, h)) (let l = length-append ys (at p (symbol.Keyword keyword.Else) ∷ (zs ++ rest)) in omega (arith, l)) (else_follows p (zs ++ rest)) over in
       ap (any_form ms (suc k) (statement ms k)) (append_assoc xs (ys ++ (at p (symbol.Keyword keyword.Else) ∷ zs)) rest ∙ ap (λ i. xs ++ i) (append_assoc ys (at p (symbol.Keyword keyword.Else) ∷ zs) rest))
-      ∙ ap (λ l. form ms (suc k) (statement ms k) l (xs ++ (ys ++ (at p (symbol.Keyword keyword.Else) ∷ (zs ++ rest))))) (branch_lead d (ys ++ (at p (symbol.Keyword keyword.Else) ∷ (zs ++ rest))))
+      ∙ ap (λ l. form ms (suc k) (statement ms k) l (xs ++ (ys ++ (at p (symbol.Keyword keyword.Else) ∷ (zs ++ rest))))) (branch_form_of d (ys ++ (at p (symbol.Keyword keyword.Else) ∷ (zs ++ rest))))
       ∙ next_step _ _ _ _ _ (r.reads ms (suc k) k (ys ++ (at p (symbol.Keyword keyword.Else) ∷ (zs ++ rest))) (omega (arith, h)) more.1)
       (next_step _ _ _ _ _ more.0
       (eat_true (symbol.Keyword keyword.Else) (last_else ms (suc k) (statement ms k) b.0 (with_depth (max (depth ms b.1.1) (guarded_depth ms (guarded bs))) (b ∷ bs))) (node ms (suc k) (statement ms k) (max (depth ms b.1.1) (guarded_depth ms (guarded bs))) (st.if_then b.0 (guarded (b ∷ bs)))) p (zs ++ rest)

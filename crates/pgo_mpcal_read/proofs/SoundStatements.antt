@@ -352,16 +352,16 @@ module _ (ms : List MacroDepth) (limit below : ℕ) (inner : Parser (WithDepth S
   sound_keyword keyword.Yield = sound_one keyword.Yield (λ p xs e d. s.yield_as d) (λ p e. omega arith)
   sound_keyword _ = λ i r rest got. cc
 
-  sound_lead : (l : StatementForm) → SoundInner ms limit (form ms limit inner l)
-  sound_lead statement_form.Assign = sound_assign
-  sound_lead statement_form.Call = sound_call
-  sound_lead statement_form.Block = sound_block ms limit below inner S
-  sound_lead (statement_form.Keyword k) = sound_keyword k
-  sound_lead statement_form.None = λ i r rest got. cc
+  sound_forms : (l : StatementForm) → SoundInner ms limit (form ms limit inner l)
+  sound_forms statement_form.Assign = sound_assign
+  sound_forms statement_form.Call = sound_call
+  sound_forms statement_form.Block = sound_block ms limit below inner S
+  sound_forms (statement_form.Keyword k) = sound_keyword k
+  sound_forms statement_form.None = λ i r rest got. cc
 
   pub sound_form : SoundInner ms limit (any_form ms limit inner)
   unfolding any_form
-  sound_form i r rest got = sound_lead (form_of i) i r rest got
+  sound_form i r rest got = sound_forms (form_of i) i r rest got
 
 pub sound_statement : (ms : List MacroDepth) (limit : ℕ) → SoundInner ms limit (statement ms limit)
 unfolding statement

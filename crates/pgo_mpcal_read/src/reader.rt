@@ -1,5 +1,5 @@
 // The reader of specifications.
-ghost use Rattle.std.specs.Prelude.{◌≡◌, Some, IfOk, IfErr, List, length, ℕ};
+ghost use Rattle.std.specs.Prelude.{◌≡◌, ◌≤◌, Some, IfOk, IfErr, IfSome, List, length, ℕ};
 ghost use Rattle.pgo_lexer.specs.declared.token.Lexeme.{Lexeme};
 ghost use Rattle.pgo_spec_text.specs.SpecText as layout;
 ghost use Rattle.pgo_spec_text.specs.SpecText.{IsSpecText};
@@ -159,18 +159,21 @@ fn first_start(tokens: &[Lexeme], end: u64) -> u64 {
 }
 
 /// The refusal that was met before a fault at an offset; the fault, where none was.
-fn before_fault<T: Drop>(read: Result<T, TextStop>, fault: usize) -> TextStop {
+fn before_fault<T: Drop>(read: Result<T, TextStop>, fault: usize) -> TextStop
+    ensures { IsWithin fault result }
+{
     match read {
         Ok(_) => TextStop::at(fault),
-        Err(TextStop::Syntax { offset }) => TextStop::Syntax {
-            offset: offset.min(fault as u64),
-        },
-        Err(TextStop::NoMemory) => TextStop::NoMemory,
+        Err(stop) => within(stop, fault),
     }
 }
 
 /// The first fault of a text of which these are the tokens before one.
-fn fault_behind(alloc: Global, before: SpecBefore) -> TextStop {
+fn fault_behind(alloc: Global, before: SpecBefore, fault: usize) -> TextStop
+    requires header { before.header.fault ≤ fault }
+    requires algorithm { IfSome before.algorithm (λ a. a.fault ≤ fault) }
+    ensures { IsWithin fault result }
+{
     let SpecBefore { header, algorithm } = before;
     let tokens = header.tokens.as_slice();
     let Some(a) = algorithm else {
@@ -180,15 +183,17 @@ fn fault_behind(alloc: Global, before: SpecBefore) -> TextStop {
     let algorithm = a.tokens.as_slice();
     match all_header(alloc, tokens, first_start(algorithm, a.fault as u64)) {
         Ok(_) => before_fault(all_algorithm(alloc, algorithm, a.fault as u64), a.fault),
-        Err(stop) => stop,
+        Err(stop) => within(stop, a.fault),
     }
 }
 
 /// The first fault of a text that has one among its tokens at an offset: a token before it that can't stand at its place, or
 /// this one.
-fn first_fault(alloc: Global, text: &[u8], offset: u64) -> TextStop {
+fn first_fault(alloc: Global, text: &[u8], offset: u64) -> TextStop
+    ensures { IsWithin offset result }
+{
     match tokens_before(alloc, text, offset as usize) {
-        Ok(before) => fault_behind(alloc, before),
+        Ok(before) => fault_behind(alloc, before, offset as usize),
         Err(_) => TextStop::NoMemory,
     }
 }
@@ -197,6 +202,7 @@ fn first_fault(alloc: Global, text: &[u8], offset: u64) -> TextStop {
 fn parts_of(alloc: Global, text: &[u8]) -> Result<SpecTokens, TextStop>
     ensures found { IfOk result (λ p. IsSpecText text.now p.header p.algorithm) }
     ensures only { (header algorithm : List Lexeme) → IsSpecText text.now header algorithm → layout.IsOrNoMemory result header algorithm }
+    ensures within { IfErr result (IsWithin (length text.now)) }
 {
     match spec_tokens(alloc, text) {
         Ok(parts) => Ok(parts),
@@ -205,16 +211,39 @@ fn parts_of(alloc: Global, text: &[u8]) -> Result<SpecTokens, TextStop>
     }
 }
 
+/// The specification of a header and an algorithm in a text of so many bytes.
+fn read_parts(
+    alloc: Global,
+    header: &[Lexeme],
+    algorithm: &[Lexeme],
+    end: usize,
+) -> Result<Spec, TextStop>
+    ensures value { Makes (spec.spec header.now algorithm.now) result }
+    ensures within { IfErr result (IsWithin end) }
+{
+    let length = end as u64;
+    match read_tokens(
+        alloc,
+        header,
+        first_start(algorithm, length),
+        algorithm,
+        length,
+    ) {
+        Ok(s) => Ok(s),
+        Err(stop) => Err(within(stop, end)),
+    }
+}
+
 /// The specification that a text spells.
 fn read_text(alloc: Global, text: &[u8]) -> Result<Spec, TextStop>
     ensures found { IfOk result (λ s. SpellsSpec text.now s) }
     ensures only { (s : Spec) → SpellsSpec text.now s → IsOrNoMemory result s }
+    ensures within { IfErr result (IsWithin (length text.now)) }
 {
     let parts = parts_of(alloc, text)?;
-    let end = text.len() as u64;
     let algorithm = parts.algorithm.as_slice();
     let header = parts.header.as_slice();
-    read_tokens(alloc, header, first_start(algorithm, end), algorithm, end)
+    read_parts(alloc, header, algorithm, text.len())
 }
 
 /// The one specification that a text spells ("the PlusCal manual" has the statements, the Modular PlusCal paper archetypes,
@@ -230,10 +259,7 @@ pub fn read_spec(alloc: Global, text: &[u8]) -> Result<Spec, TextStop>
     ensures only { (s : Spec) → SpellsSpec text.now s → IsOrNoMemory result s }
     ensures within { IfErr result (IsWithin (length text.now)) }
 {
-    match read_text(alloc, text) {
-        Ok(s) => Ok(s),
-        Err(stop) => Err(within(stop, text.len())),
-    }
+    read_text(alloc, text)
 }
 
 /// A text spells at most one specification.

@@ -17,7 +17,7 @@ use std::alloc::{AllocError, Global};
 /// stand within one another, or where they have more nodes than are left and a mapping macro's read has no path to a `yield`.
 pub fn is_wide<'a>(
     alloc: Global,
-    setting: Setting<'a>,
+    setting: Setting<'a, '_>,
     todo: &Todo<'a>,
     left: u64,
 ) -> Result<bool, AllocError>

@@ -1,4 +1,5 @@
 pub mod Among
 pub mod Counts
+pub mod NewestLaws
 pub mod RewrittenLaws
 pub mod Walked

@@ -1,3 +1,4 @@
+pub mod Newest
 pub mod Rewritten
 pub mod Scoped
 pub mod Scopes

@@ -4,30 +4,57 @@ ghost use Rattle.pgo_base.specs.ExprView.{tree};
 ghost use Rattle.pgo_base.specs.Lookup.{find};
 ghost use Rattle.pgo_meaning.specs.MacrosPlaced.{put_tree};
 
+use crate::newest::Newest;
 use crate::rewrite::substitute;
 use crate::substitution::Substitution;
 use pgo_base::expr::Expr;
+use pgo_base::items::Copied;
 use pgo_base::text::Text;
 use std::alloc::{AllocError, Global};
 use std::marker::Model;
 
+/// The expression of a name.
+#[derive(Drop)]
+struct Argument {
+    e: Expr,
+}
+
+impl Model for Argument {
+    ghost use Rattle.pgo_base.specs.Tree.{Tree};
+    ghost use Rattle.pgo_base.specs.TreeCode.{coded_tree};
+    ghost use Rattle.pgo_base.specs.ExprView.{tree};
+
+    ghost Value = { Tree };
+
+    ghost coded = { coded_tree };
+
+    ghost view = { λ a. tree a.e };
+}
+
+impl Copied for Argument {
+    fn copy(&self, alloc: Global) -> Result<Argument, AllocError> {
+        Ok(Argument {
+            e: self.e.copy(alloc)?,
+        })
+    }
+}
+
 /// Names with expressions, the newest first; the newest of a name stands for it.
 #[derive(Drop)]
 pub struct Arguments {
-    list: Vec<(Text, Expr)>,
+    names: Newest<Argument>,
 }
 
 impl Model for Arguments {
-    ghost use Rattle.std.specs.Prelude.{List, ℕ, map, reverse};
+    ghost use Rattle.std.specs.Prelude.{List, ℕ};
     ghost use Rattle.pgo_base.specs.Tree.{Tree};
     ghost use Rattle.pgo_base.specs.TreeCode.{coded_named};
-    ghost use Rattle.pgo_base.specs.ExprView.{named_tree};
 
     ghost Value = { List (List ℕ × Tree) };
 
     ghost coded = { coded_named };
 
-    ghost view = { λ a. reverse (map named_tree a.list.items) };
+    ghost view = { λ a. a.names };
 }
 
 impl Arguments {
@@ -36,7 +63,7 @@ impl Arguments {
         ensures { result ≡ [] }
     {
         Arguments {
-            list: Vec::new(alloc),
+            names: Newest::new(alloc),
         }
     }
 
@@ -46,8 +73,7 @@ impl Arguments {
     pub fn push(&mut self, name: Text, e: Expr) -> Result<(), AllocError>
         ensures { IfOk result (λ _. self.new ≡ (name, tree e) ∷ self.old) }
     {
-        self.list.push((name, e))?;
-        Ok(())
+        self.names.push(name, Argument { e })
     }
 
     /// The same once more.
@@ -56,26 +82,19 @@ impl Arguments {
     pub fn copy(&self, alloc: Global) -> Result<Arguments, AllocError>
         ensures { IfOk result (λ a. a ≡ self.now) }
     {
-        let mut list = Vec::with_capacity(alloc, self.list.len())?;
-        for item in &self.list {
-            list.push((item.0.copy(alloc)?, item.1.copy(alloc)?))?;
-        }
-        Ok(Arguments { list })
+        Ok(Arguments {
+            names: self.names.copy(alloc)?,
+        })
     }
 
     /// The expression of a name.
     pub fn find(&self, name: &Text) -> Option<&Expr>
         ensures { option_map (λ r. tree r.now) result ≡ find name.now self.now }
     {
-        let list = self.list.as_slice();
-        let mut i = list.len();
-        while i > 0 {
-            i -= 1;
-            if name.is(&list[i].0) {
-                return Some(&list[i].1);
-            }
+        match self.names.find(name) {
+            Some(argument) => Some(&argument.e),
+            None => None,
         }
-        None
     }
 }
 

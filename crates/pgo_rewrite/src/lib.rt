@@ -13,6 +13,7 @@ pub mod arguments;
 pub mod bound_names;
 mod lists;
 pub mod mapped;
+pub mod newest;
 mod parts;
 pub mod reads;
 mod rebuild;

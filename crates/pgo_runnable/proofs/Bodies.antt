@@ -8,7 +8,7 @@ use Rattle.pgo_syntax.specs.declared.process.Process.{Process}
 use Rattle.pgo_syntax.specs.declared.spec.Spec.{Spec}
 use Rattle.pgo_uses.specs.AllUses.{archetype_uses}
 use Rattle.pgo_uses.specs.declared.uses.Use.{Use}
-use Rattle.pgo_labels.specs.Rules.{label_in_with}
+use Rattle.pgo_labels.specs.LabelHere.{label_in_with}
 use Rattle.pgo_bound.specs.Among.{IsAmong, nth_among, none_flat_map, some_is}
 use Rattle.pgo_bound.specs.Runs.{archetype_named}
 use Rattle.pgo_meaning.specs.MacrosPlaced.{bodies, placed_among}

@@ -1,4 +1,4 @@
--- A thing whose written name was not met clashes with nothing.
+-- A name that is written as none before it clashes with none.
 use Rattle.std.proofs.Common.{◌≡◌, ◌<◌, ◌+◌, ℕ, zero, suc, take, length, get_or, arith, Bool, true, false, not, ◌&&◌, ◌||◌, List, [], ◌∷◌, ◌++◌, refl, ap, sym, ◌∙◌, append_assoc}
 use Rattle.std.specs.Prelude.{if◌then◌else◌}
 use Rattle.std.proofs.lemmas.List.{append-nil}
@@ -7,15 +7,15 @@ use Rattle.pgo_uses.specs.Names.{Rows, is_among}
 use Rattle.pgo_uses.proofs.Among.{among_cons}
 use Rattle.pgo_scope.specs.declared.errors.ScopeError.TheVariants as errors
 use Rattle.pgo_scope.specs.declared.finding.Finding.{Finding}
-use Rattle.pgo_scope.specs.declared.things.Thing.{Thing}
+use Rattle.pgo_scope.specs.declared.module_names.ModuleName.{ModuleName}
 use Rattle.pgo_scope.specs.Clash.{clash, clash_with}
 use Rattle.pgo_scope.specs.Seen.{any_rows, unbound_row, unbound_rows, may_clash}
 
-pub any_more : (ts : List Thing) (t : Thing) → any_rows (ts ++ t ∷ []) ≡ any_rows ts ++ (t.written, 0) ∷ []
+pub any_more : (ts : List ModuleName) (t : ModuleName) → any_rows (ts ++ t ∷ []) ≡ any_rows ts ++ (t.written, 0) ∷ []
 any_more [] t = refl
 any_more (u ∷ us) t = ap (λ l. (u.written, 0) ∷ l) (any_more us t)
 
-pub unbound_more : (ts : List Thing) (t : Thing) → unbound_rows (ts ++ t ∷ []) ≡ unbound_rows ts ++ unbound_row t
+pub unbound_more : (ts : List ModuleName) (t : ModuleName) → unbound_rows (ts ++ t ∷ []) ≡ unbound_rows ts ++ unbound_row t
 unbound_more [] t = append-nil (unbound_row t)
 unbound_more (u ∷ us) t = ap (λ l. unbound_row u ++ l) (unbound_more us t) ∙ sym (append_assoc (unbound_row u) (unbound_rows us) (unbound_row t))
 
@@ -28,13 +28,13 @@ or_right true b h = absurd (cc)
 or_right false b h = h
 
 -- no clash with the first, and none behind it
-step : (t u : Thing) (us : List Thing) → clash t u ≡ false → clash_with us t ≡ [] → clash_with (u ∷ us) t ≡ []
+step : (t u : ModuleName) (us : List ModuleName) → clash t u ≡ false → clash_with us t ≡ [] → clash_with (u ∷ us) t ≡ []
 step t u us c h = ap (λ b. if b then record { place = t.place; error = errors.NameClash u.shown t.shown } ∷ [] else clash_with us t) c ∙ h
 
-apart : (t u : Thing) → same_name t.written u.written ≡ false → clash t u ≡ false
+apart : (t u : ModuleName) → same_name t.written u.written ≡ false → clash t u ≡ false
 apart t u h = ap (λ b. b && not (t.bound && u.bound)) h
 
-none_at_all : (t : Thing) (us : List Thing) → is_among t.written (any_rows us) ≡ false → clash_with us t ≡ []
+none_at_all : (t : ModuleName) (us : List ModuleName) → is_among t.written (any_rows us) ≡ false → clash_with us t ≡ []
 none_at_all t [] h = refl
 none_at_all t (u ∷ us) h =
     let e : same_name t.written u.written || is_among t.written (any_rows us) ≡ false = sym (among_cons t.written (u.written, 0) (any_rows us)) ∙ h in
@@ -44,7 +44,7 @@ both_bound : (s b c : Bool) → b ≡ true → c ≡ true → s && not (b && c) 
 both_bound true b c h i = (λ k. not (h k && i k))
 both_bound false b c h i = refl
 
-none_unbound : (t : Thing) (us : List Thing) → t.bound ≡ true → is_among t.written (unbound_rows us) ≡ false → clash_with us t ≡ []
+none_unbound : (t : ModuleName) (us : List ModuleName) → t.bound ≡ true → is_among t.written (unbound_rows us) ≡ false → clash_with us t ≡ []
 none_unbound t [] b h = refl
 none_unbound t (u ∷ us) b h = go u.bound refl h (none_unbound t us b)
   where
@@ -54,14 +54,14 @@ none_unbound t (u ∷ us) b h = go u.bound refl h (none_unbound t us b)
         let g : same_name t.written u.written || is_among t.written (unbound_rows us) ≡ false = sym (among_cons t.written (u.written, 0) (unbound_rows us)) ∙ e in
         step t u us (apart t u (or_left _ _ g)) (f (or_right _ _ g))
 
-pub no_clash : (us : List Thing) (t : Thing) → may_clash (any_rows us) (unbound_rows us) t ≡ false → clash_with us t ≡ []
+pub no_clash : (us : List ModuleName) (t : ModuleName) → may_clash (any_rows us) (unbound_rows us) t ≡ false → clash_with us t ≡ []
 no_clash us t h = go t.bound refl h
   where
     go : (b : Bool) → t.bound ≡ b → (if b then is_among t.written (unbound_rows us) else is_among t.written (any_rows us)) ≡ false → clash_with us t ≡ []
     go true k e = none_unbound t us k e
     go false k e = none_at_all t us e
 
-pub nothing_found : (out : List Finding) (any unbound : Rows) (us : List Thing) (t : Thing) → any ≡ any_rows us → unbound ≡ unbound_rows us → may_clash any unbound t ≡ false → out ≡ out ++ clash_with us t
+pub nothing_found : (out : List Finding) (any unbound : Rows) (us : List ModuleName) (t : ModuleName) → any ≡ any_rows us → unbound ≡ unbound_rows us → may_clash any unbound t ≡ false → out ≡ out ++ clash_with us t
 nothing_found out any unbound us t e f h =
     sym (append-nil out) ∙ ap (λ l. out ++ l) (sym (no_clash us t ((λ i. may_clash (sym e i) (sym f i) t) ∙ h)))
 

@@ -2,5 +2,9 @@ mod Answered
 mod Clashing
 mod Declaring
 mod Doubled
+mod Gathering
+mod Inserting
 mod Only
+mod Owning
 mod Sorting
+mod Targeting

@@ -1,4 +1,4 @@
--- What a stable sort by place leaves are the things in the order of the text.
+-- What a stable sort by place leaves are the items in the order of the text.
 use Rattle.std.proofs.Common.{◌≡◌, ◌≤◌, ◌<◌, ℕ, suc, Bool, true, false, not, ◌&&◌, List, [], ◌∷◌, map, filter, length, get_or, refl, ap, sym, ◌∙◌, arith}
 use Rattle.std.specs.Prelude.{if◌then◌else◌, nat_le, nat_eq}
 use Rattle.std.specs.Ordering.{nat_cmp, is_lt}
@@ -147,7 +147,7 @@ sorted_is place xs ys n s =
     rising_is place ys (in_text_order place xs) (rises_all place ys n) (rises_in_order place xs)
     (λ z. sym (filter_is place z ys) ∙ s z ∙ filter_is place z xs ∙ sym (at_in_order place (place z) xs))
 
--- the same through a view of the things
+-- the same through a view of the items
 pub in_place_map : {A B : Type 0} (f : A → B) (place : B → ℕ) (x : A) (ys : List A) → map f (in_place (λ a. place (f a)) x ys) ≡ in_place place (f x) (map f ys)
 in_place_map f place x [] = refl
 in_place_map f place x (y ∷ ys) = go (nat_le (place (f x)) (place (f y))) (in_place_map f place x ys)

@@ -17,9 +17,9 @@ use Rattle.pgo_uses.specs.Tables.{variable_name, value_name}
 use Rattle.pgo_uses.specs.AllUses.{all_uses, names_of, variable_names}
 use Rattle.pgo_scope.specs.declared.errors.ScopeError.TheVariants as errors
 use Rattle.pgo_scope.specs.declared.finding.Finding.{Finding}
-use Rattle.pgo_scope.specs.declared.ways.Ways.{Ways}
+use Rattle.pgo_scope.specs.declared.usage.Usage.{Usage}
 use Rattle.pgo_scope.specs.Findings.{found_if, found_where, each_use}
-use Rattle.pgo_scope.specs.Ways.{Known, known_macros, parameters_of, is_assigned, left_base}
+use Rattle.pgo_scope.specs.Usage.{MacroTable, macro_table, parameters_of, is_assigned, left_base}
 
 -- the names of `ref` parameters
 abbrev pub ref_names : List Parameter → List Name
@@ -51,22 +51,22 @@ assigned_argument s u p (Some x) =
     if same_name x value_name then found_if true u.around.place (errors.AssignedNotRef p)
     else found_if (not (may_assign s u.around.home x)) u.around.place (errors.AssignedNotRef x)
 
-abbrev pub assigned_if : Spec → Use → Name → Ways → Tree → List Finding
+abbrev pub assigned_if : Spec → Use → Name → Usage → Tree → List Finding
 assigned_if s u p w t = found_where (is_assigned w) (assigned_argument s u p (left_base t))
 
-abbrev pub assigned_arguments : Spec → Use → List (Name × Ways) → List Tree → List Finding
+abbrev pub assigned_arguments : Spec → Use → List (Name × Usage) → List Tree → List Finding
 assigned_arguments s u [] ts = []
 assigned_arguments s u (q ∷ qs) [] = []
 assigned_arguments s u (q ∷ qs) (t ∷ ts) = assigned_if s u q.0 q.1 t ++ assigned_arguments s u qs ts
 
-abbrev pub assigned_of : Spec → Known → Use → Form → List Finding
-assigned_of s known u (forms.Assigned shape) =
+abbrev pub assigned_of : Spec → MacroTable → Use → Form → List Finding
+assigned_of s table u (forms.Assigned shape) =
     found_if (not (may_assign s u.around.home u.name)) u.around.place (errors.AssignedNotRef u.name)
-assigned_of s known u (forms.Called ts) = assigned_arguments s u (parameters_of known u.name) ts
-assigned_of s known u f = []
+assigned_of s table u (forms.Called ts) = assigned_arguments s u (parameters_of table u.name) ts
+assigned_of s table u f = []
 
-abbrev pub assigned_use : Spec → Known → Use → List Finding
-assigned_use s known u = assigned_of s known u u.form
+abbrev pub assigned_use : Spec → MacroTable → Use → List Finding
+assigned_use s table u = assigned_of s table u u.form
 
 abbrev pub wrong_assignments : Spec → List Finding
-wrong_assignments s = each_use (assigned_use s (known_macros s.macros)) (all_uses s)
+wrong_assignments s = each_use (assigned_use s (macro_table s.macros)) (all_uses s)

@@ -5,11 +5,13 @@ pub mod Twice
 pub mod CaptureView
 pub mod Arity
 pub mod Globals
-pub mod Ways
-pub mod KnownView
+pub mod Usage
+pub mod NameUsage
+pub mod MacroTableView
 pub mod Assigned
 pub mod Mapped
 pub mod UnitRows
+pub mod Targets
 pub mod Clash
 pub mod OwnView
 pub mod Seen

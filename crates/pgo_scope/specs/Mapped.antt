@@ -28,9 +28,9 @@ use Rattle.pgo_scope.specs.declared.errors.ScopeError.TheVariants as errors
 use Rattle.pgo_scope.specs.declared.finding.Finding.{Finding}
 use Rattle.pgo_scope.specs.declared.mapped.Mapped.{Mapped}
 use Rattle.pgo_scope.specs.declared.mapped.Mapped.TheVariants.{Unmapped, AsWhole, ByElement}
-use Rattle.pgo_scope.specs.declared.ways.Ways.{Ways}
+use Rattle.pgo_scope.specs.declared.usage.Usage.{Usage}
 use Rattle.pgo_scope.specs.Findings.{found_if, found_where, each_use}
-use Rattle.pgo_scope.specs.Ways.{Known, known_macros, parameters_of, join, left_base, left_shape, left_uses}
+use Rattle.pgo_scope.specs.Usage.{MacroTable, macro_table, parameters_of, join, left_base, left_shape, left_uses}
 
 -- the argument is this global as a `ref`
 abbrev pub is_ref_to : Name → Option Argument → Bool
@@ -102,7 +102,7 @@ read_of s u f = []
 abbrev pub read_use : Spec → Use → List Finding
 read_use s u = read_of s u u.form
 
--- an argument where its parameter is read in this way
+-- an argument where its parameter is read so
 abbrev pub argument_read : Spec → Around → Bool → Bool → Tree → List Finding
 argument_read s a hidden indexed t = each_use (read_use s) (uses [] (record a { hidden = hidden; indexed = indexed }) t)
 
@@ -116,35 +116,35 @@ argument_written s a shape t =
     base_written s a (left_base t) (join (left_shape t) shape)
     ++ each_use (read_use s) (left_uses [] (inside a) t)
 
--- an argument in the ways in which its parameter is read
-abbrev pub argument_reads : Spec → Around → Ways → Tree → List Finding
+-- an argument as its parameter is read
+abbrev pub argument_reads : Spec → Around → Usage → Tree → List Finding
 argument_reads s a w t =
     found_where w.plain (argument_read s a false false t)
     ++ found_where w.indexed (argument_read s a false true t)
     ++ found_where w.hidden (argument_read s a true false t)
     ++ found_where w.hidden_indexed (argument_read s a true true t)
 
--- an argument in all the ways in which its parameter stands
-abbrev pub argument_findings : Spec → Around → Ways → Tree → List Finding
+-- an argument as its parameter is used
+abbrev pub argument_findings : Spec → Around → Usage → Tree → List Finding
 argument_findings s a w t =
     argument_reads s a w t
     ++ found_where w.bare (argument_written s a Bare t)
     ++ found_where w.one_index (argument_written s a OneIndex t)
     ++ found_where w.further (argument_written s a Further t)
 
-abbrev pub arguments_findings : Spec → Around → List (Name × Ways) → List Tree → List Finding
+abbrev pub arguments_findings : Spec → Around → List (Name × Usage) → List Tree → List Finding
 arguments_findings s a [] ts = []
 arguments_findings s a (q ∷ qs) [] = []
 arguments_findings s a (q ∷ qs) (t ∷ ts) = argument_findings s a q.1 t ++ arguments_findings s a qs ts
 
-abbrev pub mapped_use_of : Spec → Known → Use → Form → List Finding
-mapped_use_of s known u forms.Alone = found_where (not u.around.passed) (mapped_read s u)
-mapped_use_of s known u (forms.Assigned shape) = mapped_write s u.around u.name shape
-mapped_use_of s known u (forms.Called ts) = arguments_findings s u.around (parameters_of known u.name) ts
-mapped_use_of s known u f = []
+abbrev pub mapped_use_of : Spec → MacroTable → Use → Form → List Finding
+mapped_use_of s table u forms.Alone = found_where (not u.around.passed) (mapped_read s u)
+mapped_use_of s table u (forms.Assigned shape) = mapped_write s u.around u.name shape
+mapped_use_of s table u (forms.Called ts) = arguments_findings s u.around (parameters_of table u.name) ts
+mapped_use_of s table u f = []
 
-abbrev pub mapped_use : Spec → Known → Use → List Finding
-mapped_use s known u = mapped_use_of s known u u.form
+abbrev pub mapped_use : Spec → MacroTable → Use → List Finding
+mapped_use s table u = mapped_use_of s table u u.form
 
 abbrev pub mapped_here : Spec → List Finding
-mapped_here s = each_use (mapped_use s (known_macros s.macros)) (all_uses s)
+mapped_here s = each_use (mapped_use s (macro_table s.macros)) (all_uses s)

@@ -1,4 +1,4 @@
--- What each rule finds, over what the code has at hand: the specification, its tables, what is known of its macros, and the
+-- What each rule finds, over what the code has at hand: the specification, its tables, the table of its macros, and the
 -- names that stand in its text.
 use Rattle.std.specs.Prelude.{List, [], ◌++◌, Option}
 use Rattle.pgo_syntax.specs.declared.spec.Spec.{Spec}
@@ -18,22 +18,22 @@ use Rattle.pgo_scope.specs.Unknown.{unknown_use, unknown_heads}
 use Rattle.pgo_scope.specs.Twice.{Tests, captures, declared_twice, reserved_name, hiding_use, capture_use}
 use Rattle.pgo_scope.specs.Arity.{arity_use, arity_heads}
 use Rattle.pgo_scope.specs.Globals.{global_finding}
-use Rattle.pgo_scope.specs.Ways.{Known, known_macros}
+use Rattle.pgo_scope.specs.Usage.{MacroTable, macro_table}
 use Rattle.pgo_scope.specs.Assigned.{assigned_use}
 use Rattle.pgo_scope.specs.Mapped.{mapped_use}
-use Rattle.pgo_scope.specs.Clash.{things_with, clashes_from}
+use Rattle.pgo_scope.specs.Clash.{module_names_with, clashes_from}
 use Rattle.pgo_scope.specs.Underscores.{double_name, double_use}
 use Rattle.pgo_scope.specs.Modules.{unknown_modules}
 
 pub record Context : Type 0 where
   pub spec : Spec
   pub tables : Tables
-  pub known : Known
+  pub macros : MacroTable
   pub captures : Tests
   pub uses : List Use
 
 abbrev pub context_of : Spec → Context
-context_of s = record { spec = s; tables = tables_of s; known = known_macros s.macros; captures = captures s.macros; uses = all_uses s }
+context_of s = record { spec = s; tables = tables_of s; macros = macro_table s.macros; captures = captures s.macros; uses = all_uses s }
 
 -- what a rule finds about one name that stands in the text
 abbrev pub use_findings : UseRule → Context → Use → List Finding
@@ -42,8 +42,8 @@ use_findings use_rules.Hiding c = hiding_use c.tables
 use_findings use_rules.Captured c = capture_use c.captures
 use_findings use_rules.Arity c = arity_use c.tables
 use_findings use_rules.Global c = global_finding c.tables
-use_findings use_rules.Assigned c = assigned_use c.spec c.known
-use_findings use_rules.Mapped c = mapped_use c.spec c.known
+use_findings use_rules.Assigned c = assigned_use c.spec c.macros
+use_findings use_rules.Mapped c = mapped_use c.spec c.macros
 use_findings use_rules.Underscores c = double_use
 
 abbrev pub uses_findings : UseRule → Context → List Finding
@@ -62,7 +62,7 @@ abbrev pub arities : Context → List Finding
 arities c = uses_findings use_rules.Arity c ++ arity_heads c.tables c.spec.processes
 
 abbrev pub clashes : Context → List Finding
-clashes c = clashes_from [] (things_with c.spec c.uses)
+clashes c = clashes_from [] (module_names_with c.spec c.uses)
 
 abbrev pub underscores : Context → List Finding
 underscores c = each_name double_name (head_names c.spec) ++ uses_findings use_rules.Underscores c

@@ -1,7 +1,7 @@
--- Things in the order of the text.
+-- Items in the order of the text.
 use Rattle.std.specs.Prelude.{ℕ, if◌then◌else◌, nat_le, List, [], ◌∷◌}
 
--- x at its place among things that are in order
+-- x at its place among items that are in order
 abbrev pub in_place : {A : Type 0} → (A → ℕ) → A → List A → List A
 in_place place x [] = x ∷ []
 in_place place x (y ∷ ys) = if nat_le (place x) (place y) then x ∷ y ∷ ys else y ∷ in_place place x ys

@@ -25,7 +25,7 @@ use Rattle.pgo_scope.specs.declared.twice.Heads.TheVariants.{Shared, Macros, Map
 use Rattle.pgo_scope.specs.Findings.{found_if, each_use, each_name}
 use Rattle.pgo_scope.specs.TextOrder.{in_text_order}
 use Rattle.pgo_scope.specs.Unknown.{knows_self}
-use Rattle.pgo_scope.specs.Ways.{known_at}
+use Rattle.pgo_scope.specs.Usage.{item_at}
 
 -- each name that stands among those before it, which are rows with the number 0
 abbrev pub repeated : Rows → List PlacedName → List Finding
@@ -94,7 +94,7 @@ Tests = Rows × List MacroTests
 
 -- those of the macro, where it is one of the first
 abbrev pub macro_tests_of : Tests → Name → Option MacroTests
-macro_tests_of known m = known_at (first_at m known.0) known.1
+macro_tests_of table m = item_at (first_at m table.0) table.1
 
 -- a name stands there, bound or not
 abbrev pub stands_of : Name → Use → Form → Bool
@@ -119,7 +119,7 @@ or_none None = []
 or_none (Some r) = r.0
 
 abbrev pub tests_of : Tests → Name → List (Name → Bool)
-tests_of known m = or_none (macro_tests_of known m)
+tests_of table m = or_none (macro_tests_of table m)
 
 -- b, or x may not stand in this argument, in which p stands
 abbrev pub handed_at : Bool → (Name → Bool) → Around → Name → Tree → Name → Bool
@@ -132,28 +132,28 @@ handed_on b (f ∷ fs) a p [] x = b
 handed_on b (f ∷ fs) a p (t ∷ ts) x = handed_on (handed_at b f a p t x) fs a p ts x
 
 abbrev pub calls_capture : Bool → Tests → Name → Use → Form → Name → Bool
-calls_capture b known p u (forms.Called ts) x = handed_on b (tests_of known u.name) u.around p ts x
-calls_capture b known p u f x = b
+calls_capture b table p u (forms.Called ts) x = handed_on b (tests_of table u.name) u.around p ts x
+calls_capture b table p u f x = b
 
 -- b, or x may not stand where p is handed on by one of these
 abbrev pub some_capture : Bool → Tests → Name → List Use → Name → Bool
-some_capture b known p [] x = b
-some_capture b known p (u ∷ us) x = some_capture (calls_capture b known p u u.form x) known p us x
+some_capture b table p [] x = b
+some_capture b table p (u ∷ us) x = some_capture (calls_capture b table p u u.form x) table p us x
 
 abbrev pub parameter_test : Tests → List Use → Name → Name → Bool
-parameter_test known us p x = is_bound_in (some_capture false known p us x) us x
+parameter_test table us p x = is_bound_in (some_capture false table p us x) us x
 
 abbrev pub parameter_tests : Tests → List Use → List Name → List (Name → Bool)
-parameter_tests known us [] = []
-parameter_tests known us (p ∷ ps) = parameter_test known us p ∷ parameter_tests known us ps
+parameter_tests table us [] = []
+parameter_tests table us (p ∷ ps) = parameter_test table us p ∷ parameter_tests table us ps
 
 abbrev pub macro_tests : Tests → List Use → List Name → MacroTests
-macro_tests known us ps = (parameter_tests known us ps, is_bound_in false us)
+macro_tests table us ps = (parameter_tests table us ps, is_bound_in false us)
 
 abbrev pub captures_from : Tests → ℕ → List Macro → Tests
-captures_from known i [] = known
-captures_from known i (m ∷ ms) =
-    captures_from (known.0, known.1 ++ macro_tests known (macro_uses i m) (names_of m.params) ∷ []) (suc i) ms
+captures_from table i [] = table
+captures_from table i (m ∷ ms) =
+    captures_from (table.0, table.1 ++ macro_tests table (macro_uses i m) (names_of m.params) ∷ []) (suc i) ms
 
 -- the same, where the macros have these names
 abbrev pub captures_by : Rows → List Macro → Tests
@@ -189,11 +189,11 @@ captured_by None a ts = []
 captured_by (Some r) a ts = captured_in r.0 r.1 a ts
 
 abbrev pub call_captures : Tests → Use → Form → List Finding
-call_captures known u (forms.Called ts) = captured_by (macro_tests_of known u.name) u.around ts
-call_captures known u f = []
+call_captures table u (forms.Called ts) = captured_by (macro_tests_of table u.name) u.around ts
+call_captures table u f = []
 
 abbrev pub capture_use : Tests → Use → List Finding
-capture_use known u = call_captures known u u.form
+capture_use table u = call_captures table u u.form
 
 abbrev pub names_twice : Spec → List Finding
 names_twice s =

@@ -1,13 +1,13 @@
 // Rule 5: what may not be assigned is assigned.
 ghost use Rattle.std.specs.Prelude.{◌≡◌, ◌++◌, map, option_map, IfOk};
 ghost use Rattle.pgo_base.specs.ExprView.{tree};
-ghost use Rattle.pgo_scope.specs.KnownView.{see_known, see_ways};
+ghost use Rattle.pgo_scope.specs.MacroTableView.{see_table, see_usage};
 ghost use Rattle.pgo_scope.specs.Assigned as spec;
 
 use crate::finding::{Cause, Finding, add_if};
-use crate::known::{Known, ParameterWays, parameters_of};
+use crate::macro_table::{MacroTable, ParameterUsage, parameters_of};
 use crate::units::UnitNames;
-use crate::ways::left_base;
+use crate::usage::left_base;
 use crate::words::is_word;
 use pgo_base::expr::Expr;
 use pgo_base::text::Text;
@@ -54,13 +54,13 @@ fn add_assigned_if(
     alloc: Global,
     units: &UnitNames<'_>,
     u: &Use,
-    q: &ParameterWays,
+    q: &ParameterUsage,
     e: &Expr,
     out: &mut Vec<Finding>,
 ) -> Result<(), AllocError>
-    ensures { IfOk result (λ _. out.new.items ≡ out.old.items ++ spec.assigned_if units.now.spec.now u.now q.now.name q.now.ways (tree e.now)) }
+    ensures { IfOk result (λ _. out.new.items ≡ out.old.items ++ spec.assigned_if units.now.spec.now u.now q.now.name q.now.usage (tree e.now)) }
 {
-    if !q.ways.is_assigned() {
+    if !q.usage.is_assigned() {
         return Ok(());
     }
     add_argument(alloc, units, u, &q.name, left_base(e), out)
@@ -71,11 +71,11 @@ fn add_arguments(
     alloc: Global,
     units: &UnitNames<'_>,
     u: &Use,
-    params: &[ParameterWays],
+    params: &[ParameterUsage],
     args: &[Expr],
     out: &mut Vec<Finding>,
 ) -> Result<(), AllocError>
-    ensures { IfOk result (λ _. out.new.items ≡ out.old.items ++ spec.assigned_arguments units.now.spec.now u.now (map see_ways params.now) (map tree args.now)) }
+    ensures { IfOk result (λ _. out.new.items ≡ out.old.items ++ spec.assigned_arguments units.now.spec.now u.now (map see_usage params.now) (map tree args.now)) }
 {
     for (i, q) in params.iter().enumerate() {
         let Some(e) = args.get(i) else {
@@ -90,11 +90,11 @@ fn add_arguments(
 pub fn add_assigned_use(
     alloc: Global,
     units: &UnitNames<'_>,
-    known: &Known<'_>,
+    table: &MacroTable<'_>,
     u: &Use,
     out: &mut Vec<Finding>,
 ) -> Result<(), AllocError>
-    ensures { IfOk result (λ _. out.new.items ≡ out.old.items ++ spec.assigned_use units.now.spec.now (see_known known.now) u.now) }
+    ensures { IfOk result (λ _. out.new.items ≡ out.old.items ++ spec.assigned_use units.now.spec.now (see_table table.now) u.now) }
 {
     match &u.form {
         Form::Assigned(_) => {
@@ -109,7 +109,7 @@ pub fn add_assigned_use(
             )
         }
         Form::Called(list) => {
-            let params = parameters_of(known, &u.name);
+            let params = parameters_of(table, &u.name);
             add_arguments(alloc, units, u, params, list.as_slice(), out)
         }
         _ => Ok(()),

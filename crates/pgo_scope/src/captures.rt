@@ -30,8 +30,8 @@ pub struct Captures {
 
 /// The names of all macros, and what may not stand in the arguments of the first of them.
 #[derive(Clone, Copy)]
-pub struct KnownCaptures<'a> {
-    pub macros: &'a Names,
+pub struct CaptureTable<'a> {
+    pub names: &'a Names,
     pub list: &'a [Captures],
 }
 
@@ -70,12 +70,12 @@ fn add_bound_names(alloc: Global, uses: &[Use], names: &mut Names) -> Result<(),
     Ok(())
 }
 
-/// What is known of the macro of this name.
-fn captures_of<'a>(known: &KnownCaptures<'a>, name: &Text) -> Option<&'a Captures>
-    ensures { option_map (λ c. see_tests c.now) result ≡ spec.macro_tests_of (see_captures known.now) name.now }
+/// The names that may not stand in the arguments of the macro of this name.
+fn captures_of<'a>(table: &CaptureTable<'a>, name: &Text) -> Option<&'a Captures>
+    ensures { option_map (λ c. see_tests c.now) result ≡ spec.macro_tests_of (see_captures table.now) name.now }
 {
-    match known.macros.position(name) {
-        Some(i) => known.list.get(i),
+    match table.names.position(name) {
+        Some(i) => table.list.get(i),
         None => None,
     }
 }
@@ -122,16 +122,16 @@ fn add_handed_on(
 
 fn add_call(
     alloc: Global,
-    known: &KnownCaptures<'_>,
+    table: &CaptureTable<'_>,
     p: &Text,
     u: &Use,
     names: &mut Names,
 ) -> Result<(), AllocError>
-    ensures { IfOk result (λ _. (x : Name) → is_among x names.new ≡ spec.calls_capture (is_among x names.old) (see_captures known.now) p.now u.now u.now.form x) }
+    ensures { IfOk result (λ _. (x : Name) → is_among x names.new ≡ spec.calls_capture (is_among x names.old) (see_captures table.now) p.now u.now u.now.form x) }
 {
     match &u.form {
         Form::Called(list) => {
-            let Some(c) = captures_of(known, &u.name) else {
+            let Some(c) = captures_of(table, &u.name) else {
                 return Ok(());
             };
             let tests = c.tests.as_slice();
@@ -144,15 +144,15 @@ fn add_call(
 /// Adds the names that may not stand where p is handed on to another macro.
 fn add_calls(
     alloc: Global,
-    known: &KnownCaptures<'_>,
+    table: &CaptureTable<'_>,
     p: &Text,
     uses: &[Use],
     names: &mut Names,
 ) -> Result<(), AllocError>
-    ensures { IfOk result (λ _. (x : Name) → is_among x names.new ≡ spec.some_capture (is_among x names.old) (see_captures known.now) p.now uses.now x) }
+    ensures { IfOk result (λ _. (x : Name) → is_among x names.new ≡ spec.some_capture (is_among x names.old) (see_captures table.now) p.now uses.now x) }
 {
     for u in uses {
-        add_call(alloc, known, p, u, names)?;
+        add_call(alloc, table, p, u, names)?;
     }
     Ok(())
 }
@@ -160,14 +160,14 @@ fn add_calls(
 /// The names that may not stand in the argument for the parameter p.
 fn parameter_test(
     alloc: Global,
-    known: &KnownCaptures<'_>,
+    table: &CaptureTable<'_>,
     uses: &[Use],
     p: &Text,
 ) -> Result<Names, AllocError>
-    ensures { IfOk result (λ names. (x : Name) → is_among x names ≡ spec.parameter_test (see_captures known.now) uses.now p.now x) }
+    ensures { IfOk result (λ names. (x : Name) → is_among x names ≡ spec.parameter_test (see_captures table.now) uses.now p.now x) }
 {
     let mut names = Names::new(alloc);
-    add_calls(alloc, known, p, uses, &mut names)?;
+    add_calls(alloc, table, p, uses, &mut names)?;
     add_bound_names(alloc, uses, &mut names)?;
     Ok(names)
 }
@@ -175,15 +175,15 @@ fn parameter_test(
 /// The same for each parameter.
 fn parameter_tests(
     alloc: Global,
-    known: &KnownCaptures<'_>,
+    table: &CaptureTable<'_>,
     uses: &[Use],
     params: &[PlacedName],
 ) -> Result<Vec<Names>, AllocError>
-    ensures { IfOk result (λ v. map see_test v.items ≡ spec.parameter_tests (see_captures known.now) uses.now (names_of params.now)) }
+    ensures { IfOk result (λ v. map see_test v.items ≡ spec.parameter_tests (see_captures table.now) uses.now (names_of params.now)) }
 {
     let mut tests = Vec::new(alloc);
     for p in params {
-        tests.push(parameter_test(alloc, known, uses, &p.name)?)?;
+        tests.push(parameter_test(alloc, table, uses, &p.name)?)?;
     }
     Ok(tests)
 }
@@ -198,7 +198,7 @@ fn bound_names(alloc: Global, uses: &[Use]) -> Result<Names, AllocError>
 }
 
 /// The names that may not stand in the arguments of each of these macros, each by those before it.
-pub fn known_captures(
+pub fn all_captures(
     alloc: Global,
     macros: &Names,
     list: &[Macro],
@@ -209,11 +209,11 @@ pub fn known_captures(
     for (i, m) in list.iter().enumerate() {
         let mut uses = Vec::new(alloc);
         add_macro(alloc, i, m, &mut uses)?;
-        let known = KnownCaptures {
-            macros,
+        let table = CaptureTable {
+            names: macros,
             list: made.as_slice(),
         };
-        let tests = parameter_tests(alloc, &known, uses.as_slice(), m.params.as_slice())?;
+        let tests = parameter_tests(alloc, &table, uses.as_slice(), m.params.as_slice())?;
         let behind = bound_names(alloc, uses.as_slice())?;
         made.push(Captures { tests, behind })?;
     }
@@ -305,15 +305,15 @@ fn add_captured_in(
 
 pub fn add_capture_use(
     alloc: Global,
-    known: &KnownCaptures<'_>,
+    table: &CaptureTable<'_>,
     u: &Use,
     out: &mut Vec<Finding>,
 ) -> Result<(), AllocError>
-    ensures { IfOk result (λ _. out.new.items ≡ out.old.items ++ spec.capture_use (see_captures known.now) u.now) }
+    ensures { IfOk result (λ _. out.new.items ≡ out.old.items ++ spec.capture_use (see_captures table.now) u.now) }
 {
     match &u.form {
         Form::Called(list) => {
-            let Some(c) = captures_of(known, &u.name) else {
+            let Some(c) = captures_of(table, &u.name) else {
                 return Ok(());
             };
             let tests = c.tests.as_slice();

@@ -1,18 +1,19 @@
 // Rule 6: a mapped parameter is read or assigned in a form in which it may not be.
-ghost use Rattle.std.specs.Prelude.{◌≡◌, suc, nat_eq, ◌++◌, map, option_map, IfOk};
+ghost use Rattle.std.specs.Prelude.{◌≡◌, ◌++◌, map, option_map, IfOk};
 ghost use Rattle.pgo_base.specs.ExprView.{tree};
 ghost use Rattle.pgo_scope.specs.Findings.{each_use, found_where};
-ghost use Rattle.pgo_scope.specs.KnownView.{see_known, see_ways};
+ghost use Rattle.pgo_scope.specs.MacroTableView.{see_table, see_usage};
 ghost use Rattle.pgo_scope.specs.Mapped as spec;
 
 use crate::finding::{Cause, Finding, add_if};
-use crate::known::{Known, ParameterWays, add_left_uses, parameters_of, plainly, read_around};
+use crate::macro_table::{
+    MacroTable, ParameterUsage, add_left_uses, parameters_of, plainly, read_around,
+};
 use crate::units::UnitNames;
-use crate::ways::{Ways, join, left_base, left_shape};
+use crate::usage::{Usage, join, left_base, left_shape};
 use pgo_base::expr::Expr;
 use pgo_base::text::Text;
 use pgo_syntax::archetype::{Extent, ParameterKind};
-use pgo_syntax::process::{Argument, MappingClause, MappingTarget, Process};
 use pgo_uses::uses::{Around, Form, Home, Shape, Use};
 use pgo_uses::walk::add_uses;
 use std::alloc::{AllocError, Global};
@@ -24,58 +25,6 @@ pub enum Mapped {
     Unmapped,
     AsWhole,
     ByElement,
-}
-
-/// Whether the argument is this global.
-fn is_ref_to(g: &Text, argument: Option<&Argument>) -> bool
-    ensures { result ≡ spec.is_ref_to g.now (option_map (λ a. a.now) argument.entry) }
-{
-    match argument {
-        Some(Argument::Ref(x, _)) => g.is(&x.name),
-        _ => false,
-    }
-}
-
-/// Whether a clause with this target names the argument of this number, from 0.
-fn names_argument(number: usize, args: &[Argument], target: &MappingTarget) -> bool
-    ensures { result ≡ spec.names_argument number args.now target.now }
-{
-    match target {
-        MappingTarget::Argument { number: m, .. } => is_next(*m, number),
-        MappingTarget::Global { name, .. } => is_ref_to(&name.name, args.get(number)),
-    }
-}
-
-/// Whether m is one more than n.
-fn is_next(m: u64, n: usize) -> bool
-    ensures { result ≡ nat_eq m (suc n) }
-{
-    m > 0 && m - 1 == n as u64
-}
-
-fn some_clause(number: usize, args: &[Argument], clauses: &[MappingClause]) -> bool
-    ensures { result ≡ spec.some_clause number args.now clauses.now }
-{
-    for c in clauses {
-        if names_argument(number, args, &c.target) {
-            return true;
-        }
-    }
-    false
-}
-
-/// Whether a clause of some process of the archetype names the parameter of this number.
-pub fn some_process(archetype: &Text, number: usize, list: &[Process]) -> bool
-    ensures { result ≡ spec.some_process archetype.now number list.now }
-{
-    for p in list {
-        if archetype.is(&p.archetype.name)
-            && some_clause(number, p.arguments.as_slice(), p.clauses.as_slice())
-        {
-            return true;
-        }
-    }
-    false
 }
 
 pub fn mapped_kind(named: bool, kind: ParameterKind) -> Mapped
@@ -228,12 +177,12 @@ fn add_argument_written(
     add_read_uses(alloc, units, uses.as_slice(), out)
 }
 
-/// Adds what is wrong with an argument in the ways in which its parameter is read.
+/// Adds what is wrong with an argument as its parameter is read.
 fn add_argument_reads(
     alloc: Global,
     units: &UnitNames<'_>,
     around: Around,
-    w: Ways,
+    w: Usage,
     e: &Expr,
     out: &mut Vec<Finding>,
 ) -> Result<(), AllocError>
@@ -249,12 +198,12 @@ fn add_argument_reads(
     add_argument_read(alloc, units, w.hidden_indexed, both, e, out)
 }
 
-/// Adds what is wrong with an argument in all the ways in which its parameter stands.
+/// Adds what is wrong with an argument as its parameter is used.
 fn add_argument(
     alloc: Global,
     units: &UnitNames<'_>,
     around: Around,
-    w: Ways,
+    w: Usage,
     e: &Expr,
     out: &mut Vec<Finding>,
 ) -> Result<(), AllocError>
@@ -271,17 +220,17 @@ fn add_arguments(
     alloc: Global,
     units: &UnitNames<'_>,
     around: Around,
-    params: &[ParameterWays],
+    params: &[ParameterUsage],
     args: &[Expr],
     out: &mut Vec<Finding>,
 ) -> Result<(), AllocError>
-    ensures { IfOk result (λ _. out.new.items ≡ out.old.items ++ spec.arguments_findings units.now.spec.now around (map see_ways params.now) (map tree args.now)) }
+    ensures { IfOk result (λ _. out.new.items ≡ out.old.items ++ spec.arguments_findings units.now.spec.now around (map see_usage params.now) (map tree args.now)) }
 {
     for (i, q) in params.iter().enumerate() {
         let Some(e) = args.get(i) else {
             return Ok(());
         };
-        add_argument(alloc, units, around, q.ways, e, out)?;
+        add_argument(alloc, units, around, q.usage, e, out)?;
     }
     Ok(())
 }
@@ -290,11 +239,11 @@ fn add_arguments(
 pub fn add_mapped_use(
     alloc: Global,
     units: &UnitNames<'_>,
-    known: &Known<'_>,
+    table: &MacroTable<'_>,
     u: &Use,
     out: &mut Vec<Finding>,
 ) -> Result<(), AllocError>
-    ensures { IfOk result (λ _. out.new.items ≡ out.old.items ++ spec.mapped_use units.now.spec.now (see_known known.now) u.now) }
+    ensures { IfOk result (λ _. out.new.items ≡ out.old.items ++ spec.mapped_use units.now.spec.now (see_table table.now) u.now) }
 {
     match &u.form {
         Form::Alone => {
@@ -305,7 +254,7 @@ pub fn add_mapped_use(
         }
         Form::Assigned(shape) => add_mapped_write(alloc, units, u.around, &u.name, *shape, out),
         Form::Called(list) => {
-            let params = parameters_of(known, &u.name);
+            let params = parameters_of(table, &u.name);
             add_arguments(alloc, units, u.around, params, list.as_slice(), out)
         }
         _ => Ok(()),

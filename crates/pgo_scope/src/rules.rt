@@ -7,15 +7,15 @@ ghost use Rattle.pgo_scope.specs.RulesView.{see};
 
 use crate::arity::{add_arity_heads, add_arity_use};
 use crate::assigned::add_assigned_use;
-use crate::captures::{KnownCaptures, add_capture_use};
+use crate::captures::{CaptureTable, add_capture_use};
 use crate::clash::add_clashes;
 use crate::errors::ScopeError;
 use crate::finding::{Cause, Finding, add_if, earliest};
 use crate::globals::is_global;
-use crate::known::Known;
+use crate::macro_table::MacroTable;
 use crate::mapped::add_mapped_use;
+use crate::module_names::module_names;
 use crate::modules::add_unknown_modules;
-use crate::things::things;
 use crate::twice::{add_declared_twice, add_reserved, is_hiding};
 use crate::underscores::add_double_names;
 use crate::units::UnitNames;
@@ -32,10 +32,10 @@ pub struct Context<'a, 's> {
     /// the specification, with the names that its archetypes and macros declare
     pub units: &'a UnitNames<'s>,
     pub tables: &'a Tables,
-    /// in what ways the parameters of macros stand
-    pub known: Known<'a>,
+    /// the macros, with the usage of their parameters
+    pub macros: MacroTable<'a>,
     /// which names may not stand in the arguments of macros
-    pub captures: KnownCaptures<'a>,
+    pub captures: CaptureTable<'a>,
     /// the names that stand in the text
     pub uses: &'a [Use],
 }
@@ -102,8 +102,8 @@ fn add_use(
             let wrong = is_global(c.tables, u);
             add_if(alloc, wrong, Cause::GlobalInArchetype, place, x, out)
         }
-        UseRule::Assigned => add_assigned_use(alloc, c.units, &c.known, u, out),
-        UseRule::Mapped => add_mapped_use(alloc, c.units, &c.known, u, out),
+        UseRule::Assigned => add_assigned_use(alloc, c.units, &c.macros, u, out),
+        UseRule::Mapped => add_mapped_use(alloc, c.units, &c.macros, u, out),
         UseRule::Underscores => {
             let wrong = has_double_underscore(x);
             add_if(alloc, wrong, Cause::DoubleUnderscore, place, x, out)
@@ -164,8 +164,8 @@ fn add_name_clashes(
 ) -> Result<(), AllocError>
     ensures { IfOk result (λ _. out.new.items ≡ out.old.items ++ spec.clashes (see c.now)) }
 {
-    let things = things(alloc, c.units.spec, c.uses)?;
-    add_clashes(alloc, things.as_slice(), out)
+    let names = module_names(alloc, c.units.spec, c.uses)?;
+    add_clashes(alloc, names.as_slice(), out)
 }
 
 fn add_underscores(

@@ -2,9 +2,9 @@
 ghost use Rattle.std.specs.Prelude.{◌≡◌, IfOk};
 ghost use Rattle.pgo_scope.specs.Refusal.{scope_refusal, Answers};
 
-use crate::captures::{KnownCaptures, known_captures};
+use crate::captures::{CaptureTable, all_captures};
 use crate::errors::ScopeError;
-use crate::known::{Known, known_macros};
+use crate::macro_table::{MacroTable, all_parameters};
 use crate::rules::{Context, RULES, first_of};
 use crate::units::names_of_units;
 use pgo_syntax::spec::Spec;
@@ -42,19 +42,19 @@ fn refusal(alloc: Global, s: &Spec) -> Result<Option<ScopeError>, AllocError>
 {
     let tables = tables_of(alloc, s)?;
     let macros = &tables.macros;
-    let known = known_macros(alloc, macros, s.macros.as_slice())?;
-    let captures = known_captures(alloc, macros, s.macros.as_slice())?;
+    let parameters = all_parameters(alloc, macros, s.macros.as_slice())?;
+    let captures = all_captures(alloc, macros, s.macros.as_slice())?;
     let uses = all_uses(alloc, s)?;
     let units = names_of_units(alloc, s)?;
     let context = Context {
         units: &units,
         tables: &tables,
-        known: Known {
-            macros,
-            list: known.as_slice(),
+        macros: MacroTable {
+            names: macros,
+            list: parameters.as_slice(),
         },
-        captures: KnownCaptures {
-            macros,
+        captures: CaptureTable {
+            names: macros,
             list: captures.as_slice(),
         },
         uses: uses.as_slice(),

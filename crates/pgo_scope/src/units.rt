@@ -6,8 +6,10 @@ ghost use Rattle.pgo_scope.specs.Assigned as assigning;
 ghost use Rattle.pgo_scope.specs.Mapped as mapping;
 ghost use Rattle.pgo_scope.specs.Unknown as unknown;
 ghost use Rattle.pgo_scope.specs.UnitRows as rows;
+ghost use Rattle.pgo_scope.specs.Targets as targets;
 
-use crate::mapped::{Mapped, mapped_kind, some_process};
+use crate::mapped::{Mapped, mapped_kind};
+use crate::targets::{Run, runs, some_run};
 use pgo_base::text::Text;
 use pgo_syntax::archetype::{Archetype, Parameter, ParameterKind};
 use pgo_syntax::declaration::Declaration;
@@ -164,28 +166,25 @@ fn macro_parameters(alloc: Global, list: &[PlacedName]) -> Result<Names, AllocEr
     Ok(names)
 }
 
-/// What each parameter of an archetype is to the rule of mapped parameters.
-fn kinds(
-    alloc: Global,
-    archetype: &Text,
-    list: &[Process],
-    params: &[Parameter],
-) -> Result<Vec<Mapped>, AllocError>
-    ensures { IfOk result (λ v. v.items ≡ rows.mapped_kinds archetype.now list.now 0 params.now) }
+/// What each parameter of an archetype with these processes is to the rule of mapped parameters.
+fn kinds(alloc: Global, list: &[Run<'_>], params: &[Parameter]) -> Result<Vec<Mapped>, AllocError>
+    ensures { IfOk result (λ v. v.items ≡ targets.kinds_by (map targets.see_run list.now) 0 params.now) }
 {
     let mut kinds = Vec::new(alloc);
     for (n, p) in params.iter().enumerate() {
-        kinds.push(mapped_kind(some_process(archetype, n, list), p.kind))?;
+        kinds.push(mapped_kind(some_run(n, list), p.kind))?;
     }
     Ok(kinds)
 }
 
+#[tactic(auto, using(crate::proofs::Targeting::kinds_are))]
 fn mapped_names(alloc: Global, list: &[Process], r: &Archetype) -> Result<MappedNames, AllocError>
     ensures { IfOk result (λ m. rows.see_kinds m ≡ rows.kinds_of list.now r.now) }
 {
     let mut params = Names::new(alloc);
     add_parameters(alloc, r.params.as_slice(), &mut params)?;
-    let kinds = kinds(alloc, &r.name.name, list, r.params.as_slice())?;
+    let runs = runs(alloc, &r.name.name, list)?;
+    let kinds = kinds(alloc, runs.as_slice(), r.params.as_slice())?;
     Ok(MappedNames { params, kinds })
 }
 

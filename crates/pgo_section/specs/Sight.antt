@@ -5,6 +5,7 @@ use Rattle.pgo_model.specs.Core as core
 use Rattle.pgo_model.specs.Log.{Effect}
 use Rattle.pgo_model.specs.System.{System}
 use Rattle.pgo_model.specs.Written.{pc, done}
+pub use Rattle.pgo_syntax.specs.RecordView.{ended}
 use Rattle.pgo_syntax.specs.RecordView.{result_view, settings_view}
 use Rattle.pgo_syntax.specs.declared.records.End.{End}
 use Rattle.pgo_syntax.specs.declared.records.End.TheVariants as ends
@@ -43,12 +44,6 @@ abbrev pub refusal_turn : Refusal → spec.Turn
 refusal_turn (refusals.Held r h) = spec.Refused (view.IsHeld r h)
 refusal_turn (refusals.Down r o) = spec.IsDown r o
 refusal_turn (refusals.Full n) = spec.Refused (view.IsFull n)
-
-abbrev pub ended : core.End → End
-ended core.Done = ends.Done
-ended core.Stopped = ends.Stopped
-ended core.JournalFull = ends.Full
-ended core.Spent = ends.Spent
 
 -- how an instance without an attempt has ended; none where it makes another
 abbrev pub end_at_rest : {C : Type 0} → Worker C → Option End

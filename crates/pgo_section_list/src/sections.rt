@@ -15,10 +15,10 @@ ghost use Rattle.pgo_syntax.specs.StatementView.{statement};
 use crate::inner::{Inner, in_block, inners_of};
 use pgo_base::text::Text;
 use pgo_effects::around::Around;
+use pgo_effects::indexed_archetype::IndexedArchetype;
 use pgo_effects::setting::Setting;
 use pgo_effects::todo::{Part, Todo};
 use pgo_effects::written::written_label;
-use pgo_syntax::archetype::Archetype;
 use pgo_syntax::bound::Binding;
 use pgo_syntax::macros::Macro;
 use pgo_syntax::statement::Stmt;
@@ -62,15 +62,15 @@ pub struct Follow<'a> {
 
 /// Whose statements they are, and the macros that may be called in them.
 #[derive(Clone, Copy)]
-pub struct Source<'a> {
-    pub setting: Setting<'a>,
+pub struct Source<'a, 'i> {
+    pub setting: Setting<'a, 'i>,
     pub macros: &'a [Macro],
 }
 
 /// A part of the source's text below a label.
 fn todo_in<'a>(
     alloc: Global,
-    source: Source<'a>,
+    source: Source<'a, '_>,
     label: Option<&'a Text>,
     part: Part<'a>,
 ) -> Result<Todo<'a>, AllocError>
@@ -110,7 +110,7 @@ fn first<'a>(alloc: Global, todo: Todo<'a>, follow: &Follow<'a>) -> Result<Follo
 /// What follows a statement that stands in another one, where this is what follows that one.
 fn behind<'a>(
     alloc: Global,
-    source: Source<'a>,
+    source: Source<'a, '_>,
     label: Option<&'a Text>,
     inner: Inner<'a>,
     follow: &Follow<'a>,
@@ -133,7 +133,7 @@ fn behind<'a>(
 /// The section of a label before this statement.
 fn own_section<'a>(
     alloc: Global,
-    source: Source<'a>,
+    source: Source<'a, '_>,
     label: &'a Text,
     t: &'a Stmt,
     follow: &Follow<'a>,
@@ -154,7 +154,7 @@ fn own_section<'a>(
 fn add_own<'a>(
     sections: &mut Vec<Section<'a>>,
     alloc: Global,
-    source: Source<'a>,
+    source: Source<'a, '_>,
     inner: Inner<'a>,
     follow: &Follow<'a>,
 ) -> Result<(), AllocError>
@@ -174,7 +174,7 @@ fn add_own<'a>(
 fn gather<'a>(
     sections: &mut Vec<Section<'a>>,
     alloc: Global,
-    source: Source<'a>,
+    source: Source<'a, '_>,
     label: Option<&'a Text>,
     list: &[Inner<'a>],
     follow: &Follow<'a>,
@@ -205,7 +205,7 @@ pub fn sections<'a>(
     alloc: Global,
     macros: &'a [Macro],
     process: &'a Text,
-    archetype: &'a Archetype,
+    archetype: &IndexedArchetype<'a>,
     bindings: &'a [Binding],
 ) -> Result<Vec<Section<'a>>, AllocError>
     requires { AreUnlabelled macros.now }
@@ -221,7 +221,7 @@ pub fn sections<'a>(
         todos: Vec::new(alloc),
         end: End::Done,
     };
-    let inners = in_block(alloc, archetype.body.as_slice())?;
+    let inners = in_block(alloc, archetype.archetype().body.as_slice())?;
     let mut sections = Vec::new(alloc);
     gather(&mut sections, alloc, source, None, inners.as_slice(), &end)?;
     Ok(sections)

@@ -121,8 +121,8 @@ fn with_value_at(
     sorted_function(replaced(alloc, function, key, value)?)
 }
 
-/// Copies of the pairs of a function, with another value at one key.
-fn replaced(
+/// Copies of the pairs of a function, with another value at one key. Where the key is not there, the pairs are the same.
+pub fn replaced(
     alloc: Global,
     function: &Fun,
     key: &Value,

@@ -77,7 +77,7 @@ closed_complete room count rest header algorithm h few = go (row_from rest) refl
 
 -- ---- what is given is right
 
-outside_ends : (ls : List Lexeme) → Ends 0 ls → EndsWithBrace ls
+pub outside_ends : (ls : List Lexeme) → Ends 0 ls → EndsWithBrace ls
 outside_ends ls (outside h) = h
 
 -- the tokens of an algorithm, whose body stands behind `before`
@@ -91,13 +91,13 @@ pub record AlgorithmPart (before content behind : List ℕ) (used : ℕ) (header
   pub few : used + length unmarked + 1 ≤ most_tokens
   pub header_is : header ≡ p.header
 
-body_place : (text before content behind : List ℕ) → text ≡ before ++ (content ++ ((42 ∷ 41 ∷ []) ++ behind)) → body_start text (content, behind) ≡ length before
+pub body_place : (text before content behind : List ℕ) → text ≡ before ++ (content ++ ((42 ∷ 41 ∷ []) ++ behind)) → body_start text (content, behind) ≡ length before
 body_place text before content behind e =
     let q = ap length e ∙ length-append before (content ++ ((42 ∷ 41 ∷ []) ++ behind)) in
     let r = length-append content ((42 ∷ 41 ∷ []) ++ behind) in
     omega (arith, q, r)
 
-algorithm_there : (text before content behind : List ℕ) (used : ℕ) → text ≡ before ++ (content ++ ((42 ∷ 41 ∷ []) ++ behind))
+pub algorithm_there : (text before content behind : List ℕ) (used : ℕ) → text ≡ before ++ (content ++ ((42 ∷ 41 ∷ []) ++ behind))
     → algorithm_in text used (content, behind) ≡ algorithm (most_tokens - used) (length content) 0 (column_of before) (length before) [] content
 algorithm_there text before content behind used e =
     (λ i. algorithm (most_tokens - used) (length content) 0 (column_at text (body_place text before content behind e i)) (body_place text before content behind e i) [] content)
@@ -126,7 +126,7 @@ algorithm_part text before content behind used header p e h =
     }))
 
 -- the place behind `--mpcal`
-body_behind : (text before head lead content behind : List ℕ) → text ≡ before ++ (head ++ ((lead ++ (mpcal ++ (content ++ (42 ∷ 41 ∷ [])))) ++ behind))
+pub body_behind : (text before head lead content behind : List ℕ) → text ≡ before ++ (head ++ ((lead ++ (mpcal ++ (content ++ (42 ∷ 41 ∷ [])))) ++ behind))
     → text ≡ (before ++ (head ++ (lead ++ mpcal))) ++ (content ++ ((42 ∷ 41 ∷ []) ++ behind))
 body_behind text before head lead content behind e = e ∙ joined before head lead mpcal content (42 ∷ 41 ∷ []) behind
   where

@@ -6,3 +6,5 @@ pub mod Adding
 pub mod HeaderExact
 pub mod AlgorithmExact
 pub mod Exact
+pub mod Prefixed
+pub mod Starts

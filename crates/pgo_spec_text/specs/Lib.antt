@@ -1,3 +1,4 @@
 pub mod SpecText
 pub mod Searching
 pub mod Cutting
+pub mod Prefixes

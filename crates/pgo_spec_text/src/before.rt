@@ -1,11 +1,15 @@
 // The tokens of a specification before a fault among its tokens, as far as they go.
-ghost use Rattle.std.specs.Prelude.{◌≤◌, ◌+◌, IfOk, IfSome, length};
+ghost use Rattle.std.specs.Prelude.{◌≡◌, ◌≤◌, ◌+◌, ◌-◌, ◌++◌, ◌∷◌, [], Some, IfOk, IfSome, ℕ, List, drop, length, take};
+ghost use Rattle.pgo_lexer.specs.declared.token.Lexeme.{Lexeme};
+ghost use Rattle.pgo_spec_text.specs.Cutting as cutting;
+ghost use Rattle.pgo_spec_text.specs.Prefixes.{ArePartsBefore, IsAlgorithmBefore, IsPartBefore, IsSpecBefore, IsWholeHeader};
+ghost use Rattle.pgo_spec_text.specs.SpecText.{most_tokens};
 
 use crate::cut::{Head, header};
 use crate::parts::{MOST_BYTES, MOST_TOKENS, algorithm_in, body_start, column_at};
 use crate::search::{inside, module_from};
 use pgo_lexer::before::{Before, lexed_before, marked_before};
-use pgo_lexer::bytes::skip;
+use pgo_lexer::bytes::{first, skip};
 use pgo_lexer::errors::TextStop;
 use pgo_lexer::token::Tokens;
 use std::alloc::Global;
@@ -19,15 +23,16 @@ pub struct SpecBefore {
     pub algorithm: Option<Before>,
 }
 
-/// The tokens of the header alone.
-fn header_alone(alloc: Global, tokens: Tokens, fault: usize) -> Result<SpecBefore, TextStop>
-    ensures header { IfOk result (λ b. b.header.fault ≤ fault) }
-    ensures algorithm { IfOk result (λ b. IfSome b.algorithm (λ a. a.fault ≤ fault)) }
+/// The tokens of the text from an offset on, before a fault.
+fn part_before(alloc: Global, text: &[u8], start: usize, fault: usize) -> Result<Before, TextStop>
+    requires small { length text.now ≤ 1152921504606846976 }
+    requires within { start ≤ length text.now }
+    ensures earlier { IfOk result (λ b. b.fault ≤ fault) }
+    ensures tokens { IfOk result (IsPartBefore (take start text.now) (drop start text.now) fault) }
 {
-    Ok(SpecBefore {
-        header: marked_before(alloc, tokens, fault)?,
-        algorithm: None,
-    })
+    let column = column_at(text, start);
+    let tokens = lexed_before(alloc, text, column, start, fault)?;
+    marked_before(alloc, tokens, fault)
 }
 
 /// The tokens of the algorithm in the body of its comment, where so many tokens stand before and these bytes behind the
@@ -42,31 +47,59 @@ fn algorithm_before(
 ) -> Result<Before, TextStop>
     requires small { length text.now ≤ 1152921504606846976 }
     requires within { length body.now + length behind.now + 2 ≤ length text.now }
-    ensures { IfOk result (λ a. a.fault ≤ fault) }
+    ensures earlier { IfOk result (λ a. a.fault ≤ fault) }
+    ensures tokens { (before : List ℕ) → text.now ≡ before ++ (body.now ++ ((42 ∷ 41 ∷ []) ++ behind.now)) → IfOk result (IsAlgorithmBefore before body.now (most_tokens - used) fault) }
 {
     match algorithm_in(alloc, text, used, body, behind) {
         Ok(tokens) => marked_before(alloc, tokens, fault),
         Err(TextStop::Syntax { .. }) => {
             let start = body_start(text, body, behind);
-            let column = column_at(text, start);
-            let tokens = lexed_before(alloc, text, column, start, fault)?;
-            marked_before(alloc, tokens, fault)
+            part_before(alloc, first(text, start + body.len()), start, fault)
         }
         Err(TextStop::NoMemory) => Err(TextStop::NoMemory),
     }
 }
 
-/// The tokens of the header, and those of the algorithm in the comment behind it.
-fn both(alloc: Global, text: &[u8], head: Head, fault: usize) -> Result<SpecBefore, TextStop>
-    requires { length text.now ≤ 1152921504606846976 }
+/// The tokens from the line of MODULE on, which begins at an offset, where the header doesn't end before the fault.
+fn header_alone(
+    alloc: Global,
+    text: &[u8],
+    start: usize,
+    fault: usize,
+) -> Result<SpecBefore, TextStop>
+    requires small { length text.now ≤ 1152921504606846976 }
+    requires within { start ≤ length text.now }
     ensures header { IfOk result (λ b. b.header.fault ≤ fault) }
     ensures algorithm { IfOk result (λ b. IfSome b.algorithm (λ a. a.fault ≤ fault)) }
+    ensures tokens { ((part rest : List ℕ) (unmarked : List Lexeme) → drop start text.now ≡ part ++ rest → IsWholeHeader (take start text.now) part rest unmarked → fault ≤ start + length part)
+        → IfOk result (ArePartsBefore (take start text.now) (drop start text.now) fault) }
+{
+    Ok(SpecBefore {
+        header: part_before(alloc, text, start, fault)?,
+        algorithm: None,
+    })
+}
+
+/// The tokens of the header, and those of the algorithm in the comment behind it.
+fn both(
+    alloc: Global,
+    text: &[u8],
+    start: usize,
+    head: Head,
+    fault: usize,
+) -> Result<SpecBefore, TextStop>
+    requires small { length text.now ≤ 1152921504606846976 }
+    requires within { start ≤ length text.now }
+    ensures header { IfOk result (λ b. b.header.fault ≤ fault) }
+    ensures algorithm { IfOk result (λ b. IfSome b.algorithm (λ a. a.fault ≤ fault)) }
+    ensures tokens { cutting.header most_tokens (length text.now) (cutting.column_at text.now start) start [] (drop start text.now) ≡ Some head
+        → IfOk result (ArePartsBefore (take start text.now) (drop start text.now) fault) }
 {
     let Head { tokens, at } = head;
-    let used = tokens.len();
     if fault <= at {
-        return header_alone(alloc, tokens, fault);
+        return header_alone(alloc, text, start, fault);
     }
+    let used = tokens.len();
     let header = marked_before(alloc, tokens, at)?;
     match inside(skip(text, at)) {
         None => Ok(SpecBefore {
@@ -91,14 +124,12 @@ fn from_module(
     requires within { start ≤ length text.now }
     ensures header { IfOk result (λ b. b.header.fault ≤ fault) }
     ensures algorithm { IfOk result (λ b. IfSome b.algorithm (λ a. a.fault ≤ fault)) }
+    ensures tokens { IfOk result (ArePartsBefore (take start text.now) (drop start text.now) fault) }
 {
     let column = column_at(text, start);
     match header(alloc, text, column, start, MOST_TOKENS) {
-        Ok(head) => both(alloc, text, head, fault),
-        Err(TextStop::Syntax { .. }) => {
-            let tokens = lexed_before(alloc, text, column, start, fault)?;
-            header_alone(alloc, tokens, fault)
-        }
+        Ok(head) => both(alloc, text, start, head, fault),
+        Err(TextStop::Syntax { .. }) => header_alone(alloc, text, start, fault),
         Err(TextStop::NoMemory) => Err(TextStop::NoMemory),
     }
 }
@@ -109,12 +140,16 @@ fn from_module(
 pub fn tokens_before(alloc: Global, text: &[u8], fault: usize) -> Result<SpecBefore, TextStop>
     ensures header { IfOk result (λ b. b.header.fault ≤ fault) }
     ensures algorithm { IfOk result (λ b. IfSome b.algorithm (λ a. a.fault ≤ fault)) }
+    ensures tokens { IfOk result (IsSpecBefore text.now fault) }
 {
     if text.len() > MOST_BYTES {
         return Err(TextStop::NoMemory);
     }
     match module_from(text) {
-        None => header_alone(alloc, Tokens::new(alloc), fault),
+        None => Ok(SpecBefore {
+            header: marked_before(alloc, Tokens::new(alloc), fault)?,
+            algorithm: None,
+        }),
         Some(rest) => from_module(alloc, text, text.len().saturating_sub(rest.len()), fault),
     }
 }

@@ -1,6 +1,7 @@
 // The tokens of the header and of the algorithm.
-ghost use Rattle.std.specs.Prelude.{◌≡◌, ◌≤◌, ◌<◌, ◌+◌, ◌*◌, [], length, drop, IfOk};
+ghost use Rattle.std.specs.Prelude.{◌≡◌, ◌≤◌, ◌<◌, ◌+◌, ◌*◌, [], length, drop, IfErr, IfOk};
 ghost use Rattle.pgo_lexer.specs.Answers.{Gives, ok_as};
+ghost use Rattle.pgo_lexer.specs.Offsets.{IsAt, IsWithin};
 ghost use Rattle.pgo_lexer.specs.Pieces as piece;
 ghost use Rattle.pgo_spec_text.specs.SpecText as text;
 ghost use Rattle.pgo_spec_text.specs.Cutting as spec;
@@ -86,6 +87,7 @@ fn is_last(depth: usize, token: &Option<Token>) -> bool
 pub fn next_piece(alloc: Global, rest: &[u8], at: usize) -> Result<Piece, TextStop>
     ensures value { Gives (piece.first_piece rest.now) result }
     ensures within { IfOk result (λ p. p.length ≤ length rest.now) }
+    ensures refused { IfErr result (IsAt at) }
 {
     match first_piece(alloc, rest)? {
         Some(piece) => Ok(piece),
@@ -102,7 +104,8 @@ fn add(
     piece: Piece,
 ) -> Result<(), TextStop>
     requires { start + piece.length < 18446744073709551616 }
-    ensures { Gives (spec.added limit column start tokens.old piece.length piece.token) (ok_as tokens.new result) }
+    ensures value { Gives (spec.added limit column start tokens.old piece.length piece.token) (ok_as tokens.new result) }
+    ensures refused { IfErr result (IsAt start) }
 {
     let stop = start + piece.length;
     match piece.token {
@@ -137,6 +140,7 @@ pub fn header(
     requires near { column ≤ 8 * start }
     ensures value { Gives (spec.header limit (length text.now) column start [] (drop start text.now)) result }
     ensures inside { IfOk result (λ h. h.at ≤ length text.now) }
+    ensures within { IfErr result (IsWithin (length text.now)) }
 {
     let mut tokens = Tokens::new(alloc);
     let mut rest = skip(text, start);
@@ -167,7 +171,8 @@ pub fn algorithm(
 ) -> Result<Tokens, TextStop>
     requires small { start + length body.now ≤ 1152921504606846976 }
     requires near { column ≤ 8 * start }
-    ensures { Gives (spec.algorithm limit (length body.now) 0 column start [] body.now) result }
+    ensures value { Gives (spec.algorithm limit (length body.now) 0 column start [] body.now) result }
+    ensures within { IfErr result (IsWithin (start + length body.now)) }
 {
     let mut tokens = Tokens::new(alloc);
     let mut rest = body;

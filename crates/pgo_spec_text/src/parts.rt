@@ -1,6 +1,7 @@
 // The tokens of a specification's text, with the marks of its junction lists.
 ghost use Rattle.std.specs.Prelude.{◌≡◌, ◌≤◌, ◌+◌, ◌*◌, IfOk, IfErr, List, ℕ, length};
 ghost use Rattle.pgo_lexer.specs.Answers.{Gives, IsSyntax};
+ghost use Rattle.pgo_lexer.specs.Offsets.{IsWithin};
 ghost use Rattle.pgo_lexer.specs.declared.token.Lexeme.{Lexeme};
 ghost use Rattle.pgo_spec_text.specs.Cutting as spec;
 ghost use Rattle.pgo_spec_text.specs.SpecText.{IsSpecText, IsOrNoMemory};
@@ -58,7 +59,8 @@ pub fn algorithm_in(
 ) -> Result<Tokens, TextStop>
     requires small { length text.now ≤ 1152921504606846976 }
     requires within { length body.now + length behind.now + 2 ≤ length text.now }
-    ensures { Gives (spec.algorithm_in text.now used (body.now, behind.now)) result }
+    ensures value { Gives (spec.algorithm_in text.now used (body.now, behind.now)) result }
+    ensures within { IfErr result (IsWithin (length text.now)) }
 {
     let start = body_start(text, body, behind);
     let column = column_at(text, start);
@@ -77,6 +79,7 @@ fn closed(
 ) -> Result<SpecTokens, TextStop>
     ensures value { Gives (spec.closed room count behind.now header algorithm) result }
     ensures memory { IfErr result IsSyntax }
+    ensures within { IfErr result (IsWithin end) }
 {
     match row_from(behind) {
         None => Err(TextStop::at(end)),
@@ -99,8 +102,10 @@ fn with_comment(
     header: Tokens,
     at: usize,
 ) -> Result<SpecTokens, TextStop>
-    requires { length text.now ≤ 1152921504606846976 }
-    ensures { Gives (spec.with_comment text.now used header at) result }
+    requires small { length text.now ≤ 1152921504606846976 }
+    requires within { at ≤ length text.now }
+    ensures value { Gives (spec.with_comment text.now used header at) result }
+    ensures within { IfErr result (IsWithin (length text.now)) }
 {
     match inside(skip(text, at)) {
         None => Err(TextStop::at(at)),
@@ -119,7 +124,8 @@ fn with_comment(
 fn from_module(alloc: Global, text: &[u8], start: usize) -> Result<SpecTokens, TextStop>
     requires small { length text.now ≤ 1152921504606846976 }
     requires within { start ≤ length text.now }
-    ensures { Gives (spec.from_module text.now start) result }
+    ensures value { Gives (spec.from_module text.now start) result }
+    ensures within { IfErr result (IsWithin (length text.now)) }
 {
     let column = column_at(text, start);
     let Head { tokens, at } = header(alloc, text, column, start, MOST_TOKENS)?;
@@ -130,7 +136,8 @@ fn from_module(alloc: Global, text: &[u8], start: usize) -> Result<SpecTokens, T
 
 /// Both lists, as the function on lists gives them.
 fn cut(alloc: Global, text: &[u8]) -> Result<SpecTokens, TextStop>
-    ensures { Gives (spec.cut text.now) result }
+    ensures value { Gives (spec.cut text.now) result }
+    ensures within { IfErr result (IsWithin (length text.now)) }
 {
     if text.len() > MOST_BYTES {
         return Err(TextStop::NoMemory);
@@ -154,6 +161,7 @@ pub fn spec_tokens(alloc: Global, text: &[u8]) -> Result<SpecTokens, TextStop>
     ensures found { IfOk result (λ p. IsSpecText text.now p.header p.algorithm) }
     // What the text has is answered, unless memory runs out. So `Syntax` comes only where the text has no such lists.
     ensures only { (header algorithm : List Lexeme) → IsSpecText text.now header algorithm → IsOrNoMemory result header algorithm }
+    ensures within { IfErr result (IsWithin (length text.now)) }
 {
     cut(alloc, text)
 }

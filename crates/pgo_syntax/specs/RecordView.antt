@@ -1,4 +1,4 @@
--- Notes, records and settings as they lie in memory, as what they stand for in the core machine.
+-- Notes, records and settings as they lie in memory, as what they stand for in the core machine; and ends of instances, as they lie there.
 use Rattle.std.specs.Prelude.{ℕ}
 use Rattle.pgo_syntax.specs.declared.records.NoteKind as kinds
 use Rattle.pgo_syntax.specs.declared.records.NoteKind.TheVariants as kind
@@ -8,9 +8,12 @@ use Rattle.pgo_syntax.specs.declared.records.Refusal.TheVariants as refusal
 use Rattle.pgo_syntax.specs.declared.records.AttemptResult as results
 use Rattle.pgo_syntax.specs.declared.records.AttemptResult.TheVariants as result
 use Rattle.pgo_syntax.specs.declared.records.Record as records
+use Rattle.pgo_syntax.specs.declared.records.End.{End}
+use Rattle.pgo_syntax.specs.declared.records.End.TheVariants as ends
 use Rattle.pgo_syntax.specs.declared.records.Settings as settings
 use Rattle.pgo_model.specs.Outcome.{Kind, Blocked, NoValue, AssertFails}
 use Rattle.pgo_model.specs.Machine.{Note, Record, Step, Noted, Held, Down, Full}
+use Rattle.pgo_model.specs.Core as core
 use Rattle.pgo_model.specs.Core.{Settings}
 
 abbrev pub kind_view : kinds.NoteKind → Kind
@@ -38,3 +41,10 @@ record_view r = (r.attempt, result_view r.result)
 -- whether blocked instances wait is no part of the machine
 abbrev pub settings_view : settings.Settings → Settings
 settings_view s = record { seed = s.seed; attempts = s.attempts; steps = s.steps; down = s.down }
+
+-- how an instance ended, as it lies in memory
+abbrev pub ended : core.End → End
+ended core.Done = ends.Done
+ended core.Stopped = ends.Stopped
+ended core.JournalFull = ends.Full
+ended core.Spent = ends.Spent

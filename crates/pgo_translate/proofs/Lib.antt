@@ -1,4 +1,4 @@
-mod ByProcess
+pub mod ByProcess
 mod FoundBack
 mod Weaker
 mod Truths

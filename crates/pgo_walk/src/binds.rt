@@ -3,9 +3,9 @@ ghost use Rattle.std.specs.Prelude.{◌≡◌, ◌∷◌, [], suc, option_map, I
 ghost use Rattle.pgo_model.specs.Written.{made};
 ghost use Rattle.pgo_sections.specs.Expand.{content_now, value_handed};
 
-use crate::made::{Made, Renamed, make_name};
-use crate::stack::Stack;
+use crate::made::{Made, make_name};
 use pgo_base::text::Text;
+use pgo_rewrite::newest::Newest;
 use std::alloc::{AllocError, Global};
 use std::mem::replace;
 
@@ -38,7 +38,7 @@ pub fn rename(alloc: Global, names: &mut Made, x: &Text, made: &Text) -> Result<
 {
     let x = x.copy(alloc)?;
     let made = made.copy(alloc)?;
-    names.push(Renamed::new(x, made))
+    names.push(x, made)
 }
 
 /// What stands for names, where this is all that does.
@@ -46,7 +46,7 @@ fn one_renamed(alloc: Global, x: &[u8], made: &Text) -> Result<Made, AllocError>
     ensures { IfOk result (λ names. names ≡ (x.now, made.now) ∷ []) }
 {
     let x = Text::from_slice(alloc, x)?;
-    let mut names = Stack::new(alloc);
+    let mut names = Newest::new(alloc);
     rename(alloc, &mut names, &x, made)?;
     Ok(names)
 }
@@ -65,7 +65,7 @@ pub fn handed(alloc: Global, value: Option<&Text>) -> Result<Made, AllocError>
     ensures { IfOk result (λ names. names ≡ value_handed (option_map (λ y. y.now) value.entry)) }
 {
     match value {
-        None => Ok(Stack::new(alloc)),
+        None => Ok(Newest::new(alloc)),
         Some(made) => one_renamed(alloc, b"$value", made),
     }
 }

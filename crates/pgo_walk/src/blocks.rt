@@ -26,7 +26,7 @@ use pgo_rewrite::mapped::Mapped;
 use std::alloc::{AllocError, Global};
 
 /// Whether a yield ends a block there.
-fn is_block(frame: &Frame<'_>) -> bool
+fn is_block(frame: &Frame<'_, '_>) -> bool
     ensures { result ≡ spec.has_block (frame_view frame.now ∷ []) }
 {
     match frame {
@@ -38,7 +38,7 @@ fn is_block(frame: &Frame<'_>) -> bool
 }
 
 /// Whether a yield ends a block anywhere among these.
-fn is_in_block(frames: &[Frame<'_>]) -> bool
+fn is_in_block(frames: &[Frame<'_, '_>]) -> bool
     ensures { result ≡ spec.has_block (frames_view (reverse frames.now)) }
 {
     for frame in frames {
@@ -50,19 +50,19 @@ fn is_in_block(frames: &[Frame<'_>]) -> bool
 }
 
 /// No step.
-pub fn nowhere<'a>(alloc: Global) -> Event<'a>
+pub fn nowhere<'a, 'i>(alloc: Global) -> Event<'a, 'i>
     ensures { (vs : List Name) (x : Expansion) → emitted vs result x ≡ spec_nowhere }
 {
     Event::Either(Vec::new(alloc))
 }
 
 /// A turn at a jump.
-pub fn jump<'a>(
+pub fn jump<'a, 'i>(
     alloc: Global,
     variables: &[Text],
-    state: &State<'a>,
+    state: &State<'a, 'i>,
     label: &Text,
-) -> Result<Event<'a>, AllocError>
+) -> Result<Event<'a, 'i>, AllocError>
     ensures { IfOk result (λ t. (x : Expansion) → spec.jumps variables.now (frames_view state.now.frames) label.now state.now.current state.now.bound ≡ emitted variables.now t x) }
 {
     if is_in_block(state.frames.as_slice()) {
@@ -73,7 +73,7 @@ pub fn jump<'a>(
 }
 
 /// Takes the frames up to the innermost block's, and that one, which it gives.
-fn leave_block<'a>(frames: &mut Stack<Frame<'a>>) -> Option<Frame<'a>>
+fn leave_block<'a, 'i>(frames: &mut Stack<Frame<'a, 'i>>) -> Option<Frame<'a, 'i>>
     ensures { option_map (λ f. (frame_view f, frames_view frames.new)) result ≡ spec.block_in (frames_view frames.old) }
 {
     while let Some(frame) = frames.pop() {
@@ -103,8 +103,8 @@ fn written_content(alloc: Global, current: &Made) -> Result<Option<Sub>, AllocEr
 }
 
 /// The mapped parameter has its new content, before the code that is left.
-fn push_put<'a>(
-    frames: &mut Stack<Frame<'a>>,
+fn push_put<'a, 'i>(
+    frames: &mut Stack<Frame<'a, 'i>>,
     mapped: Mapped<'a>,
     index: Option<Text>,
     renames: Made,
@@ -121,8 +121,8 @@ fn push_put<'a>(
 }
 
 /// The mapped parameter has this new content, if there is one, before the code that is left.
-fn push_content<'a>(
-    frames: &mut Stack<Frame<'a>>,
+fn push_content<'a, 'i>(
+    frames: &mut Stack<Frame<'a, 'i>>,
     mapped: Mapped<'a>,
     index: Option<Text>,
     renames: Made,
@@ -137,10 +137,10 @@ fn push_content<'a>(
 }
 
 /// The code goes on where a name stands for what was read.
-fn resume<'a>(
+fn resume<'a, 'i>(
     alloc: Global,
-    frames: &mut Stack<Frame<'a>>,
-    rest: Run<'a>,
+    frames: &mut Stack<Frame<'a, 'i>>,
+    rest: Run<'a, 'i>,
     value: &Text,
     made: &Text,
 ) -> Result<(), AllocError>
@@ -152,13 +152,13 @@ fn resume<'a>(
 }
 
 /// What is left behind a read: the new content, if the block assigned it, and the code.
-fn behind_read<'a>(
+fn behind_read<'a, 'i>(
     alloc: Global,
-    state: &mut State<'a>,
+    state: &mut State<'a, 'i>,
     value: &Text,
     mapped: Mapped<'a>,
     index: Option<Text>,
-    rest: Run<'a>,
+    rest: Run<'a, 'i>,
     made: &Text,
 ) -> Result<(), AllocError>
     ensures frames { IfOk result (λ _. frames_view state.new.frames ≡ behind_read (frames_view state.old.frames) value.now mapped.entry.global.now index (places_in rest.entry.setting) (code_left rest.entry) rest.entry.renames made.now state.old.current) }
@@ -171,16 +171,16 @@ fn behind_read<'a>(
 }
 
 /// A turn at the end of a block that reads.
-fn end_read<'a>(
+fn end_read<'a, 'i>(
     alloc: Global,
-    state: &mut State<'a>,
+    state: &mut State<'a, 'i>,
     value: Text,
     mapped: Mapped<'a>,
     index: Option<Text>,
-    rest: Run<'a>,
+    rest: Run<'a, 'i>,
     current: Made,
     e: Sub,
-) -> Result<Event<'a>, AllocError>
+) -> Result<Event<'a, 'i>, AllocError>
     ensures { IfOk result (λ t. (vs : List Name) → spec.yields vs (spec.Reading value mapped.entry.global.now index (places_in rest.entry.setting) (code_left rest.entry) rest.entry.renames current ∷ frames_view state.old.frames) e state.old.current state.old.bound ≡ emitted vs t (left_in vs state.new)) }
 {
     let made = bind(alloc, &mut state.bound, b"val")?;
@@ -190,15 +190,15 @@ fn end_read<'a>(
 }
 
 /// A turn at the end of a block that writes.
-fn end_write<'a>(
+fn end_write<'a, 'i>(
     alloc: Global,
-    state: &mut State<'a>,
+    state: &mut State<'a, 'i>,
     mapped: Mapped<'a>,
     index: Option<Text>,
     renames: Made,
     current: Made,
     e: Sub,
-) -> Result<Event<'a>, AllocError>
+) -> Result<Event<'a, 'i>, AllocError>
     ensures { IfOk result (λ t. (vs : List Name) → spec.yields vs (spec.Writing mapped.entry.global.now index renames current ∷ frames_view state.old.frames) e state.old.current state.old.bound ≡ emitted vs t (left_in vs state.new)) }
 {
     let made = bind(alloc, &mut state.bound, b"new")?;
@@ -209,12 +209,12 @@ fn end_write<'a>(
 }
 
 /// A turn at the end of a block.
-fn end_block<'a>(
+fn end_block<'a, 'i>(
     alloc: Global,
-    state: &mut State<'a>,
-    block: Frame<'a>,
+    state: &mut State<'a, 'i>,
+    block: Frame<'a, 'i>,
     e: Sub,
-) -> Result<Event<'a>, AllocError>
+) -> Result<Event<'a, 'i>, AllocError>
     ensures { IfOk result (λ t. (vs : List Name) → spec.has_block (frame_view block.entry ∷ []) ≡ true → spec.yields vs (frame_view block.entry ∷ frames_view state.old.frames) e state.old.current state.old.bound ≡ emitted vs t (left_in vs state.new)) }
 {
     match block {
@@ -236,7 +236,11 @@ fn end_block<'a>(
 }
 
 /// A turn at a yield of this value.
-pub fn end_with<'a>(alloc: Global, state: &mut State<'a>, e: Sub) -> Result<Event<'a>, AllocError>
+pub fn end_with<'a, 'i>(
+    alloc: Global,
+    state: &mut State<'a, 'i>,
+    e: Sub,
+) -> Result<Event<'a, 'i>, AllocError>
     ensures { IfOk result (λ t. (vs : List Name) → spec.yields vs (frames_view state.old.frames) e state.old.current state.old.bound ≡ emitted vs t (left_in vs state.new)) }
 {
     match leave_block(&mut state.frames) {
@@ -246,9 +250,9 @@ pub fn end_with<'a>(alloc: Global, state: &mut State<'a>, e: Sub) -> Result<Even
 }
 
 /// The made name of this base for the new value of x, which is then current.
-pub fn bind_current<'a>(
+pub fn bind_current<'a, 'i>(
     alloc: Global,
-    state: &mut State<'a>,
+    state: &mut State<'a, 'i>,
     base: &[u8],
     x: &Text,
 ) -> Result<Text, AllocError>
@@ -261,14 +265,14 @@ pub fn bind_current<'a>(
 }
 
 /// A turn at a new content of a mapped parameter.
-pub fn put_turn<'a>(
+pub fn put_turn<'a, 'i>(
     alloc: Global,
-    state: &mut State<'a>,
+    state: &mut State<'a, 'i>,
     mapped: Mapped<'a>,
     index: Option<Text>,
     renames: Made,
     value: Sub,
-) -> Result<Event<'a>, AllocError>
+) -> Result<Event<'a, 'i>, AllocError>
     ensures { IfOk result (λ t. (vs : List Name) → with_frame vs state.old (spec.Put mapped.entry.global.now index renames value) ≡ emitted vs t (left_in vs state.new)) }
 {
     let e = content_put(

@@ -13,14 +13,14 @@ use pgo_base::text::Text;
 use pgo_rewrite::mapped::Mapped;
 use std::alloc::{AllocError, Global};
 
-fn copy_reading<'a>(
+fn copy_reading<'a, 'i>(
     alloc: Global,
     value: &Text,
     mapped: Mapped<'a>,
     index: Option<&Text>,
-    rest: &Run<'a>,
+    rest: &Run<'a, 'i>,
     current: &Made,
-) -> Result<Frame<'a>, AllocError>
+) -> Result<Frame<'a, 'i>, AllocError>
     ensures { IfOk result (λ f. frame_view f ≡ spec.Reading value.now mapped.entry.global.now (option_map (λ i. i.now) index.entry) (places_in rest.now.setting) (code_left rest.now) rest.now.renames current.now) }
 {
     let value = value.copy(alloc)?;
@@ -36,13 +36,13 @@ fn copy_reading<'a>(
     })
 }
 
-fn copy_writing<'a>(
+fn copy_writing<'a, 'i>(
     alloc: Global,
     mapped: Mapped<'a>,
     index: Option<&Text>,
     renames: &Made,
     current: &Made,
-) -> Result<Frame<'a>, AllocError>
+) -> Result<Frame<'a, 'i>, AllocError>
     ensures { IfOk result (λ f. frame_view f ≡ spec.Writing mapped.entry.global.now (option_map (λ i. i.now) index.entry) renames.now current.now) }
 {
     let index = copy_name(alloc, index)?;
@@ -56,13 +56,13 @@ fn copy_writing<'a>(
     })
 }
 
-fn copy_put<'a>(
+fn copy_put<'a, 'i>(
     alloc: Global,
     mapped: Mapped<'a>,
     index: Option<&Text>,
     renames: &Made,
     value: &Sub,
-) -> Result<Frame<'a>, AllocError>
+) -> Result<Frame<'a, 'i>, AllocError>
     ensures { IfOk result (λ f. frame_view f ≡ spec.Put mapped.entry.global.now (option_map (λ i. i.now) index.entry) renames.now value.now) }
 {
     let index = copy_name(alloc, index)?;
@@ -76,13 +76,13 @@ fn copy_put<'a>(
     })
 }
 
-fn copy_run<'a>(alloc: Global, run: &Run<'a>) -> Result<Frame<'a>, AllocError>
+fn copy_run<'a, 'i>(alloc: Global, run: &Run<'a, 'i>) -> Result<Frame<'a, 'i>, AllocError>
     ensures { IfOk result (λ f. frame_view f ≡ run_view run.now) }
 {
     Ok(Frame::Run(run.copy(alloc)?))
 }
 
-fn copy_frame<'a>(alloc: Global, frame: &Frame<'a>) -> Result<Frame<'a>, AllocError>
+fn copy_frame<'a, 'i>(alloc: Global, frame: &Frame<'a, 'i>) -> Result<Frame<'a, 'i>, AllocError>
     ensures { IfOk result (λ f. frame_view f ≡ frame_view frame.now) }
 {
     match frame {
@@ -109,17 +109,20 @@ fn copy_frame<'a>(alloc: Global, frame: &Frame<'a>) -> Result<Frame<'a>, AllocEr
     }
 }
 
-fn push_copy<'a>(
+fn push_copy<'a, 'i>(
     alloc: Global,
-    frames: &mut Stack<Frame<'a>>,
-    frame: &Frame<'a>,
+    frames: &mut Stack<Frame<'a, 'i>>,
+    frame: &Frame<'a, 'i>,
 ) -> Result<(), AllocError>
     ensures { IfOk result (λ _. frames_view frames.new ≡ frame_view frame.now ∷ frames_view frames.old) }
 {
     frames.push(copy_frame(alloc, frame)?)
 }
 
-fn copy_frames<'a>(alloc: Global, frames: &[Frame<'a>]) -> Result<Stack<Frame<'a>>, AllocError>
+fn copy_frames<'a, 'i>(
+    alloc: Global,
+    frames: &[Frame<'a, 'i>],
+) -> Result<Stack<Frame<'a, 'i>>, AllocError>
     ensures { IfOk result (λ c. frames_view c ≡ frames_view (reverse frames.now)) }
 {
     let mut copies = Stack::new(alloc);
@@ -129,9 +132,9 @@ fn copy_frames<'a>(alloc: Global, frames: &[Frame<'a>]) -> Result<Stack<Frame<'a
     Ok(copies)
 }
 
-impl<'a> State<'a> {
+impl<'a, 'i> State<'a, 'i> {
     /// The same once more.
-    pub fn copy(&self, alloc: Global) -> Result<State<'a>, AllocError>
+    pub fn copy(&self, alloc: Global) -> Result<State<'a, 'i>, AllocError>
         ensures { IfOk result (λ s. state_view s ≡ state_view self.now) }
     {
         let copies = copy_frames(alloc, self.frames.as_slice());

@@ -27,13 +27,14 @@ use pgo_effects::piece::Effect;
 use pgo_effects::setting::Setting;
 use pgo_effects::todo::read_block;
 use pgo_rewrite::mapped::Mapped;
+use pgo_rewrite::newest::Newest;
 use std::alloc::{AllocError, Global};
 
 /// The run goes on where the name stands for a value that gets a made name of this base.
-fn bind_in<'a>(
+fn bind_in<'a, 'i>(
     alloc: Global,
-    state: &mut State<'a>,
-    run: Run<'a>,
+    state: &mut State<'a, 'i>,
+    run: Run<'a, 'i>,
     base: &Text,
     name: &Text,
 ) -> Result<Text, AllocError>
@@ -48,14 +49,14 @@ fn bind_in<'a>(
 }
 
 /// A turn at a value that a name stands for in what is left of the run.
-fn let_value<'a>(
+fn let_value<'a, 'i>(
     alloc: Global,
-    state: &mut State<'a>,
-    run: Run<'a>,
+    state: &mut State<'a, 'i>,
+    run: Run<'a, 'i>,
     base: &Text,
     name: &Text,
     e: &Expr,
-) -> Result<Event<'a>, AllocError>
+) -> Result<Event<'a, 'i>, AllocError>
     ensures { IfOk result (λ t. (vs : List Name) → with_frame vs state.old (spec.Run (places_in run.entry.setting) (Let base.now name.now (tree e.now) (code_left run.entry)) run.entry.renames) ≡ emitted vs t (left_in vs state.new)) }
 {
     let value = expr_now(alloc, run.setting, &run.renames, &state.current, e);
@@ -64,14 +65,14 @@ fn let_value<'a>(
 }
 
 /// A turn at a member of a set for which a name stands in what is left of the run.
-fn pick_member<'a>(
+fn pick_member<'a, 'i>(
     alloc: Global,
-    state: &mut State<'a>,
-    run: Run<'a>,
+    state: &mut State<'a, 'i>,
+    run: Run<'a, 'i>,
     base: &Text,
     name: &Text,
     set: &Expr,
-) -> Result<Event<'a>, AllocError>
+) -> Result<Event<'a, 'i>, AllocError>
     ensures { IfOk result (λ t. (vs : List Name) → with_frame vs state.old (spec.Run (places_in run.entry.setting) (Pick base.now name.now (tree set.now) (code_left run.entry)) run.entry.renames) ≡ emitted vs t (left_in vs state.new)) }
 {
     let value = expr_now(alloc, run.setting, &run.renames, &state.current, set);
@@ -80,10 +81,10 @@ fn pick_member<'a>(
 }
 
 /// What is left of the run waits for what is read.
-fn wait_for<'a>(
+fn wait_for<'a, 'i>(
     alloc: Global,
-    state: &mut State<'a>,
-    run: Run<'a>,
+    state: &mut State<'a, 'i>,
+    run: Run<'a, 'i>,
     old: &Text,
     value: &Text,
     mapped: Mapped<'a>,
@@ -103,15 +104,15 @@ fn wait_for<'a>(
 }
 
 /// Puts the block that reads a mapped parameter before what is there.
-fn push_read<'a>(
+fn push_read<'a, 'i>(
     alloc: Global,
-    frames: &mut Stack<Frame<'a>>,
+    frames: &mut Stack<Frame<'a, 'i>>,
     mapped: Mapped<'a>,
 ) -> Result<(), AllocError>
     ensures { IfOk result (λ _. frames_view frames.new ≡ spec.Run content_places (mapped_view mapped.entry).reads [] ∷ frames_view frames.old) }
 {
     let block = read_block(alloc, mapped)?;
-    push_todo(alloc, frames, Setting::Block, &Stack::new(alloc), block)
+    push_todo(alloc, frames, Setting::Block, &Newest::new(alloc), block)
 }
 
 /// The name for what a mapped parameter has before a block, or its element, and that as it is now.
@@ -134,10 +135,10 @@ pub fn content_before(
 }
 
 /// What is left of the run waits for what is read, behind the block that reads.
-fn begin_read<'a>(
+fn begin_read<'a, 'i>(
     alloc: Global,
-    state: &mut State<'a>,
-    run: Run<'a>,
+    state: &mut State<'a, 'i>,
+    run: Run<'a, 'i>,
     old: &Text,
     value: &Text,
     mapped: Mapped<'a>,
@@ -150,14 +151,14 @@ fn begin_read<'a>(
 }
 
 /// A turn at a read of a mapped parameter.
-fn read_mapped<'a>(
+fn read_mapped<'a, 'i>(
     alloc: Global,
-    state: &mut State<'a>,
-    run: Run<'a>,
+    state: &mut State<'a, 'i>,
+    run: Run<'a, 'i>,
     value: &Text,
     mapped: Mapped<'a>,
     index: Option<&Text>,
-) -> Result<Event<'a>, AllocError>
+) -> Result<Event<'a, 'i>, AllocError>
     ensures { IfOk result (λ t. (vs : List Name) → with_frame vs state.old (spec.Run (places_in run.entry.setting) (Read value.now mapped.entry.global.now (option_map (λ i. i.now) index.entry) (mapped_view mapped.entry).reads (code_left run.entry)) run.entry.renames) ≡ emitted vs t (left_in vs state.new)) }
 {
     let (old, before) = content_before(
@@ -173,12 +174,12 @@ fn read_mapped<'a>(
 }
 
 /// A turn at an effect, behind which the run goes on.
-pub fn effect_turn<'a>(
+pub fn effect_turn<'a, 'i>(
     alloc: Global,
-    state: &mut State<'a>,
-    run: Run<'a>,
+    state: &mut State<'a, 'i>,
+    run: Run<'a, 'i>,
     effect: &Effect<'a>,
-) -> Result<Event<'a>, AllocError>
+) -> Result<Event<'a, 'i>, AllocError>
     ensures { IfOk result (λ t. (vs : List Name) → with_frame vs state.old (spec.Run (places_in run.entry.setting) (effect_code effect.now (code_left run.entry)) run.entry.renames) ≡ emitted vs t (left_in vs state.new)) }
 {
     match effect {

@@ -22,15 +22,15 @@ pub enum Move {
 
 /// What a turn gives of the expansion.
 #[derive(Drop)]
-pub enum Event<'a> {
+pub enum Event<'a, 'i> {
     /// nothing
     Quiet,
     /// a statement, behind which the state goes on
     Step(Move),
     /// a test: where it is TRUE the state goes on, and else this one does
-    If(Sub, State<'a>),
+    If(Sub, State<'a, 'i>),
     /// `either` with these arms; the state goes on no further
-    Either(Vec<State<'a>>),
+    Either(Vec<State<'a, 'i>>),
     /// The changes of an end, and the label that comes next; the state goes on no further.
     End(Vec<(Text, Text)>, Text),
 }

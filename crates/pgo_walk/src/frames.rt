@@ -22,8 +22,8 @@ use std::rc::Rc;
 
 /// Code of which so many effects are done, and what the names that it binds stand for.
 #[derive(Drop)]
-pub struct Run<'a> {
-    pub setting: Setting<'a>,
+pub struct Run<'a, 'i> {
+    pub setting: Setting<'a, 'i>,
     pub piece: Rc<Piece<'a>>,
     pub done: usize,
     pub renames: Made,
@@ -31,16 +31,16 @@ pub struct Run<'a> {
 
 /// A part of what is still to be done.
 #[derive(Drop)]
-pub enum Frame<'a> {
+pub enum Frame<'a, 'i> {
     /// this code
-    Run(Run<'a>),
+    Run(Run<'a, 'i>),
     /// A yield ends a read of the mapped parameter, or of its element at what `index` stands for; then the code, where `value`
     /// stands for what is read. `current` has the current values before the read.
     Reading {
         value: Text,
         mapped: Mapped<'a>,
         index: Option<Text>,
-        rest: Run<'a>,
+        rest: Run<'a, 'i>,
         current: Made,
     },
     /// A yield ends a write to the mapped parameter, or to its element.
@@ -61,8 +61,8 @@ pub enum Frame<'a> {
 
 /// What is still to be done, the current values of the variables, and how many names are bound above.
 #[derive(Drop)]
-pub struct State<'a> {
-    pub frames: Stack<Frame<'a>>,
+pub struct State<'a, 'i> {
+    pub frames: Stack<Frame<'a, 'i>>,
     pub current: Made,
     pub bound: u64,
 }
@@ -94,14 +94,14 @@ fn shared<'a>(alloc: Global, piece: Piece<'a>) -> Result<Rc<Piece<'a>>, AllocErr
     Ok(Rc::new(alloc, piece)?)
 }
 
-impl<'a> Run<'a> {
+impl<'a, 'i> Run<'a, 'i> {
     /// This code, of which nothing is done.
     pub fn new(
         alloc: Global,
-        setting: Setting<'a>,
+        setting: Setting<'a, 'i>,
         piece: Piece<'a>,
         renames: &Made,
-    ) -> Result<Run<'a>, AllocError>
+    ) -> Result<Run<'a, 'i>, AllocError>
         ensures { IfOk result (λ r. run_view r ≡ spec.Run (places_in setting.entry) (piece_code (setting_view setting.entry) piece.entry) renames.now) }
     {
         let (piece, renames) = both(shared(alloc, piece), renames.copy(alloc))?;
@@ -114,7 +114,7 @@ impl<'a> Run<'a> {
     }
 
     /// The same once more.
-    pub fn copy(&self, alloc: Global) -> Result<Run<'a>, AllocError>
+    pub fn copy(&self, alloc: Global) -> Result<Run<'a, 'i>, AllocError>
         ensures places { IfOk result (λ r. places_in r.setting ≡ places_in self.now.setting) }
         ensures code { IfOk result (λ r. code_left r ≡ code_left self.now) }
         ensures renames { IfOk result (λ r. r.renames ≡ self.now.renames) }

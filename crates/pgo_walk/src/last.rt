@@ -63,14 +63,14 @@ fn become_named(
 }
 
 /// A turn at a place that becomes what w stands for.
-fn become_turn<'a>(
+fn become_turn<'a, 'i>(
     alloc: Global,
-    state: &mut State<'a>,
-    setting: Setting<'a>,
+    state: &mut State<'a, 'i>,
+    setting: Setting<'a, 'i>,
     renames: &Made,
     p: &Place,
     w: &Text,
-) -> Result<Event<'a>, AllocError>
+) -> Result<Event<'a, 'i>, AllocError>
     ensures { IfOk result (λ t. (vs : List Name) → with_frame vs state.old (spec.Run (places_in setting.entry) (Become (place_view p.now) w.now) renames.now) ≡ emitted vs t (left_in vs state.new)) }
 {
     let _ = setting;
@@ -79,15 +79,15 @@ fn become_turn<'a>(
 }
 
 /// A turn at a place that becomes the value of an expression.
-fn set_turn<'a>(
+fn set_turn<'a, 'i>(
     alloc: Global,
-    state: &mut State<'a>,
-    setting: Setting<'a>,
+    state: &mut State<'a, 'i>,
+    setting: Setting<'a, 'i>,
     renames: &Made,
     base: &Text,
     p: &Place,
     e: &Expr,
-) -> Result<Event<'a>, AllocError>
+) -> Result<Event<'a, 'i>, AllocError>
     ensures { IfOk result (λ t. (vs : List Name) → with_frame vs state.old (spec.Run (places_in setting.entry) (Set base.now (place_view p.now) (tree e.now)) renames.now) ≡ emitted vs t (left_in vs state.new)) }
 {
     let value = expr_now(alloc, setting, renames, &state.current, e);
@@ -97,9 +97,9 @@ fn set_turn<'a>(
 }
 
 /// Puts the block that writes a mapped parameter before what is there.
-fn push_write<'a>(
+fn push_write<'a, 'i>(
     alloc: Global,
-    frames: &mut Stack<Frame<'a>>,
+    frames: &mut Stack<Frame<'a, 'i>>,
     renames: &Made,
     mapped: Mapped<'a>,
     w: &Text,
@@ -112,9 +112,9 @@ fn push_write<'a>(
 }
 
 /// What is left waits for what is written.
-fn wait_for_write<'a>(
+fn wait_for_write<'a, 'i>(
     alloc: Global,
-    state: &mut State<'a>,
+    state: &mut State<'a, 'i>,
     renames: &Made,
     mapped: Mapped<'a>,
     index: Option<&Text>,
@@ -133,9 +133,9 @@ fn wait_for_write<'a>(
 }
 
 /// What is left waits for what is written, behind the block that writes.
-fn begin_write<'a>(
+fn begin_write<'a, 'i>(
     alloc: Global,
-    state: &mut State<'a>,
+    state: &mut State<'a, 'i>,
     renames: &Made,
     mapped: Mapped<'a>,
     index: Option<&Text>,
@@ -149,15 +149,15 @@ fn begin_write<'a>(
 }
 
 /// A turn at a write of a mapped parameter.
-fn write_turn<'a>(
+fn write_turn<'a, 'i>(
     alloc: Global,
-    state: &mut State<'a>,
-    setting: Setting<'a>,
+    state: &mut State<'a, 'i>,
+    setting: Setting<'a, 'i>,
     renames: &Made,
     mapped: Mapped<'a>,
     index: Option<&Text>,
     w: &Text,
-) -> Result<Event<'a>, AllocError>
+) -> Result<Event<'a, 'i>, AllocError>
     ensures { IfOk result (λ t. (vs : List Name) → with_frame vs state.old (spec.Run (places_in setting.entry) (Write mapped.entry.global.now (option_map (λ i. i.now) index.entry) w.now (mapped_view mapped.entry).writes) renames.now) ≡ emitted vs t (left_in vs state.new)) }
 {
     let _ = setting;
@@ -174,13 +174,13 @@ fn write_turn<'a>(
 }
 
 /// A turn at what an assignment does.
-fn change_turn<'a>(
+fn change_turn<'a, 'i>(
     alloc: Global,
-    state: &mut State<'a>,
-    setting: Setting<'a>,
+    state: &mut State<'a, 'i>,
+    setting: Setting<'a, 'i>,
     renames: &Made,
     change: &Change<'a>,
-) -> Result<Event<'a>, AllocError>
+) -> Result<Event<'a, 'i>, AllocError>
     ensures { IfOk result (λ t. (vs : List Name) → with_frame vs state.old (spec.Run (places_in setting.entry) (change_code change.now) renames.now) ≡ emitted vs t (left_in vs state.new)) }
 {
     match change {
@@ -200,13 +200,13 @@ fn change_turn<'a>(
 }
 
 /// The state with this code before what is still to be done.
-fn branch<'a>(
+fn branch<'a, 'i>(
     alloc: Global,
-    state: &State<'a>,
-    setting: Setting<'a>,
+    state: &State<'a, 'i>,
+    setting: Setting<'a, 'i>,
     renames: &Made,
     todo: &Todo<'a>,
-) -> Result<State<'a>, AllocError>
+) -> Result<State<'a, 'i>, AllocError>
     ensures { IfOk result (λ s. (vs : List Name) → left_in vs s ≡ with_frame vs state.now (spec.Run (places_in setting.entry) (code_of (setting_view setting.entry) todo.now) renames.now)) }
 {
     let mut other = state.copy(alloc)?;
@@ -215,15 +215,15 @@ fn branch<'a>(
 }
 
 /// A turn at a test.
-fn if_turn<'a>(
+fn if_turn<'a, 'i>(
     alloc: Global,
-    state: &mut State<'a>,
-    setting: Setting<'a>,
+    state: &mut State<'a, 'i>,
+    setting: Setting<'a, 'i>,
     renames: &Made,
     e: &Expr,
     a: &Todo<'a>,
     b: &Todo<'a>,
-) -> Result<Event<'a>, AllocError>
+) -> Result<Event<'a, 'i>, AllocError>
     ensures { IfOk result (λ t. (vs : List Name) → with_frame vs state.old (spec.Run (places_in setting.entry) (If (tree e.now) (code_of (setting_view setting.entry) a.now) (code_of (setting_view setting.entry) b.now)) renames.now) ≡ emitted vs t (left_in vs state.new)) }
 {
     let test = expr_now(alloc, setting, renames, &state.current, e);
@@ -234,13 +234,13 @@ fn if_turn<'a>(
 }
 
 /// A turn at a choice.
-fn either_turn<'a>(
+fn either_turn<'a, 'i>(
     alloc: Global,
-    state: &State<'a>,
-    setting: Setting<'a>,
+    state: &State<'a, 'i>,
+    setting: Setting<'a, 'i>,
     renames: &Made,
     todos: &[Todo<'a>],
-) -> Result<Event<'a>, AllocError>
+) -> Result<Event<'a, 'i>, AllocError>
     ensures { IfOk result (λ t. (vs : List Name) (x : Expansion) → with_frame vs state.now (spec.Run (places_in setting.entry) (Either (all_arms (codes_of (setting_view setting.entry) todos.now))) renames.now) ≡ emitted vs t x) }
 {
     let mut arms = Vec::new(alloc);
@@ -251,13 +251,13 @@ fn either_turn<'a>(
 }
 
 /// A turn at code that has not been looked at.
-fn unfold_turn<'a>(
+fn unfold_turn<'a, 'i>(
     alloc: Global,
-    state: &mut State<'a>,
-    setting: Setting<'a>,
+    state: &mut State<'a, 'i>,
+    setting: Setting<'a, 'i>,
     renames: &Made,
     todo: &Todo<'a>,
-) -> Result<Event<'a>, AllocError>
+) -> Result<Event<'a, 'i>, AllocError>
     ensures { IfOk result (λ t. (vs : List Name) → with_frame vs state.old (spec.Run (places_in setting.entry) (code_of (setting_view setting.entry) todo.now) renames.now) ≡ emitted vs t (left_in vs state.new)) }
 {
     let piece = unfold(alloc, setting, todo)?;
@@ -266,13 +266,13 @@ fn unfold_turn<'a>(
 }
 
 /// A turn at `await`.
-fn await_turn<'a>(
+fn await_turn<'a, 'i>(
     alloc: Global,
-    state: &mut State<'a>,
-    setting: Setting<'a>,
+    state: &mut State<'a, 'i>,
+    setting: Setting<'a, 'i>,
     renames: &Made,
     e: &Expr,
-) -> Result<Event<'a>, AllocError>
+) -> Result<Event<'a, 'i>, AllocError>
     ensures { IfOk result (λ t. (vs : List Name) → with_frame vs state.old (spec.Run (places_in setting.entry) (Await (tree e.now)) renames.now) ≡ emitted vs t (left_in vs state.new)) }
 {
     let e = expr_now(alloc, setting, renames, &state.current, e)?;
@@ -280,13 +280,13 @@ fn await_turn<'a>(
 }
 
 /// A turn at `assert`.
-fn assert_turn<'a>(
+fn assert_turn<'a, 'i>(
     alloc: Global,
-    state: &mut State<'a>,
-    setting: Setting<'a>,
+    state: &mut State<'a, 'i>,
+    setting: Setting<'a, 'i>,
     renames: &Made,
     e: &Expr,
-) -> Result<Event<'a>, AllocError>
+) -> Result<Event<'a, 'i>, AllocError>
     ensures { IfOk result (λ t. (vs : List Name) → with_frame vs state.old (spec.Run (places_in setting.entry) (Assert (tree e.now)) renames.now) ≡ emitted vs t (left_in vs state.new)) }
 {
     let e = expr_now(alloc, setting, renames, &state.current, e)?;
@@ -294,13 +294,13 @@ fn assert_turn<'a>(
 }
 
 /// A turn at `print`.
-fn print_turn<'a>(
+fn print_turn<'a, 'i>(
     alloc: Global,
-    state: &mut State<'a>,
-    setting: Setting<'a>,
+    state: &mut State<'a, 'i>,
+    setting: Setting<'a, 'i>,
     renames: &Made,
     e: &Expr,
-) -> Result<Event<'a>, AllocError>
+) -> Result<Event<'a, 'i>, AllocError>
     ensures { IfOk result (λ t. (vs : List Name) → with_frame vs state.old (spec.Run (places_in setting.entry) (Print (tree e.now)) renames.now) ≡ emitted vs t (left_in vs state.new)) }
 {
     let e = expr_now(alloc, setting, renames, &state.current, e)?;
@@ -308,13 +308,13 @@ fn print_turn<'a>(
 }
 
 /// A turn at `yield`.
-fn yield_turn<'a>(
+fn yield_turn<'a, 'i>(
     alloc: Global,
-    state: &mut State<'a>,
-    setting: Setting<'a>,
+    state: &mut State<'a, 'i>,
+    setting: Setting<'a, 'i>,
     renames: &Made,
     e: &Expr,
-) -> Result<Event<'a>, AllocError>
+) -> Result<Event<'a, 'i>, AllocError>
     ensures { IfOk result (λ t. (vs : List Name) → with_frame vs state.old (spec.Run (places_in setting.entry) (Yield (tree e.now)) renames.now) ≡ emitted vs t (left_in vs state.new)) }
 {
     let e = expr_now(alloc, setting, renames, &state.current, e)?;
@@ -322,14 +322,14 @@ fn yield_turn<'a>(
 }
 
 /// A turn at one piece of code behind another.
-fn then_turn<'a>(
+fn then_turn<'a, 'i>(
     alloc: Global,
-    state: &mut State<'a>,
-    setting: Setting<'a>,
+    state: &mut State<'a, 'i>,
+    setting: Setting<'a, 'i>,
     renames: &Made,
     a: &Todo<'a>,
     b: &Todo<'a>,
-) -> Result<Event<'a>, AllocError>
+) -> Result<Event<'a, 'i>, AllocError>
     ensures { IfOk result (λ t. (vs : List Name) → with_frame vs state.old (spec.Run (places_in setting.entry) (Seq (code_of (setting_view setting.entry) a.now) (code_of (setting_view setting.entry) b.now)) renames.now) ≡ emitted vs t (left_in vs state.new)) }
 {
     push_code(alloc, &mut state.frames, setting, renames, b)?;
@@ -338,13 +338,13 @@ fn then_turn<'a>(
 }
 
 /// A turn at pieces of code in a row.
-fn row_turn<'a>(
+fn row_turn<'a, 'i>(
     alloc: Global,
-    state: &mut State<'a>,
-    setting: Setting<'a>,
+    state: &mut State<'a, 'i>,
+    setting: Setting<'a, 'i>,
     renames: &Made,
     todos: &[Todo<'a>],
-) -> Result<Event<'a>, AllocError>
+) -> Result<Event<'a, 'i>, AllocError>
     ensures { IfOk result (λ t. (vs : List Name) → with_frame vs state.old (spec.Run (places_in setting.entry) (in_turn (codes_of (setting_view setting.entry) todos.now)) renames.now) ≡ emitted vs t (left_in vs state.new)) }
 {
     push_codes(alloc, &mut state.frames, setting, renames, todos)?;
@@ -354,13 +354,13 @@ fn row_turn<'a>(
 /// A turn at what comes last where that is further code.
 ///
 /// Err also where it is not.
-fn code_turn<'a>(
+fn code_turn<'a, 'i>(
     alloc: Global,
-    state: &mut State<'a>,
-    setting: Setting<'a>,
+    state: &mut State<'a, 'i>,
+    setting: Setting<'a, 'i>,
     renames: &Made,
     last: &Last<'a>,
-) -> Result<Event<'a>, AllocError>
+) -> Result<Event<'a, 'i>, AllocError>
     ensures { IfOk result (λ t. (vs : List Name) → with_frame vs state.old (spec.Run (places_in setting.entry) (last_code (setting_view setting.entry) last.now) renames.now) ≡ emitted vs t (left_in vs state.new)) }
 {
     match last {
@@ -374,14 +374,14 @@ fn code_turn<'a>(
 }
 
 /// A turn at what comes last: code, and the variables in their order.
-pub fn last_turn<'a>(
+pub fn last_turn<'a, 'i>(
     alloc: Global,
     variables: &[Text],
-    state: &mut State<'a>,
-    setting: Setting<'a>,
+    state: &mut State<'a, 'i>,
+    setting: Setting<'a, 'i>,
     renames: &Made,
     last: &Last<'a>,
-) -> Result<Event<'a>, AllocError>
+) -> Result<Event<'a, 'i>, AllocError>
     ensures { IfOk result (λ t. with_frame variables.now state.old (spec.Run (places_in setting.entry) (last_code (setting_view setting.entry) last.now) renames.now) ≡ emitted variables.now t (left_in variables.now state.new)) }
 {
     match last {

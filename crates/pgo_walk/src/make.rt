@@ -28,12 +28,12 @@ fn step_of(m: Move) -> Step
 }
 
 /// Adds the statements that come first, and gives what ends them.
-fn row<'a>(
+fn row<'a, 'i>(
     alloc: Global,
     variables: &[Text],
-    state: &mut State<'a>,
+    state: &mut State<'a, 'i>,
     steps: &mut Vec<Step>,
-) -> Result<Event<'a>, AllocError>
+) -> Result<Event<'a, 'i>, AllocError>
     ensures { IfOk result (λ t. around steps.old.items (left_in variables.now state.old) ≡ around steps.new.items (emitted variables.now t (left_in variables.now state.new))) }
 {
     for _ in 0..u64::MAX {
@@ -77,7 +77,7 @@ fn whole(steps: Vec<Step>, ending: Result<Ending, AllocError>) -> Result<Part, A
 fn make_either(
     alloc: Global,
     variables: &[Text],
-    arms: Vec<State<'_>>,
+    arms: Vec<State<'_, '_>>,
     fuel: u64,
 ) -> Result<Ending, AllocError>
     ensures { IfOk result (λ e. ending_of e ≡ Either (expansions (map (left_in variables.now) arms.entry.items))) }
@@ -93,11 +93,11 @@ fn make_either(
 ///
 /// Err also where it is another event.
 #[cycle(make)]
-fn make_ending<'a>(
+fn make_ending<'a, 'i>(
     alloc: Global,
     variables: &[Text],
-    event: Event<'a>,
-    state: State<'a>,
+    event: Event<'a, 'i>,
+    state: State<'a, 'i>,
     fuel: u64,
 ) -> Result<Ending, AllocError>
     ensures { IfOk result (λ e. ending_of e ≡ emitted variables.now event.entry (left_in variables.now state.entry)) }
@@ -121,7 +121,7 @@ fn make_ending<'a>(
 pub fn make(
     alloc: Global,
     variables: &[Text],
-    state: State<'_>,
+    state: State<'_, '_>,
     fuel: u64,
 ) -> Result<Part, AllocError>
     ensures { IfOk result (λ p. p ≡ left_in variables.now state.entry) }

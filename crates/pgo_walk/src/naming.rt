@@ -20,8 +20,8 @@ use std::alloc::{AllocError, Global};
 
 /// What names stand for: first those that the code binds, then the variables.
 #[derive(Drop)]
-struct Naming<'text, 'now> {
-    setting: Setting<'text>,
+struct Naming<'text, 'place, 'now> {
+    setting: Setting<'text, 'place>,
     renames: &'now Made,
     current: &'now Made,
 }
@@ -39,7 +39,7 @@ fn place_now(alloc: Global, current: &Made, p: &Place) -> Result<Sub, AllocError
 /// The variable of a name as it is now, if it is a variable's.
 fn variable_now(
     alloc: Global,
-    setting: Setting<'_>,
+    setting: Setting<'_, '_>,
     current: &Made,
     x: &Text,
 ) -> Result<Option<Expr>, AllocError>
@@ -52,7 +52,7 @@ fn variable_now(
     }
 }
 
-impl<'text, 'now> Substitution for Naming<'text, 'now> {
+impl<'text, 'place, 'now> Substitution for Naming<'text, 'place, 'now> {
     ghost stands = { λ n x. on (option_map (spec.current n.current.now) (find x (places_in n.setting))) (find x n.renames.now) (λ y. Some (name y)) };
 
     fn tree_for(&self, alloc: Global, x: &Text) -> Result<Option<Expr>, AllocError> {
@@ -66,7 +66,7 @@ impl<'text, 'now> Substitution for Naming<'text, 'now> {
 /// An expression in written names.
 pub fn expr_now(
     alloc: Global,
-    setting: Setting<'_>,
+    setting: Setting<'_, '_>,
     renames: &Made,
     current: &Made,
     e: &Expr,

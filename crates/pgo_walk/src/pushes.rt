@@ -16,10 +16,10 @@ use pgo_effects::todo::Todo;
 use std::alloc::{AllocError, Global};
 
 /// Puts one level of code before what is there.
-pub fn push_piece<'a>(
+pub fn push_piece<'a, 'i>(
     alloc: Global,
-    frames: &mut Stack<Frame<'a>>,
-    setting: Setting<'a>,
+    frames: &mut Stack<Frame<'a, 'i>>,
+    setting: Setting<'a, 'i>,
     renames: &Made,
     piece: Piece<'a>,
 ) -> Result<(), AllocError>
@@ -30,10 +30,10 @@ pub fn push_piece<'a>(
 }
 
 /// Puts code before what is there.
-pub fn push_todo<'a>(
+pub fn push_todo<'a, 'i>(
     alloc: Global,
-    frames: &mut Stack<Frame<'a>>,
-    setting: Setting<'a>,
+    frames: &mut Stack<Frame<'a, 'i>>,
+    setting: Setting<'a, 'i>,
     renames: &Made,
     todo: Todo<'a>,
 ) -> Result<(), AllocError>
@@ -43,10 +43,10 @@ pub fn push_todo<'a>(
 }
 
 /// Puts lent code before what is there.
-pub fn push_code<'a>(
+pub fn push_code<'a, 'i>(
     alloc: Global,
-    frames: &mut Stack<Frame<'a>>,
-    setting: Setting<'a>,
+    frames: &mut Stack<Frame<'a, 'i>>,
+    setting: Setting<'a, 'i>,
     renames: &Made,
     todo: &Todo<'a>,
 ) -> Result<(), AllocError>
@@ -57,10 +57,10 @@ pub fn push_code<'a>(
 }
 
 /// Puts pieces of code, one after the other, before what is there.
-pub fn push_codes<'a>(
+pub fn push_codes<'a, 'i>(
     alloc: Global,
-    frames: &mut Stack<Frame<'a>>,
-    setting: Setting<'a>,
+    frames: &mut Stack<Frame<'a, 'i>>,
+    setting: Setting<'a, 'i>,
     renames: &Made,
     todos: &[Todo<'a>],
 ) -> Result<(), AllocError>

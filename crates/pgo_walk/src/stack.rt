@@ -1,7 +1,6 @@
 // Lists that contracts see with the newest item first.
 ghost use Rattle.std.specs.Prelude.{◌≡◌, [], ◌∷◌, reverse, Option, IfOk, MatchOption};
 
-use pgo_base::items::Copied;
 use std::alloc::{AllocError, Global};
 use std::marker::Model;
 
@@ -54,18 +53,5 @@ impl<T: Drop> Stack<T> {
         ensures { MatchOption result ((self.old ≡ []) × (self.new ≡ [])) (λ item. self.old ≡ item ∷ self.new) }
     {
         self.list.pop()
-    }
-}
-
-impl<T: Copied> Stack<T> {
-    /// The same items once more.
-    pub fn copy(&self, alloc: Global) -> Result<Stack<T>, AllocError>
-        ensures { IfOk result (λ list. list ≡ self.now) }
-    {
-        let mut list = Vec::with_capacity(alloc, self.list.len())?;
-        for item in &self.list {
-            list.push(item.copy(alloc)?)?;
-        }
-        Ok(Stack { list })
     }
 }

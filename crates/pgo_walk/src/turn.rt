@@ -13,13 +13,13 @@ use pgo_effects::piece::Piece;
 use std::alloc::{AllocError, Global};
 
 /// A turn at a run of this code.
-fn piece_turn<'a>(
+fn piece_turn<'a, 'i>(
     alloc: Global,
     variables: &[Text],
-    state: &mut State<'a>,
-    run: Run<'a>,
+    state: &mut State<'a, 'i>,
+    run: Run<'a, 'i>,
     piece: &Piece<'a>,
-) -> Result<Event<'a>, AllocError>
+) -> Result<Event<'a, 'i>, AllocError>
     requires { piece.now ≡ run.piece.value }
     ensures { IfOk result (λ t. with_frame variables.now state.old (run_view run.entry) ≡ emitted variables.now t (left_in variables.now state.new)) }
 {
@@ -40,12 +40,12 @@ fn piece_turn<'a>(
 }
 
 /// A turn at a run.
-fn run_turn<'a>(
+fn run_turn<'a, 'i>(
     alloc: Global,
     variables: &[Text],
-    state: &mut State<'a>,
-    run: Run<'a>,
-) -> Result<Event<'a>, AllocError>
+    state: &mut State<'a, 'i>,
+    run: Run<'a, 'i>,
+) -> Result<Event<'a, 'i>, AllocError>
     ensures { IfOk result (λ t. with_frame variables.now state.old (run_view run.entry) ≡ emitted variables.now t (left_in variables.now state.new)) }
 {
     let piece = run.piece.clone()?;
@@ -53,12 +53,12 @@ fn run_turn<'a>(
 }
 
 /// A turn at a frame.
-fn frame_turn<'a>(
+fn frame_turn<'a, 'i>(
     alloc: Global,
     variables: &[Text],
-    state: &mut State<'a>,
-    frame: Frame<'a>,
-) -> Result<Event<'a>, AllocError>
+    state: &mut State<'a, 'i>,
+    frame: Frame<'a, 'i>,
+) -> Result<Event<'a, 'i>, AllocError>
     ensures { IfOk result (λ t. with_frame variables.now state.old (frame_view frame.entry) ≡ emitted variables.now t (left_in variables.now state.new)) }
 {
     match frame {
@@ -76,11 +76,11 @@ fn frame_turn<'a>(
 /// What the next effect gives of the expansion. The state is then what is left behind it.
 ///
 /// Err where there is no memory, or more than 2^64 - 1 names are bound; the state is then of no use.
-pub fn turn<'a>(
+pub fn turn<'a, 'i>(
     alloc: Global,
     variables: &[Text],
-    state: &mut State<'a>,
-) -> Result<Event<'a>, AllocError>
+    state: &mut State<'a, 'i>,
+) -> Result<Event<'a, 'i>, AllocError>
     ensures { IfOk result (λ t. left_in variables.now state.old ≡ emitted variables.now t (left_in variables.now state.new)) }
 {
     match state.frames.pop() {

@@ -5,14 +5,13 @@ use Rattle.std.specs.Borrow.{Bor}
 use Rattle.pgo_base.specs.Data.{Data}
 use Rattle.pgo_base.specs.Lookup.{Name}
 use Rattle.pgo_model.specs.Core.{Settings}
-use Rattle.pgo_model.specs.Names.{same_bytes-is}
 use Rattle.pgo_model.specs.ValueText.{same_bytes}
 use Rattle.pgo_words.specs.Asks.{Command, Compile, Expand, Step, Run, Check, Load, Request, HasParts, AsksStep, AsksRun, AsksBy, Asks}
 use Rattle.pgo_words.specs.Constants.{Constants}
 use Rattle.pgo_words.specs.Items.{SpelledOnly}
 use Rattle.pgo_words.specs.Options.{value_of}
 use Rattle.pgo_words.specs.Parts.{HasOptions, HasValues, Pairs, ReadsOptions, now_of, texts}
-use Rattle.pgo_words.specs.Reads.{ValuesGive, GivesBoth, BothOnly, BehindOnly, RequestOnly, commands, find, word_of, name_of}
+use Rattle.pgo_words.specs.Reads.{ValuesGive, GivesBoth, BothOnly, BehindOnly, IsWordOf, RequestOnly, word_of, name_of}
 use Rattle.pgo_words.specs.Settings.{NumberOr, SettingsOf, run_options, step_options}
 use Rattle.pgo_words.specs.Turns.{TurnList}
 use Rattle.pgo_words.specs.declared.commands.CommandName.{CommandName}
@@ -21,6 +20,9 @@ use Rattle.pgo_words.specs.declared.options.Options.{Options}
 use Rattle.pgo_words.proofs.ConstantWords.{nothing}
 use Rattle.pgo_words.proofs.OptionAsks as asking
 use Rattle.pgo_words.proofs.OptionParts.{one_way, options_for}
+
+heads : (x : List ℕ) (xs : List (List ℕ)) (y : List ℕ) (ys : List (List ℕ)) → x ∷ xs ≡ y ∷ ys → x ≡ y
+heads x xs y ys e = cc
 
 -- the first word, and those behind it
 pub first_word : (words : List (Bor (List ℕ))) → 1 ≤ length words → texts words ≡ (get_or words 0 nothing).now ∷ texts (take (length words - 1) (drop 1 words))
@@ -193,7 +195,30 @@ module _ (behind : List (Bor (List ℕ))) (o : Options) (read : ReadsOptions tru
 
 -- ---- the command
 
-word_first : (c : Command) (words : List (List ℕ)) (cs : List (Name × Data)) (s : Settings) → AsksBy c words cs s → (rest : List (List ℕ)) × (words ≡ word_of (name_of c) ∷ rest)
+-- the command of a word
+abbrev unword : List ℕ → Option CommandName
+unword word =
+    if same_bytes word (codes "compile") then Some names.Compile else if same_bytes word (codes "expand") then Some names.Expand
+    else if same_bytes word (codes "step") then Some names.Step else if same_bytes word (codes "run") then Some names.Run
+    else if same_bytes word (codes "check") then Some names.Check else if same_bytes word (codes "load") then Some names.Load else None
+
+-- commands have words of their own
+unword_word : (k : CommandName) → unword (word_of k) ≡ Some k
+unword_word names.Compile = refl
+unword_word names.Expand = refl
+unword_word names.Step = refl
+unword_word names.Run = refl
+unword_word names.Check = refl
+unword_word names.Load = refl
+
+same_command : (k l : CommandName) → word_of k ≡ word_of l → k ≡ l
+same_command k l e = some (sym (unword_word k) ∙ ap unword e ∙ unword_word l)
+  where
+    some : Some k ≡ Some l → k ≡ l
+    some e = cc
+
+-- words that ask for something begin with its command's word
+pub word_first : (c : Command) (words : List (List ℕ)) (cs : List (Name × Data)) (s : Settings) → AsksBy c words cs s → (rest : List (List ℕ)) × (words ≡ word_of (name_of c) ∷ rest)
 word_first Compile words cs s a = (a.rest, a.words_are)
 word_first Expand words cs s a = (a.rest, a.words_are)
 word_first (Step ts) words cs s a = (a.behind, a.words_are)
@@ -201,38 +226,15 @@ word_first Run words cs s a = (a.behind, a.words_are)
 word_first Check words cs s a = ([], a.words_are)
 word_first (Load k) words cs s a = (decimal k ∷ [], a.alone.words_are)
 
-find_word : (k : CommandName) → find (word_of k) commands ≡ Some k
-find_word names.Compile = refl
-find_word names.Expand = refl
-find_word names.Step = refl
-find_word names.Run = refl
-find_word names.Check = refl
-find_word names.Load = refl
+first_word_is : (words behind : List (List ℕ)) (word : List ℕ) (r : Request) → words ≡ word ∷ behind → Asks words r → word ≡ word_of (name_of r.command)
+first_word_is words behind word r e a =
+    let f = word_first r.command words r.consts r.settings a in heads word behind (word_of (name_of r.command)) f.0 (sym e ∙ f.1)
 
-abbrev AllRows : List (List ℕ × CommandName) → Type 0
-AllRows [] = Unit {0}
-AllRows (r ∷ rs) = (r.0 ≡ word_of r.1) × AllRows rs
-
-found_word : (word : List ℕ) (rows : List (List ℕ × CommandName)) (k : CommandName) → AllRows rows → find word rows ≡ Some k → word ≡ word_of k
-found_word word [] k h e = absurd (cc)
-found_word word (r ∷ rs) k h e = go (same_bytes word r.0) refl e (found_word word rs k h.1)
-  where
-    go : (b : Bool) → same_bytes word r.0 ≡ b → (if b then Some r.1 else find word rs) ≡ Some k → (find word rs ≡ Some k → word ≡ word_of k) → word ≡ word_of k
-    go true s e f = let same : r.1 ≡ k = cc in same_bytes-is word r.0 s ∙ h.0 ∙ ap word_of same
-    go false s e f = f e
-
-table_rows : AllRows commands
-table_rows = (refl, (refl, (refl, (refl, (refl, (refl, tt))))))
-
--- the command that the words ask for is the one of their first word
-first_found : (words behind : List (List ℕ)) (word : List ℕ) (r : Request) → words ≡ word ∷ behind → Asks words r → find word commands ≡ Some (name_of r.command)
-first_found words behind word r e a =
-    let f = word_first r.command words r.consts r.settings a in
-    let same : word ≡ word_of (name_of r.command) = heads word behind (word_of (name_of r.command)) f.0 (sym e ∙ f.1) in
-    ap (λ w. find w commands) same ∙ find_word (name_of r.command)
-  where
-    heads : (x : List ℕ) (xs : List (List ℕ)) (y : List ℕ) (ys : List (List ℕ)) → x ∷ xs ≡ y ∷ ys → x ≡ y
-    heads x xs y ys e = cc
+-- words ask for one command
+pub one_command : (words : List (List ℕ)) (q r : Request) → Asks words q → Asks words r → name_of q.command ≡ name_of r.command
+one_command words q r a b =
+    let f = word_first q.command words q.consts q.settings a in
+    same_command (name_of q.command) (name_of r.command) (first_word_is words f.0 (word_of (name_of q.command)) r f.1 b)
 
 -- what is so of one's value is so of the other's
 pub if_ok_more : {A E : Type 0} (r : Result A E) (P Q : A → Type 0) → ((a : A) → P a → Q a) → IfOk r P → IfOk r Q
@@ -245,18 +247,18 @@ at_none P f o e h = subst (λ x. P (option_map f x)) e h
 pub at_some : {A B : Type 0} (P : Option B → Type 0) (f : A → B) (o : Option A) (a : A) → o ≡ Some a → P (option_map f o) → P (Some (f a))
 at_some P f o a e h = subst (λ x. P (option_map f x)) e h
 
-pub known_word : (words behind : List (List ℕ)) (word : List ℕ) (k : CommandName) (o : Option Request) → words ≡ word ∷ behind → find word commands ≡ Some k → BehindOnly k behind o → RequestOnly words o
+pub known_word : (words behind : List (List ℕ)) (word : List ℕ) (k : CommandName) (o : Option Request) → words ≡ word ∷ behind → word ≡ word_of k → BehindOnly k behind o → RequestOnly words o
 known_word words behind word k o e f b = go o b
   where
     at : words ≡ word_of k ∷ behind
-    at = e ∙ ap (λ w. w ∷ behind) (found_word word commands k table_rows f)
+    at = e ∙ ap (λ w. w ∷ behind) f
 
     name : (r : Request) → Asks words r → name_of r.command ≡ k
-    name r a = same (name_of r.command) k (sym (first_found words behind word r e a) ∙ f)
-      where
-        same : (x y : CommandName) → Some x ≡ Some y → x ≡ y
-        same x y e = cc
+    name r a = same_command (name_of r.command) k (sym (first_word_is words behind word r e a) ∙ f)
 
     go : (o : Option Request) → BehindOnly k behind o → RequestOnly words o
     go None b = λ r a. b r (name r a) (subst (λ w. Asks w r) at a)
     go (Some q) b = (subst (λ w. Asks w q) (sym at) b.0, λ r a. b.1 r (name r a) (subst (λ w. Asks w r) at a))
+
+pub unknown_word : (words behind : List (List ℕ)) (word : List ℕ) → words ≡ word ∷ behind → IsWordOf word None → RequestOnly words None
+unknown_word words behind word e f r a = f (name_of r.command) (first_word_is words behind word r e a)

@@ -81,3 +81,11 @@ AsksBy (Load size) words consts settings = AsksLoad size words consts settings
 -- the words ask for this
 abbrev pub Asks : List (List ℕ) → Request → Type 0
 Asks words r = AsksBy r.command words r.consts r.settings
+
+-- they ask for nothing else
+abbrev pub IsAll : List (List ℕ) → Request → Type 0
+IsAll words r = (other : Request) → Asks words other → other ≡ r
+
+-- the words ask for this and for nothing else
+abbrev pub AsksOnly : List (List ℕ) → Request → Type 0
+AsksOnly words r = Asks words r × IsAll words r

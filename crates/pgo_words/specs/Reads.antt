@@ -1,12 +1,11 @@
 -- That what is read is the one thing that the words ask for.
-use Rattle.std.specs.Prelude.{◌≡◌, ◌≤◌, ◌^◌, ℕ, List, [], ◌∷◌, Option, Some, None, codes, decimal, if◌then◌else◌}
+use Rattle.std.specs.Prelude.{◌≡◌, ◌≤◌, ◌^◌, ℕ, List, [], ◌∷◌, Option, Some, None, codes, decimal}
 use Rattle.pgo_base.specs.Data.{Data}
 use Rattle.pgo_base.specs.Lookup.{Name}
 use Rattle.pgo_model.specs.Core.{Settings}
-use Rattle.pgo_model.specs.ValueText.{same_bytes}
 use Rattle.pgo_syntax.specs.RecordView.{settings_view}
 use Rattle.pgo_syntax.specs.declared.records.Settings as settings
-use Rattle.pgo_words.specs.Asks.{Command, Compile, Expand, Step, Run, Check, Load, Request, Asks}
+use Rattle.pgo_words.specs.Asks.{Command, Compile, Expand, Step, Run, Check, Load, Request, Asks, AsksOnly}
 use Rattle.pgo_words.specs.Constants.{Constants}
 use Rattle.pgo_words.specs.Parts.{now_of, texts}
 use Rattle.pgo_words.specs.Settings.{NumberOr}
@@ -52,16 +51,6 @@ BothOnly o (Some p) =
     GivesBoth o p.0 p.1 × ((s : Settings) (cs : List (Name × Data)) → GivesBoth o s cs → (s ≡ p.0) × (cs ≡ p.1))
 
 -- the word of each command
-abbrev pub commands : List (List ℕ × CommandName)
-commands =
-    (codes "compile", names.Compile) ∷ ((codes "expand", names.Expand) ∷ ((codes "step", names.Step) ∷ ((codes "run", names.Run)
-    ∷ ((codes "check", names.Check) ∷ ((codes "load", names.Load) ∷ [])))))
-
--- the command of the first row with this word
-abbrev pub find : List ℕ → List (List ℕ × CommandName) → Option CommandName
-find word [] = None
-find word (r ∷ rs) = if same_bytes word r.0 then Some r.1 else find word rs
-
 abbrev pub word_of : CommandName → List ℕ
 word_of names.Compile = codes "compile"
 word_of names.Expand = codes "expand"
@@ -69,6 +58,11 @@ word_of names.Step = codes "step"
 word_of names.Run = codes "run"
 word_of names.Check = codes "check"
 word_of names.Load = codes "load"
+
+-- the word is that of this command, or of none
+abbrev pub IsWordOf : List ℕ → Option CommandName → Type 0
+IsWordOf word None = (k : CommandName) → word ≡ word_of k → ⊥
+IsWordOf word (Some k) = word ≡ word_of k
 
 abbrev pub name_of : Command → CommandName
 name_of Compile = names.Compile
@@ -86,4 +80,4 @@ BehindOnly name behind (Some q) = Asks (word_of name ∷ behind) q × ((r : Requ
 -- the words ask for this and for nothing else
 abbrev pub RequestOnly : List (List ℕ) → Option Request → Type 0
 RequestOnly words None = (r : Request) → Asks words r → ⊥
-RequestOnly words (Some q) = Asks words q × ((r : Request) → Asks words r → r ≡ q)
+RequestOnly words (Some q) = AsksOnly words q

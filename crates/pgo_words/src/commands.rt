@@ -1,5 +1,4 @@
 // The words of commands.
-ghost use Rattle.std.specs.Prelude.{◌≡◌, map};
 ghost use Rattle.pgo_words.specs.Reads as spec;
 
 use pgo_text::names::same_bytes;
@@ -15,31 +14,23 @@ pub enum CommandName {
     Load,
 }
 
-/// The word of each command.
-const COMMANDS: [(&[u8], CommandName); 6] = [
-    (b"compile", CommandName::Compile),
-    (b"expand", CommandName::Expand),
-    (b"step", CommandName::Step),
-    (b"run", CommandName::Run),
-    (b"check", CommandName::Check),
-    (b"load", CommandName::Load),
-];
-
 /// The command that this word is; none where it is none.
 pub fn find_command(word: &[u8]) -> Option<CommandName>
-    ensures { result ≡ spec.find word.now spec.commands }
+    ensures { spec.IsWordOf word.now result }
 {
-    find(word, &COMMANDS)
-}
-
-/// The command of the first row with this word.
-fn find(word: &[u8], rows: &[(&[u8], CommandName)]) -> Option<CommandName>
-    ensures { result ≡ spec.find word.now (map (λ r. (r.0.now, r.1)) rows.now) }
-{
-    for row in rows {
-        if same_bytes(word, row.0) {
-            return Some(row.1);
-        }
+    if same_bytes(word, b"compile") {
+        Some(CommandName::Compile)
+    } else if same_bytes(word, b"expand") {
+        Some(CommandName::Expand)
+    } else if same_bytes(word, b"step") {
+        Some(CommandName::Step)
+    } else if same_bytes(word, b"run") {
+        Some(CommandName::Run)
+    } else if same_bytes(word, b"check") {
+        Some(CommandName::Check)
+    } else if same_bytes(word, b"load") {
+        Some(CommandName::Load)
+    } else {
+        None
     }
-    None
 }

@@ -1,7 +1,7 @@
 // What words ask for.
 ghost use Rattle.std.specs.Prelude.{◌≡◌, IfOk, IfErr, IfSome, false, option_map};
 ghost use Rattle.pgo_words.specs.Asks as asked;
-ghost use Rattle.pgo_words.specs.Asks.{Asks};
+ghost use Rattle.pgo_words.specs.Asks.{Asks, IsAll};
 ghost use Rattle.pgo_words.specs.Parts.{texts};
 ghost use Rattle.pgo_words.specs.Reads.{BehindOnly, BothOnly, both_view, RequestOnly, SizeOnly};
 ghost use Rattle.pgo_words.specs.Settings as spec;
@@ -32,7 +32,7 @@ use std::alloc::{AllocError, Global};
 /// `Usage` comes exactly where the words ask for nothing of these. Source: this project's choice.
 pub fn read_words(alloc: Global, words: &[Word]) -> Result<Request, WordStop>
     ensures asks { IfOk result (λ r. Asks words.now (request_view r)) }
-    ensures only { IfOk result (λ r. (other : asked.Request) → Asks words.now other → other ≡ request_view r) }
+    ensures only { IfOk result (λ r. IsAll words.now (request_view r)) }
     ensures usage { IfErr result (λ e. e ≡ WordStop.Usage → (other : asked.Request) → Asks words.now other → ⊥) }
     ensures unparked { IfOk result (λ r. r.settings.park ≡ false) }
 {

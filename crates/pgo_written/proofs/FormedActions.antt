@@ -22,7 +22,7 @@ use Rattle.pgo_meaning.specs.Sections.{sections_of}
 use Rattle.pgo_meaning.specs.Statements.{label_of}
 use Rattle.pgo_meaning.proofs.LabelSections.{sections_are}
 use Rattle.pgo_module_spells.specs.Parts.{HasActions, HasProcesses}
-use Rattle.pgo_written.proofs.ModuleParts.{module_is, written_process, label_actions}
+use Rattle.pgo_translate.proofs.ByProcess.{module_is, written_process, label_actions}
 use Rattle.pgo_translate.specs.ModuleOf.{module_of}
 
 -- the labels of an archetype: there is one, and none is `Done`

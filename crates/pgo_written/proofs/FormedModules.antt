@@ -27,7 +27,7 @@ use Rattle.pgo_meaning.specs.Expansions.{process_expansions}
 use Rattle.pgo_meaning.specs.LabelSections.{AreUnlabelled}
 use Rattle.pgo_pluscal.specs.PlusCalOf.{ids_tree, parameter_declaration, local_declaration, own_declarations, process_of, pluscal_of}
 use Rattle.pgo_translate.specs.ModuleOf.{module_of, definitions_of, global_starts, own_starts, for_each_id, process_starts, first_label, first_arm, places_start, start_items}
-use Rattle.pgo_written.proofs.ModuleParts.{module_is, written_process, label_actions, global_names}
+use Rattle.pgo_translate.proofs.ByProcess.{module_is, written_process, label_actions, global_names}
 use Rattle.pgo_written.specs.FormedCode.{IsShort, IsText}
 use Rattle.pgo_written.specs.FormedModule.{DefinedFormed, ActionFormed, WrittenFormed, ModuleFormed}
 use Rattle.pgo_written.specs.FormedSpec.{NameShort, DefinitionFormed, IfStartFormed, DeclarationFormed, ArchetypeFormed, ArgumentFormed, ProcessFormed, SpecFormed}

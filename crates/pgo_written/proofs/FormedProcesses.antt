@@ -21,7 +21,7 @@ use Rattle.pgo_syntax.specs.declared.process.Process.{Process}
 use Rattle.pgo_syntax.specs.declared.spec.Spec.{Spec}
 use Rattle.pgo_bound.specs.Runs.{Handed, handed_from, archetype_named, mapping_named, mapping_by, speaking, binding_of, target_of}
 use Rattle.pgo_bound.specs.State.{variables_of}
-use Rattle.pgo_labels.specs.Yields.{is_well_yielded}
+use Rattle.pgo_labels.specs.YieldRule.{keeps_yield_rule}
 use Rattle.pgo_sections.specs.Access.{MappedNames}
 use Rattle.pgo_sections.specs.Among.{is_among}
 use Rattle.pgo_sections.specs.Code.{Place, Whole, variable_of, Code, content_name, content_places, value_name}
@@ -84,12 +84,12 @@ Blocks q = CodeFormed content_places [] (reads_by q) × CodeFormed content_place
 identity_blocks : Blocks Identity
 identity_blocks = (inr (inr (Whole content_name, refl)), inr (inl refl))
 
-macro_blocks : (m : MappingMacro) → MappingFormed m → is_well_yielded m ≡ true → Blocks (Macro m)
+macro_blocks : (m : MappingMacro) → MappingFormed m → keeps_yield_rule m ≡ true → Blocks (Macro m)
 macro_blocks m f y =
     (order_good block_setting block_formed (labeled m.read) true true (content_name ∷ []) [] [] refl (read_without_value m y f.0) read_scope, order_good block_setting block_formed (labeled m.write) true true (content_name ∷ value_name ∷ []) (value_name ∷ []) [] refl f.1 write_scope)
 
 abbrev pub AllYield : List MappingMacro → Type 0
-AllYield ms = AllByRecursion (λ m. is_well_yielded m ≡ true) ms
+AllYield ms = AllByRecursion (λ m. keeps_yield_rule m ≡ true) ms
 
 abbrev IfBlocks : Option Mapping → Type 0
 IfBlocks None = Unit {0}

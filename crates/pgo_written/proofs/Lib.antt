@@ -17,5 +17,4 @@ mod FormedModules
 mod FormedStarts
 mod FormedActions
 mod FormedLimits
-mod ModuleParts
 mod WrittenModules

@@ -24,7 +24,7 @@ use Rattle.pgo_pluscal.specs.declared.pluscal.ExpandedProcess.{ExpandedProcess}
 use Rattle.pgo_expand.specs.Module.{highest, joined, joined_behind, ids_height, start_height, own_in, global_item, own_item, own_items, ids_heights, place_item, init_items, definitions_heights, define_heights, call_height, globals_of, step_height, labels_height, module_height}
 use Rattle.pgo_translate.specs.ModuleOf.{module_of, definitions_of, global_starts, own_starts, places_start, process_starts, start_items, first_arm}
 use Rattle.pgo_translate.specs.Items.{action_body}
-use Rattle.pgo_written.proofs.ModuleParts.{module_is, written_process, label_actions, global_names}
+use Rattle.pgo_translate.proofs.ByProcess.{module_is, written_process, label_actions, global_names}
 use Rattle.pgo_written.specs.Low.{IsLow, IsLowDefinition, IsLowProcess}
 use Rattle.pgo_written.proofs.Heights.{Below, none, one, below_append, below_map, joined_low, least, label_low}
 

@@ -15,7 +15,7 @@ use Rattle.pgo_syntax.specs.declared.binding.WithName.{WithName}
 use Rattle.pgo_syntax.specs.declared.macros.MappingMacro.{MappingMacro}
 use Rattle.pgo_operands.specs.Mentions.{mentions}
 use Rattle.pgo_labels.specs.Inside.{Item, inside, inside_all, inside_labeled, inside_guarded, with_inside}
-use Rattle.pgo_labels.specs.Yields.{indices, of_origin, conditions, expressions, are_about, is_well_formed, is_well_yielded}
+use Rattle.pgo_labels.specs.YieldRule.{indices, of_origin, conditions, expressions, statements_mention, is_well_formed, keeps_yield_rule}
 use Rattle.pgo_bound.specs.Among.{IsAmong, among_left, among_right, among_append, none_any, turned}
 use Rattle.pgo_sections.specs.Among.{is_among}
 use Rattle.pgo_sections.specs.Code.{content_name, value_name}
@@ -274,9 +274,9 @@ without_value x e (inr h) = go (same_name x content_name) (same_name x value_nam
     go false true f k = absurd (cc)
     go false false f k = absurd (cc)
 
-pub read_without_value : (m : MappingMacro) → is_well_yielded m ≡ true → LabeledFormed true true (content_name ∷ value_name ∷ []) (labeled m.read) → LabeledFormed true true (content_name ∷ []) (labeled m.read)
+pub read_without_value : (m : MappingMacro) → keeps_yield_rule m ≡ true → LabeledFormed true true (content_name ∷ value_name ∷ []) (labeled m.read) → LabeledFormed true true (content_name ∷ []) (labeled m.read)
 read_without_value m h g =
-    let about = are_about (codes "$value") (with_inside m.read) in
+    let about = statements_mention (codes "$value") (with_inside m.read) in
     let none = not_true about (and_parts (is_well_formed m.read && is_well_formed m.write) (not about) h).1 in
     let all : NoneIn (with_inside m.read) = λ e k. none_any (mentions value_name) e (expressions_in (with_inside m.read)) none k in
     labeled_less (labeled m.read) true true (content_name ∷ value_name ∷ []) (content_name ∷ []) without_value (subst NoneIn (with_inside_is m.read) all) g

@@ -19,7 +19,7 @@ use Rattle.pgo_sections.specs.Nodes.{nodes}
 use Rattle.pgo_labels.specs.declared.errors.LabelError.TheVariants.{YieldRule}
 use Rattle.pgo_labels.specs.declared.finding.Finding.{Finding}
 use Rattle.pgo_labels.specs.Rules.{found_at, reserved_done, yield_rule}
-use Rattle.pgo_labels.specs.Yields.{is_well_yielded}
+use Rattle.pgo_labels.specs.YieldRule.{keeps_yield_rule}
 use Rattle.pgo_meaning.specs.Expansions.{process_expansions}
 use Rattle.pgo_meaning.specs.LabelSections.{AreUnlabelled}
 use Rattle.pgo_mpcal_read.specs.Texts.{SpellsSpec}
@@ -84,7 +84,7 @@ yields_so false fs h n = absurd (n h)
 yields : (ms : List MappingMacro) → flat_map yield_rule ms ≡ [] → AllYield ms
 yields [] h = tt
 yields (m ∷ ms) h =
-    (yields_so (is_well_yielded m) (found_at m.name.place (YieldRule m.name.name) ∷ []) (none_left (yield_rule m) (flat_map yield_rule ms) h) (λ e. cc), yields ms (none_right (yield_rule m) (flat_map yield_rule ms) h))
+    (yields_so (keeps_yield_rule m) (found_at m.name.place (YieldRule m.name.name) ∷ []) (none_left (yield_rule m) (flat_map yield_rule ms) h) (λ e. cc), yields ms (none_right (yield_rule m) (flat_map yield_rule ms) h))
 
 module _ (text : List ℕ) (s : Spec) (consts : List (Name × Data)) (spells : SpellsSpec text s) (h : NothingRefuses s consts) where
   formed : SpecFormed s

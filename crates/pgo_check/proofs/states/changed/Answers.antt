@@ -7,7 +7,8 @@ use Rattle.pgo_model.specs.LogView.{change_view}
 use Rattle.pgo_model.specs.Options.{on}
 use Rattle.pgo_model.specs.Variables.{store}
 use Rattle.pgo_model.specs.Steps.{place_in}
-use Rattle.pgo_check.proofs.Stored.{place_none, placed_at, changed_none, changed_some}
+use Rattle.pgo_check.proofs.Stored.{changed_none, changed_some}
+use Rattle.pgo_model.proofs.Places.{place_none, placed_at}
 use Rattle.pgo_check.proofs.states.changed.Goals as goal
 
 pub returns-in_default : goal.returns-in_default

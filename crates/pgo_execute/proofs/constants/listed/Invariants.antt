@@ -6,4 +6,4 @@ use Rattle.pgo_execute.proofs.constants.listed.Given as goal
 
 abbrev pub invariant-loop-c : goal.invariant-loop-c
 invariant-loop-c l =
-    filter_map (named_constant (map named_data l.consts)) l.declared ≡ map named_data l.list.items ++ filter_map (named_constant (map named_data l.consts)) (drop l.c-index l.declared)
+    filter_map (named_constant l.given) l.declared ≡ map named_data l.list.items ++ filter_map (named_constant l.given) (drop l.c-index l.declared)

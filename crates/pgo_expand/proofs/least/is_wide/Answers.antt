@@ -1,4 +1,4 @@
-use Rattle.std.proofs.Common.{◌≤◌, ◌+◌, ◌∷◌, ◌∙◌, drop, ap, sym, subst, arith}
+use Rattle.std.proofs.Common.{◌≤◌, ◌+◌, ◌∷◌, ◌∙◌, drop, ap, sym, subst}
 use Rattle.std.specs.List.{flat_map}
 use Rattle.pgo_meaning.specs.Expansions.{process_expansions, trees_of}
 use Rattle.pgo_expand.specs.Limits.{most_nodes, nodes_in}

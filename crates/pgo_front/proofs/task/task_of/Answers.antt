@@ -4,7 +4,7 @@ use Rattle.pgo_syntax.specs.RecordView.{settings_view}
 use Rattle.pgo_words.specs.Asks.{Step}
 use Rattle.pgo_words.specs.View.{command_view}
 use Rattle.pgo_front.specs.declared.target.Target.TheVariants as targets
-use Rattle.pgo_front.specs.Asked.{AsksOnly}
+use Rattle.pgo_words.specs.Asks.{AsksOnly}
 use Rattle.pgo_front.proofs.Asking.{execution_only, load_only, record_of, translation_only}
 use Rattle.pgo_front.proofs.task.task_of.Goals as goal
 

@@ -5,4 +5,4 @@ use Rattle.pgo_heads.proofs.mapping.bindings_of.Given as goal
 
 abbrev pub invariant-loop-h : goal.invariant-loop-h
 invariant-loop-h l =
-    map (runs.binding_of l.spec l.clauses) (map handed_view l.h-items) ≡ l.list.items ++ map (runs.binding_of l.spec l.clauses) (map handed_view (drop l.h-index l.h-items))
+    map (runs.binding_of l.spec l.run.process.now.clauses) (map handed_view l.h-items) ≡ l.list.items ++ map (runs.binding_of l.spec l.run.process.now.clauses) (map handed_view (drop l.h-index l.h-items))

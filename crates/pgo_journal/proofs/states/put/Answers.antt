@@ -5,7 +5,7 @@ use Rattle.pgo_model.specs.LogView.{change_view}
 use Rattle.pgo_model.specs.Variables.{store}
 use Rattle.pgo_model.specs.Steps.{place_in}
 use Rattle.pgo_journal.specs.States.{put_found}
-use Rattle.pgo_journal.proofs.Places.{place_none, placed_at}
+use Rattle.pgo_model.proofs.Places.{place_none, placed_at}
 use Rattle.pgo_journal.proofs.states.put.Goals as goal
 
 pub returns-in_default : goal.returns-in_default

@@ -1,6 +1,6 @@
 -- The rules that are left give the refusal of all.
 use Rattle.std.proofs.Common.{◌≡◌, map, drop}
-use Rattle.pgo_labels.specs.Errors.{in_spec}
+use Rattle.pgo_labels.specs.Rules.{in_spec}
 use Rattle.pgo_labels.specs.Refusal.{first_refusal}
 use Rattle.pgo_labels.proofs.checker.first_found.Given as goal
 

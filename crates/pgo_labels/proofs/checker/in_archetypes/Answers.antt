@@ -1,5 +1,5 @@
 use Rattle.std.proofs.Common.{arith}
-use Rattle.pgo_labels.specs.Errors.{in_archetype}
+use Rattle.pgo_labels.specs.Rules.{in_archetype}
 use Rattle.pgo_labels.proofs.Walks.{walk_step}
 use Rattle.pgo_labels.proofs.checker.in_archetypes.Goals as goal
 

@@ -1,7 +1,7 @@
 -- The sooner of what is found and what is left is the least of all.
 use Rattle.std.proofs.Common.{◌≡◌, drop}
 use Rattle.std.specs.Prelude.{flat_map}
-use Rattle.pgo_labels.specs.Errors.{in_archetype}
+use Rattle.pgo_labels.specs.Rules.{in_archetype}
 use Rattle.pgo_labels.specs.Least.{sooner_of, least}
 use Rattle.pgo_labels.proofs.checker.in_archetypes.Given as goal
 

@@ -14,7 +14,7 @@ returns-in-Err-clause-refused c =
 pub returns-in-Err-module_part-clause-refused : goal.returns-in-Err-module_part-clause-refused
 returns-in-Err-module_part-clause-refused c =
     let opened = ap constants_part (sym c.new-cursor.ensures) ∙ c.in-Ok.ensures in
-    with_line c.args.text.now c.in-Err-module_part.stop c.at_line-in-Err-module_part.result c.at_line-in-Err-module_part.ensures
+    c.refused_at.ensures c.args.text.now
     (part_refused {B = Bor (List ℕ)} (λ s. s.now) c.args.text.now c.constants_part.new.cursor c.module_part.new.cursor c.in-Ok.consts c.in-Err-module_part.stop opened c.in-Err-module_part.ensures)
 
 pub returns-in-Err-module_of-clause-refused : goal.returns-in-Err-module_of-clause-refused
@@ -45,6 +45,6 @@ returns-in-Err-log_of-clause-refused c =
     let opened = ap constants_part (sym c.new-cursor.ensures) ∙ c.in-Ok.ensures in
     let head : Head c.args.text.now c.in-Ok.consts c.in-Ok-module_part.part.now c.module_part.new.cursor =
     record { behind = c.constants_part.new.cursor; opened = opened; part = c.in-Ok-module_part.ensures } in
-    with_line c.args.text.now c.in-Err-log_of.stop c.at_line-in-Err-log_of.result c.at_line-in-Err-log_of.ensures
+    c.refused_at-in-Err-log_of.ensures c.args.text.now
     (log_refused log_view c.args.text.now c.in-Ok.consts c.in-Ok-module_part.part.now c.module_part.new.cursor c.log_of.new.cursor (module_view c.in-Ok-module_of.module) c.in-Err-log_of.stop head
     c.in-Ok-module_of.ensures.ok c.in-Err-log_of.ensures)

@@ -13,14 +13,14 @@ returns-in_err-parts-clause-only c = λ s h.
 
 pub returns-clause-found : goal.returns-clause-found
 returns-clause-found c =
-    let P : List Lexeme → Type 0 = λ x. Makes (spec x c.as_slice-algorithm.result.now) c.read_tokens.result in
-    let Q : List Lexeme → Type 0 = λ x. Makes (spec c.in_ok-parts.parts.header x) c.read_tokens.result in
-    found_text c.args.text.now c.in_ok-parts.parts.header c.in_ok-parts.parts.algorithm c.read_tokens.result c.in_ok-parts.ensures.found
-    (subst Q c.as_slice-algorithm.ensures (subst P c.as_slice-header.ensures c.read_tokens.ensures))
+    let P : List Lexeme → Type 0 = λ x. Makes (spec x c.as_slice-algorithm.result.now) c.read_parts.result in
+    let Q : List Lexeme → Type 0 = λ x. Makes (spec c.in_ok-parts.parts.header x) c.read_parts.result in
+    found_text c.args.text.now c.in_ok-parts.parts.header c.in_ok-parts.parts.algorithm c.read_parts.result c.in_ok-parts.ensures.found
+    (subst Q c.as_slice-algorithm.ensures (subst P c.as_slice-header.ensures c.read_parts.ensures.value))
 
 pub returns-clause-only : goal.returns-clause-only
 returns-clause-only c =
-    let P : List Lexeme → Type 0 = λ x. Makes (spec x c.as_slice-algorithm.result.now) c.read_tokens.result in
-    let Q : List Lexeme → Type 0 = λ x. Makes (spec c.in_ok-parts.parts.header x) c.read_tokens.result in
-    only_text c.args.text.now c.in_ok-parts.parts.header c.in_ok-parts.parts.algorithm c.read_tokens.result c.in_ok-parts.ensures.only
-    (subst Q c.as_slice-algorithm.ensures (subst P c.as_slice-header.ensures c.read_tokens.ensures))
+    let P : List Lexeme → Type 0 = λ x. Makes (spec x c.as_slice-algorithm.result.now) c.read_parts.result in
+    let Q : List Lexeme → Type 0 = λ x. Makes (spec c.in_ok-parts.parts.header x) c.read_parts.result in
+    only_text c.args.text.now c.in_ok-parts.parts.header c.in_ok-parts.parts.algorithm c.read_parts.result c.in_ok-parts.ensures.only
+    (subst Q c.as_slice-algorithm.ensures (subst P c.as_slice-header.ensures c.read_parts.ensures.value))

@@ -7,4 +7,4 @@ use Rattle.pgo_scope.specs.Twice.{some_capture}
 use Rattle.pgo_scope.proofs.captures.add_calls.Given as goal
 
 abbrev pub invariant-loop-u : goal.invariant-loop-u
-invariant-loop-u l = (x : Name) → some_capture (is_among x l.names) (see_captures l.known) l.p (drop l.u-index l.uses) x ≡ some_capture (is_among x l.initial.names) (see_captures l.known) l.p l.uses x
+invariant-loop-u l = (x : Name) → some_capture (is_among x l.names) (see_captures l.table) l.p (drop l.u-index l.uses) x ≡ some_capture (is_among x l.initial.names) (see_captures l.table) l.p l.uses x

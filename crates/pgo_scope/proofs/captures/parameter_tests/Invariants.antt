@@ -6,4 +6,4 @@ use Rattle.pgo_scope.specs.Twice.{parameter_tests}
 use Rattle.pgo_scope.proofs.captures.parameter_tests.Given as goal
 
 abbrev pub invariant-loop-p : goal.invariant-loop-p
-invariant-loop-p l = map see_test l.tests.items ++ parameter_tests (see_captures l.known) l.uses (names_of (drop l.p-index l.params)) ≡ parameter_tests (see_captures l.known) l.uses (names_of l.params)
+invariant-loop-p l = map see_test l.tests.items ++ parameter_tests (see_captures l.table) l.uses (names_of (drop l.p-index l.params)) ≡ parameter_tests (see_captures l.table) l.uses (names_of l.params)

@@ -1,9 +1,9 @@
 -- What the loop keeps: what is made and what is left are the whole.
 use Rattle.std.proofs.Common.{◌≡◌, ◌++◌, map, drop}
 use Rattle.pgo_base.specs.ExprView.{tree}
-use Rattle.pgo_scope.specs.KnownView.{see_ways}
+use Rattle.pgo_scope.specs.MacroTableView.{see_usage}
 use Rattle.pgo_scope.specs.Mapped.{arguments_findings}
 use Rattle.pgo_scope.proofs.mapped.add_arguments.Given as goal
 
 abbrev pub invariant-loop-i : goal.invariant-loop-i
-invariant-loop-i l = l.out.items ++ arguments_findings l.units.spec.now l.around (map see_ways (drop l.i l.params)) (map tree (drop l.i l.args)) ≡ l.initial.out.items ++ arguments_findings l.units.spec.now l.around (map see_ways l.params) (map tree l.args)
+invariant-loop-i l = l.out.items ++ arguments_findings l.units.spec.now l.around (map see_usage (drop l.i l.params)) (map tree (drop l.i l.args)) ≡ l.initial.out.items ++ arguments_findings l.units.spec.now l.around (map see_usage l.params) (map tree l.args)

@@ -1,8 +1,0 @@
-use Rattle.std.proofs.Common.{◌≡◌, map, drop, option_map}
-use Rattle.pgo_heads.specs.Views.{run_view, finding_view}
-use Rattle.pgo_heads.specs.Refusals as specs
-use Rattle.pgo_bind.proofs.initial.lacking.Given as goal
-
-abbrev pub invariant-loop-a : goal.invariant-loop-a
-invariant-loop-a l =
-    specs.earlier (option_map finding_view l.best) (specs.first_placed (specs.lacking (drop l.a-index l.archetypes) l.defs (map run_view l.runs) l.lack)) ≡ specs.first_placed (specs.lacking l.archetypes l.defs (map run_view l.runs) l.lack)

@@ -1,0 +1,10 @@
+use Rattle.std.proofs.Common.{◌≡◌, ℕ, suc, ◌+◌, ◌≤◌, List, ◌++◌, length, map, drop, None, option_map}
+use Rattle.pgo_heads.specs.Views.{start_view, handed_view, run_view, global_view, part_view, finding_view}
+use Rattle.pgo_heads.specs.Refusals as specs
+use Rattle.std.specs.Prelude.{filter}
+use Rattle.pgo_bound.specs.Runs.{Handed}
+use Rattle.pgo_heads.proofs.bad_mapping.bad_argument.Given as goal
+
+abbrev pub invariant-loop-h : goal.invariant-loop-h
+invariant-loop-h l =
+    specs.first (map (λ (h : Handed). h.number) (filter (specs.is_bad_handed l.globals (run_view l.run)) (map handed_view l.h-items))) ≡ specs.first (map (λ (h : Handed). h.number) (filter (specs.is_bad_handed l.globals (run_view l.run)) (map handed_view (drop l.h-index l.h-items))))

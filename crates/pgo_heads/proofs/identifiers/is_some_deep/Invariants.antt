@@ -1,8 +1,0 @@
-use Rattle.std.proofs.Common.{◌≡◌, ℕ, suc, ◌+◌, ◌≤◌, List, ◌++◌, length, map, drop, None, option_map}
-use Rattle.pgo_base.specs.View.{data_of, named_data, pair_of}
-use Rattle.pgo_heads.specs.Refusals as specs
-use Rattle.pgo_heads.proofs.identifiers.is_some_deep.Given as goal
-
-abbrev pub invariant-loop-id : goal.invariant-loop-id
-invariant-loop-id l =
-    specs.is_some_deep (map data_of l.ids) ≡ specs.is_some_deep (map data_of (drop l.id-index l.ids))

@@ -1,0 +1,8 @@
+use Rattle.std.proofs.Common.{◌≡◌, ℕ, suc, ◌+◌, ◌≤◌, List, ◌++◌, length, map, drop, None, option_map}
+use Rattle.pgo_heads.specs.Views.{start_view, handed_view, run_view, global_view, part_view, finding_view}
+use Rattle.pgo_heads.specs.Refusals as specs
+use Rattle.pgo_heads.proofs.ids_no_value.ids_known.Given as goal
+
+abbrev pub invariant-loop-r : goal.invariant-loop-r
+invariant-loop-r l =
+    specs.first (specs.ids_unknown (map run_view l.runs)) ≡ specs.first (specs.ids_unknown (map run_view (drop l.r-index l.runs)))

@@ -1,0 +1,13 @@
+-- What is known of a name is what the archetypes from here on say of it.
+use Rattle.std.proofs.Common.{◌≡◌, ◌≤◌, length, drop}
+use Rattle.pgo_base.specs.Lookup.{Name}
+use Rattle.pgo_bound.specs.Runs.{archetype_named}
+use Rattle.pgo_heads.specs.NameMaps.{archetype_in}
+use Rattle.pgo_heads.proofs.named_archetypes.first_archetypes.Given as goal
+
+abbrev pub invariant-loop-i : goal.invariant-loop-i
+invariant-loop-i l =
+    ((n : Name) → archetype_in l.first.map n ≡ archetype_named n (drop l.i l.list)) × (l.i ≤ length l.list)
+
+abbrev pub decreases-loop-i : goal.decreases-loop-i
+decreases-loop-i l = l.i

@@ -1,0 +1,8 @@
+use Rattle.std.proofs.Common.{◌≡◌, ℕ, suc, ◌+◌, ◌≤◌, List, ◌++◌, length, map, drop, None, option_map}
+use Rattle.pgo_base.specs.View.{data_of, named_data, pair_of}
+use Rattle.pgo_heads.specs.Refusals as specs
+use Rattle.pgo_heads.proofs.same_id.repeated_behind.Given as goal
+
+abbrev pub invariant-loop-v : goal.invariant-loop-v
+invariant-loop-v l =
+    specs.first (specs.repeated_behind (data_of l.fn.first) (map data_of l.rest)) ≡ specs.first (specs.repeated_behind (data_of l.before) (map data_of (drop l.v-index l.rest)))

@@ -1,0 +1,32 @@
+-- Of what a rule finds: the first, and the first in the text.
+use Rattle.std.specs.Prelude.{ℕ, Bool, if◌then◌else◌, nat_lt, List, [], ◌∷◌, Option, Some, None}
+use Rattle.pgo_base.specs.Lookup.{Name}
+use Rattle.pgo_syntax.specs.declared.name.PlacedName.{PlacedName}
+use Rattle.pgo_heads.specs.declared.errors.BindError.{BindError}
+
+abbrev pub where_true : {A : Type 0} → Bool → A → Option A
+where_true b x = if b then Some x else None
+
+-- a name with its place in the text
+abbrev pub at_place : PlacedName → ℕ × Name
+at_place x = (x.place, x.name)
+
+abbrev pub first : {A : Type 0} → List A → Option A
+first [] = None
+first (x ∷ xs) = Some x
+
+-- the one that stands first in the text
+abbrev pub earlier : Option (ℕ × Name) → Option (ℕ × Name) → Option (ℕ × Name)
+earlier None b = b
+earlier (Some a) None = Some a
+earlier (Some a) (Some b) = if nat_lt b.0 a.0 then Some b else Some a
+
+-- the first in the text; of those at one place the first in the list
+abbrev pub first_placed : List (ℕ × Name) → Option (ℕ × Name)
+first_placed [] = None
+first_placed (x ∷ xs) = earlier (Some x) (first_placed xs)
+
+-- the first of two that is there
+abbrev pub or_next : Option BindError → Option BindError → Option BindError
+or_next None b = b
+or_next (Some e) b = Some e

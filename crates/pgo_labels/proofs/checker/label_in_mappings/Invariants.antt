@@ -1,0 +1,9 @@
+-- The sooner of what is found and what is left is the least of all.
+use Rattle.std.proofs.Common.{◌≡◌, drop}
+use Rattle.std.specs.Prelude.{flat_map}
+use Rattle.pgo_labels.specs.LabelHere.{label_in_mapping}
+use Rattle.pgo_labels.specs.Least.{sooner_of, least}
+use Rattle.pgo_labels.proofs.checker.label_in_mappings.Given as goal
+
+abbrev pub invariant-loop-m : goal.invariant-loop-m
+invariant-loop-m l = sooner_of (λ f. f.place) l.found (least (λ f. f.place) (flat_map label_in_mapping (drop l.m-index l.list))) ≡ least (λ f. f.place) (flat_map label_in_mapping l.list)

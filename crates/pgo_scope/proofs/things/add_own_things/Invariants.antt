@@ -1,7 +1,0 @@
--- What the loop keeps: what is made and what is left are the whole.
-use Rattle.std.proofs.Common.{◌≡◌, ◌++◌, drop}
-use Rattle.pgo_scope.specs.Clash.{own_things}
-use Rattle.pgo_scope.proofs.things.add_own_things.Given as goal
-
-abbrev pub invariant-loop-l : goal.invariant-loop-l
-invariant-loop-l l = l.out.items ++ own_things l.p (drop l.l-index l.names) ≡ l.initial.out.items ++ own_things l.p l.names

@@ -1,6 +1,0 @@
-use Rattle.pgo_base.specs.ExprView.{tree}
-use Rattle.pgo_base.specs.TreeSize.{height}
-use Rattle.pgo_scope.proofs.ways.+left_base.Given as goal
-
-abbrev pub decreases-left_base : goal.decreases-left_base
-decreases-left_base l = height (tree l.e.now)
