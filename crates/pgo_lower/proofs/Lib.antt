@@ -7,3 +7,4 @@ mod KindLaws
 mod GlobalLaws
 mod SlotLaws
 mod WorkLaws
+mod FoundLaws

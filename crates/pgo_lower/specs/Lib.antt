@@ -2,6 +2,7 @@ pub mod Lowered
 pub mod Attempts
 pub mod Gathered
 pub mod Globals
+pub mod SlotViews
 pub mod Slots
 pub mod Made
 pub mod Heads

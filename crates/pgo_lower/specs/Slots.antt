@@ -1,19 +1,11 @@
 -- The parameters and locals of an instance as they lie in memory.
-use Rattle.std.specs.Prelude.{List, map, Option}
+use Rattle.std.specs.Prelude.{Option}
 use Rattle.pgo_base.specs.Lookup.{Name}
-use Rattle.pgo_code.specs.See.{target_view}
-use Rattle.pgo_code.specs.Steps.{Target}
 use Rattle.pgo_code.specs.declared.program.Variable.{Variable}
 use Rattle.pgo_lower.specs.declared.names.Names.{Names}
-use Rattle.pgo_lower.specs.declared.slots.Slot.{Slot}
 use Rattle.pgo_lower.specs.Globals.{whole_in, by_element_in}
 use Rattle.pgo_lower.specs.Lowered.{Tables}
-
-abbrev pub slot_view : Slot → Name × Target
-slot_view s = (s.name, target_view s.target)
-
-abbrev pub slot_views : List Slot → List (Name × Target)
-slot_views ss = map slot_view ss
+pub use Rattle.pgo_lower.specs.SlotViews.{slot_view, slot_views}
 
 abbrev pub variable_view : Variable → Name × Option Name
 variable_view v = (v.name, v.own)

@@ -2,6 +2,7 @@
 #![tactic(auto)]
 
 pub mod globals;
+pub mod indexed_slots;
 mod kinds;
 pub mod lower;
 pub mod names;

@@ -10,8 +10,9 @@ ghost use Rattle.pgo_lower.specs.Slots.{slot_views, tables_of};
 ghost use Rattle.pgo_section_list.specs.Sections.{section_view as section_code};
 
 use crate::globals::Globals;
+use crate::indexed_slots::IndexedSlots;
 use crate::names::Names;
-use crate::slots::{Slot, slots_of, variables};
+use crate::slots::{slots_of, variables};
 use crate::turns::instructions;
 use pgo_base::module::Defs;
 use pgo_base::results::both;
@@ -65,7 +66,7 @@ fn sections_with<'a, 't>(
     alloc: Global,
     globals: &'t Globals<'a>,
     i: &'a Instance,
-    slots: &'t [Slot],
+    slots: &'t IndexedSlots,
     left: &mut u64,
 ) -> Result<Vec<Section<'a>>, AllocError>
     requires unlabelled { AreUnlabelled globals.now.bound.now.spec.macros }
@@ -103,8 +104,8 @@ fn code<'a>(
     requires { AreUnlabelled globals.now.bound.now.spec.macros }
     ensures { IfOk result (λ c. IsLowered globals.now.bound.now i.entry.now c) }
 {
-    let slots = slots_of(alloc, globals, i)?;
-    let sections = sections_with(alloc, globals, i, slots.as_slice(), left);
+    let slots = IndexedSlots::new(alloc, slots_of(alloc, globals, i)?)?;
+    let sections = sections_with(alloc, globals, i, &slots, left);
     let (variables, sections) = both(variables(alloc, slots.as_slice()), sections)?;
     Ok(Code {
         variables,

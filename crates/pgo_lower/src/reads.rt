@@ -12,7 +12,7 @@ ghost use Rattle.pgo_rewrite.specs.Scopes.{in_scope};
 ghost use Rattle.pgo_sections.specs.Among.{is_among};
 ghost use Rattle.pgo_sections.specs.FreeNames.{free_names};
 
-use crate::slots::{Slot, target_named};
+use crate::indexed_slots::IndexedSlots;
 use pgo_base::expr::{Expr, Names, Sub};
 use pgo_base::text::Text;
 use pgo_code::instruction::{Evaluation, Target, Unmapped};
@@ -55,7 +55,7 @@ fn read(
 /// Adds what is read for a name, unless it is read already.
 fn note(
     alloc: Global,
-    slots: &[Slot],
+    slots: &IndexedSlots,
     x: &Text,
     reads: &mut Vec<Unmapped>,
 ) -> Result<(), AllocError>
@@ -64,13 +64,13 @@ fn note(
     if is_read(x, reads.as_slice()) {
         return Ok(());
     }
-    read(alloc, x, target_named(slots, x), reads)
+    read(alloc, x, slots.target_named(x), reads)
 }
 
 /// The same, unless the name is bound around it.
 fn note_free(
     alloc: Global,
-    slots: &[Slot],
+    slots: &IndexedSlots,
     scope: &Scope<'_>,
     x: &Text,
     reads: &mut Vec<Unmapped>,
@@ -86,7 +86,7 @@ fn note_free(
 /// Adds what is read for the name that an expression is.
 fn note_own(
     alloc: Global,
-    slots: &[Slot],
+    slots: &IndexedSlots,
     scope: &Scope<'_>,
     e: &Expr,
     reads: &mut Vec<Unmapped>,
@@ -103,7 +103,7 @@ fn note_own(
 #[cycle(reads)]
 fn note_all(
     alloc: Global,
-    slots: &[Slot],
+    slots: &IndexedSlots,
     scope: &Scope<'_>,
     e: &Expr,
     reads: &mut Vec<Unmapped>,
@@ -120,7 +120,7 @@ fn note_all(
 #[cycle(reads)]
 fn note_parts(
     alloc: Global,
-    slots: &[Slot],
+    slots: &IndexedSlots,
     scope: &Scope<'_>,
     e: &Expr,
     bound: &Names,
@@ -138,7 +138,7 @@ fn note_parts(
 }
 
 /// What is read before an expression.
-fn reads_of(alloc: Global, slots: &[Slot], e: &Expr) -> Result<Vec<Unmapped>, AllocError>
+fn reads_of(alloc: Global, slots: &IndexedSlots, e: &Expr) -> Result<Vec<Unmapped>, AllocError>
     ensures { IfOk result (λ v. map unmapped_view v.items ≡ (lowered.evaluation (slot_views slots.now) (tree e.now)).reads) }
 {
     let mut reads = Vec::new(alloc);
@@ -147,7 +147,7 @@ fn reads_of(alloc: Global, slots: &[Slot], e: &Expr) -> Result<Vec<Unmapped>, Al
 }
 
 /// An expression with what is read before it.
-pub fn evaluation(alloc: Global, slots: &[Slot], e: Expr) -> Result<Evaluation, AllocError>
+pub fn evaluation(alloc: Global, slots: &IndexedSlots, e: Expr) -> Result<Evaluation, AllocError>
     ensures { IfOk result (λ v. evaluation_view v ≡ lowered.evaluation (slot_views slots.now) (tree e)) }
 {
     let expression = Sub::new(alloc, e)?;

@@ -1,6 +1,5 @@
 // What the parameters and locals of an instance stand for.
-ghost use Rattle.std.specs.Prelude.{◌≡◌, ◌++◌, [], ◌∷◌, map, option_map, IfOk};
-ghost use Rattle.pgo_base.specs.Lookup.{find};
+ghost use Rattle.std.specs.Prelude.{◌≡◌, ◌++◌, [], ◌∷◌, map, IfOk};
 ghost use Rattle.pgo_model.specs.Written.{written};
 ghost use Rattle.pgo_code.specs.See.{target_view};
 ghost use Rattle.pgo_meaning.specs.Parameters.{local_places, parameter_places, place_of};
@@ -121,18 +120,6 @@ pub fn slots_of(alloc: Global, globals: &Globals<'_>, i: &Instance) -> Result<Ve
     )?;
     add_locals(&mut slots, alloc, &i.process, i.archetype.locals.as_slice())?;
     Ok(slots)
-}
-
-/// What a name stands for.
-pub fn target_named<'s>(slots: &'s [Slot], x: &Text) -> Option<&'s Target>
-    ensures { option_map (λ t. target_view t.now) result ≡ find x.now (slot_views slots.entry.now) }
-{
-    for slot in slots {
-        if x.is(&slot.name) {
-            return Some(&slot.target);
-        }
-    }
-    None
 }
 
 /// What stands for a place.

@@ -4,3 +4,4 @@ pub mod Measured
 pub mod Looked
 pub mod Pendings
 pub mod PendingView
+pub mod NameRows

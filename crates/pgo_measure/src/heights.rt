@@ -1,11 +1,13 @@
 // Heights up to the most that is told apart.
-ghost use Rattle.std.specs.Prelude.{◌≡◌, suc, Option, Some, None, option_map};
-ghost use Rattle.pgo_base.specs.Lookup.{find, same_name};
+ghost use Rattle.std.specs.Prelude.{◌≡◌, List, suc, Option, Some, None, IfOk};
+ghost use Rattle.pgo_base.specs.Lookup.{Name, same_name};
 ghost use Rattle.pgo_model.specs.Written.{pc};
-ghost use Rattle.pgo_sections.specs.Among.{is_among};
 ghost use Rattle.pgo_measure.specs.Heights.{capped, join, end_height, assigned_height, change_height};
+ghost use Rattle.pgo_measure.specs.NameRows.{changed_rows, name_rows};
 
 use pgo_base::text::Text;
+use pgo_uses::names::Names;
+use std::alloc::{AllocError, Global};
 
 const MOST_HEIGHT: u64 = 513;
 
@@ -30,35 +32,33 @@ pub fn joined(before: Option<u64>, height: u64) -> u64
     }
 }
 
-/// Whether x is one of these names.
-fn is_one_of(x: &Text, names: &[Text]) -> bool
-    ensures { result ≡ is_among x.now names.now }
+/// These names, of which one is found without going over them.
+fn rows_of_names(alloc: Global, names: &[Text]) -> Result<Names, AllocError>
+    ensures { IfOk result (λ rows. rows ≡ name_rows names.now) }
 {
+    let mut rows = Names::new(alloc);
     for name in names {
-        if x.is(name) {
-            return true;
-        }
+        rows.push(alloc, name, 0)?;
     }
-    false
+    Ok(rows)
 }
 
-/// The made name that x is assigned.
-fn change_of<'a>(x: &Text, changes: &'a [(Text, Text)]) -> Option<&'a Text>
-    ensures { option_map (λ y. y.now) result ≡ find x.now changes.now }
+/// The variables that are changed, of which one is found without going over them.
+fn rows_of_changes(alloc: Global, changes: &[(Text, Text)]) -> Result<Names, AllocError>
+    ensures { IfOk result (λ rows. rows ≡ changed_rows changes.now) }
 {
-    for (variable, made) in changes {
-        if x.is(variable) {
-            return Some(made);
-        }
+    let mut rows = Names::new(alloc);
+    for change in changes {
+        rows.push(alloc, &change.0, 0)?;
     }
-    None
+    Ok(rows)
 }
 
 /// Of the assignment of a variable but `pc`: of a global as a whole, or of another at `self`.
-fn height_of_assignment(x: &Text, globals: &[Text]) -> u64
-    ensures { result ≡ assigned_height globals.now x.now }
+fn height_of_assignment(x: &Text, globals: &Names) -> u64
+    ensures { (gs : List Name) → globals.now ≡ name_rows gs → result ≡ assigned_height gs x.now }
 {
-    if is_one_of(x, globals) { 2 } else { 3 }
+    if globals.has(x) { 2 } else { 3 }
 }
 
 fn is_pc(x: &Text) -> bool
@@ -68,37 +68,43 @@ fn is_pc(x: &Text) -> bool
 }
 
 /// Of the assignment of x, if it has one.
-fn height_of_change(x: &Text, globals: &[Text], changes: &[(Text, Text)]) -> Option<u64>
-    ensures { result ≡ change_height globals.now changes.now x.now }
+fn height_of_change(x: &Text, globals: &Names, changes: &Names) -> Option<u64>
+    ensures { (gs : List Name) (cs : List (Name × Name)) → globals.now ≡ name_rows gs → changes.now ≡ changed_rows cs → result ≡ change_height gs cs x.now }
 {
     if is_pc(x) {
         return Some(3);
     }
-    match change_of(x, changes) {
-        None => None,
-        Some(_) => Some(height_of_assignment(x, globals)),
+    if changes.has(x) {
+        Some(height_of_assignment(x, globals))
+    } else {
+        None
     }
 }
 
 /// Of an end behind the items so far.
+///
+/// Err only where there is no memory.
 pub fn height_of_end(
+    alloc: Global,
     variables: &[Text],
     globals: &[Text],
     changes: &[(Text, Text)],
     before: Option<u64>,
-) -> u64
-    ensures { result ≡ capped (end_height globals.now variables.now before changes.now) }
+) -> Result<u64, AllocError>
+    ensures { IfOk result (λ h. h ≡ capped (end_height globals.now variables.now before changes.now)) }
 {
+    let whole = rows_of_names(alloc, globals)?;
+    let changed = rows_of_changes(alloc, changes)?;
     let mut so_far = before;
     let mut kept = false;
     for x in variables {
-        match height_of_change(x, globals, changes) {
+        match height_of_change(x, &whole, &changed) {
             Some(height) => so_far = Some(joined(so_far, height)),
             None => kept = true,
         }
     }
     if kept {
-        return joined(so_far, 1);
+        return Ok(joined(so_far, 1));
     }
-    joined(None, so_far.unwrap_or(1))
+    Ok(joined(None, so_far.unwrap_or(1)))
 }

@@ -109,36 +109,38 @@ fn spend_end(left: u64, changes: &[(Text, Text)]) -> Option<u64>
 
 /// The height of all with an end there.
 fn height_at_end(
+    alloc: Global,
     variables: &[Text],
     globals: &[Text],
     tally: Tally,
     changes: &[(Text, Text)],
-) -> u64
-    ensures { result ≡ capped (max tally.height (tally.spot.depth + capped (end_height globals.now variables.now tally.spot.before changes.now))) }
+) -> Result<u64, AllocError>
+    ensures { IfOk result (λ h. h ≡ capped (max tally.height (tally.spot.depth + capped (end_height globals.now variables.now tally.spot.before changes.now)))) }
 {
-    let end = height_of_end(variables, globals, changes, tally.spot.before);
+    let end = height_of_end(alloc, variables, globals, changes, tally.spot.before)?;
     let outside = Spot {
         before: None,
         depth: tally.spot.depth,
     };
-    height_with(tally.height, outside, end)
+    Ok(height_with(tally.height, outside, end))
 }
 
 /// Behind an end.
 fn end_on(
+    alloc: Global,
     variables: &[Text],
     globals: &[Text],
     tally: Tally,
     changes: &[(Text, Text)],
-) -> Option<Size>
-    ensures { (label : Name) (ps : List Part) → measured variables.now globals.now tally.left tally.height (part tally.spot (End changes.now label) ∷ ps) ≡ behind_size variables.now globals.now result ps }
+) -> Result<Option<Size>, AllocError>
+    ensures { IfOk result (λ o. (label : Name) (ps : List Part) → measured variables.now globals.now tally.left tally.height (part tally.spot (End changes.now label) ∷ ps) ≡ behind_size variables.now globals.now o ps) }
 {
     match spend_end(tally.left, changes) {
-        None => None,
-        Some(left) => Some(Size {
+        None => Ok(None),
+        Some(left) => Ok(Some(Size {
             left,
-            height: height_at_end(variables, globals, tally, changes),
-        }),
+            height: height_at_end(alloc, variables, globals, tally, changes)?,
+        })),
     }
 }
 
@@ -230,7 +232,7 @@ fn event_on<'a, 'i>(
         Event::Step(m) => step_on(alloc, pending, state, tally, &m),
         Event::If(e, other) => test_on(alloc, pending, state, other, tally, &e),
         Event::Either(arms) => arms_on(pending, arms, tally),
-        Event::End(changes, _) => Ok(end_on(variables, globals, tally, changes.as_slice())),
+        Event::End(changes, _) => end_on(alloc, variables, globals, tally, changes.as_slice()),
     }
 }
 

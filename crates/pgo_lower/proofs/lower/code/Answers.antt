@@ -18,6 +18,6 @@ returns c =
     let i = c.args.i.now in
     let p = c.in_ok-variables in
     record {
-      variables = IfOk-at_ok _ p.ensures.first c.variables.ensures ∙ ap owns (ap slot_views c.as_slice-2.ensures.value ∙ c.in_ok-slots.ensures) ∙ variables_there b (places_of i.process i.archetype i.bindings);
+      variables = IfOk-at_ok _ p.ensures.first c.variables.ensures ∙ ap owns (ap slot_views (c.as_slice.ensures ∙ c.in_ok-slots.ensures) ∙ c.in_ok-slots_of.ensures) ∙ variables_there b (places_of i.process i.archetype i.bindings);
       sections = sections_there b i p.sections.items (sections_of b.spec.macros i.process i.archetype i.bindings) (IfOk-at_ok _ p.ensures.second c.sections_with-sections.ensures);
     }
