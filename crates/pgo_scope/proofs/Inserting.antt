@@ -1,11 +1,11 @@
--- What is looked up by a name once one entry is put into an ordered map.
+-- What is looked up by a name once one entry is put into an ordered map, or removed from it.
 use Rattle.std.proofs.Common.{◌≡◌, Bool, true, false, List, [], ◌∷◌, cond, refl, ap, sym, ◌∙◌}
 use Rattle.std.specs.Prelude.{Some}
 use Rattle.std.specs.declared.cmp.Ordering.{Ordering}
 use Rattle.std.specs.declared.cmp.Ordering.TheVariants.{Less, Equal, Greater}
 use Rattle.std.specs.Ordering.{nat_cmp, is_eq, match_ordering}
 use Rattle.std.specs.Cmp.Lexicographic.{slice_cmp}
-use Rattle.std.specs.Map.{lookup}
+use Rattle.std.specs.Map.{lookup, remove_entry}
 use Rattle.std.specs.BTreeMap.{insert_entry}
 use Rattle.pgo_base.specs.Data.{string}
 use Rattle.pgo_base.specs.Exact.{data_itself}
@@ -33,3 +33,12 @@ insert_found f x (e ∷ es) k v = go (slice_cmp nat_cmp (f k) (f e.0)) refl (ins
     go Less g r = refl
     go Equal g r = let one : f k ≡ f e.0 = same_name-is (f k) (f e.0) (ap is_eq g) in equal (same_name x (f e.0)) refl (ap (same_name x) one)
     go Greater g r = ap (cond (same_name x (f e.0)) (Some e.1)) r ∙ greater (same_name x (f e.0)) (same_name x (f k)) refl refl g
+
+-- what is looked up by another name once the entry of a name is removed
+pub remove_found : {K V : Type 0} (f : K → Name) (x name : Name) (es : List (K × V)) → same_name x name ≡ false → lookup (λ q. same_name x (f q)) (remove_entry (λ q. same_name name (f q)) es) ≡ lookup (λ q. same_name x (f q)) es
+remove_found f x name [] h = refl
+remove_found f x name (e ∷ es) h = go (same_name name (f e.0)) refl (remove_found f x name es h)
+  where
+    go : (b : Bool) → same_name name (f e.0) ≡ b → lookup (λ q. same_name x (f q)) (remove_entry (λ q. same_name name (f q)) es) ≡ lookup (λ q. same_name x (f q)) es → lookup (λ q. same_name x (f q)) (cond b es (e ∷ remove_entry (λ q. same_name name (f q)) es)) ≡ lookup (λ q. same_name x (f q)) (e ∷ es)
+    go true k r = sym (ap (λ b. cond b (Some e.1) (lookup (λ q. same_name x (f q)) es)) (ap (same_name x) (sym (same_name-is name (f e.0) k)) ∙ h))
+    go false k r = ap (cond (same_name x (f e.0)) (Some e.1)) r

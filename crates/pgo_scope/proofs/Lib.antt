@@ -3,6 +3,7 @@ mod Clashing
 mod Declaring
 mod Doubled
 mod Gathering
+mod Handing
 mod Inserting
 mod Only
 mod Owning

@@ -2,6 +2,8 @@ pub mod Findings
 pub mod TextOrder
 pub mod Unknown
 pub mod Twice
+pub mod NameMaps
+pub mod Handed
 pub mod CaptureView
 pub mod Arity
 pub mod Globals

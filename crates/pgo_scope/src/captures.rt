@@ -4,11 +4,13 @@ ghost use Rattle.pgo_base.specs.ExprView.{tree};
 ghost use Rattle.pgo_base.specs.Lookup.{Name};
 ghost use Rattle.pgo_uses.specs.AllUses.{names_of};
 ghost use Rattle.pgo_uses.specs.Names.{is_among};
-ghost use Rattle.pgo_scope.specs.CaptureView.{see_test, see_tests, see_captures};
+ghost use Rattle.pgo_scope.specs.CaptureView.{see_names, see_parameter, see_tests, see_captures};
 ghost use Rattle.pgo_scope.specs.Findings.{each_use};
+ghost use Rattle.pgo_scope.specs.Handed.{is_handed, see_test};
 ghost use Rattle.pgo_scope.specs.Twice as spec;
 
 use crate::finding::{Cause, Finding, add_if};
+use crate::handed::{Handed, Test};
 use pgo_base::expr::Expr;
 use pgo_base::text::Text;
 use pgo_syntax::macros::Macro;
@@ -22,10 +24,10 @@ use std::alloc::{AllocError, Global};
 /// The names that may not stand in the arguments of a macro.
 #[derive(Drop)]
 pub struct Captures {
-    /// those of each parameter's argument
-    pub tests: Vec<Names>,
-    /// those of each argument behind them
-    pub behind: Names,
+    /// for each parameter, those that may not stand in its argument since it is handed on
+    pub handed: Vec<Names>,
+    /// those that may not stand in any argument, since the macro binds them
+    pub bound: Names,
 }
 
 /// The names of all macros, and what may not stand in the arguments of the first of them.
@@ -33,28 +35,6 @@ pub struct Captures {
 pub struct CaptureTable<'a> {
     pub names: &'a Names,
     pub list: &'a [Captures],
-}
-
-/// Whether the name stands there, bound or not.
-fn stands_of(x: &Text, u: &Use) -> bool
-    ensures { result ≡ spec.stands_of x.now u.now u.now.form }
-{
-    match &u.form {
-        Form::Field => false,
-        _ => x.is(&u.name),
-    }
-}
-
-/// Whether the name stands among these.
-fn stands_in(x: &Text, uses: &[Use]) -> bool
-    ensures { result ≡ spec.stands_in x.now uses.now }
-{
-    for u in uses {
-        if stands_of(x, u) {
-            return true;
-        }
-    }
-    false
 }
 
 /// Adds the names that are bound among these.
@@ -80,121 +60,116 @@ fn captures_of<'a>(table: &CaptureTable<'a>, name: &Text) -> Option<&'a Captures
     }
 }
 
-/// Adds the names that may not stand in this argument, where p stands in it.
-#[tactic(auto, using(pgo_uses::proofs::Among::all_is))]
-fn add_if_stands(
+/// Notes under each name in this argument what may not stand in it.
+fn add_standing<'a>(
     alloc: Global,
-    test: &Names,
+    test: Test<'a>,
     around: Around,
-    p: &Text,
     e: &Expr,
-    names: &mut Names,
+    handed: &mut Handed<'a>,
 ) -> Result<(), AllocError>
-    ensures { IfOk result (λ _. (x : Name) → is_among x names.new ≡ spec.handed_at (is_among x names.old) (see_test test.now) around p.now (tree e.now) x) }
+    ensures { IfOk result (λ _. (p : Name) (x : Name) → is_handed handed.new p x ≡ spec.handed_at (is_handed handed.old p x) (see_test test.entry) around p (tree e.now) x) }
 {
     let mut uses = Vec::new(alloc);
     add_uses(alloc, around, e, &mut uses)?;
-    if stands_in(p, uses.as_slice()) {
-        names.add_all(alloc, test)?;
-    }
-    Ok(())
+    handed.add_uses(alloc, uses.as_slice(), test)
 }
 
-/// Adds the names that may not stand in one of these arguments in which p stands.
-fn add_handed_on(
+/// The same for each of these arguments.
+fn add_handed_on<'a>(
     alloc: Global,
-    tests: &[Names],
+    captures: &'a Captures,
     around: Around,
-    p: &Text,
     args: &[Expr],
-    names: &mut Names,
+    handed: &mut Handed<'a>,
 ) -> Result<(), AllocError>
-    ensures { IfOk result (λ _. (x : Name) → is_among x names.new ≡ spec.handed_on (is_among x names.old) (map see_test tests.now) around p.now (map tree args.now) x) }
+    ensures { IfOk result (λ _. (p : Name) (x : Name) → is_handed handed.new p x ≡ spec.handed_on (is_handed handed.old p x) (map (see_parameter captures.now.bound) captures.now.handed.items) around p (map tree args.now) x) }
 {
-    for (i, test) in tests.iter().enumerate() {
+    let bound = &captures.bound;
+    for (i, names) in captures.handed.as_slice().iter().enumerate() {
         let Some(e) = args.get(i) else {
             return Ok(());
         };
-        add_if_stands(alloc, test, around, p, e, names)?;
+        let test = Test {
+            handed: names,
+            bound,
+        };
+        add_standing(alloc, test, around, e, handed)?;
     }
     Ok(())
 }
 
-fn add_call(
+fn add_call<'a>(
     alloc: Global,
-    table: &CaptureTable<'_>,
-    p: &Text,
+    table: &CaptureTable<'a>,
     u: &Use,
-    names: &mut Names,
+    handed: &mut Handed<'a>,
 ) -> Result<(), AllocError>
-    ensures { IfOk result (λ _. (x : Name) → is_among x names.new ≡ spec.calls_capture (is_among x names.old) (see_captures table.now) p.now u.now u.now.form x) }
+    ensures { IfOk result (λ _. (p : Name) (x : Name) → is_handed handed.new p x ≡ spec.calls_capture (is_handed handed.old p x) (see_captures table.now) p u.now u.now.form x) }
 {
     match &u.form {
         Form::Called(list) => {
             let Some(c) = captures_of(table, &u.name) else {
                 return Ok(());
             };
-            let tests = c.tests.as_slice();
-            add_handed_on(alloc, tests, u.around, p, list.as_slice(), names)
+            add_handed_on(alloc, c, u.around, list.as_slice(), handed)
         }
         _ => Ok(()),
     }
 }
 
-/// Adds the names that may not stand where p is handed on to another macro.
-fn add_calls(
+/// The names that these hand on to other macros.
+fn handed_on<'a>(
     alloc: Global,
-    table: &CaptureTable<'_>,
-    p: &Text,
+    table: &CaptureTable<'a>,
     uses: &[Use],
-    names: &mut Names,
-) -> Result<(), AllocError>
-    ensures { IfOk result (λ _. (x : Name) → is_among x names.new ≡ spec.some_capture (is_among x names.old) (see_captures table.now) p.now uses.now x) }
+) -> Result<Handed<'a>, AllocError>
+    ensures { IfOk result (λ handed. (p : Name) (x : Name) → is_handed handed p x ≡ spec.some_capture false (see_captures table.now) p uses.now x) }
 {
+    let mut handed = Handed::new(alloc);
     for u in uses {
-        add_call(alloc, table, p, u, names)?;
+        add_call(alloc, table, u, &mut handed)?;
     }
-    Ok(())
+    Ok(handed)
 }
 
-/// The names that may not stand in the argument for the parameter p.
-fn parameter_test(
+/// The names that may not stand in the argument for each of these parameters since it is handed on.
+fn handed_names(
     alloc: Global,
-    table: &CaptureTable<'_>,
-    uses: &[Use],
-    p: &Text,
-) -> Result<Names, AllocError>
-    ensures { IfOk result (λ names. (x : Name) → is_among x names ≡ spec.parameter_test (see_captures table.now) uses.now p.now x) }
-{
-    let mut names = Names::new(alloc);
-    add_calls(alloc, table, p, uses, &mut names)?;
-    add_bound_names(alloc, uses, &mut names)?;
-    Ok(names)
-}
-
-/// The same for each parameter.
-fn parameter_tests(
-    alloc: Global,
-    table: &CaptureTable<'_>,
-    uses: &[Use],
+    handed: &Handed<'_>,
     params: &[PlacedName],
 ) -> Result<Vec<Names>, AllocError>
-    ensures { IfOk result (λ v. map see_test v.items ≡ spec.parameter_tests (see_captures table.now) uses.now (names_of params.now)) }
+    ensures { IfOk result (λ v. map see_names v.items ≡ map (is_handed handed.now) (names_of params.now)) }
 {
-    let mut tests = Vec::new(alloc);
+    let mut all = Vec::new(alloc);
     for p in params {
-        tests.push(parameter_test(alloc, table, uses, &p.name)?)?;
+        all.push(handed.names_of(alloc, &p.name)?)?;
     }
-    Ok(tests)
+    Ok(all)
 }
 
 /// The names that are bound among these.
 fn bound_names(alloc: Global, uses: &[Use]) -> Result<Names, AllocError>
-    ensures { IfOk result (λ names. see_test names ≡ spec.is_bound_in false uses.now) }
+    ensures { IfOk result (λ names. see_names names ≡ spec.is_bound_in false uses.now) }
 {
     let mut names = Names::new(alloc);
     add_bound_names(alloc, uses, &mut names)?;
     Ok(names)
+}
+
+/// The names that may not stand in the arguments of a macro with these names in it.
+fn macro_captures(
+    alloc: Global,
+    table: &CaptureTable<'_>,
+    uses: &[Use],
+    params: &[PlacedName],
+) -> Result<Captures, AllocError>
+    ensures { IfOk result (λ c. see_tests c ≡ spec.macro_tests (see_captures table.now) uses.now (names_of params.now)) }
+{
+    let on = handed_on(alloc, table, uses)?;
+    let handed = handed_names(alloc, &on, params)?;
+    let bound = bound_names(alloc, uses)?;
+    Ok(Captures { handed, bound })
 }
 
 /// The names that may not stand in the arguments of each of these macros, each by those before it.
@@ -213,20 +188,19 @@ pub fn all_captures(
             names: macros,
             list: made.as_slice(),
         };
-        let tests = parameter_tests(alloc, &table, uses.as_slice(), m.params.as_slice())?;
-        let behind = bound_names(alloc, uses.as_slice())?;
-        made.push(Captures { tests, behind })?;
+        let captures = macro_captures(alloc, &table, uses.as_slice(), m.params.as_slice())?;
+        made.push(captures)?;
     }
     Ok(made)
 }
 
 fn add_captured_use(
     alloc: Global,
-    test: &Names,
+    test: Test<'_>,
     u: &Use,
     out: &mut Vec<Finding>,
 ) -> Result<(), AllocError>
-    ensures { IfOk result (λ _. out.new.items ≡ out.old.items ++ spec.captured_use (see_test test.now) u.now) }
+    ensures { IfOk result (λ _. out.new.items ≡ out.old.items ++ spec.captured_use (see_test test.entry) u.now) }
 {
     match &u.form {
         Form::Field => Ok(()),
@@ -240,11 +214,11 @@ fn add_captured_use(
 /// Adds the names among these that may not stand there.
 fn add_captured_uses(
     alloc: Global,
-    test: &Names,
+    test: Test<'_>,
     uses: &[Use],
     out: &mut Vec<Finding>,
 ) -> Result<(), AllocError>
-    ensures { IfOk result (λ _. out.new.items ≡ out.old.items ++ each_use (spec.captured_use (see_test test.now)) uses.now) }
+    ensures { IfOk result (λ _. out.new.items ≡ out.old.items ++ each_use (spec.captured_use (see_test test.entry)) uses.now) }
 {
     for u in uses {
         add_captured_use(alloc, test, u, out)?;
@@ -255,12 +229,12 @@ fn add_captured_uses(
 /// Adds the names in this argument that may not stand there.
 fn add_captured_at(
     alloc: Global,
-    test: &Names,
+    test: Test<'_>,
     around: Around,
     e: &Expr,
     out: &mut Vec<Finding>,
 ) -> Result<(), AllocError>
-    ensures { IfOk result (λ _. out.new.items ≡ out.old.items ++ spec.captured_at (see_test test.now) around (tree e.now)) }
+    ensures { IfOk result (λ _. out.new.items ≡ out.old.items ++ spec.captured_at (see_test test.entry) around (tree e.now)) }
 {
     let mut uses = Vec::new(alloc);
     add_uses(alloc, around, e, &mut uses)?;
@@ -270,12 +244,12 @@ fn add_captured_at(
 /// Adds the names in all of these arguments that may not stand there.
 fn add_captured_behind(
     alloc: Global,
-    test: &Names,
+    test: Test<'_>,
     around: Around,
     args: &[Expr],
     out: &mut Vec<Finding>,
 ) -> Result<(), AllocError>
-    ensures { IfOk result (λ _. out.new.items ≡ out.old.items ++ spec.captured_behind (see_test test.now) around (map tree args.now)) }
+    ensures { IfOk result (λ _. out.new.items ≡ out.old.items ++ spec.captured_behind (see_test test.entry) around (map tree args.now)) }
 {
     for e in args {
         add_captured_at(alloc, test, around, e, out)?;
@@ -283,24 +257,48 @@ fn add_captured_behind(
     Ok(())
 }
 
-/// Adds the names in these arguments of one call that may not stand there.
-fn add_captured_in(
+/// Adds the names in all of these arguments that are bound.
+fn add_captured_bound(
     alloc: Global,
-    tests: &[Names],
-    behind: &Names,
+    bound: &Names,
     around: Around,
     args: &[Expr],
     out: &mut Vec<Finding>,
 ) -> Result<(), AllocError>
-    ensures { IfOk result (λ _. out.new.items ≡ out.old.items ++ spec.captured_in (map see_test tests.now) (see_test behind.now) around (map tree args.now)) }
+    ensures { IfOk result (λ _. out.new.items ≡ out.old.items ++ spec.captured_behind (see_names bound.now) around (map tree args.now)) }
 {
-    for (i, test) in tests.iter().enumerate() {
+    let none = Names::new(alloc);
+    let test = Test {
+        handed: &none,
+        bound,
+    };
+    add_captured_behind(alloc, test, around, args, out)?;
+    Ok(())
+}
+
+/// Adds the names in these arguments of one call that may not stand there.
+fn add_captured_in(
+    alloc: Global,
+    captures: &Captures,
+    around: Around,
+    args: &[Expr],
+    out: &mut Vec<Finding>,
+) -> Result<(), AllocError>
+    ensures { IfOk result (λ _. out.new.items ≡ out.old.items ++ spec.captured_in (map (see_parameter captures.now.bound) captures.now.handed.items) (see_names captures.now.bound) around (map tree args.now)) }
+{
+    let bound = &captures.bound;
+    let list = captures.handed.as_slice();
+    for (i, names) in list.iter().enumerate() {
         let Some(e) = args.get(i) else {
             return Ok(());
         };
+        let test = Test {
+            handed: names,
+            bound,
+        };
         add_captured_at(alloc, test, around, e, out)?;
     }
-    add_captured_behind(alloc, behind, around, &args[tests.len()..], out)
+    add_captured_bound(alloc, bound, around, &args[list.len()..], out)
 }
 
 pub fn add_capture_use(
@@ -316,8 +314,7 @@ pub fn add_capture_use(
             let Some(c) = captures_of(table, &u.name) else {
                 return Ok(());
             };
-            let tests = c.tests.as_slice();
-            add_captured_in(alloc, tests, &c.behind, u.around, list.as_slice(), out)
+            add_captured_in(alloc, c, u.around, list.as_slice(), out)
         }
         _ => Ok(()),
     }

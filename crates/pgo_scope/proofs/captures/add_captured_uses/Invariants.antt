@@ -1,7 +1,7 @@
 -- What the loop keeps: what is made and what is left are the whole.
 use Rattle.std.proofs.Common.{◌≡◌, ◌++◌, drop}
 use Rattle.pgo_scope.specs.Findings.{each_use}
-use Rattle.pgo_scope.specs.CaptureView.{see_test}
+use Rattle.pgo_scope.specs.Handed.{see_test}
 use Rattle.pgo_scope.specs.Twice.{captured_use}
 use Rattle.pgo_scope.proofs.captures.add_captured_uses.Given as goal
 
