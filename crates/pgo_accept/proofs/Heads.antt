@@ -7,7 +7,7 @@ use Rattle.pgo_syntax.specs.declared.name.PlacedName.{PlacedName}
 use Rattle.pgo_syntax.specs.declared.archetype.Archetype.{Archetype}
 use Rattle.pgo_syntax.specs.declared.process.Process.{Process}
 use Rattle.pgo_uses.specs.declared.tables.Tables.{Tables}
-use Rattle.pgo_uses.specs.Names.{Rows, is_among}
+use Rattle.pgo_uses.specs.Names.{Rows, has_row}
 use Rattle.pgo_uses.specs.Tables.{archetype_rows}
 use Rattle.pgo_scope.specs.declared.errors.ScopeError.{ScopeError}
 use Rattle.pgo_scope.specs.declared.errors.ScopeError.TheVariants as errors
@@ -26,8 +26,8 @@ not_false : (b : Bool) → not b ≡ false → b ≡ true
 not_false true h = refl
 not_false false h = absurd (cc)
 
-known_name : (rows : Rows) (x : PlacedName) → unknown_in rows x ≡ [] → is_among x.name rows ≡ true
-known_name rows x h = not_false (is_among x.name rows) (nothing_if (not (is_among x.name rows)) x.place (errors.Unknown x.name) h)
+known_name : (rows : Rows) (x : PlacedName) → unknown_in rows x ≡ [] → has_row x.name rows ≡ true
+known_name rows x h = not_false (has_row x.name rows) (nothing_if (not (has_row x.name rows)) x.place (errors.Unknown x.name) h)
 
 same_number : (rows : Rows) (x : Name) (n p : ℕ) → wrong_number rows x n p ≡ [] → nat_eq (or_number (find x rows) n) n ≡ true
 same_number rows x n p h =

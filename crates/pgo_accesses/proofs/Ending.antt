@@ -6,14 +6,13 @@ use Rattle.pgo_base.specs.Lookup.{Name, Vars, same_name, find}
 use Rattle.pgo_base.specs.Size.{depth, members_size, graph_size}
 use Rattle.pgo_model.specs.Core.{number_among}
 use Rattle.pgo_model.specs.Machine.{among}
-use Rattle.pgo_model.specs.Names.{same_name-is}
+use Rattle.pgo_model.specs.Names.{same_name-is, is_among}
 use Rattle.pgo_model.specs.Operators.{same_data, apply, contains, lookup, most_members, both}
 use Rattle.pgo_model.specs.Options.{on}
 use Rattle.pgo_model.specs.State.{is_shallow}
 use Rattle.pgo_model.specs.System.{Words, Resource, Touched}
 use Rattle.pgo_model.specs.Written.{pc}
 use Rattle.pgo_bound.specs.Among.{IsAmong}
-use Rattle.pgo_sections.specs.Among.{is_among}
 use Rattle.pgo_sections.specs.BoundValues.{put_part, value_put}
 use Rattle.pgo_sections.specs.Code.{Whole}
 use Rattle.pgo_sections.specs.Context.{Context, part_at, value_now}
@@ -149,8 +148,8 @@ module _ (K : Context) (rs : List Resource) (at_start : walks.Own) (d : Words) w
         go false n e ih low = ih e
 
     -- no resource is too deep
-    not_deep : none_deep p.deep ≡ true → (c : Touched) (r : ℕ) → number_among rs c ≡ Some r → is_too_deep (K.by_element c.0) (g r) ≡ false
-    not_deep h c r e = sym (R.deep c r e) ∙ go p.deep h
+    not_deep : none_deep p.too_deep ≡ true → (c : Touched) (r : ℕ) → number_among rs c ≡ Some r → is_too_deep (K.by_element c.0) (g r) ≡ false
+    not_deep h c r e = sym (R.deep c r e) ∙ go p.too_deep h
       where
         go : (l : List ℕ) → none_deep l ≡ true → among r l ≡ false
         go [] h = refl
@@ -171,7 +170,7 @@ module _ (K : Context) (rs : List Resource) (at_start : walks.Own) (d : Words) w
         go true e h = le_of (depth v) 255 e
         go false e h = absurd (grind (arith, h))
 
-    elements_low : (x : Name) → IsElements K rs at_start d x → none_deep p.deep ≡ true → (w : Data) → value_now K (Whole x) ch ≡ Some w → depth w ≤ 256
+    elements_low : (x : Name) → IsElements K rs at_start d x → none_deep p.too_deep ≡ true → (w : Data) → value_now K (Whole x) ch ≡ Some w → depth w ≤ 256
     elements_low x is h w e =
         let E = R.elements x is in
         let f = S.elements x is in
@@ -204,7 +203,7 @@ module _ (K : Context) (rs : List Resource) (at_start : walks.Own) (d : Words) w
     pub record Becomes (x : Name) (v : Data) : Type 0 where
       pub becomes : Data
       pub is : closed_value K l ch x v ≡ Some becomes
-      pub low : none_deep p.deep ≡ true → all_shallow o ≡ true → depth becomes ≤ 256
+      pub low : none_deep p.too_deep ≡ true → all_shallow o ≡ true → depth becomes ≤ 256
 
     not_global : (x : Name) → same_name x pc ≡ true → is_among x K.globals ≡ false
     not_global x e = ap (λ z. is_among z K.globals) (same_name-is x pc e) ∙ (part_of_own at_start pc S.place.0 S.parts S.place.1).no_global
@@ -240,7 +239,7 @@ module _ (K : Context) (rs : List Resource) (at_start : walks.Own) (d : Words) w
               low = λ none all. part.3 (subst (λ z. depth z ≤ 255) ((λ i. if n i then string l else on u.0 ((R.own x may.0 ∙ f) i) (λ v. v))) (own_low at_start x u.0 all u.1));
             }
 
-        global_case : (w : Data) → same_name x pc ≡ false → find x ch ≡ Some w → is_among x K.globals ≡ true → (none_deep p.deep ≡ true → depth w ≤ 256) → Becomes x v
+        global_case : (w : Data) → same_name x pc ≡ false → find x ch ≡ Some w → is_among x K.globals ≡ true → (none_deep p.too_deep ≡ true → depth w ≤ 256) → Becomes x v
         global_case w n f is low = record {
           becomes = w;
           is = (λ i. if n i then put_part K.id (Some v) (Some (string l)) else on (Some v) (f i) (λ v'. value_put (is i) K.id (Some v) (Some v')));
@@ -282,7 +281,7 @@ module _ (K : Context) (rs : List Resource) (at_start : walks.Own) (d : Words) w
     pub record Closes (s : Vars) : Type 0 where
       pub end : Vars
       pub is : closed K l ch s ≡ Some end
-      pub low : none_deep p.deep ≡ true → all_shallow o ≡ true → is_shallow end ≡ true
+      pub low : none_deep p.too_deep ≡ true → all_shallow o ≡ true → is_shallow end ≡ true
 
     closes : (s : Vars) → Entries s → Closes s
     closes [] h = record { end = []; is = refl; low = λ none all. refl }
@@ -407,8 +406,8 @@ module _ (K : Context) (rs : List Resource) (at_start : walks.Own) (d : Words) w
             number : (q : ℕ) → Some q ≡ Some r → q ≡ r
             number q f = cc
 
-    none_deep_there : is_shallow t ≡ true → none_deep p.deep ≡ true
-    none_deep_there s = go p.deep R.only R.deep
+    none_deep_there : is_shallow t ≡ true → none_deep p.too_deep ≡ true
+    none_deep_there s = go p.too_deep R.only R.deep
       where
         go : (l : List ℕ) → ((r : ℕ) → among r l ≡ true → (c : Touched) × (number_among rs c ≡ Some r) × IsResource K rs at_start d c.0 c.1)
             → ((c : Touched) (r : ℕ) → number_among rs c ≡ Some r → among r l ≡ is_too_deep (K.by_element c.0) (g r)) → none_deep l ≡ true
@@ -436,8 +435,8 @@ module _ (K : Context) (rs : List Resource) (at_start : walks.Own) (d : Words) w
             let low = part_under (find q.0 t) (next_of q.0 q.1) (λ v e. shallow_at t q.0 v s e) (own_at q.0 q.1 h.0) in
             λ i. of_le (depth (next_of q.0 q.1)) 255 low i && go own h.1 i
 
-    pub is_state : is_shallow t ≡ (none_deep p.deep && all_shallow o)
+    pub is_state : is_shallow t ≡ (none_deep p.too_deep && all_shallow o)
     is_state =
-        same_test (is_shallow t) (none_deep p.deep && all_shallow o)
+        same_test (is_shallow t) (none_deep p.too_deep && all_shallow o)
         (λ s. (λ i. none_deep_there s i && all_shallow_there s i))
-        (λ h. let b = both_true (none_deep p.deep) (all_shallow o) h in end_is.low b.0 b.1)
+        (λ h. let b = both_true (none_deep p.too_deep) (all_shallow o) h in end_is.low b.0 b.1)

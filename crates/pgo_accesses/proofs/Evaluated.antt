@@ -5,13 +5,12 @@ use Rattle.pgo_base.specs.Data.{Data}
 use Rattle.pgo_base.specs.Lookup.{Name, Names, Vars, same_name, find}
 use Rattle.pgo_base.specs.Tree.{Tree}
 use Rattle.pgo_model.specs.Core.{number_among, numbers_of}
-use Rattle.pgo_model.specs.Names.{same_name-self, same_name-is}
+use Rattle.pgo_model.specs.Names.{same_name-self, same_name-is, is_among}
 use Rattle.pgo_model.specs.Occurrences as occurrences
 use Rattle.pgo_model.specs.Occurrences.{first_occurrences}
 use Rattle.pgo_model.specs.Options.{on}
 use Rattle.pgo_model.specs.System.{Words, Resource, Touched}
 use Rattle.pgo_sections.specs.Access.{reads_among, unmapped_reads, touched_whole}
-use Rattle.pgo_sections.specs.Among.{is_among}
 use Rattle.pgo_sections.specs.Code.{Place, Whole, Own}
 use Rattle.pgo_sections.specs.Context as sections
 use Rattle.pgo_sections.specs.Context.{Context, part_at, value_now}

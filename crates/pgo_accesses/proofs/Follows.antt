@@ -12,7 +12,7 @@ use Rattle.pgo_model.specs.Operators.{members_of, truth_of}
 use Rattle.pgo_model.specs.Options.{on}
 use Rattle.pgo_model.specs.Outcome.{Blocked, NoValue, AssertFails}
 use Rattle.pgo_model.specs.System.{Words, Resource, Touched}
-use Rattle.pgo_sections.specs.Among.{is_among}
+use Rattle.pgo_model.specs.Names.{is_among}
 use Rattle.pgo_sections.specs.BoundValues.{bindable, value_under}
 use Rattle.pgo_sections.specs.Code.{Place, Whole, Own, Code, Empty, Skip, Let, Pick, Become, Set, Await, Assert, Print, If, Either, Seq, Goto, Yield, Read, Write, Codes, no_codes, more_codes}
 use Rattle.pgo_sections.specs.Context.{Context, content, index_value, put_content, put_new, value_of, with_content}
@@ -39,7 +39,7 @@ append_none [] = refl
 append_none (x ∷ l) = ap (λ k. x ∷ k) (append_none l)
 
 long : (n : ℕ) → length (choices n) ≡ n
-long n = length-replicate n (record { ways = 0; taken = 0 })
+long n = length-replicate n (record { count = 0; taken = 0 })
 
 module _ (K : Context) (rs : List Resource) (at_start : walks.Own) (d : Words) (w0 : Walk) (f0 : ℕ → Data) where
   abbrev a : Attempt

@@ -9,7 +9,7 @@ use Rattle.pgo_model.specs.FunctionSets.{choice_count, product_choices, function
 use Rattle.pgo_model.specs.Operators.{truth_of, from_truth, any3, all3, first3, filter3, both, each, where_few, set_from, function_from, members_of, apply, sequence, choices, put_at}
 use Rattle.pgo_model.specs.Sequences.{assert_name, assert, operators}
 use Rattle.pgo_model.specs.Val.{or_else, Meaning, Scope, sem, val, plain, call_def, value_of_call, with_name, with_names, with_part, unary_sem, binary_sem, functions_sem, decide, over_each, some_of, every_of, quantify, name_values, names_over, sets_over, index_of, function_over, values_of, asserted, let_scope, case_value, ranges, fields, updated}
-use Rattle.pgo_sections.specs.Among.{is_among}
+use Rattle.pgo_model.specs.Names.{is_among}
 use Rattle.pgo_sections.specs.Bound.{names_of, names_bound, below}
 use Rattle.pgo_sections.specs.FreeNames.{free_names, free_names_all, free_names_fields, free_names_let, free_names_arms, free_names_bound, free_names_paths}
 use Rattle.pgo_sections.specs.Plain.{All}

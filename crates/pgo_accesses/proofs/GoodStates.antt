@@ -14,7 +14,7 @@ use Rattle.pgo_base.specs.Size.{depth}
 use Rattle.pgo_model.specs.Core.{number_among, same_index}
 use Rattle.pgo_model.specs.Log.{content, own_names}
 use Rattle.pgo_model.specs.Machine.{nth}
-use Rattle.pgo_model.specs.Names.{same_name-self, same_name-is, same_name-not}
+use Rattle.pgo_model.specs.Names.{same_name-self, same_name-is, same_name-not, is_among}
 use Rattle.pgo_model.specs.Operators.{apply, contains, lookup, same_data, most_members}
 use Rattle.pgo_model.specs.State.{AllValues}
 use Rattle.pgo_model.specs.System.{System, Words, Resource, Owned, Touched, ids_of}
@@ -37,12 +37,11 @@ use Rattle.pgo_meaning.specs.Parameters.{places_of}
 use Rattle.pgo_meaning.specs.Sect.{is_by_element, context_of}
 use Rattle.pgo_meaning.specs.System.{globals_in, member_of, owned, owned_by, resource_of, system_of}
 use Rattle.pgo_meaning.proofs.SystemStates.{bound_kind, states_same}
-use Rattle.pgo_sections.specs.Among.{is_among}
 use Rattle.pgo_sections.specs.Code.{Whole}
 use Rattle.pgo_sections.specs.Context.{Context, part_at}
 use Rattle.pgo_sections.proofs.Closing as closing
 use Rattle.pgo_workers.specs.Walk as walks
-use Rattle.pgo_workers.specs.Worlds.{Layout, layout_of, or_nothing, own_at, value_in, component_at, names_at, is_own_name, are_different, HasAll}
+use Rattle.pgo_workers.specs.Worlds.{Layout, layout_of, or_nothing, own_at, value_in, component_at, names_at, are_different, HasAll}
 use Rattle.pgo_workers.proofs.BoundLayout.{layout_sound, state_has}
 use Rattle.pgo_workers.proofs.Components.{index_self}
 use Rattle.pgo_workers.proofs.LayoutChanges.{component_there, own_name_behind, own_name_here}
@@ -180,29 +179,29 @@ contained_nth v (x ∷ xs) h = go (same_data v x) refl h (λ e. contained_nth v 
     go false e h ih = let r = ih h in (suc r.0, r.1)
 
 -- an own name is of an owner with the identifier
-pub named_from : (x : Name) (id : Data) (os : List Owned) → is_own_name x (own_names id os) ≡ true → (o : Owned) × IsAmong o os × (x ≡ o.variable)
+pub named_from : (x : Name) (id : Data) (os : List Owned) → is_among x (own_names id os) ≡ true → (o : Owned) × IsAmong o os × (x ≡ o.variable)
 named_from x id [] h = absurd (grind (arith, h))
 named_from x id (o ∷ os) h = go (contains id o.ids) h (λ h. later (named_from x id os h))
   where
     later : (q : Owned) × IsAmong q os × (x ≡ q.variable) → (q : Owned) × IsAmong q (o ∷ os) × (x ≡ q.variable)
     later h = (h.0, inr h.1, h.2)
 
-    named : (b : Bool) → same_name x o.variable ≡ b → (if b then true else is_own_name x (own_names id os)) ≡ true
-        → (is_own_name x (own_names id os) ≡ true → (q : Owned) × IsAmong q (o ∷ os) × (x ≡ q.variable)) → (q : Owned) × IsAmong q (o ∷ os) × (x ≡ q.variable)
+    named : (b : Bool) → same_name x o.variable ≡ b → (b || is_among x (own_names id os)) ≡ true
+        → (is_among x (own_names id os) ≡ true → (q : Owned) × IsAmong q (o ∷ os) × (x ≡ q.variable)) → (q : Owned) × IsAmong q (o ∷ os) × (x ≡ q.variable)
     named true e h ih = (o, inl refl, same_name-is x o.variable e)
     named false e h ih = ih h
 
-    go : (b : Bool) → is_own_name x (if b then o.variable ∷ own_names id os else own_names id os) ≡ true
-        → (is_own_name x (own_names id os) ≡ true → (q : Owned) × IsAmong q (o ∷ os) × (x ≡ q.variable)) → (q : Owned) × IsAmong q (o ∷ os) × (x ≡ q.variable)
+    go : (b : Bool) → is_among x (if b then o.variable ∷ own_names id os else own_names id os) ≡ true
+        → (is_among x (own_names id os) ≡ true → (q : Owned) × IsAmong q (o ∷ os) × (x ≡ q.variable)) → (q : Owned) × IsAmong q (o ∷ os) × (x ≡ q.variable)
     go true h ih = named (same_name x o.variable) refl h ih
     go false h ih = ih h
 
 -- what own components are in a list of them
-pub find_own : (k : ℕ) (id : Data) (xs : List Name) (s : Vars) (x : Name) → is_own_name x xs ≡ true → find x (own_at k id xs s) ≡ Some (or_nothing (part_at x id s))
+pub find_own : (k : ℕ) (id : Data) (xs : List Name) (s : Vars) (x : Name) → is_among x xs ≡ true → find x (own_at k id xs s) ≡ Some (or_nothing (part_at x id s))
 find_own k id [] s x h = absurd (grind (arith, h))
 find_own k id (z ∷ xs) s x h = go (same_name x z) refl h (λ e. find_own k id xs s x e)
   where
-    go : (b : Bool) → same_name x z ≡ b → (if b then true else is_own_name x xs) ≡ true → (is_own_name x xs ≡ true → find x (own_at k id xs s) ≡ Some (or_nothing (part_at x id s)))
+    go : (b : Bool) → same_name x z ≡ b → (b || is_among x xs) ≡ true → (is_among x xs ≡ true → find x (own_at k id xs s) ≡ Some (or_nothing (part_at x id s)))
         → (if b then Some (or_nothing (part_at z id s)) else find x (own_at k id xs s)) ≡ Some (or_nothing (part_at x id s))
     go true e h ih = ap (λ w. Some (or_nothing (part_at w id s))) (sym (same_name-is x z e))
     go false e h ih = ih h
@@ -333,8 +332,8 @@ module _ (b : Bound) (R : Runnable b) where
     pub at_id : nth L.ids k ≡ Some (id_of i)
     at_id = nth_map (λ m. m.id) k (map member_of b.instances) (member_of i) (nth_map member_of k b.instances i at_k)
 
-    pub part_there : (x : Name) → is_own_name x (pc ∷ own_list) ≡ true → part_at x (id_of i) s ≡ Some (or_nothing (part_at x (id_of i) s))
-    part_there x h = some_there (part_at x (id_of i) s) (has.own k (id_of i) x at_id (ap (λ o. is_own_name x (names_at L o)) at_id ∙ h))
+    pub part_there : (x : Name) → is_among x (pc ∷ own_list) ≡ true → part_at x (id_of i) s ≡ Some (or_nothing (part_at x (id_of i) s))
+    part_there x h = some_there (part_at x (id_of i) s) (has.own k (id_of i) x at_id (ap (λ o. is_among x (names_at L o)) at_id ∙ h))
 
     -- what a resource has
     pub value_at : (c : Touched) (n : ℕ) → number_among y.resources c ≡ Some n → component_in c s ≡ Some (values n)
@@ -371,15 +370,15 @@ module _ (b : Bound) (R : Runnable b) where
     whole_at : (x g : Name) → find x K.places ≡ Some (Whole g) → IsWhole K y.resources at_start d g
     whole_at x g h = whole_bound g (among_is g (globals_in i.bindings) (places_whole i.process i.bindings i.archetype.locals x g h)) ((R.keeps k i at_k).unmapped x g h)
 
-    own_is : (x : Name) → is_own_name x own_list ≡ true → (is_among x globals ≡ false) × (same_name x pc ≡ false)
+    own_is : (x : Name) → is_among x own_list ≡ true → (is_among x globals ≡ false) × (same_name x pc ≡ false)
     own_is x h =
         let o = named_from x (id_of i) L.own h in
-        (ap (λ z. is_among z globals) o.2 ∙ own_apart o.0 o.1, same_name-not x pc (λ e. let z : true ≡ false = sym h ∙ ap (λ z. is_own_name z own_list) e ∙ pc_not in grind (arith, z)))
+        (ap (λ z. is_among z globals) o.2 ∙ own_apart o.0 o.1, same_name-not x pc (λ e. let z : true ≡ false = sym h ∙ ap (λ z. is_among z own_list) e ∙ pc_not in grind (arith, z)))
       where
-        pc_not : is_own_name pc own_list ≡ false
-        pc_not = go (is_own_name pc own_list) refl (sym (ap (λ o. are_different (names_at L o)) at_id) ∙ (layout_sound b R.sound R.differ).names_differ k)
+        pc_not : is_among pc own_list ≡ false
+        pc_not = go (is_among pc own_list) refl (sym (ap (λ o. are_different (names_at L o)) at_id) ∙ (layout_sound b R.sound R.differ).names_differ k)
           where
-            go : (t : Bool) → is_own_name pc own_list ≡ t → (if t then false else are_different own_list) ≡ true → t ≡ false
+            go : (t : Bool) → is_among pc own_list ≡ t → (if t then false else are_different own_list) ≡ true → t ≡ false
             go true e h = absurd (grind (arith, h))
             go false e h = refl
 
@@ -397,7 +396,7 @@ module _ (b : Bound) (R : Runnable b) where
 
     -- ---- the start
 
-    has_part : (x : Name) (ids : List Data) → IsFunctionOn ids (find x s) → length ids ≤ 64 → is_among x globals ≡ false → is_own_name x (pc ∷ own_list) ≡ true
+    has_part : (x : Name) (ids : List Data) → IsFunctionOn ids (find x s) → length ids ≤ 64 → is_among x globals ≡ false → is_among x (pc ∷ own_list) ≡ true
         → HasPart K y.resources at_start d x (or_nothing (part_at x (id_of i) s))
     has_part x ids f few no_global name = record {
       graph_of = f.0;
@@ -407,10 +406,10 @@ module _ (b : Bound) (R : Runnable b) where
       no_global = no_global;
     }
 
-    pub part_of : (x : Name) → is_own_name x (pc ∷ own_list) ≡ true → HasPart K y.resources at_start d x (or_nothing (part_at x (id_of i) s))
+    pub part_of : (x : Name) → is_among x (pc ∷ own_list) ≡ true → HasPart K y.resources at_start d x (or_nothing (part_at x (id_of i) s))
     part_of x h = go (same_name x pc) refl h
       where
-        go : (t : Bool) → same_name x pc ≡ t → (if t then true else is_own_name x own_list) ≡ true → HasPart K y.resources at_start d x (or_nothing (part_at x (id_of i) s))
+        go : (t : Bool) → same_name x pc ≡ t → (t || is_among x own_list) ≡ true → HasPart K y.resources at_start d x (or_nothing (part_at x (id_of i) s))
         go true e n =
             let same = same_name-is x pc e in
             has_part x (in_order (ids_of y)) (subst (λ z. IsFunctionOn (in_order (ids_of y)) (find z s)) (sym same) good.places) few_all (ap (λ z. is_among z globals) same ∙ place_apart) h
@@ -419,7 +418,7 @@ module _ (b : Bound) (R : Runnable b) where
             let m = nth_among o.0 L.own o.1 in
             has_part x (in_order o.0.ids) (subst (λ z. IsFunctionOn (in_order o.0.ids) (find z s)) (sym o.2) (good.own m.0 o.0 m.1)) (few_ids o.0 o.1) (own_is x n).0 h
 
-    each_part : (xs : List Name) → ((x : Name) → is_own_name x xs ≡ true → HasPart K y.resources at_start d x (or_nothing (part_at x (id_of i) s))) → EachPart K y.resources at_start d (own_at k (id_of i) xs s)
+    each_part : (xs : List Name) → ((x : Name) → is_among x xs ≡ true → HasPart K y.resources at_start d x (or_nothing (part_at x (id_of i) s))) → EachPart K y.resources at_start d (own_at k (id_of i) xs s)
     each_part [] h = tt
     each_part (x ∷ xs) h = (h x (own_name_here x x xs refl), each_part xs (λ z e. h z (own_name_behind z x xs e)))
 

@@ -7,7 +7,7 @@ use Rattle.pgo_model.specs.Core as core
 use Rattle.pgo_model.specs.Core.{number_among, numbers_of}
 use Rattle.pgo_model.specs.Log.{content}
 use Rattle.pgo_model.specs.Machine.{nth}
-use Rattle.pgo_model.specs.Names.{same_name-self}
+use Rattle.pgo_model.specs.Names.{same_name-self, is_among}
 use Rattle.pgo_model.specs.Options.{on}
 use Rattle.pgo_model.specs.Outcome.{Outcome, Next, Stuck, Nowhere}
 use Rattle.pgo_model.specs.System.{System, Words}
@@ -31,7 +31,7 @@ use Rattle.pgo_sections.specs.Context.{part_at}
 use Rattle.pgo_workers.specs.Walk as walks
 use Rattle.pgo_workers.specs.Walk.{Walk, Goes, Sticks, visits, ending, final}
 use Rattle.pgo_workers.specs.Worlds as worlds
-use Rattle.pgo_workers.specs.Worlds.{Layout, layout_of, or_nothing, own_at, own_in, names_at, is_own_name}
+use Rattle.pgo_workers.specs.Worlds.{Layout, layout_of, or_nothing, own_at, own_in, names_at}
 use Rattle.pgo_workers.proofs.LayoutChanges.{component_there, own_name_behind, own_name_here, nth_there}
 use Rattle.pgo_accesses.specs.Accesses.{own_next}
 use Rattle.pgo_accesses.specs.Frame.{AgreeOn, SameEnd}
@@ -68,7 +68,7 @@ module _ (b : Bound) (R : Runnable b) (s : Vars) (good : IsSystemState (system_o
     names : List Name
     names = pc ∷ good_states.own_list b R k i at_k s good d
 
-    own_lists : (xs : List Name) → ((x : Name) → is_own_name x xs ≡ true → is_own_name x (pc ∷ good_states.own_list b R k i at_k s good d) ≡ true)
+    own_lists : (xs : List Name) → ((x : Name) → is_among x xs ≡ true → is_among x (pc ∷ good_states.own_list b R k i at_k s good d) ≡ true)
         → own_at k (id_of i) xs t ≡ own_next left.label left.changes (own_at k (id_of i) xs s)
     own_lists [] h = refl
     own_lists (x ∷ xs) h =

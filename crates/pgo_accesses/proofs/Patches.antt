@@ -1,6 +1,6 @@
 -- The entry that a worker makes leads to the state to which the section leads.
 use Rattle.std.proofs.Common.{◌≡◌, ℕ, suc, Bool, true, false, List, [], ◌∷◌, ◌++◌, map, Option, Some, None, ◌⊎◌, inl, inr, refl, sym, ap, ◌∙◌, subst, arith, cond, option_and_then}
-use Rattle.std.specs.Prelude.{if◌then◌else◌, filter, is_some, nat_eq, nat_lt}
+use Rattle.std.specs.Prelude.{if◌then◌else◌, filter, is_some, nat_eq, nat_lt, ◌||◌}
 use Rattle.std.specs.List.{flat_map}
 use Rattle.pgo_base.specs.Data.{Data, graph, keys}
 use Rattle.pgo_base.specs.Lookup.{Name, Vars, same_name, find}
@@ -9,7 +9,7 @@ use Rattle.pgo_model.specs.Core.{Reaches}
 use Rattle.pgo_model.specs.Log.{OfResource, Unowned, Component, Change, Effect, After, after_changes, content, own_names}
 use Rattle.pgo_model.specs.Machine.{among, nth}
 use Rattle.pgo_model.specs.MachineAccounts.{equal_or}
-use Rattle.pgo_model.specs.Names.{same_name-self, same_name-is, same_name-not}
+use Rattle.pgo_model.specs.Names.{same_name-self, same_name-is, same_name-not, is_among}
 use Rattle.pgo_model.specs.Operators.{apply, contains, same_data}
 use Rattle.pgo_model.specs.Options.{on}
 use Rattle.pgo_model.specs.Outcome.{Next}
@@ -25,7 +25,6 @@ use Rattle.pgo_bound.specs.State as bound
 use Rattle.pgo_bound.specs.State.{id_of, kind_in, variables_of}
 use Rattle.pgo_meaning.specs.Sect.{Sect, code_at, context_of, is_by_element, nothing}
 use Rattle.pgo_meaning.specs.System.{member_of, owned, owned_by, resource_of, system_of}
-use Rattle.pgo_sections.specs.Among.{is_among}
 use Rattle.pgo_sections.specs.Context.{part_at}
 use Rattle.pgo_workers.specs.Walk as walks
 use Rattle.pgo_workers.specs.Walk.{Walk, Stop, Touch, Goes, Leaves, Within, visits, ending, final, taken_after}
@@ -33,7 +32,7 @@ use Rattle.pgo_workers.specs.View.{Hold, EachHold, Once, World, changed, resourc
 use Rattle.pgo_workers.specs.Worker.{changes_of}
 use Rattle.pgo_workers.specs.Sentences.{IsOwn, changes_at}
 use Rattle.pgo_workers.specs.Worlds as worlds
-use Rattle.pgo_workers.specs.Worlds.{Layout, layout_of, effect_of, is_own_name, names_at, names_of, own_at, own_in, or_nothing, world_of, own_component, IsLayout, HasAll}
+use Rattle.pgo_workers.specs.Worlds.{Layout, layout_of, effect_of, names_at, names_of, own_at, own_in, or_nothing, world_of, own_component, IsLayout, HasAll}
 use Rattle.pgo_workers.proofs.BoundLayout.{layout_sound, state_has}
 use Rattle.pgo_workers.proofs.Differences.{made_has, made_value, made_else, made_untouched}
 use Rattle.pgo_workers.proofs.EntryComponents.{is_of, own_patched}
@@ -169,37 +168,37 @@ module _ (b : Bound) (R : Runnable b) (s : Vars) (good : IsSystemState (system_o
   at_id : nth L.ids k ≡ Some (id_of E.instance)
   at_id = good_states.at_id b R k E.instance E.at s good d
 
-  named_k : (x : Name) → is_own_name x (names_of L k) ≡ true → is_own_name x (pc ∷ own_names (id_of E.instance) L.own) ≡ true
-  named_k x n = sym (ap (λ o. is_own_name x (names_at L o)) at_id) ∙ n
+  named_k : (x : Name) → is_among x (names_of L k) ≡ true → is_among x (pc ∷ own_names (id_of E.instance) L.own) ≡ true
+  named_k x n = sym (ap (λ o. is_among x (names_at L o)) at_id) ∙ n
 
-  own_find : (v : Vars) (j : ℕ) (a : Data) → nth L.ids j ≡ Some a → (x : Name) → is_own_name x (names_of L j) ≡ true → find x (own_in L v j) ≡ Some (or_nothing (part_at x a v))
+  own_find : (v : Vars) (j : ℕ) (a : Data) → nth L.ids j ≡ Some a → (x : Name) → is_among x (names_of L j) ≡ true → find x (own_in L v j) ≡ Some (or_nothing (part_at x a v))
   own_find v j a at x n =
       ap (λ o. find x (on [] o (λ z. own_at j z (names_at L (Some z)) v))) at
-      ∙ good_states.find_own j a (pc ∷ own_names a L.own) v x (sym (ap (λ o. is_own_name x (names_at L o)) at) ∙ n)
+      ∙ good_states.find_own j a (pc ∷ own_names a L.own) v x (sym (ap (λ o. is_among x (names_at L o)) at) ∙ n)
 
   some_value : (a b : Data) → Some a ≡ Some b → a ≡ b
   some_value a b e = cc
 
   -- the same own components, each of which is there
-  parts_equal : (v v' : Vars) (j : ℕ) (a : Data) → nth L.ids j ≡ Some a → own_in L v j ≡ own_in L v' j → (x : Name) → is_own_name x (names_of L j) ≡ true → is_some (part_at x a v) ≡ true → is_some (part_at x a v') ≡ true
+  parts_equal : (v v' : Vars) (j : ℕ) (a : Data) → nth L.ids j ≡ Some a → own_in L v j ≡ own_in L v' j → (x : Name) → is_among x (names_of L j) ≡ true → is_some (part_at x a v) ≡ true → is_some (part_at x a v') ≡ true
       → part_at x a v ≡ part_at x a v'
   parts_equal v v' j a at same x n there there' =
       some_there (part_at x a v) there ∙ sym (own_find v j a at x n) ∙ ap (find x) same ∙ own_find v' j a at x n ∙ sym (some_there (part_at x a v') there')
 
-  part_of_k : (x : Name) → is_own_name x (names_of L k) ≡ true → part_at x (id_of E.instance) t ≡ part_at x (id_of E.instance) u
+  part_of_k : (x : Name) → is_among x (names_of L k) ≡ true → part_at x (id_of E.instance) t ≡ part_at x (id_of E.instance) u
   part_of_k x n =
       parts_equal t u k (id_of E.instance) at_id (E.own ∙ sym own_u) x n
       (ap is_some (E.left.parts x (or_nothing (part_at x (id_of E.instance) s)) (good_states.part_of b R k E.instance E.at s good d x (named_k x n))))
       (all_there.own k (id_of E.instance) x at_id n)
 
-  global_not_own : (x : Name) (a : Data) → is_own_name x (pc ∷ own_names a L.own) ≡ true → is_among x (good_states.globals b R) ≡ false
+  global_not_own : (x : Name) (a : Data) → is_among x (pc ∷ own_names a L.own) ≡ true → is_among x (good_states.globals b R) ≡ false
   global_not_own x a n = go (same_name x pc) refl n
     where
-      go : (c : Bool) → same_name x pc ≡ c → (if c then true else is_own_name x (own_names a L.own)) ≡ true → is_among x (good_states.globals b R) ≡ false
+      go : (c : Bool) → same_name x pc ≡ c → (c || is_among x (own_names a L.own)) ≡ true → is_among x (good_states.globals b R) ≡ false
       go true e n = ap (λ z. is_among z (good_states.globals b R)) (same_name-is x pc e) ∙ good_states.place_apart b R
       go false e n = let q = good_states.named_from x a L.own n in ap (λ z. is_among z (good_states.globals b R)) q.2 ∙ good_states.own_apart b R q.0 q.1
 
-  part_else : (j : ℕ) (a : Data) → nth L.ids j ≡ Some a → (j ≡ k → ⊥) → (x : Name) → is_own_name x (names_of L j) ≡ true → part_at x a t ≡ part_at x a u
+  part_else : (j : ℕ) (a : Data) → nth L.ids j ≡ Some a → (j ≡ k → ⊥) → (x : Name) → is_among x (names_of L j) ≡ true → part_at x a t ≡ part_at x a u
   part_else j a at ne x n = of_t ∙ sym of_u
     where
       of_u : part_at x a u ≡ part_at x a s
@@ -213,36 +212,36 @@ module _ (b : Bound) (R : Runnable b) (s : Vars) (good : IsSystemState (system_o
           go false e = refl
 
       not_global : is_among x (good_states.globals b R) ≡ false
-      not_global = global_not_own x a (sym (ap (λ o. is_own_name x (names_at L o)) at) ∙ n)
+      not_global = global_not_own x a (sym (ap (λ o. is_among x (names_at L o)) at) ∙ n)
 
-      may_not : is_own_name x (pc ∷ own_names (id_of E.instance) L.own) ≡ false → MayChange (context_of b E.instance s) y.resources (own_start b R s good d k E.instance E.at) d x → ⊥
+      may_not : is_among x (pc ∷ own_names (id_of E.instance) L.own) ≡ false → MayChange (context_of b E.instance s) y.resources (own_start b R s good d k E.instance E.at) d x → ⊥
       may_not m (inl mine) = let z : true ≡ false = sym (own_name_behind x pc (own_names (id_of E.instance) L.own) (R.owns k E.instance x E.at mine.1)) ∙ m in grind (arith, z)
       may_not m (inr (inl whole)) =
           let z : true ≡ false = sym (among_true x (good_states.globals b R) (good_states.declared_at b R (x, None) whole.1.0 whole.1.1)) ∙ not_global in grind (arith, z)
       may_not m (inr (inr element)) = let z : true ≡ false = sym element.1 ∙ not_global in grind (arith, z)
 
-      no_place : is_own_name x (pc ∷ own_names (id_of E.instance) L.own) ≡ false → same_name x pc ≡ false
+      no_place : is_among x (pc ∷ own_names (id_of E.instance) L.own) ≡ false → same_name x pc ≡ false
       no_place m = go (same_name x pc) m
         where
-          go : (c : Bool) → (if c then true else is_own_name x (own_names (id_of E.instance) L.own)) ≡ false → c ≡ false
+          go : (c : Bool) → (c || is_among x (own_names (id_of E.instance) L.own)) ≡ false → c ≡ false
           go true m = absurd (grind (arith, m))
           go false m = refl
 
       of_t : part_at x a t ≡ part_at x a s
-      of_t = go (is_own_name x (pc ∷ own_names (id_of E.instance) L.own)) refl
+      of_t = go (is_among x (pc ∷ own_names (id_of E.instance) L.own)) refl
         where
-          go : (c : Bool) → is_own_name x (pc ∷ own_names (id_of E.instance) L.own) ≡ c → part_at x a t ≡ part_at x a s
+          go : (c : Bool) → is_among x (pc ∷ own_names (id_of E.instance) L.own) ≡ c → part_at x a t ≡ part_at x a s
           go true m = E.left.others x (or_nothing (part_at x (id_of E.instance) s)) a (good_states.part_of b R k E.instance E.at s good d x m) other
           go false m = ap (option_and_then (λ f. apply f a)) (E.left.unchanged x (may_not m) (no_place m))
 
-  part_same : (j : ℕ) (a : Data) → nth L.ids j ≡ Some a → (x : Name) → is_own_name x (names_of L j) ≡ true → part_at x a t ≡ part_at x a u
+  part_same : (j : ℕ) (a : Data) → nth L.ids j ≡ Some a → (x : Name) → is_among x (names_of L j) ≡ true → part_at x a t ≡ part_at x a u
   part_same j a at x n = go (nat_eq j k) refl
     where
       go : (c : Bool) → nat_eq j k ≡ c → part_at x a t ≡ part_at x a u
       go true e =
           let jk = (equal_or j k true e).0 refl in
           let same : a ≡ id_of E.instance = some_value a (id_of E.instance) (sym at ∙ ap (nth L.ids) jk ∙ at_id) in
-          ap (λ z. part_at x z t) same ∙ part_of_k x (ap (λ z. is_own_name x (names_of L z)) (sym jk) ∙ n) ∙ ap (λ z. part_at x z u) (sym same)
+          ap (λ z. part_at x z t) same ∙ part_of_k x (ap (λ z. is_among x (names_of L z)) (sym jk) ∙ n) ∙ ap (λ z. part_at x z u) (sym same)
       go false e = part_else j a at ((equal_or j k false e).1 refl) x n
 
   -- ---- variables
@@ -283,7 +282,7 @@ module _ (b : Bound) (R : Runnable b) (s : Vars) (good : IsSystemState (system_o
       here same (IsShared n r w at v j) = let q = indexed n r at (same_name-is x c.component.variable same ∙ v) r.index refl in (q.0, j ∙ q.1)
       here same (IsOne a w at n j) = (a, j)
 
-  of_others : (x : Name) → ((n : ℕ) (r : Resource) → nth y.resources n ≡ Some r → x ≡ r.global → ⊥) → (is_own_name x (names_of L k) ≡ true → ⊥) → (cs : List Change) → worlds.are_components_of L k cs ≡ true → OfOthers x cs
+  of_others : (x : Name) → ((n : ℕ) (r : Resource) → nth y.resources n ≡ Some r → x ≡ r.global → ⊥) → (is_among x (names_of L k) ≡ true → ⊥) → (cs : List Change) → worlds.are_components_of L k cs ≡ true → OfOthers x cs
   of_others x not none [] m = tt
   of_others x not none (c ∷ cs) m =
       let q = first L layout k c cs m in
@@ -291,7 +290,7 @@ module _ (b : Bound) (R : Runnable b) (s : Vars) (good : IsSystemState (system_o
     where
       here : x ≡ c.component.variable → Whose L layout k c.component → ⊥
       here e (IsShared n r w at v j) = not n r at (e ∙ v)
-      here e (IsOne a w at n j) = none (subst (λ z. is_own_name z (names_of L k) ≡ true) (sym e) n)
+      here e (IsOne a w at n j) = none (subst (λ z. is_among z (names_of L k) ≡ true) (sym e) n)
 
   global_of : (n : ℕ) (r : Resource) → nth y.resources n ≡ Some r → is_among r.global (good_states.globals b R) ≡ true
   global_of n r at =
@@ -323,7 +322,7 @@ module _ (b : Bound) (R : Runnable b) (s : Vars) (good : IsSystemState (system_o
 
   -- a variable that belongs to instances
   own_same : (x : Name) (ids : List Data) → IsFunctionOn (in_order ids) (find x s) → is_among x (good_states.globals b R) ≡ false
-      → ((a : Data) → IsIn a ids → (j : ℕ) × (nth L.ids j ≡ Some a) × (is_own_name x (names_of L j) ≡ true)) → find x t ≡ find x u
+      → ((a : Data) → IsIn a ids → (j : ℕ) × (nth L.ids j ≡ Some a) × (is_among x (names_of L j) ≡ true)) → find x t ≡ find x u
   own_same x ids on_s not_global belongs =
       function_same (in_order ids) (find x t) (find x u) (keeps_t x (in_order ids) (own not_global) on_s)
       (after_keeps made.changes s u x (in_order ids) after_made (of_parts x (λ n r at e none. let z : true ≡ false = sym (global_of n r at) ∙ ap (λ g. is_among g (good_states.globals b R)) (sym e) ∙ not_global in grind (arith, z)) made.changes is_of_k) on_s)
@@ -333,16 +332,16 @@ module _ (b : Bound) (R : Runnable b) (s : Vars) (good : IsSystemState (system_o
   place_same : find pc t ≡ find pc u
   place_same = own_same pc (ids_of y) good.places (good_states.place_apart b R) (λ a m.
       let j = isin_nth a (ids_of y) m in
-      (j.0, j.1, ap (λ o. is_own_name pc (names_at L o)) j.1 ∙ ap (λ c. if c then true else is_own_name pc (own_names a L.own)) (same_name-self pc)))
+      (j.0, j.1, ap (λ o. is_among pc (names_at L o)) j.1 ∙ ap (λ c. c || is_among pc (own_names a L.own)) (same_name-self pc)))
 
-  named_to : (a : Data) (os : List Owned) (q : Owned) → IsAmong q os → contains a q.ids ≡ true → is_own_name q.variable (own_names a os) ≡ true
+  named_to : (a : Data) (os : List Owned) (q : Owned) → IsAmong q os → contains a q.ids ≡ true → is_among q.variable (own_names a os) ≡ true
   named_to a [] q m c = absurd m
   named_to a (p ∷ os) q (inl e) c =
       let here : contains a p.ids ≡ true = ap (λ (z : Owned). contains a z.ids) (sym e) ∙ c in
-      ap (λ z. is_own_name q.variable (if z then p.variable ∷ own_names a os else own_names a os)) here ∙ own_name_here q.variable p.variable (own_names a os) (ap (λ (z : Owned). z.variable) e)
+      ap (λ z. is_among q.variable (if z then p.variable ∷ own_names a os else own_names a os)) here ∙ own_name_here q.variable p.variable (own_names a os) (ap (λ (z : Owned). z.variable) e)
   named_to a (p ∷ os) q (inr m) c = go (contains a p.ids) (named_to a os q m c)
     where
-      go : (z : Bool) → is_own_name q.variable (own_names a os) ≡ true → is_own_name q.variable (if z then p.variable ∷ own_names a os else own_names a os) ≡ true
+      go : (z : Bool) → is_among q.variable (own_names a os) ≡ true → is_among q.variable (if z then p.variable ∷ own_names a os else own_names a os) ≡ true
       go true ih = own_name_behind q.variable p.variable (own_names a os) ih
       go false ih = ih
 
@@ -375,7 +374,7 @@ module _ (b : Bound) (R : Runnable b) (s : Vars) (good : IsSystemState (system_o
       let n = nth_among q y.own m in
       own_same q.variable q.ids (good.own n.0 q n.1) (good_states.own_apart b R q m) (λ a c.
       let j = ids_belong q m a c in
-      (j.0, j.1, ap (λ o. is_own_name q.variable (names_at L o)) j.1 ∙ own_name_behind q.variable pc (own_names a L.own) (named_to a L.own q m (in_contains a q.ids c))))
+      (j.0, j.1, ap (λ o. is_among q.variable (names_at L o)) j.1 ∙ own_name_behind q.variable pc (own_names a L.own) (named_to a L.own q m (in_contains a q.ids c))))
 
   -- ---- globals
 

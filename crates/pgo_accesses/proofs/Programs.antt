@@ -1,12 +1,12 @@
 -- The sections of a bound specification do what the trees of its program say.
-use Rattle.std.proofs.Common.{◌≡◌, ℕ, suc, Bool, true, false, List, [], ◌∷◌, map, Option, Some, None, ◌⊎◌, inl, inr, refl, sym, ap, ◌∙◌, subst, arith, option_and_then}
-use Rattle.std.specs.Prelude.{if◌then◌else◌, nat_lt}
+use Rattle.std.proofs.Common.{◌≡◌, ℕ, suc, Bool, true, false, ◌||◌, List, [], ◌∷◌, map, Option, Some, None, ◌⊎◌, inl, inr, refl, sym, ap, ◌∙◌, subst, arith, option_and_then}
+use Rattle.std.specs.Prelude.{nat_lt}
 use Rattle.pgo_base.specs.Data.{Data}
 use Rattle.pgo_base.specs.Lookup.{Name, Vars, find}
 use Rattle.pgo_model.specs.Core as core
 use Rattle.pgo_model.specs.Core.{number_among, numbers_of}
 use Rattle.pgo_model.specs.Machine.{nth}
-use Rattle.pgo_model.specs.Names.{same_name-self}
+use Rattle.pgo_model.specs.Names.{same_name-self, is_among}
 use Rattle.pgo_model.specs.Options.{on}
 use Rattle.pgo_model.specs.Outcome.{Kind, NoValue, Next, Stuck}
 use Rattle.pgo_model.specs.System.{System, Words, Touched}
@@ -61,7 +61,7 @@ module _ (b : Bound) (R : Runnable b) (s : Vars) (good : IsSystemState (system_o
 
     pub place_is : find pc own_start ≡ value_in s pc (id_of i)
     place_is =
-        let here : Rattle.pgo_workers.specs.Worlds.is_own_name pc (pc ∷ good_states.own_list b R k i at_k s good d) ≡ true = ap (λ t. if t then true else Rattle.pgo_workers.specs.Worlds.is_own_name pc (good_states.own_list b R k i at_k s good d)) (same_name-self pc) in
+        let here : is_among pc (pc ∷ good_states.own_list b R k i at_k s good d) ≡ true = ap (λ t. t || is_among pc (good_states.own_list b R k i at_k s good d)) (same_name-self pc) in
         good_states.find_own k (id_of i) (pc ∷ good_states.own_list b R k i at_k s good d) s pc here ∙ sym (good_states.part_there b R k i at_k s good d pc here)
 
     abbrev pub code_here : Option Code

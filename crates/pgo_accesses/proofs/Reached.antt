@@ -79,7 +79,7 @@ module _ (a : Attempt) (P : ℕ → Type 0) (Q : walks.Own → Type 0) (keeps : 
   write_behind e r p (Stops kind cs) f h = tt
 
   ends : (l : Name) (p : Progress) → In (ended a l p)
-  ends l p = go (Rattle.std.specs.Prelude.◌&&◌ (none_deep p.deep) (all_shallow (own_next l p.changes a.own)))
+  ends l p = go (Rattle.std.specs.Prelude.◌&&◌ (none_deep p.too_deep) (all_shallow (own_next l p.changes a.own)))
     where
       go : (b : Bool) → In (if b then Stop (Goes (own_next l p.changes a.own) p.prints) else no_value)
       go true = keeps l p.changes

@@ -6,11 +6,10 @@ use Rattle.pgo_base.specs.Lookup.{Name, Vars, same_name, find}
 use Rattle.pgo_base.specs.Size.{depth, graph_size}
 use Rattle.pgo_model.specs.Core.{number_among, numbers_of, same_index}
 use Rattle.pgo_model.specs.Machine.{among, put}
-use Rattle.pgo_model.specs.Names.{same_name-self, same_name-is, same_name-not}
+use Rattle.pgo_model.specs.Names.{same_name-self, same_name-is, same_name-not, is_among}
 use Rattle.pgo_model.specs.Operators.{same_data, lookup, replace_at, most_members}
 use Rattle.pgo_model.specs.Options.{on}
 use Rattle.pgo_model.specs.System.{Words, Resource, Touched}
-use Rattle.pgo_sections.specs.Among.{is_among}
 use Rattle.pgo_sections.specs.Code.{Whole, Own}
 use Rattle.pgo_sections.specs.Context.{Context, part_at, value_now}
 use Rattle.pgo_sections.specs.SectionRun.{ChoiceMade}
@@ -155,8 +154,8 @@ module _ (K : Context) (rs : List Resource) (at_start : walks.Own) (d : Words) w
     pub used : p.used ≡ length cs
     pub prints : p.prints ≡ ps
     -- what is deep, and nothing else
-    pub deep : (c : Touched) (r : ℕ) → number_among rs c ≡ Some r → among r p.deep ≡ is_too_deep (K.by_element c.0) (g r)
-    pub only : (r : ℕ) → among r p.deep ≡ true → (c : Touched) × (number_among rs c ≡ Some r) × IsResource c.0 c.1
+    pub deep : (c : Touched) (r : ℕ) → number_among rs c ≡ Some r → among r p.too_deep ≡ is_too_deep (K.by_element c.0) (g r)
+    pub only : (r : ℕ) → among r p.too_deep ≡ true → (c : Touched) × (number_among rs c ≡ Some r) × IsResource c.0 c.1
     pub changed : (y : Name) (v : Data) → find y ch ≡ Some v → (nat_le (depth v) 2047 ≡ true) × MayChange y
 
   value_other : (y z : Name) (v : Data) (ch : Vars) → same_name z y ≡ false → value_now K (Whole z) ((y, v) ∷ ch) ≡ value_now K (Whole z) ch
@@ -239,8 +238,8 @@ module _ (K : Context) (rs : List Resource) (at_start : walks.Own) (d : Words) w
           elements = h.elements;
           used = h.used;
           prints = h.prints;
-          deep = λ c q e. subst (λ f. among q (marked b r p.deep) ≡ is_too_deep (K.by_element c.0) (f q)) (put_same r g) (deep_after k r (g r) p.deep g at h.deep c q e);
-          only = only_after k r b p.deep at is h.only;
+          deep = λ c q e. subst (λ f. among q (marked b r p.too_deep) ≡ is_too_deep (K.by_element c.0) (f q)) (put_same r g) (deep_after k r (g r) p.too_deep g at h.deep c q e);
+          only = only_after k r b p.too_deep at is h.only;
           changed = h.changed;
         })
 
@@ -263,8 +262,8 @@ module _ (K : Context) (rs : List Resource) (at_start : walks.Own) (d : Words) w
           };
       used = h.used;
       prints = h.prints;
-      deep = deep_after (y, None) r v p.deep g at h.deep;
-      only = only_after (y, None) r (is_too_deep (K.by_element y) v) p.deep at by h.only;
+      deep = deep_after (y, None) r v p.too_deep g at h.deep;
+      only = only_after (y, None) r (is_too_deep (K.by_element y) v) p.too_deep at by h.only;
       changed = more_changed y v ch low (inr (inl (by, (r, at)))) h.changed;
     }
       where
@@ -297,8 +296,8 @@ module _ (K : Context) (rs : List Resource) (at_start : walks.Own) (d : Words) w
       elements = λ z e. element_case z e (same_name z y) refl;
       used = h.used;
       prints = h.prints;
-      deep = deep_after (y, Some i) r v p.deep g at h.deep;
-      only = only_after (y, Some i) r (is_too_deep (K.by_element y) v) p.deep at is h.only;
+      deep = deep_after (y, Some i) r v p.too_deep g at h.deep;
+      only = only_after (y, Some i) r (is_too_deep (K.by_element y) v) p.too_deep at is h.only;
       changed = more_changed y (with_at i v E.pairs) ch (at_low i v E.pairs (replaced_low i v (graph E.pairs) 2046 E.low (le_of (depth v) 2046 low))) (inr (inr is)) h.changed;
     }
       where

@@ -13,7 +13,7 @@ use Rattle.pgo_bound.specs.Among.{nth_map, nth_among}
 use Rattle.pgo_meaning.specs.Sect.{code_at}
 use Rattle.pgo_meaning.specs.System.{globals_in, member_of, resource_of, system_of}
 use Rattle.pgo_meaning.proofs.Ends.{end_at}
-use Rattle.pgo_sections.specs.Among.{is_among}
+use Rattle.pgo_model.specs.Names.{is_among}
 use Rattle.pgo_sections.specs.Code.{Place, Whole, Own, Code}
 use Rattle.pgo_workers.specs.Sentences.{IsOwn}
 use Rattle.pgo_workers.specs.Walk as walks

@@ -41,12 +41,12 @@ pub record Attempt : Type 0 where
 -- words are used; and what was printed
 pub record Progress : Type 0 where
   pub changes : Vars
-  pub deep : List ℕ
+  pub too_deep : List ℕ
   pub used : ℕ
   pub prints : List Data
 
 abbrev pub begun : Progress
-begun = record { changes = []; deep = []; used = 0; prints = [] }
+begun = record { changes = []; too_deep = []; used = 0; prints = [] }
 
 abbrev pub printing : Data → Progress → Progress
 printing v p = record p { prints = p.prints ++ v ∷ [] }
@@ -80,11 +80,11 @@ can_stand is_element v = nat_le (depth v) (set_limit is_element)
 
 -- resource r has become v
 abbrev pub becoming : Bool → ℕ → Data → Progress → Progress
-becoming is_element r v p = record p { deep = marked (is_too_deep is_element v) r p.deep }
+becoming is_element r v p = record p { too_deep = marked (is_too_deep is_element v) r p.too_deep }
 
 -- choices, so many as words are used, of which no more is asked
 abbrev pub choices : ℕ → List ChoiceMade
-choices n = replicate n (record { ways = 0; taken = 0 })
+choices n = replicate n (record { count = 0; taken = 0 })
 
 -- ---- how it ends
 
@@ -107,7 +107,7 @@ all_shallow (p ∷ o) = nat_le (depth p.1) (state_limit true) && all_shallow o
 
 -- the section ends at this written label, where no value is too deep for a state
 abbrev pub ended : Attempt → Name → Progress → Walk
-ended a l p = let o = own_next l p.changes a.own in if none_deep p.deep && all_shallow o then Stop (Goes o p.prints) else no_value
+ended a l p = let o = own_next l p.changes a.own in if none_deep p.too_deep && all_shallow o then Stop (Goes o p.prints) else no_value
 
 -- ---- expressions
 

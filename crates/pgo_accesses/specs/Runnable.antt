@@ -9,14 +9,13 @@ use Rattle.pgo_syntax.specs.declared.bound.Bound.{Bound}
 use Rattle.pgo_syntax.specs.declared.bound.Instance.{Instance}
 use Rattle.pgo_bound.specs.Sound.{Sound, IsAtLabel}
 use Rattle.pgo_bound.specs.State.{AreDifferent, id_of, variables_of}
-use Rattle.pgo_sections.specs.Among.{is_among}
+use Rattle.pgo_model.specs.Names.{is_among}
 use Rattle.pgo_meaning.specs.Ends.{KeepsElements}
 use Rattle.pgo_meaning.specs.LabelSections.{AreUnlabelled, NoneIsDone}
 use Rattle.pgo_meaning.specs.MacrosPlaced.{bodies, placed_among}
 use Rattle.pgo_meaning.specs.Parameters.{own_variables}
 use Rattle.pgo_meaning.specs.System.{system_of}
 use Rattle.pgo_meaning.specs.SystemStates.{GlobalsBound}
-use Rattle.pgo_workers.specs.Worlds.{is_own_name}
 use Rattle.pgo_accesses.specs.WithoutYield.{LabeledWithout}
 
 -- a state of the system in which each instance is at a label of its process, or at Done
@@ -32,7 +31,7 @@ pub record Runnable (b : Bound) : Type 0 where
   pub differ : AreDifferent (variables_of b.spec)
   pub globals : GlobalsBound b
   pub keeps : (k : ℕ) (i : Instance) → nth b.instances k ≡ Some i → KeepsElements b i
-  pub owns : (k : ℕ) (i : Instance) (x : Name) → nth b.instances k ≡ Some i → is_among x (own_variables i.process i.archetype i.bindings) ≡ true → is_own_name x (own_names (id_of i) (system_of b).own) ≡ true
+  pub owns : (k : ℕ) (i : Instance) (x : Name) → nth b.instances k ≡ Some i → is_among x (own_variables i.process i.archetype i.bindings) ≡ true → is_among x (own_names (id_of i) (system_of b).own) ≡ true
   pub unlabelled : AreUnlabelled b.spec.macros
   pub none_done : (k : ℕ) (i : Instance) → nth b.instances k ≡ Some i → NoneIsDone i
   pub yields : (k : ℕ) (i : Instance) → nth b.instances k ≡ Some i → LabeledWithout (placed_among (bodies b.spec.macros) (labeled i.archetype.body))

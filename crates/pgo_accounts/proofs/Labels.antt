@@ -3,7 +3,7 @@ use Rattle.std.proofs.Common.{◌≡◌, Bool, true, false, not, ◌||◌, if◌
 use Rattle.std.proofs.lemmas.List.{map-append}
 use Rattle.std.specs.Prelude.{flat_map, is_none}
 use Rattle.pgo_base.specs.Lookup.{Name, same_name}
-use Rattle.pgo_model.specs.Names.{same_name-is}
+use Rattle.pgo_model.specs.Names.{same_name-is, is_among}
 use Rattle.pgo_model.specs.Written.{done}
 use Rattle.pgo_syntax.specs.declared.archetype.Archetype.{Archetype}
 use Rattle.pgo_syntax.specs.declared.name.PlacedName.{PlacedName}
@@ -11,7 +11,6 @@ use Rattle.pgo_syntax.specs.declared.spec.Spec.{Spec}
 use Rattle.pgo_syntax.specs.Statement.{Statement, skip, assign, if_then, if_else, while_do, either_of, await_that, with_in, print_out, assert_that, go_to, call_macro, yield_as, block, Statements, no_statements, more_statements, LabeledStatements, no_labeled, more_labeled, GuardedStatements, no_guarded, more_guarded, labeled, place_of}
 use Rattle.pgo_labels.specs.declared.errors.LabelError.TheVariants.{NeedsLabel, UnknownLabel}
 use Rattle.pgo_labels.specs.Inside.{Item, inside, inside_all, inside_labeled, inside_guarded, with_inside}
-use Rattle.pgo_labels.specs.Labels as found
 use Rattle.pgo_labels.specs.NeedsLabel.{behind_jumps, in_block, is_loop, loop_of, needing, unlabeled_places, last_before}
 use Rattle.pgo_labels.specs.Refusal.{label_refusal}
 use Rattle.pgo_labels.specs.Rules as rules
@@ -24,6 +23,7 @@ use Rattle.pgo_systems.specs.Gotos.{gotos_in, gotos_each, gotos_among, gotos_gua
 use Rattle.pgo_accept.proofs.Accepted.{rules_behind, later_rules}
 use Rattle.pgo_accept.proofs.Unbroken.{first_label_rule, next_label_rules}
 use Rattle.pgo_agrees.proofs.Unlabelled.{placed_name, body_names, with_inside_is}
+use Rattle.pgo_agrees.proofs.Variables.{among_is}
 
 -- ---- targets
 
@@ -78,15 +78,6 @@ mutual
   guarded_are no_guarded = refl
   guarded_are (more_guarded p e s bs) = then_others (gotos_in s) (gotos_guarded bs) (item s ∷ inside s) (inside_guarded bs) (gotos_are s) (guarded_are bs)
 
--- a name of one of these labels
-named : (x : Name) (ls : List PlacedName) → found.is_among x ls ≡ true → IsAmong x (map placed_name ls)
-named x [] h = absurd (let q : false ≡ true = h in cc)
-named x (l ∷ ls) h = go (same_name x l.name) refl h (λ k. named x ls k)
-  where
-    go : (b : Bool) → same_name x l.name ≡ b → b || found.is_among x ls ≡ true → (found.is_among x ls ≡ true → IsAmong x (map placed_name ls)) → IsAmong x (l.name ∷ map placed_name ls)
-    go true e k more = inl (same_name-is x l.name e)
-    go false e k more = inr (more k)
-
 either_true : (a b : Bool) → a || b ≡ true → (a ≡ true) ⊎ (b ≡ true)
 either_true true b h = inl refl
 either_true false b h = inr h
@@ -96,7 +87,7 @@ not_true true h = refl
 not_true false h = absurd (cc)
 
 abbrev is_unknown : Archetype → PlacedName → Bool
-is_unknown a t = not (found.is_among t.name (rules.labels a) || same_name t.name rules.done)
+is_unknown a t = not (is_among t.name (map placed_name (rules.labels a)) || same_name t.name rules.done)
 
 -- each `goto` of the body names one of its labels or Done
 pub known : (a : Archetype) → unknown_label a ≡ [] → (x : Name) → IsAmong x (gotos_among (labeled a.body)) → (x ≡ done) ⊎ IsAmong x (labels_among (labeled a.body))
@@ -111,13 +102,13 @@ known a h x among = go (is_unknown a from.0) refl
     none : filter (is_unknown a) ts ≡ []
     none = empty_map (λ t. found_at t.place (UnknownLabel a.name.name t.name)) (filter (is_unknown a) ts) h
 
-    by : (found.is_among from.0.name (rules.labels a) ≡ true) ⊎ (same_name from.0.name rules.done ≡ true) → (x ≡ done) ⊎ IsAmong x (labels_among (labeled a.body))
-    by (inl e) = inr (subst (IsAmong x) (body_names a.body) (subst (λ y. IsAmong y (map placed_name (rules.labels a))) (sym from.2) (named from.0.name (rules.labels a) e)))
+    by : (is_among from.0.name (map placed_name (rules.labels a)) ≡ true) ⊎ (same_name from.0.name rules.done ≡ true) → (x ≡ done) ⊎ IsAmong x (labels_among (labeled a.body))
+    by (inl e) = inr (subst (IsAmong x) (body_names a.body) (subst (λ y. IsAmong y (map placed_name (rules.labels a))) (sym from.2) (among_is from.0.name (map placed_name (rules.labels a)) e)))
     by (inr e) = inl (from.2 ∙ same_name-is from.0.name rules.done e)
 
     go : (b : Bool) → is_unknown a from.0 ≡ b → (x ≡ done) ⊎ IsAmong x (labels_among (labeled a.body))
     go true e = absurd (empty_none from.0 (filter (is_unknown a) ts) none (among_filter (is_unknown a) from.0 ts from.1 e))
-    go false e = by (either_true (found.is_among from.0.name (rules.labels a)) (same_name from.0.name rules.done) (not_true (found.is_among from.0.name (rules.labels a) || same_name from.0.name rules.done) e))
+    go false e = by (either_true (is_among from.0.name (map placed_name (rules.labels a))) (same_name from.0.name rules.done) (not_true (is_among from.0.name (map placed_name (rules.labels a)) || same_name from.0.name rules.done) e))
 
 -- ---- loops
 

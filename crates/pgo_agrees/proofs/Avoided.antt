@@ -15,7 +15,7 @@ use Rattle.pgo_syntax.specs.declared.process.Argument.TheVariants as arguments
 use Rattle.pgo_syntax.specs.declared.process.Process.{Process}
 use Rattle.pgo_syntax.specs.declared.spec.Spec.{Spec}
 use Rattle.pgo_uses.specs.AllUses.{start, parameter_names, variable_names, parameter_uses, local_uses, initial_uses, value_uses, process_uses}
-use Rattle.pgo_uses.specs.Names.{is_among as among_rows, is_at}
+use Rattle.pgo_uses.specs.Names.{has_row, is_at}
 use Rattle.pgo_uses.specs.StatementUses.{placed, origin_tree, uses_of_block}
 use Rattle.pgo_uses.specs.Tables.{name_rows, tables_of, operator_rows}
 use Rattle.pgo_uses.specs.Uses.{uses}
@@ -53,7 +53,7 @@ no_case h = absurd (cc)
 -- ---- an expression at a home where names that stand alone are good, and so are those that are applied or bound
 module _ (s : Spec) (k : NoFindings s) (fit : AllByRecursion (ArgumentsFit s.archetypes) s.processes) (of_text : IsOfText s) (bad : Name → Bool) (applied : (x : Name) → IsApplicable s x → bad x ≡ false) (bound : (u : Use) → FineUse s u → u.form ≡ forms.Bound → bad u.name ≡ false) where
   abbrev Meaning : Home → Type 0
-  Meaning home = (x : Name) → means (tables_of s) s.archetypes home x ≡ true → among_rows x (tables_of s).globals ≡ false → bad x ≡ false
+  Meaning home = (x : Name) → means (tables_of s) s.archetypes home x ≡ true → has_row x (tables_of s).globals ≡ false → bad x ≡ false
 
   tells : (home : Home) → Meaning home → Tells (FineUse s) home false (λ h i x. Good bad x) (Good bad) (Good bad) (Good bad)
   tells home meaning = record { alone = alone; applied = λ u n f w e. applied u.name (applied_is s k fit of_text u n f e); binds = λ u f w e. bound u f e }
@@ -97,7 +97,7 @@ module _ (s : Spec) (k : NoFindings s) (labels : NoLabelFindings s) (fit : AllBy
   common_or x h = ap (λ b. b || same_name x self_name) h
 
   abbrev Good' : Home → Type 0
-  Good' home = (x : Name) → means (tables_of s) s.archetypes home x ≡ true → among_rows x (tables_of s).globals ≡ false → is_taken s x ≡ false
+  Good' home = (x : Name) → means (tables_of s) s.archetypes home x ≡ true → has_row x (tables_of s).globals ≡ false → is_taken s x ≡ false
 
   in_global : (i : ℕ) → Good' (homes.Global i)
   in_global i x h g =
@@ -159,7 +159,7 @@ module _ (s : Spec) (k : NoFindings s) (labels : NoLabelFindings s) (fit : AllBy
       all_among (λ (d : Declaration). OriginAvoids (is_taken s) d.initial) a.locals (λ d b. local_avoids r.0 d (all_at DeclarationOfText d a.locals text.1 b).1 (λ u c. fine_use s k u (r.2 u (among_left u (ps ++ ls) bs (among_right u ps ls (initial_among r.0 d (parameter_names a.params) at' a.locals b u c))))))
 
   -- ---- processes: their arguments, and their identifiers, which do not name `self` either
-  constant_not_self : (x : Name) → among_rows x (name_rows s.constants) ≡ true → x ≡ self_name → ⊥
+  constant_not_self : (x : Name) → has_row x (name_rows s.constants) ≡ true → x ≡ self_name → ⊥
   constant_not_self x e f =
       let n = named_row x s.constants e in
       let c = writes_some x (itself false n.0.name n.0.place) (shared_module_names s.constants) (shared_among n.0 s.constants n.1) (ap (same_name x) (sym n.2) ∙ same_name-self x) in
@@ -167,29 +167,29 @@ module _ (s : Spec) (k : NoFindings s) (labels : NoLabelFindings s) (fit : AllBy
       let a = counted s k.clashes x in
       omega (arith, c, m, a)
 
-  constants_not_self : (x : Name) → (among_rows x (name_rows s.constants) || among_rows x operator_rows) || same_name x default_init_value ≡ true → same_name x self_name ≡ false
-  constants_not_self x h = go (or_in (among_rows x (name_rows s.constants) || among_rows x operator_rows) (same_name x default_init_value) h)
+  constants_not_self : (x : Name) → (has_row x (name_rows s.constants) || has_row x operator_rows) || same_name x default_init_value ≡ true → same_name x self_name ≡ false
+  constants_not_self x h = go (or_in (has_row x (name_rows s.constants) || has_row x operator_rows) (same_name x default_init_value) h)
     where
-      first : (among_rows x (name_rows s.constants) ≡ true) ⊎ (among_rows x operator_rows ≡ true) → same_name x self_name ≡ false
+      first : (has_row x (name_rows s.constants) ≡ true) ⊎ (has_row x operator_rows ≡ true) → same_name x self_name ≡ false
       first (inl e) = same_name-not x self_name (constant_not_self x e)
       first (inr e) = row_test (λ y. same_name y self_name) x operator_rows operators_not_self e
 
-      go : (among_rows x (name_rows s.constants) || among_rows x operator_rows ≡ true) ⊎ (same_name x default_init_value ≡ true) → same_name x self_name ≡ false
-      go (inl e) = first (or_in (among_rows x (name_rows s.constants)) (among_rows x operator_rows) e)
+      go : (has_row x (name_rows s.constants) || has_row x operator_rows ≡ true) ⊎ (same_name x default_init_value ≡ true) → same_name x self_name ≡ false
+      go (inl e) = first (or_in (has_row x (name_rows s.constants)) (has_row x operator_rows) e)
       go (inr e) = same_name-not x self_name (λ f. (let q : true ≡ false = sym e ∙ ap (λ y. same_name y default_init_value) f in cc))
 
-  common_not_self : (x : Name) → is_common (tables_of s) x ≡ true → among_rows x (tables_of s).globals ≡ false → same_name x self_name ≡ false
-  common_not_self x h g = go (or_in (is_constant (tables_of s) x || among_rows x (tables_of s).definitions) (among_rows x (tables_of s).globals) h)
+  common_not_self : (x : Name) → is_common (tables_of s) x ≡ true → has_row x (tables_of s).globals ≡ false → same_name x self_name ≡ false
+  common_not_self x h g = go (or_in (is_constant (tables_of s) x || has_row x (tables_of s).definitions) (has_row x (tables_of s).globals) h)
     where
-      second : (is_constant (tables_of s) x ≡ true) ⊎ (among_rows x (tables_of s).definitions ≡ true) → same_name x self_name ≡ false
+      second : (is_constant (tables_of s) x ≡ true) ⊎ (has_row x (tables_of s).definitions ≡ true) → same_name x self_name ≡ false
       second (inl e) = constants_not_self x e
       second (inr e) = applicable_not_self s k fit of_text x (inl e)
 
-      go : (is_constant (tables_of s) x || among_rows x (tables_of s).definitions ≡ true) ⊎ (among_rows x (tables_of s).globals ≡ true) → same_name x self_name ≡ false
-      go (inl e) = second (or_in (is_constant (tables_of s) x) (among_rows x (tables_of s).definitions) e)
+      go : (is_constant (tables_of s) x || has_row x (tables_of s).definitions ≡ true) ⊎ (has_row x (tables_of s).globals ≡ true) → same_name x self_name ≡ false
+      go (inl e) = second (or_in (is_constant (tables_of s) x) (has_row x (tables_of s).definitions) e)
       go (inr e) = absurd (let q : true ≡ false = sym e ∙ g in cc)
 
-  in_process : (x : Name) → means (tables_of s) s.archetypes homes.Process x ≡ true → among_rows x (tables_of s).globals ≡ false → is_taken_or_self s x ≡ false
+  in_process : (x : Name) → means (tables_of s) s.archetypes homes.Process x ≡ true → has_row x (tables_of s).globals ≡ false → is_taken_or_self s x ≡ false
   in_process x h g =
       false_or (is_taken s x) (same_name x self_name) (common_good x (common_here s k fit of_text x (common_or x h) g)) (common_not_self x h g)
 

@@ -4,7 +4,7 @@ use Rattle.std.specs.Prelude.{◌⊎◌, flat_map}
 use Rattle.std.specs.List.{AllByRecursion}
 use Rattle.pgo_base.specs.Lookup.{Name, same_name, find}
 use Rattle.pgo_base.specs.Tree.{Tree}
-use Rattle.pgo_model.specs.Names.{same_name-is, same_name-not}
+use Rattle.pgo_model.specs.Names.{same_name-is, same_name-not, is_among}
 use Rattle.pgo_syntax.specs.Statement.{labeled}
 use Rattle.pgo_syntax.specs.declared.bound.Mapping.{Mapping}
 use Rattle.pgo_syntax.specs.declared.bound.Mapping.TheVariants.{Identity, Macro}
@@ -12,7 +12,6 @@ use Rattle.pgo_syntax.specs.declared.macros.MappingMacro.{MappingMacro}
 use Rattle.pgo_syntax.specs.declared.name.PlacedName.{PlacedName}
 use Rattle.pgo_syntax.specs.declared.spec.Spec.{Spec}
 use Rattle.pgo_uses.specs.AllUses.{start, mapping_uses}
-use Rattle.pgo_uses.specs.Names.{is_member}
 use Rattle.pgo_uses.specs.StatementUses.{uses_of_block}
 use Rattle.pgo_uses.specs.Tables.{all_definitions, operator_rows, variable_name, value_name}
 use Rattle.pgo_uses.specs.declared.uses.Home.TheVariants as homes
@@ -25,7 +24,6 @@ use Rattle.pgo_labels.specs.declared.errors.LabelError.TheVariants.{LabelHere}
 use Rattle.pgo_bound.specs.Among.{IsAmong, among_left, among_right, all_at, empty_map, none_left, none_right, none_flat_map}
 use Rattle.pgo_bound.specs.Sound.{labels_among}
 use Rattle.pgo_accept.proofs.Fitting.{ArgumentsFit}
-use Rattle.pgo_sections.specs.Among.{is_among}
 use Rattle.pgo_sections.specs.Code.{Place, Whole, content_name, content_places}
 use Rattle.pgo_sections.specs.WellFormed.{NotMade, PlainCode}
 use Rattle.pgo_meaning.specs.Parameters.{block_setting, block_code, reads_by, writes_by}
@@ -114,14 +112,14 @@ module _ (s : Spec) (k : NoFindings s) (fit : AllByRecursion (ArgumentsFit s.arc
   statements : InStatements s k fit of_text homes.Mapping
   statements x = refl
 
-  given : (x : Name) → is_member x given_names ≡ true → (x ≡ variable_name) ⊎ (x ≡ value_name)
+  given : (x : Name) → is_among x given_names ≡ true → (x ≡ variable_name) ⊎ (x ≡ value_name)
   given x h = go (same_name x variable_name) refl h
     where
-      second : (b : Bool) → same_name x value_name ≡ b → (if b then true else false) ≡ true → (x ≡ variable_name) ⊎ (x ≡ value_name)
+      second : (b : Bool) → same_name x value_name ≡ b → (b || false) ≡ true → (x ≡ variable_name) ⊎ (x ≡ value_name)
       second true e g = inr (same_name-is x value_name e)
       second false e g = absurd (cc)
 
-      go : (b : Bool) → same_name x variable_name ≡ b → (if b then true else (if same_name x value_name then true else false)) ≡ true → (x ≡ variable_name) ⊎ (x ≡ value_name)
+      go : (b : Bool) → same_name x variable_name ≡ b → (b || (same_name x value_name || false)) ≡ true → (x ≡ variable_name) ⊎ (x ≡ value_name)
       go true e g = inl (same_name-is x variable_name e)
       go false e g = second (same_name x value_name) refl g
 

@@ -1,12 +1,11 @@
 -- The parameters of a macro with the arguments of a call, and the ways in which a name stands among uses.
-use Rattle.std.proofs.Common.{◌≡◌, Bool, true, false, if◌then◌else◌, List, [], ◌∷◌, length, Some, None, refl, ap, sym, ◌∙◌, subst, inl, inr, arith}
+use Rattle.std.proofs.Common.{◌≡◌, Bool, true, false, ◌||◌, if◌then◌else◌, List, [], ◌∷◌, length, Some, None, refl, ap, sym, ◌∙◌, subst, inl, inr, arith}
 use Rattle.std.specs.Prelude.{◌⊎◌}
 use Rattle.std.specs.List.{AllByRecursion}
 use Rattle.pgo_base.specs.Lookup.{Name, same_name, find}
 use Rattle.pgo_base.specs.Tree.{Tree}
-use Rattle.pgo_model.specs.Names.{same_name-self, same_name-is}
+use Rattle.pgo_model.specs.Names.{same_name-self, same_name-is, is_among}
 use Rattle.pgo_syntax.specs.declared.spec.Spec.{Spec}
-use Rattle.pgo_uses.specs.Names.{is_member}
 use Rattle.pgo_uses.specs.StatementUses.{argument_uses}
 use Rattle.pgo_uses.specs.Uses.{inside, uses}
 use Rattle.pgo_uses.specs.declared.uses.Around.{Around}
@@ -41,22 +40,22 @@ InPairs p u [] ts = ⊥
 InPairs p u (q ∷ qs) [] = ⊥
 InPairs p u (q ∷ qs) (t ∷ ts) = ((p ≡ q) × (u ≡ t)) ⊎ InPairs p u qs ts
 
-pub pair_of : (w : Name → Usage) (x : Name) (xs : List Name) (ts : List Tree) → length xs ≡ length ts → is_member x xs ≡ true → (t : Tree) × (find x (handed xs ts) ≡ Some t) × InPairs (x, w x) t (rows w xs) ts
+pub pair_of : (w : Name → Usage) (x : Name) (xs : List Name) (ts : List Tree) → length xs ≡ length ts → is_among x xs ≡ true → (t : Tree) × (find x (handed xs ts) ≡ Some t) × InPairs (x, w x) t (rows w xs) ts
 pair_of w x [] ts e h = never h
 pair_of w x (y ∷ ys) [] e h = absurd (omega (arith, e))
 pair_of w x (y ∷ ys) (t ∷ ts) e h = go (same_name x y) refl h (pair_of w x ys ts (omega (arith, e)))
   where
-    go : (b : Bool) → same_name x y ≡ b → (if b then true else is_member x ys) ≡ true → (is_member x ys ≡ true → (u : Tree) × (find x (handed ys ts) ≡ Some u) × InPairs (x, w x) u (rows w ys) ts)
+    go : (b : Bool) → same_name x y ≡ b → (b || is_among x ys) ≡ true → (is_among x ys ≡ true → (u : Tree) × (find x (handed ys ts) ≡ Some u) × InPairs (x, w x) u (rows w ys) ts)
         → (u : Tree) × ((if b then Some t else find x (handed ys ts)) ≡ Some u) × InPairs (x, w x) u (rows w (y ∷ ys)) (t ∷ ts)
     go true f g more = let s = same_name-is x y f in (t, refl, inl (ap (λ z. (z, w z)) s, refl))
     go false f g more = let r = more g in (r.0, r.1, inr r.2)
 
-pub not_handed : (x : Name) (xs : List Name) (ts : List Tree) → is_member x xs ≡ false → find x (handed xs ts) ≡ None
+pub not_handed : (x : Name) (xs : List Name) (ts : List Tree) → is_among x xs ≡ false → find x (handed xs ts) ≡ None
 not_handed x [] ts h = refl
 not_handed x (y ∷ ys) [] h = refl
 not_handed x (y ∷ ys) (t ∷ ts) h = go (same_name x y) h (not_handed x ys ts)
   where
-    go : (b : Bool) → (if b then true else is_member x ys) ≡ false → (is_member x ys ≡ false → find x (handed ys ts) ≡ None) → (if b then Some t else find x (handed ys ts)) ≡ None
+    go : (b : Bool) → (b || is_among x ys) ≡ false → (is_among x ys ≡ false → find x (handed ys ts) ≡ None) → (if b then Some t else find x (handed ys ts)) ≡ None
     go true f more = absurd (cc)
     go false f more = more f
 

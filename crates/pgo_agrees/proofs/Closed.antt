@@ -1,12 +1,12 @@
 -- Definitions name nothing that the module writes beside them: no variable, no label, no process, not ProcSet and not Terminating.
-use Rattle.std.proofs.Common.{◌≡◌, ℕ, Bool, true, false, if◌then◌else◌, List, [], ◌∷◌, ◌++◌, map, Option, Some, None, option_map, refl, sym, subst, inl, inr}
+use Rattle.std.proofs.Common.{◌≡◌, ℕ, Bool, true, false, ◌||◌, List, [], ◌∷◌, ◌++◌, map, Option, Some, None, option_map, refl, sym, subst, inl, inr}
 use Rattle.std.specs.Prelude.{◌⊎◌}
 use Rattle.std.specs.List.{AllByRecursion, filter_map, cons_option}
 use Rattle.pgo_base.specs.Data.{Data}
 use Rattle.pgo_base.specs.Lookup.{Name, same_name}
 use Rattle.pgo_base.specs.ValueCode.{value_from}
 use Rattle.pgo_base.specs.declared.module.Defined.TheVariants.{Given}
-use Rattle.pgo_model.specs.Names.{same_name-is}
+use Rattle.pgo_model.specs.Names.{same_name-is, is_among}
 use Rattle.pgo_scope.specs.Unknown.{means}
 use Rattle.pgo_base.specs.declared.module.Defined.{Defined}
 use Rattle.pgo_model.specs.ModuleView.{defined_view}
@@ -14,9 +14,8 @@ use Rattle.pgo_syntax.specs.declared.name.PlacedName.{PlacedName}
 use Rattle.pgo_syntax.specs.declared.declaration.Definition.{Definition}
 use Rattle.pgo_syntax.specs.declared.spec.Spec.{Spec}
 use Rattle.pgo_uses.specs.AllUses.{start, names_of, heads, last_place, definition_uses}
-use Rattle.pgo_uses.specs.Names.{is_member}
 use Rattle.pgo_uses.specs.StatementUses.{at_place}
-use Rattle.pgo_uses.specs.Tables.{all_definitions, defined, tables_of}
+use Rattle.pgo_uses.specs.Tables.{all_definitions, tables_of}
 use Rattle.pgo_uses.specs.Uses.{uses}
 use Rattle.pgo_uses.specs.declared.uses.Around.{Around}
 use Rattle.pgo_uses.specs.declared.uses.Form.TheVariants as forms
@@ -25,7 +24,6 @@ use Rattle.pgo_uses.specs.declared.uses.Use.{Use}
 use Rattle.pgo_bound.specs.Among.{IsAmong, among_left, among_right, all_at}
 use Rattle.pgo_bound.specs.Values.{given_value, given_constant, meant, default_definition, define_of, defs_of}
 use Rattle.pgo_accept.proofs.Fitting.{ArgumentsFit}
-use Rattle.pgo_sections.specs.Among.{is_among}
 use Rattle.pgo_sections.specs.Closed.{Apart, AreClosed}
 use Rattle.pgo_sections.specs.Plain.{Plain}
 use Rattle.pgo_agrees.specs.Accepted.{IsOfText, DefinitionOfText}
@@ -89,12 +87,12 @@ module _ (s : Spec) (k : NoFindings s) (fit : AllByRecursion (ArgumentsFit s.arc
   parameters_known (p ∷ ps) ns a f x h = go (same_name x p.name) refl h (parameters_known ps (ns ++ p.name ∷ []) a (λ u b. f u (inr b)) x)
     where
       use' : Use
-      use' = record { name = p.name; form = forms.Bound; inner = is_member p.name ns; around = at_place p.place a }
+      use' = record { name = p.name; form = forms.Bound; inner = is_among p.name ns; around = at_place p.place a }
 
       here : is_among p.name (names_written s) ≡ false
       here = bound_use_apart use' (f use' (inl refl)) refl
 
-      go : (b : Bool) → same_name x p.name ≡ b → (if b then true else is_member x (names_of ps)) ≡ true → (is_member x (names_of ps) ≡ true → (is_among x [] ≡ true) ⊎ (is_among x (names_written s) ≡ false)) → (is_among x [] ≡ true) ⊎ (is_among x (names_written s) ≡ false)
+      go : (b : Bool) → same_name x p.name ≡ b → (b || is_among x (names_of ps)) ≡ true → (is_among x (names_of ps) ≡ true → (is_among x [] ≡ true) ⊎ (is_among x (names_written s) ≡ false)) → (is_among x [] ≡ true) ⊎ (is_among x (names_written s) ≡ false)
       go true e g more = inr (subst (λ z. is_among z (names_written s) ≡ false) (sym (same_name-is x p.name e)) here)
       go false e g more = more g
 
@@ -116,8 +114,4 @@ module _ (s : Spec) (k : NoFindings s) (fit : AllByRecursion (ArgumentsFit s.arc
       let given = filter_map (given_constant consts) s.constants in
       let first = given ++ (default_definition ∷ []) in
       let one = map meant s.definitions in
-      closed_append vs (first ++ one) (map meant (define_of s.define)) (closed_append vs first one (closed_append vs given (default_definition ∷ []) (given_closed vs consts s.constants) (tt, tt)) (meant_closed vs s.definitions (λ d a. definition_plain d (among_left d s.definitions (defined s.define) a)))) (meant_closed vs (define_of s.define) (λ d a. definition_plain d (among_right d s.definitions (defined s.define) (same s.define d a))))
-    where
-      same : (o : Option (List Definition)) (d : Definition) → IsAmong d (define_of o) → IsAmong d (defined o)
-      same None d a = a
-      same (Some ds) d a = a
+      closed_append vs (first ++ one) (map meant (define_of s.define)) (closed_append vs first one (closed_append vs given (default_definition ∷ []) (given_closed vs consts s.constants) (tt, tt)) (meant_closed vs s.definitions (λ d a. definition_plain d (among_left d s.definitions (define_of s.define) a)))) (meant_closed vs (define_of s.define) (λ d a. definition_plain d (among_right d s.definitions (define_of s.define) a)))

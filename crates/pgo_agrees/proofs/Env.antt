@@ -4,11 +4,11 @@ use Rattle.std.specs.Prelude.{◌⊎◌}
 use Rattle.std.specs.List.{AllByRecursion}
 use Rattle.pgo_base.specs.Lookup.{Name, same_name}
 use Rattle.pgo_base.specs.Tree.{Tree}
-use Rattle.pgo_model.specs.Names.{same_name-self, same_name-not}
+use Rattle.pgo_model.specs.Names.{same_name-self, same_name-not, is_among}
 use Rattle.pgo_model.specs.Written.{self_name, default_init_value}
 use Rattle.pgo_syntax.specs.declared.name.PlacedName.{PlacedName}
 use Rattle.pgo_syntax.specs.declared.spec.Spec.{Spec}
-use Rattle.pgo_uses.specs.Names.{is_member, is_among as among_rows}
+use Rattle.pgo_uses.specs.Names.{has_row}
 use Rattle.pgo_uses.specs.StatementUses.{as_passed, at_place, argument_uses}
 use Rattle.pgo_uses.specs.Tables.{all_definitions, tables_of, operator_rows}
 use Rattle.pgo_uses.specs.Uses.{uses}
@@ -22,7 +22,6 @@ use Rattle.pgo_scope.specs.Unknown.{is_common, knows_self, means}
 use Rattle.pgo_bound.specs.Among.{all_at}
 use Rattle.pgo_accept.proofs.Fitting.{ArgumentsFit}
 use Rattle.pgo_sections.specs.Access.{place}
-use Rattle.pgo_sections.specs.Among.{is_among}
 use Rattle.pgo_sections.specs.WellFormed.{Bindable}
 use Rattle.pgo_agrees.specs.Accepted.{IsOfText, DefinitionOfText}
 use Rattle.pgo_agrees.specs.Spoken.{Spoken, ArgumentsSpoken}
@@ -111,9 +110,9 @@ module _ (s : Spec) (k : NoFindings s) (fit : AllByRecursion (ArgumentsFit s.arc
   pub record NamedFacts (u : Use) : Type 0 where
     pub fresh : u.inner ≡ false
     pub declared : D u.name
-    pub no_constant : among_rows u.name (tables_of s).constants ≡ false
+    pub no_constant : has_row u.name (tables_of s).constants ≡ false
     pub no_reserved : is_reserved u.name ≡ false
-    pub no_definition : among_rows u.name (tables_of s).definitions ≡ false
+    pub no_definition : has_row u.name (tables_of s).definitions ≡ false
     pub no_self : knows_self u.around.home ≡ true → same_name u.name self_name ≡ false
 
   and_no : (a b : Bool) → a && b ≡ false → b ≡ true → a ≡ false
@@ -125,10 +124,10 @@ module _ (s : Spec) (k : NoFindings s) (fit : AllByRecursion (ArgumentsFit s.arc
       let ts = tables_of s in
       let inner = u.inner in
       let reserved = is_reserved u.name in
-      let constant = among_rows u.name ts.constants in
-      let definition = among_rows u.name ts.definitions in
+      let constant = has_row u.name ts.constants in
+      let definition = has_row u.name ts.definitions in
       let self = same_name u.name self_name && knows_self u.around.home in
-      let h : hides ts u ≡ false = or_left (hides ts u) (among_rows u.name ts.globals && not (may_be_global u.around.home)) (subst (λ g. hiding_of ts u g ≡ false) e f.hiding) in
+      let h : hides ts u ≡ false = or_left (hides ts u) (has_row u.name ts.globals && not (may_be_global u.around.home)) (subst (λ g. hiding_of ts u g ≡ false) e f.hiding) in
       let h4 = or_left (inner || reserved || constant || definition) self h in
       let h3 = or_left (inner || reserved || constant) definition h4 in
       let h2 = or_left (inner || reserved) constant h3 in
@@ -143,29 +142,29 @@ module _ (s : Spec) (k : NoFindings s) (fit : AllByRecursion (ArgumentsFit s.arc
         no_self = λ g. and_no (same_name u.name self_name) (knows_self u.around.home) (or_right (inner || reserved || constant || definition) self h) g;
       }
     where
-      apart_from : (y : Name) → C y → is_reserved u.name ≡ false → among_rows u.name (tables_of s).definitions ≡ false → same_name y u.name ≡ false
-      apart_from y (inl d) r n = same_name-not y u.name (λ q. (let z : true ≡ false = sym d ∙ ap (λ x. among_rows x (tables_of s).definitions) q ∙ n in cc))
+      apart_from : (y : Name) → C y → is_reserved u.name ≡ false → has_row u.name (tables_of s).definitions ≡ false → same_name y u.name ≡ false
+      apart_from y (inl d) r n = same_name-not y u.name (λ q. (let z : true ≡ false = sym d ∙ ap (λ x. has_row x (tables_of s).definitions) q ∙ n in cc))
       apart_from y (inr o) r n =
-          same_name-not y u.name (λ q. (let z : true ≡ false = sym o ∙ ap (λ x. among_rows x operator_rows) q ∙ or_left (among_rows u.name operator_rows) (same_name u.name default_init_value) r in cc))
+          same_name-not y u.name (λ q. (let z : true ≡ false = sym o ∙ ap (λ x. has_row x operator_rows) q ∙ or_left (has_row u.name operator_rows) (same_name u.name default_init_value) r in cc))
 
   -- it is no name that has a meaning everywhere
   pub named_uncommon : (u : Use) → NamedFacts u → knows_self u.around.home ≡ true → Common u.name → ⊥
-  named_uncommon u f h (inl e) = go (or_in (among_rows u.name (tables_of s).constants || among_rows u.name operator_rows) (same_name u.name default_init_value) e)
+  named_uncommon u f h (inl e) = go (or_in (has_row u.name (tables_of s).constants || has_row u.name operator_rows) (same_name u.name default_init_value) e)
     where
-      second : (among_rows u.name (tables_of s).constants ≡ true) ⊎ (among_rows u.name operator_rows ≡ true) → ⊥
+      second : (has_row u.name (tables_of s).constants ≡ true) ⊎ (has_row u.name operator_rows ≡ true) → ⊥
       second (inl g) = let z : true ≡ false = sym g ∙ f.no_constant in cc
-      second (inr g) = let z : true ≡ false = sym g ∙ or_left (among_rows u.name operator_rows) (same_name u.name default_init_value) f.no_reserved in cc
+      second (inr g) = let z : true ≡ false = sym g ∙ or_left (has_row u.name operator_rows) (same_name u.name default_init_value) f.no_reserved in cc
 
-      go : (among_rows u.name (tables_of s).constants || among_rows u.name operator_rows ≡ true) ⊎ (same_name u.name default_init_value ≡ true) → ⊥
-      go (inl g) = second (or_in (among_rows u.name (tables_of s).constants) (among_rows u.name operator_rows) g)
-      go (inr g) = let z : true ≡ false = sym g ∙ or_right (among_rows u.name operator_rows) (same_name u.name default_init_value) f.no_reserved in cc
+      go : (has_row u.name (tables_of s).constants || has_row u.name operator_rows ≡ true) ⊎ (same_name u.name default_init_value ≡ true) → ⊥
+      go (inl g) = second (or_in (has_row u.name (tables_of s).constants) (has_row u.name operator_rows) g)
+      go (inr g) = let z : true ≡ false = sym g ∙ or_right (has_row u.name operator_rows) (same_name u.name default_init_value) f.no_reserved in cc
   named_uncommon u f h (inr (inl e)) = let z : true ≡ false = sym e ∙ f.no_definition in cc
   named_uncommon u f h (inr (inr e)) =
       let z : true ≡ false = sym (ap (λ x. same_name x self_name) e ∙ same_name-self self_name) ∙ f.no_self h in cc
 
   -- ---- names that may stand in a unit, whose parameters and locals are qs
   abbrev pub Known' : List Name → List Name → Name → Type 0
-  Known' qs ns x = ((is_among x ns ≡ true) × D x) ⊎ (is_member x qs ≡ true)
+  Known' qs ns x = ((is_among x ns ≡ true) × D x) ⊎ (is_among x qs ≡ true)
 
   abbrev pub Inside : List Name → List Name → Name → Type 0
   Inside qs ns x = Known' qs ns x ⊎ Common x
@@ -200,10 +199,10 @@ module _ (s : Spec) (k : NoFindings s) (fit : AllByRecursion (ArgumentsFit s.arc
       pub fine : (u : Use) → P u → FineUse s u
       pub reads : (u : Use) → P u → IsAt home false u.around → u.form ≡ forms.Alone → J u.around.hidden u.around.indexed u.name
       pub names : (ns : List Name) (h i : Bool) (x : Name) → Inside qs ns x → J h i x → N ns h i x
-      pub with_of : (x : Name) → D x → is_member x qs ≡ false → W x
+      pub with_of : (x : Name) → D x → is_among x qs ≡ false → W x
       pub declared : (x : Name) → W x → D x
       pub assigned : (ns : List Name) (u : Use) (h : Shape) → P u → IsAt home false u.around → u.form ≡ forms.Assigned h → (u.inner ≡ true → Known' qs ns u.name) → A ns h u.name
-      pub called : (ns ms : List Name) (a : Around) (m : PlacedName) (ts : List Tree) → P (record { name = m.name; form = forms.Called ts; inner = is_member m.name ms; around = at_place m.place a }) → IsAt home false a → (a.hidden ≡ false) × (a.indexed ≡ false) → Known (Known' qs ns) ms [] → Within qs ms → ArgumentsSpoken ts → AllByRecursion P (argument_uses ms (as_passed (at_place m.place a)) ts) → M ns m ts
+      pub called : (ns ms : List Name) (a : Around) (m : PlacedName) (ts : List Tree) → P (record { name = m.name; form = forms.Called ts; inner = is_among m.name ms; around = at_place m.place a }) → IsAt home false a → (a.hidden ≡ false) × (a.indexed ≡ false) → Known (Known' qs ns) ms [] → Within qs ms → ArgumentsSpoken ts → AllByRecursion P (argument_uses ms (as_passed (at_place m.place a)) ts) → M ns m ts
 
     module _ (rules : UnitRules) where
       expressions : (ns : List Name) → Tells P home false (N ns) C B (Known' qs ns)

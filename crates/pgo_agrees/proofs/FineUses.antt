@@ -1,18 +1,16 @@
 -- How names stand in a statement follows from what holds of the uses that are listed of it.
-use Rattle.std.proofs.Common.{◌≡◌, ℕ, Bool, true, false, if◌then◌else◌, List, [], ◌∷◌, ◌++◌, Option, Some, None, refl, ap, sym, ◌∙◌, subst, inl, inr, append_assoc, append-nil}
+use Rattle.std.proofs.Common.{◌≡◌, ℕ, Bool, true, false, ◌||◌, if◌then◌else◌, List, [], ◌∷◌, ◌++◌, Option, Some, None, refl, ap, sym, ◌∙◌, subst, inl, inr, append_assoc, append-nil}
 use Rattle.std.specs.Prelude.{◌⊎◌}
 use Rattle.std.specs.List.{AllByRecursion}
 use Rattle.pgo_base.specs.Lookup.{Name, same_name}
 use Rattle.pgo_base.specs.Tree.{Tree}
-use Rattle.pgo_model.specs.Names.{same_name-self, same_name-is}
-use Rattle.pgo_sections.specs.Among.{is_among}
+use Rattle.pgo_model.specs.Names.{same_name-self, same_name-is, is_among}
 use Rattle.pgo_syntax.specs.declared.assignment.Assignment.{Assignment}
 use Rattle.pgo_syntax.specs.declared.assignment.Step.{Step}
 use Rattle.pgo_syntax.specs.declared.assignment.Step.TheVariants as step
 use Rattle.pgo_syntax.specs.declared.binding.WithName.{WithName}
 use Rattle.pgo_syntax.specs.declared.name.PlacedName.{PlacedName}
 use Rattle.pgo_syntax.specs.Statement.{Statement, skip, assign, if_then, if_else, while_do, either_of, await_that, with_in, print_out, assert_that, go_to, call_macro, yield_as, block, Statements, no_statements, more_statements, LabeledStatements, no_labeled, more_labeled, GuardedStatements, no_guarded, more_guarded}
-use Rattle.pgo_uses.specs.Names.{is_member}
 use Rattle.pgo_uses.specs.StatementUses.{at_place, as_passed, placed, shape_of, path_uses, assignment_uses, origin_tree, with_uses, with_names, argument_uses, label_uses, statement_uses, uses_of_alternatives, uses_of_block, uses_of_branches}
 use Rattle.pgo_uses.specs.Uses.{uses}
 use Rattle.pgo_uses.specs.declared.uses.Around.{Around}
@@ -117,14 +115,14 @@ may_block false p ls h = h
 
 -- ---- names of the unit that are in scope of all of it
 abbrev pub Within : List Name → List Name → Type 0
-Within qs ns = (x : Name) → is_member x qs ≡ true → is_member x ns ≡ true
+Within qs ns = (x : Name) → is_among x qs ≡ true → is_among x ns ≡ true
 
 module _ (P : Use → Type 0) (home : Home) (qs : List Name) (N : List Name → Bool → Bool → Name → Type 0) (C B W : Name → Type 0) (A : List Name → Shape → Name → Type 0) (M : List Name → PlacedName → List Tree → Type 0) (Y : Type 0) (K : List Name → Name → Type 0) where
   pub record TellsAll : Type 0 where
     pub expressions : (ns : List Name) → Tells P home false (N ns) C B (K ns)
     pub assigned : (ns : List Name) (u : Use) (h : Shape) → P u → IsAt home false u.around → u.form ≡ forms.Assigned h → (u.inner ≡ true → K ns u.name) → A ns h u.name
-    pub named : (u : Use) → P u → IsAt home false u.around → u.form ≡ forms.Named → (u.inner ≡ false → is_member u.name qs ≡ false) → W u.name
-    pub called : (ns ms : List Name) (a : Around) (m : PlacedName) (ts : List Tree) → P (record { name = m.name; form = forms.Called ts; inner = is_member m.name ms; around = at_place m.place a }) → IsAt home false a → (a.hidden ≡ false) × (a.indexed ≡ false) → Known (K ns) ms [] → Within qs ms → ArgumentsSpoken ts → AllByRecursion P (argument_uses ms (as_passed (at_place m.place a)) ts) → M ns m ts
+    pub named : (u : Use) → P u → IsAt home false u.around → u.form ≡ forms.Named → (u.inner ≡ false → is_among u.name qs ≡ false) → W u.name
+    pub called : (ns ms : List Name) (a : Around) (m : PlacedName) (ts : List Tree) → P (record { name = m.name; form = forms.Called ts; inner = is_among m.name ms; around = at_place m.place a }) → IsAt home false a → (a.hidden ≡ false) × (a.indexed ≡ false) → Known (K ns) ms [] → Within qs ms → ArgumentsSpoken ts → AllByRecursion P (argument_uses ms (as_passed (at_place m.place a)) ts) → M ns m ts
     pub newest : (x : Name) (ns : List Name) → W x → K (x ∷ ns) x
     pub older : (x y : Name) (ns : List Name) → K ns y → K (x ∷ ns) y
 
@@ -147,31 +145,31 @@ module _ (P : Use → Type 0) (home : Home) (qs : List Name) (N : List Name → 
     expr ms ns a e w f v s h =
         subst (λ i. Stands (N ns) C B [] false i e) f.1 (subst (λ i. Stands (N ns) C B [] i a.indexed e) f.0 (stands P home false (N ns) C B (K ns) (tells.expressions ns) ms [] a e w v.known s h))
 
-    is_in : (x : Name) (ms : List Name) → (is_member x (ms ++ x ∷ [])) ≡ true
-    is_in x [] = ap (λ b. if b then true else false) (same_name-self x)
+    is_in : (x : Name) (ms : List Name) → (is_among x (ms ++ x ∷ [])) ≡ true
+    is_in x [] = ap (λ b. b || false) (same_name-self x)
     is_in x (m ∷ ms) = go (same_name x m) (is_in x ms)
       where
-        go : (b : Bool) → is_member x (ms ++ x ∷ []) ≡ true → (if b then true else is_member x (ms ++ x ∷ [])) ≡ true
+        go : (b : Bool) → is_among x (ms ++ x ∷ []) ≡ true → (b || is_among x (ms ++ x ∷ [])) ≡ true
         go true h = refl
         go false h = h
 
-    split : (y x : Name) (ms : List Name) → is_member y (ms ++ x ∷ []) ≡ true → (is_member y ms ≡ true) ⊎ (y ≡ x)
+    split : (y x : Name) (ms : List Name) → is_among y (ms ++ x ∷ []) ≡ true → (is_among y ms ≡ true) ⊎ (y ≡ x)
     split y x [] h = go (same_name y x) refl h
       where
-        go : (b : Bool) → same_name y x ≡ b → (if b then true else false) ≡ true → (is_member y [] ≡ true) ⊎ (y ≡ x)
+        go : (b : Bool) → same_name y x ≡ b → (b || false) ≡ true → (is_among y [] ≡ true) ⊎ (y ≡ x)
         go true e k = inr (same_name-is y x e)
         go false e k = absurd (cc)
     split y x (m ∷ ms) h = go (same_name y m) h (split y x ms)
       where
-        go : (b : Bool) → (if b then true else is_member y (ms ++ x ∷ [])) ≡ true → (is_member y (ms ++ x ∷ []) ≡ true → (is_member y ms ≡ true) ⊎ (y ≡ x)) → ((if b then true else is_member y ms) ≡ true) ⊎ (y ≡ x)
+        go : (b : Bool) → (b || is_among y (ms ++ x ∷ [])) ≡ true → (is_among y (ms ++ x ∷ []) ≡ true → (is_among y ms ≡ true) ⊎ (y ≡ x)) → ((b || is_among y ms) ≡ true) ⊎ (y ≡ x)
         go true k more = inl refl
         go false k more = more k
 
-    still : (y : Name) (xs ys : List Name) → is_member y xs ≡ true → is_member y (xs ++ ys) ≡ true
+    still : (y : Name) (xs ys : List Name) → is_among y xs ≡ true → is_among y (xs ++ ys) ≡ true
     still y [] ys h = absurd (cc)
     still y (x ∷ xs) ys h = go (same_name y x) h (still y xs ys)
       where
-        go : (b : Bool) → (if b then true else is_member y xs) ≡ true → (is_member y xs ≡ true → is_member y (xs ++ ys) ≡ true) → (if b then true else is_member y (xs ++ ys)) ≡ true
+        go : (b : Bool) → (b || is_among y xs) ≡ true → (is_among y xs ≡ true → is_among y (xs ++ ys) ≡ true) → (b || is_among y (xs ++ ys)) ≡ true
         go true k more = refl
         go false k more = more k
 
@@ -182,7 +180,7 @@ module _ (P : Use → Type 0) (home : Home) (qs : List Name) (N : List Name → 
         old y (inl e) = inl e
         old y (inr k) = inr (tells.older x y ns k)
 
-        go : (y : Name) → (is_member y ms ≡ true) ⊎ (y ≡ x) → (is_among y [] ≡ true) ⊎ K (x ∷ ns) y
+        go : (y : Name) → (is_among y ms ≡ true) ⊎ (y ≡ x) → (is_among y [] ≡ true) ⊎ K (x ∷ ns) y
         go y (inl e) = old y (v.known y e)
         go y (inr e) = inr (subst (λ z. K (x ∷ ns) z) (sym e) (tells.newest x ns d))
 
@@ -192,7 +190,7 @@ module _ (P : Use → Type 0) (home : Home) (qs : List Name) (N : List Name → 
         let x = uses ms a e in let y = path_uses ms a ss in (expr ms ns a e w f v s.0 (l x y h), path_fine ms ns a ss w f v s.1 (r x y h))
     path_fine ms ns a (step.Field x ∷ ss) w f v s h = path_fine ms ns a ss w f v s.1 h.1
 
-    inner_known : (ms ns : List Name) (x : Name) → InUnit ms ns → is_member x ms ≡ true → K ns x
+    inner_known : (ms ns : List Name) (x : Name) → InUnit ms ns → is_among x ms ≡ true → K ns x
     inner_known ms ns x v h = go (v.known x h)
       where
         go : (false ≡ true) ⊎ K ns x → K ns x
@@ -209,16 +207,16 @@ module _ (P : Use → Type 0) (home : Home) (qs : List Name) (N : List Name → 
         let z = assignment_uses ms a bs in
         let k = l (n ++ x ++ y) z h in
         let left = l n x (l (n ++ x) y k) in (
-          tells.assigned ns (record { name = b.left.name.name; form = forms.Assigned (shape_of b.left.path); inner = is_member b.left.name.name ms; around = at' }) (shape_of b.left.path) left.0 w refl (λ i. inner_known ms ns b.left.name.name v i),
+          tells.assigned ns (record { name = b.left.name.name; form = forms.Assigned (shape_of b.left.path); inner = is_among b.left.name.name ms; around = at' }) (shape_of b.left.path) left.0 w refl (λ i. inner_known ms ns b.left.name.name v i),
           path_fine ms ns at' b.left.path w f v s.0 (r n x (l (n ++ x) y k)),
           expr ms ns at' b.right w f v s.1 (r (n ++ x) y k),
           assigns_fine ms ns a bs w f v s.2 (r (n ++ x ++ y) z h),
         )
 
-    fresh_name : (x : Name) (ms : List Name) → Within qs ms → is_member x ms ≡ false → is_member x qs ≡ false
-    fresh_name x ms u h = go (is_member x qs) refl
+    fresh_name : (x : Name) (ms : List Name) → Within qs ms → is_among x ms ≡ false → is_among x qs ≡ false
+    fresh_name x ms u h = go (is_among x qs) refl
       where
-        go : (b : Bool) → is_member x qs ≡ b → is_member x qs ≡ false
+        go : (b : Bool) → is_among x qs ≡ b → is_among x qs ≡ false
         go true e = absurd (let q : true ≡ false = sym (u x e) ∙ h in cc)
         go false e = e
 
@@ -231,7 +229,7 @@ module _ (P : Use → Type 0) (home : Home) (qs : List Name) (N : List Name → 
         let z = with_uses (ms ++ x.name.name ∷ []) a xs in
         let k = l (n ++ y) z h in
         let here = l n y k in
-        let d = tells.named (record { name = x.name.name; form = forms.Named; inner = is_member x.name.name ms; around = at' }) here.0 w refl (λ i. fresh_name x.name.name ms v.unit i) in (
+        let d = tells.named (record { name = x.name.name; form = forms.Named; inner = is_among x.name.name ms; around = at' }) here.0 w refl (λ i. fresh_name x.name.name ms v.unit i) in (
           d,
           expr ms ns at' (origin_tree x.origin) w f v s.0 (r n y k),
           withs_fine (ms ++ x.name.name ∷ []) (x.name.name ∷ ns) a xs w f (with_more ms ns x.name.name d v) s.1 (r (n ++ y) z h),

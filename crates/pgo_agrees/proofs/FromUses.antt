@@ -1,13 +1,12 @@
 -- How names stand in an expression follows from what holds of the uses that are listed of it.
-use Rattle.std.proofs.Common.{◌≡◌, ℕ, suc, Bool, true, false, if◌then◌else◌, ◌||◌, List, [], ◌∷◌, ◌++◌, refl, ap, sym, ◌∙◌, subst, inl, inr}
+use Rattle.std.proofs.Common.{◌≡◌, ℕ, suc, Bool, true, false, ◌||◌, List, [], ◌∷◌, ◌++◌, refl, ap, sym, ◌∙◌, subst, inl, inr}
 use Rattle.std.specs.Prelude.{◌⊎◌}
 use Rattle.std.specs.List.{AllByRecursion}
 use Rattle.pgo_base.specs.Lookup.{Name, same_name}
 use Rattle.pgo_base.specs.Tree.{Tree, name, primed, number, text, truth, at, word, unary, binary, product, cond_of, case_of, case_other, let_in, quantified, choose, tuple, set_of, filter_of, image, fun_of, fun_set, record_of, record_set, except, index, field, call, unchanged, Trees, no_trees, more_trees, NamedTrees, no_named, more_named, TreePairs, no_arms, more_arms, BoundTrees, no_bound, more_bound, PathTrees, no_paths, more_paths}
-use Rattle.pgo_sections.specs.Among.{is_among}
+use Rattle.pgo_model.specs.Names.{is_among}
 use Rattle.pgo_sections.specs.Bound.{names_of, names_bound, below}
 use Rattle.pgo_sections.specs.Plain.{All}
-use Rattle.pgo_uses.specs.Names.{is_member}
 use Rattle.pgo_uses.specs.Uses.{one, inside, hide, count_trees, let_names, binder_names, bound_uses, uses, uses_of_all, uses_of_fields, uses_of_arms, uses_of_let, uses_of_binders, uses_of_updates}
 use Rattle.pgo_uses.specs.declared.uses.Around.{Around}
 use Rattle.pgo_uses.specs.declared.uses.Form.TheVariants as forms
@@ -26,21 +25,21 @@ all_right P (x ∷ xs) ys h = all_right P xs ys h.1
 
 -- names in scope are bound within the expression, or meet K
 abbrev pub Known : (Name → Type 0) → List Name → List Name → Type 0
-Known K ns u = (x : Name) → is_member x ns ≡ true → (is_among x u ≡ true) ⊎ K x
+Known K ns u = (x : Name) → is_among x ns ≡ true → (is_among x u ≡ true) ⊎ K x
 
-member_split : (x : Name) (ns ys : List Name) → is_member x (ns ++ ys) ≡ true → (is_member x ns ≡ true) ⊎ (is_member x ys ≡ true)
+member_split : (x : Name) (ns ys : List Name) → is_among x (ns ++ ys) ≡ true → (is_among x ns ≡ true) ⊎ (is_among x ys ≡ true)
 member_split x [] ys h = inr h
 member_split x (n ∷ ns) ys h = go (same_name x n) h (member_split x ns ys)
   where
-    go : (b : Bool) → (if b then true else is_member x (ns ++ ys)) ≡ true → (is_member x (ns ++ ys) ≡ true → (is_member x ns ≡ true) ⊎ (is_member x ys ≡ true)) → ((if b then true else is_member x ns) ≡ true) ⊎ (is_member x ys ≡ true)
+    go : (b : Bool) → (b || is_among x (ns ++ ys)) ≡ true → (is_among x (ns ++ ys) ≡ true → (is_among x ns ≡ true) ⊎ (is_among x ys ≡ true)) → ((b || is_among x ns) ≡ true) ⊎ (is_among x ys ≡ true)
     go true k more = inl refl
     go false k more = more k
 
-member_below : (x : Name) (ys u : List Name) → is_member x ys ≡ true → is_among x (below ys u) ≡ true
+member_below : (x : Name) (ys u : List Name) → is_among x ys ≡ true → is_among x (below ys u) ≡ true
 member_below x [] u h = absurd (cc)
 member_below x (y ∷ ys) u h = go (same_name x y) refl h (member_below x ys (y ∷ u))
   where
-    go : (b : Bool) → same_name x y ≡ b → (if b then true else is_member x ys) ≡ true → (is_member x ys ≡ true → is_among x (below ys (y ∷ u)) ≡ true) → is_among x (below ys (y ∷ u)) ≡ true
+    go : (b : Bool) → same_name x y ≡ b → (b || is_among x ys) ≡ true → (is_among x ys ≡ true → is_among x (below ys (y ∷ u)) ≡ true) → is_among x (below ys (y ∷ u)) ≡ true
     go true e k more = behind ys (y ∷ u) x (ap (λ c. c || is_among x u) e)
     go false e k more = more k
 
@@ -51,7 +50,7 @@ known_below K ys ns u k x h = go (member_split x ns ys h)
     under (inl e) = inl (behind ys u x e)
     under (inr e) = inr e
 
-    go : (is_member x ns ≡ true) ⊎ (is_member x ys ≡ true) → (is_among x (below ys u) ≡ true) ⊎ K x
+    go : (is_among x ns ≡ true) ⊎ (is_among x ys ≡ true) → (is_among x (below ys u) ≡ true) ⊎ K x
     go (inl e) = under (k x e)
     go (inr e) = inl (member_below x ys u e)
 
@@ -89,22 +88,22 @@ module _ (P : Use → Type 0) (home : Home) (passed : Bool) (N : Bool → Bool �
   r xs ys h = all_right P xs ys h
 
   bound_name : (ns : List Name) (a : Around) (x : Name) → IsAt home passed a → AllFine (one ns a x forms.Bound) → B x
-  bound_name ns a x w h = tells.binds (record { name = x; form = forms.Bound; inner = is_member x ns; around = a }) h.0 w refl
+  bound_name ns a x w h = tells.binds (record { name = x; form = forms.Bound; inner = is_among x ns; around = a }) h.0 w refl
 
   pub bound_names : (ms : List Name) (a : Around) (xs : List Name) → IsAt home passed a → AllFine (bound_uses ms a xs) → All B xs
   bound_names ms a [] w h = tt
   bound_names ms a (x ∷ xs) w h = (bound_name ms a x w (h.0, tt), bound_names (ms ++ x ∷ []) a xs w h.1)
 
-  alone_stands : (ns u : List Name) (a : Around) (x : Name) → IsAt home passed a → Known K ns u → P (record { name = x; form = forms.Alone; inner = is_member x ns; around = a }) → (is_among x u ≡ true) ⊎ N a.hidden a.indexed x
-  alone_stands ns u a x w k h = go (is_member x ns) refl
+  alone_stands : (ns u : List Name) (a : Around) (x : Name) → IsAt home passed a → Known K ns u → P (record { name = x; form = forms.Alone; inner = is_among x ns; around = a }) → (is_among x u ≡ true) ⊎ N a.hidden a.indexed x
+  alone_stands ns u a x w k h = go (is_among x ns) refl
     where
       known : (is_among x u ≡ true) ⊎ K x → (is_among x u ≡ true) ⊎ N a.hidden a.indexed x
       known (inl e) = inl e
-      known (inr e) = inr (tells.alone (record { name = x; form = forms.Alone; inner = is_member x ns; around = a }) h w refl (λ g. e))
+      known (inr e) = inr (tells.alone (record { name = x; form = forms.Alone; inner = is_among x ns; around = a }) h w refl (λ g. e))
 
-      go : (b : Bool) → is_member x ns ≡ b → (is_among x u ≡ true) ⊎ N a.hidden a.indexed x
+      go : (b : Bool) → is_among x ns ≡ b → (is_among x u ≡ true) ⊎ N a.hidden a.indexed x
       go true e = known (k x e)
-      go false e = inr (tells.alone (record { name = x; form = forms.Alone; inner = is_member x ns; around = a }) h w refl (λ g. absurd (let q : true ≡ false = sym g ∙ e in cc)))
+      go false e = inr (tells.alone (record { name = x; form = forms.Alone; inner = is_among x ns; around = a }) h w refl (λ g. absurd (let q : true ≡ false = sym g ∙ e in cc)))
 
   mutual
     pub stands : (ns u : List Name) (a : Around) (t : Tree) → IsAt home passed a → Known K ns u → Spoken t → AllFine (uses ns a t) → Stands N C B u a.hidden a.indexed t
@@ -198,7 +197,7 @@ module _ (P : Use → Type 0) (home : Home) (passed : Bool) (N : Bool → Bool �
     stands ns u a (field t x) w k s h = stands ns u (inside a) t w k s (l (uses ns (inside a) t) (one ns a x forms.Field) h)
     stands ns u a (call x no_trees) w k s h = absurd s.0
     stands ns u a (call x (more_trees t ts)) w k s h = (
-      tells.applied (record { name = x; form = forms.Applied (suc (count_trees ts)); inner = is_member x ns; around = a }) (count_trees ts) h.0 w refl,
+      tells.applied (record { name = x; form = forms.Applied (suc (count_trees ts)); inner = is_among x ns; around = a }) (count_trees ts) h.0 w refl,
       all_stand ns u (inside a) (more_trees t ts) w k s.1 h.1,
     )
     stands ns u a (unchanged xs) w k s h = absurd s

@@ -4,7 +4,7 @@ use Rattle.std.proofs.Common.{◌≡◌, ℕ, ◌+◌, Bool, true, false, ◌==�
 use Rattle.std.specs.Prelude.{◌⊎◌}
 use Rattle.std.specs.List.{AllByRecursion}
 use Rattle.pgo_base.specs.Lookup.{Name, same_name, find}
-use Rattle.pgo_model.specs.Names.{same_name-self}
+use Rattle.pgo_model.specs.Names.{same_name-self, is_among}
 use Rattle.pgo_model.specs.Written.{self_name, proc_set, terminating, written}
 use Rattle.pgo_syntax.specs.declared.process.Process.{Process}
 use Rattle.pgo_syntax.specs.declared.spec.Spec.{Spec}
@@ -17,7 +17,6 @@ use Rattle.pgo_scope.specs.Clash.{itself, fixed_names, fixed_module_names, share
 use Rattle.pgo_scope.specs.declared.module_names.ModuleName.{ModuleName}
 use Rattle.pgo_bound.specs.Among.{IsAmong, among_left, among_right, among_append, among_map, from_map}
 use Rattle.pgo_bound.specs.State.{variables_of}
-use Rattle.pgo_sections.specs.Among.{is_among}
 use Rattle.pgo_accept.proofs.Fitting.{ArgumentsFit}
 use Rattle.pgo_accept.proofs.WrittenOnce.{writes}
 use Rattle.pgo_agrees.proofs.Names.{has_mark, written_marked}

@@ -4,7 +4,7 @@ use Rattle.std.specs.Prelude.{◌⊎◌}
 use Rattle.std.specs.List.{AllByRecursion}
 use Rattle.pgo_base.specs.Lookup.{Name, same_name, find}
 use Rattle.pgo_base.specs.Tree.{Tree, name, trees}
-use Rattle.pgo_model.specs.Names.{same_name-self}
+use Rattle.pgo_model.specs.Names.{same_name-self, is_among}
 use Rattle.pgo_model.specs.Options.{on}
 use Rattle.pgo_model.specs.Written.{done}
 use Rattle.pgo_syntax.specs.declared.assignment.Assignment.{Assignment}
@@ -19,7 +19,6 @@ use Rattle.pgo_uses.specs.StatementUses.{shape_of, origin_tree}
 use Rattle.pgo_uses.specs.declared.uses.Shape.{Shape}
 use Rattle.pgo_uses.specs.declared.uses.Shape.TheVariants.{OneIndex}
 use Rattle.pgo_sections.specs.Access.{Mapped, place, MappedRead, read_first, after, hoisted, evaluated}
-use Rattle.pgo_sections.specs.Among.{is_among}
 use Rattle.pgo_sections.specs.Code.{Place, Whole, variable_of, Code, Empty, Let, Pick, Become, Set, Await, Assert, Print, If, Seq, Goto, Read, Write, in_turn, content_name, content_places, value_name, at_base, old_base, val_base}
 use Rattle.pgo_sections.specs.Domains.{AllUse, HasIndex, ByElements}
 use Rattle.pgo_sections.specs.Plain.{PlainAll}

@@ -13,7 +13,7 @@ use Rattle.pgo_syntax.specs.declared.process.MappingClause.{MappingClause}
 use Rattle.pgo_syntax.specs.declared.process.Process.{Process}
 use Rattle.pgo_syntax.specs.declared.spec.Spec.{Spec}
 use Rattle.pgo_uses.specs.declared.tables.Tables.{Tables}
-use Rattle.pgo_uses.specs.Names.{Rows, is_among}
+use Rattle.pgo_uses.specs.Names.{Rows, has_row}
 use Rattle.pgo_uses.specs.Tables.{tables_of, variable_rows, mapping_rows}
 use Rattle.pgo_scope.specs.declared.errors.ScopeError.TheVariants as errors
 use Rattle.pgo_scope.specs.Unknown.{unknown_in, unknown_argument, unknown_target, unknown_arguments, unknown_clauses, unknown_heads}
@@ -22,8 +22,8 @@ use Rattle.pgo_bound.specs.Runs.{mapping_named}
 use Rattle.pgo_meaning.specs.SystemStates.{RefsDeclared}
 use Rattle.pgo_agrees.proofs.Kept.{nothing_if, not_false}
 
-known_name : (rows : Rows) (x : PlacedName) → unknown_in rows x ≡ [] → is_among x.name rows ≡ true
-known_name rows x h = not_false (is_among x.name rows) (nothing_if (not (is_among x.name rows)) x.place (errors.Unknown x.name) h)
+known_name : (rows : Rows) (x : PlacedName) → unknown_in rows x ≡ [] → has_row x.name rows ≡ true
+known_name rows x h = not_false (has_row x.name rows) (nothing_if (not (has_row x.name rows)) x.place (errors.Unknown x.name) h)
 
 pub record HeadKnown (ts : Tables) (p : Process) : Type 0 where
   pub arguments : unknown_arguments ts p.arguments ≡ []
@@ -43,18 +43,18 @@ head_known ts [] h p a = absurd a
 head_known ts (q ∷ ps) h p (inl e) = subst (HeadKnown ts) (sym e) (head_here ts q ps h).0
 head_known ts (q ∷ ps) h p (inr a) = head_known ts ps (head_here ts q ps h).1 p a
 
-argument_known : (ts : Tables) (g : PlacedName) (e : Extent) (es : List Argument) → unknown_arguments ts es ≡ [] → IsAmong (arguments.Ref g e) es → is_among g.name ts.globals ≡ true
+argument_known : (ts : Tables) (g : PlacedName) (e : Extent) (es : List Argument) → unknown_arguments ts es ≡ [] → IsAmong (arguments.Ref g e) es → has_row g.name ts.globals ≡ true
 argument_known ts g e [] h a = absurd a
 argument_known ts g e (x ∷ es) h (inl q) =
     known_name ts.globals g (ap (unknown_argument ts) q ∙ none_left (unknown_argument ts x) (unknown_arguments ts es) h)
 argument_known ts g e (x ∷ es) h (inr a) = argument_known ts g e es (none_right (unknown_argument ts x) (unknown_arguments ts es) h) a
 
-pub declared_row : (x : Name) (ds : List Declaration) → is_among x (variable_rows ds) ≡ true → (d : Declaration) × IsAmong d ds × (d.name.name ≡ x)
+pub declared_row : (x : Name) (ds : List Declaration) → has_row x (variable_rows ds) ≡ true → (d : Declaration) × IsAmong d ds × (d.name.name ≡ x)
 declared_row x [] h = absurd (cc)
 declared_row x (d ∷ ds) h = go (same_name x d.name.name) refl h (declared_row x ds)
   where
     go : (b : Bool) → same_name x d.name.name ≡ b → is_some (if b then Some 0 else find x (variable_rows ds)) ≡ true
-        → (is_among x (variable_rows ds) ≡ true → (e : Declaration) × IsAmong e ds × (e.name.name ≡ x)) → (e : Declaration) × IsAmong e (d ∷ ds) × (e.name.name ≡ x)
+        → (has_row x (variable_rows ds) ≡ true → (e : Declaration) × IsAmong e ds × (e.name.name ≡ x)) → (e : Declaration) × IsAmong e (d ∷ ds) × (e.name.name ≡ x)
     go true e k more = (d, inl refl, sym (same_name-is x d.name.name e))
     go false e k more = let r = more k in (r.0, inr r.1, r.2)
 
@@ -71,18 +71,18 @@ refs_declared s h n m p g e at_n at_m =
 
 -- ---- the mapping macros of clauses
 
-clause_known : (ts : Tables) (c : MappingClause) (cs : List MappingClause) → unknown_clauses ts cs ≡ [] → IsAmong c cs → is_among c.mapping.name ts.mappings ≡ true
+clause_known : (ts : Tables) (c : MappingClause) (cs : List MappingClause) → unknown_clauses ts cs ≡ [] → IsAmong c cs → has_row c.mapping.name ts.mappings ≡ true
 clause_known ts c [] h a = absurd a
 clause_known ts c (d ∷ cs) h (inl e) =
     let k = none_right (unknown_target ts d.target) (unknown_in ts.mappings d.mapping) (none_left (unknown_target ts d.target ++ unknown_in ts.mappings d.mapping) (unknown_clauses ts cs) h) in
-    subst (λ (z : MappingClause). is_among z.mapping.name ts.mappings ≡ true) (sym e) (known_name ts.mappings d.mapping k)
+    subst (λ (z : MappingClause). has_row z.mapping.name ts.mappings ≡ true) (sym e) (known_name ts.mappings d.mapping k)
 clause_known ts c (d ∷ cs) h (inr a) = clause_known ts c cs (none_right (unknown_target ts d.target ++ unknown_in ts.mappings d.mapping) (unknown_clauses ts cs) h) a
 
-mapping_there : (x : Name) (ms : List MappingMacro) → is_among x (mapping_rows ms) ≡ true → (m : MappingMacro) × (mapping_named x ms ≡ Some m)
+mapping_there : (x : Name) (ms : List MappingMacro) → has_row x (mapping_rows ms) ≡ true → (m : MappingMacro) × (mapping_named x ms ≡ Some m)
 mapping_there x [] h = absurd (cc)
 mapping_there x (m ∷ ms) h = go (same_name x m.name.name) h (mapping_there x ms)
   where
-    go : (b : Bool) → is_some (if b then Some 0 else find x (mapping_rows ms)) ≡ true → (is_among x (mapping_rows ms) ≡ true → (n : MappingMacro) × (mapping_named x ms ≡ Some n))
+    go : (b : Bool) → is_some (if b then Some 0 else find x (mapping_rows ms)) ≡ true → (has_row x (mapping_rows ms) ≡ true → (n : MappingMacro) × (mapping_named x ms ≡ Some n))
         → (n : MappingMacro) × ((if b then Some m else mapping_named x ms) ≡ Some n)
     go true k more = (m, refl)
     go false k more = more k

@@ -7,7 +7,7 @@ use Rattle.pgo_model.specs.Options.{on}
 use Rattle.pgo_model.specs.Written.{self_name}
 use Rattle.pgo_scope.specs.Underscores.{has_double}
 use Rattle.pgo_sections.specs.Access.{Mapped, MappedNames, place, MappedRead, Hoisted, pure, then_hoist, read_whole, index_tree, read_element, name_alone, if_element, if_whole, mapped_under, element_of, hoisted, hoisted_all, hoisted_arms, hoisted_fields, hoisted_let, hoisted_bound, hoisted_paths}
-use Rattle.pgo_sections.specs.Among.{is_among}
+use Rattle.pgo_model.specs.Names.{is_among}
 use Rattle.pgo_sections.specs.Bound.{names_of, names_bound, below}
 use Rattle.pgo_sections.specs.Code.{Place}
 use Rattle.pgo_sections.specs.Plain.{All, PlainAll, PlainArms, PlainFields, PlainLet, PlainBound, PlainPaths}

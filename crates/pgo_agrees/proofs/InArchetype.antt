@@ -1,10 +1,10 @@
 -- Names in the statements of an archetype that a process runs.
-use Rattle.std.proofs.Common.{◌≡◌, ℕ, suc, Bool, true, false, not, if◌then◌else◌, List, [], ◌∷◌, ◌++◌, map, length, Option, Some, None, refl, ap, sym, ◌∙◌, subst, inl, inr}
+use Rattle.std.proofs.Common.{◌≡◌, ℕ, suc, Bool, true, false, ◌||◌, not, if◌then◌else◌, List, [], ◌∷◌, ◌++◌, map, length, Option, Some, None, refl, ap, sym, ◌∙◌, subst, inl, inr}
 use Rattle.std.specs.Prelude.{◌⊎◌, slice_get}
 use Rattle.std.specs.List.{AllByRecursion, filter_map}
 use Rattle.pgo_base.specs.Data.{Data}
 use Rattle.pgo_base.specs.Lookup.{Name, same_name, find}
-use Rattle.pgo_model.specs.Names.{same_name-self, same_name-is}
+use Rattle.pgo_model.specs.Names.{same_name-self, same_name-is, is_among}
 use Rattle.pgo_syntax.specs.declared.archetype.Archetype.{Archetype}
 use Rattle.pgo_syntax.specs.declared.archetype.Extent.{Extent}
 use Rattle.pgo_syntax.specs.declared.archetype.Extent.TheVariants.{Whole as WholeExtent, Element}
@@ -19,7 +19,6 @@ use Rattle.pgo_syntax.specs.declared.process.Argument.{Argument}
 use Rattle.pgo_syntax.specs.declared.process.Argument.TheVariants as arguments
 use Rattle.pgo_syntax.specs.declared.spec.Spec.{Spec}
 use Rattle.pgo_uses.specs.AllUses.{start, parameter_names, variable_names, parameter_uses, local_uses, archetype_uses}
-use Rattle.pgo_uses.specs.Names.{is_member}
 use Rattle.pgo_uses.specs.StatementUses.{at_place, uses_of_block}
 use Rattle.pgo_uses.specs.declared.uses.Around.{Around}
 use Rattle.pgo_uses.specs.declared.uses.Form.TheVariants as forms
@@ -39,7 +38,6 @@ use Rattle.pgo_bound.specs.Runs.{Handed, handed_from, archetype_named}
 use Rattle.pgo_bound.specs.State.{names_with, value_name}
 use Rattle.pgo_accept.proofs.Fitting.{ArgumentsFit}
 use Rattle.pgo_sections.specs.Access.{Mapped}
-use Rattle.pgo_sections.specs.Among.{is_among}
 use Rattle.pgo_sections.specs.Code.{Place}
 use Rattle.pgo_sections.specs.WellFormed.{NotMade}
 use Rattle.pgo_meaning.specs.Parameters.{by_element, all_mapped, places_of}
@@ -59,43 +57,43 @@ use Rattle.pgo_agrees.proofs.Variables.{parameter_fine, local_fine}
 
 -- ---- lists of names
 
-pub member_append : (x : Name) (xs ys : List Name) → is_member x (xs ++ ys) ≡ true → (is_member x xs ≡ true) ⊎ (is_member x ys ≡ true)
+pub member_append : (x : Name) (xs ys : List Name) → is_among x (xs ++ ys) ≡ true → (is_among x xs ≡ true) ⊎ (is_among x ys ≡ true)
 member_append x [] ys h = inr h
 member_append x (z ∷ xs) ys h = go (same_name x z) h (member_append x xs ys)
   where
-    go : (b : Bool) → (if b then true else is_member x (xs ++ ys)) ≡ true → (is_member x (xs ++ ys) ≡ true → (is_member x xs ≡ true) ⊎ (is_member x ys ≡ true)) → ((if b then true else is_member x xs) ≡ true) ⊎ (is_member x ys ≡ true)
+    go : (b : Bool) → (b || is_among x (xs ++ ys)) ≡ true → (is_among x (xs ++ ys) ≡ true → (is_among x xs ≡ true) ⊎ (is_among x ys ≡ true)) → ((b || is_among x xs) ≡ true) ⊎ (is_among x ys ≡ true)
     go true k more = inl refl
     go false k more = more k
 
-member_front : (x : Name) (xs ys : List Name) → is_member x xs ≡ true → is_member x (xs ++ ys) ≡ true
+member_front : (x : Name) (xs ys : List Name) → is_among x xs ≡ true → is_among x (xs ++ ys) ≡ true
 member_front x [] ys h = never h
 member_front x (z ∷ xs) ys h = go (same_name x z) h (member_front x xs ys)
   where
-    go : (b : Bool) → (if b then true else is_member x xs) ≡ true → (is_member x xs ≡ true → is_member x (xs ++ ys) ≡ true) → (if b then true else is_member x (xs ++ ys)) ≡ true
+    go : (b : Bool) → (b || is_among x xs) ≡ true → (is_among x xs ≡ true → is_among x (xs ++ ys) ≡ true) → (b || is_among x (xs ++ ys)) ≡ true
     go true k more = refl
     go false k more = more k
 
-member_end : (x y : Name) (xs : List Name) → x ≡ y → is_member x (xs ++ y ∷ []) ≡ true
-member_end x y [] e = ap (λ b. if b then true else false) (ap (same_name x) (sym e) ∙ same_name-self x)
+member_end : (x y : Name) (xs : List Name) → x ≡ y → is_among x (xs ++ y ∷ []) ≡ true
+member_end x y [] e = ap (λ b. b || false) (ap (same_name x) (sym e) ∙ same_name-self x)
 member_end x y (z ∷ xs) e = go (same_name x z) (member_end x y xs e)
   where
-    go : (b : Bool) → is_member x (xs ++ y ∷ []) ≡ true → (if b then true else is_member x (xs ++ y ∷ [])) ≡ true
+    go : (b : Bool) → is_among x (xs ++ y ∷ []) ≡ true → (b || is_among x (xs ++ y ∷ [])) ≡ true
     go true h = refl
     go false h = h
 
-parameter_of : (x : Name) (ps : List Parameter) → is_member x (parameter_names ps) ≡ true → (q : Parameter) × IsAmong q ps × (x ≡ q.name.name)
+parameter_of : (x : Name) (ps : List Parameter) → is_among x (parameter_names ps) ≡ true → (q : Parameter) × IsAmong q ps × (x ≡ q.name.name)
 parameter_of x [] h = never h
 parameter_of x (p ∷ ps) h = go (same_name x p.name.name) refl h (parameter_of x ps)
   where
-    go : (b : Bool) → same_name x p.name.name ≡ b → (if b then true else is_member x (parameter_names ps)) ≡ true → (is_member x (parameter_names ps) ≡ true → (q : Parameter) × IsAmong q ps × (x ≡ q.name.name)) → (q : Parameter) × IsAmong q (p ∷ ps) × (x ≡ q.name.name)
+    go : (b : Bool) → same_name x p.name.name ≡ b → (b || is_among x (parameter_names ps)) ≡ true → (is_among x (parameter_names ps) ≡ true → (q : Parameter) × IsAmong q ps × (x ≡ q.name.name)) → (q : Parameter) × IsAmong q (p ∷ ps) × (x ≡ q.name.name)
     go true e k more = (p, inl refl, same_name-is x p.name.name e)
     go false e k more = let r = more k in (r.0, inr r.1, r.2)
 
-local_of : (x : Name) (ds : List Declaration) → is_member x (variable_names ds) ≡ true → (d : Declaration) × IsAmong d ds × (x ≡ d.name.name)
+local_of : (x : Name) (ds : List Declaration) → is_among x (variable_names ds) ≡ true → (d : Declaration) × IsAmong d ds × (x ≡ d.name.name)
 local_of x [] h = never h
 local_of x (d ∷ ds) h = go (same_name x d.name.name) refl h (local_of x ds)
   where
-    go : (b : Bool) → same_name x d.name.name ≡ b → (if b then true else is_member x (variable_names ds)) ≡ true → (is_member x (variable_names ds) ≡ true → (e : Declaration) × IsAmong e ds × (x ≡ e.name.name)) → (e : Declaration) × IsAmong e (d ∷ ds) × (x ≡ e.name.name)
+    go : (b : Bool) → same_name x d.name.name ≡ b → (b || is_among x (variable_names ds)) ≡ true → (is_among x (variable_names ds) ≡ true → (e : Declaration) × IsAmong e ds × (x ≡ e.name.name)) → (e : Declaration) × IsAmong e (d ∷ ds) × (x ≡ e.name.name)
     go true e k more = (d, inl refl, same_name-is x d.name.name e)
     go false e k more = let r = more k in (r.0, inr r.1, r.2)
 
@@ -108,18 +106,18 @@ handed_of n (p ∷ ps) (x ∷ es) h (inr a) = inr (handed_of (suc n) ps es h a)
 module _ (s : Spec) (k : NoFindings s) (fit : AllByRecursion (ArgumentsFit s.archetypes) s.processes) (of_text : IsOfText s) where
   -- ---- parameters differ
 
-  fresh_later : (ns : List Name) (a : Around) (ps : List Parameter) → ((u : Use) → IsAmong u (parameter_uses ns a ps) → FineUse s u) → (q : Parameter) → IsAmong q ps → (y : Name) → is_member y ns ≡ true → same_name q.name.name y ≡ false
+  fresh_later : (ns : List Name) (a : Around) (ps : List Parameter) → ((u : Use) → IsAmong u (parameter_uses ns a ps) → FineUse s u) → (q : Parameter) → IsAmong q ps → (y : Name) → is_among y ns ≡ true → same_name q.name.name y ≡ false
   fresh_later ns a [] f q h y m = absurd h
   fresh_later ns a (p ∷ ps) f q (inl e) y m = go (same_name q.name.name y) refl
     where
-      facts : NamedFacts s k fit of_text (record { name = p.name.name; form = forms.Named; inner = is_member p.name.name ns; around = at_place p.name.place a })
-      facts = named_facts s k fit of_text (record { name = p.name.name; form = forms.Named; inner = is_member p.name.name ns; around = at_place p.name.place a }) (f (record { name = p.name.name; form = forms.Named; inner = is_member p.name.name ns; around = at_place p.name.place a }) (inl refl)) refl
+      facts : NamedFacts s k fit of_text (record { name = p.name.name; form = forms.Named; inner = is_among p.name.name ns; around = at_place p.name.place a })
+      facts = named_facts s k fit of_text (record { name = p.name.name; form = forms.Named; inner = is_among p.name.name ns; around = at_place p.name.place a }) (f (record { name = p.name.name; form = forms.Named; inner = is_among p.name.name ns; around = at_place p.name.place a }) (inl refl)) refl
 
       go : (b : Bool) → same_name q.name.name y ≡ b → same_name q.name.name y ≡ false
       go false g = g
       go true g =
           let same : p.name.name ≡ y = sym (ap (λ (z : Parameter). z.name.name) e) ∙ same_name-is q.name.name y g in
-          absurd (let z : true ≡ false = sym m ∙ ap (λ w. is_member w ns) (sym same) ∙ facts.fresh in cc)
+          absurd (let z : true ≡ false = sym m ∙ ap (λ w. is_among w ns) (sym same) ∙ facts.fresh in cc)
   fresh_later ns a (p ∷ ps) f q (inr h) y m = fresh_later (ns ++ p.name.name ∷ []) a ps (λ u b. f u (inr b)) q h y (member_front y ns (p.name.name ∷ []) m)
 
   kind_of_parameter : (r : Name) (procs : List Process) (n : ℕ) (ns : List Name) (a : Around) (ps : List Parameter) → ((u : Use) → IsAmong u (parameter_uses ns a ps) → FineUse s u) → (q : Parameter) → IsAmong q ps → q.kind ≡ kinds.Ref Element → mapped_among r procs n ps q.name.name ≡ ByElement
@@ -160,10 +158,10 @@ module _ (s : Spec) (k : NoFindings s) (fit : AllByRecursion (ArgumentsFit s.arc
         let u = local_fine s k a declared d h in
         record { use' = u.0; fine = u.1; name = u.2; form = u.3; number = u.4.0; home = u.4.1 }
 
-    pub mine : (x : Name) → is_member x names ≡ true → Mine x
+    pub mine : (x : Name) → is_among x names ≡ true → Mine x
     mine x h = go (member_append x (parameter_names a.params) (variable_names a.locals) h)
       where
-        go : (is_member x (parameter_names a.params) ≡ true) ⊎ (is_member x (variable_names a.locals) ≡ true) → Mine x
+        go : (is_among x (parameter_names a.params) ≡ true) ⊎ (is_among x (variable_names a.locals) ≡ true) → Mine x
         go (inl e) = let q = parameter_of x a.params e in subst Mine (sym q.2) (mine_parameter q.0 q.1)
         go (inr e) = let d = local_of x a.locals e in subst Mine (sym d.2) (mine_local d.0 d.1)
 
@@ -174,10 +172,10 @@ module _ (s : Spec) (k : NoFindings s) (fit : AllByRecursion (ArgumentsFit s.arc
     mine_declared x m = subst (D s k fit of_text) m.name (named_facts s k fit of_text m.use' m.fine m.form).declared
 
     -- ---- a parameter or a local has a place, or is mapped
-    place_or_mapped : (x : Name) → is_member x names ≡ true → ((z : Place) × (find x places ≡ Some z)) ⊎ ((m : Mapped) × (find x (all_mapped (binds s p a)) ≡ Some m))
+    place_or_mapped : (x : Name) → is_among x names ≡ true → ((z : Place) × (find x places ≡ Some z)) ⊎ ((m : Mapped) × (find x (all_mapped (binds s p a)) ≡ Some m))
     place_or_mapped x h = go (member_append x (parameter_names a.params) (variable_names a.locals) h)
       where
-        go : (is_member x (parameter_names a.params) ≡ true) ⊎ (is_member x (variable_names a.locals) ≡ true) → ((z : Place) × (find x places ≡ Some z)) ⊎ ((m : Mapped) × (find x (all_mapped (binds s p a)) ≡ Some m))
+        go : (is_among x (parameter_names a.params) ≡ true) ⊎ (is_among x (variable_names a.locals) ≡ true) → ((z : Place) × (find x places ≡ Some z)) ⊎ ((m : Mapped) × (find x (all_mapped (binds s p a)) ≡ Some m))
         go (inl e) =
             let q = parameter_of x a.params e in
             subst (λ y. ((z : Place) × (find y places ≡ Some z)) ⊎ ((m : Mapped) × (find y (all_mapped (binds s p a)) ≡ Some m))) (sym q.2) (parameter_or_mapped s p a q.0 len q.1)

@@ -1,16 +1,16 @@
 -- Each macro's body, with the macros before it in place, has names that stand as in a macro; by the order of the macros.
-use Rattle.std.proofs.Common.{◌≡◌, ◌<◌, ℕ, zero, suc, ◌+◌, Bool, true, false, not, ◌&&◌, if◌then◌else◌, List, [], ◌∷◌, ◌++◌, map, length, Some, None, refl, ap, sym, ◌∙◌, subst, inl, inr, arith}
+use Rattle.std.proofs.Common.{◌≡◌, ◌<◌, ℕ, zero, suc, ◌+◌, Bool, true, false, ◌||◌, not, ◌&&◌, if◌then◌else◌, List, [], ◌∷◌, ◌++◌, map, length, Some, None, refl, ap, sym, ◌∙◌, subst, inl, inr, arith}
 use Rattle.std.specs.Prelude.{◌⊎◌, slice_get}
 use Rattle.std.specs.List.{AllByRecursion}
 use Rattle.pgo_base.specs.Lookup.{Name, same_name, find}
 use Rattle.pgo_base.specs.Tree.{Tree}
-use Rattle.pgo_model.specs.Names.{same_name-self, same_name-is}
+use Rattle.pgo_model.specs.Names.{same_name-self, same_name-is, is_among}
 use Rattle.pgo_syntax.specs.Statement.{block, labeled}
 use Rattle.pgo_syntax.specs.declared.macros.Macro.{Macro}
 use Rattle.pgo_syntax.specs.declared.name.PlacedName.{PlacedName}
 use Rattle.pgo_syntax.specs.declared.spec.Spec.{Spec}
 use Rattle.pgo_uses.specs.AllUses.{names_of, heads, start, macro_uses}
-use Rattle.pgo_uses.specs.Names.{is_member, first_at}
+use Rattle.pgo_uses.specs.Names.{first_at}
 use Rattle.pgo_uses.specs.StatementUses.{at_place, as_passed, argument_uses, uses_of_block}
 use Rattle.pgo_uses.specs.Tables.{macro_rows, tables_of}
 use Rattle.pgo_uses.specs.Uses.{inside, uses}
@@ -27,7 +27,6 @@ use Rattle.pgo_scope.specs.declared.usage.Usage.{Usage}
 use Rattle.pgo_bound.specs.Among.{IsAmong, among_left, among_right, all_at, some_is}
 use Rattle.pgo_bound.specs.Sound.{labels_among}
 use Rattle.pgo_accept.proofs.Fitting.{ArgumentsFit}
-use Rattle.pgo_sections.specs.Among.{is_among}
 use Rattle.pgo_meaning.specs.LabelSections.{AreUnlabelled}
 use Rattle.pgo_meaning.specs.MacrosPlaced.{marked as marked', Body, Bodies, placed, bodies_with, bodies}
 use Rattle.pgo_agrees.specs.Accepted.{IsOfText, MacroOfText, MacroParameterOfText}
@@ -50,9 +49,9 @@ use Rattle.pgo_agrees.proofs.Uses.{FineUse, fine_use, of_macro_at}
 
 -- ---- names of parameters
 
-bang_not_member : (x : Name) (qs : List Name) → has_bang x ≡ true → AllByRecursion (λ q. has_bang q ≡ false) qs → is_member x qs ≡ false
+bang_not_member : (x : Name) (qs : List Name) → has_bang x ≡ true → AllByRecursion (λ q. has_bang q ≡ false) qs → is_among x qs ≡ false
 bang_not_member x [] h a = refl
-bang_not_member x (q ∷ qs) h a = ap (λ b. if b then true else is_member x qs) (bang q h a.0) ∙ bang_not_member x qs h a.1
+bang_not_member x (q ∷ qs) h a = ap (λ b. b || is_among x qs) (bang q h a.0) ∙ bang_not_member x qs h a.1
   where
     bang : (q : Name) → has_bang x ≡ true → has_bang q ≡ false → same_name x q ≡ false
     bang q h g = go (same_name x q) refl
@@ -104,7 +103,7 @@ less_or_more (suc j) (suc i) = go (less_or_more j i)
 
 module _ (s : Spec) (k : NoFindings s) (fit : AllByRecursion (ArgumentsFit s.archetypes) s.processes) (of_text : IsOfText s) (unlabelled : AreUnlabelled s.macros) where
   -- ---- one macro, where those before it are known
-  module _ (m : Macro) (m_among : IsAmong m s.macros) (i : ℕ) (at_i : slice_get s.macros i ≡ Some m) (there : (u : Use) → IsAmong u (macro_uses i m) → FineUse s u) (none : labels_among (labeled m.body) ≡ []) (known : List (List (Name × Usage))) (bs : Bodies) (before : (x : Name) (j : ℕ) → first_at x (macro_rows s.macros) ≡ Some j → j < i → (o : MacroOk s k fit of_text bs x j) × (slice_get known j ≡ Some (rows o.ways (names_of o.macro.it.params)))) where
+  module _ (m : Macro) (m_among : IsAmong m s.macros) (i : ℕ) (at_i : slice_get s.macros i ≡ Some m) (there : (u : Use) → IsAmong u (macro_uses i m) → FineUse s u) (none : labels_among (labeled m.body) ≡ []) (known : List (List (Name × Usage))) (bs : Bodies) (before : (x : Name) (j : ℕ) → first_at x (macro_rows s.macros) ≡ Some j → j < i → (o : MacroOk s k fit of_text bs x j) × (slice_get known j ≡ Some (rows o.usage (names_of o.macro.it.params)))) where
     abbrev pub qs : List Name
     qs = names_of m.params
 
@@ -154,10 +153,10 @@ module _ (s : Spec) (k : NoFindings s) (fit : AllByRecursion (ArgumentsFit s.arc
 
     -- how a name may be read where it stands
     abbrev J : Bool → Bool → Name → Type 0
-    J h i x = is_member x qs ≡ true → reads_so (w x) h i ≡ true
+    J h i x = is_among x qs ≡ true → reads_so (w x) h i ≡ true
 
     abbrev R : Use → Type 0
-    R v = v.form ≡ forms.Alone → is_member v.name qs ≡ true → reads_so (w v.name) v.around.hidden v.around.indexed ≡ true
+    R v = v.form ≡ forms.Alone → is_among v.name qs ≡ true → reads_so (w v.name) v.around.hidden v.around.indexed ≡ true
 
     name_here : (ns : List Name) (h i : Bool) (x : Name) → Inside s k fit of_text qs ns x → J h i x → N ns h i x
     name_here ns h i x (inl (inl e)) f = inl e
@@ -181,7 +180,7 @@ module _ (s : Spec) (k : NoFindings s) (fit : AllByRecursion (ArgumentsFit s.arc
         ∙ ap (λ b. reads_so (usage_if b (read_usage u.around.hidden u.around.indexed)) u.around.hidden u.around.indexed) (same_name-self u.name)
         ∙ read_way_is u.around.hidden u.around.indexed)
 
-    may_be : (x : Name) → may_assign s (homes.Macro i) x ≡ true → is_member x qs ≡ true
+    may_be : (x : Name) → may_assign s (homes.Macro i) x ≡ true → is_among x qs ≡ true
     may_be x h = ap (λ o. parameter_in o x) (sym at_i) ∙ h
 
     own_assigned : (ns : List Name) (u : Use) (h : Shape) → P u → IsAt (homes.Macro i) false u.around → u.form ≡ forms.Assigned h → A ns h u.name
@@ -192,26 +191,26 @@ module _ (s : Spec) (k : NoFindings s) (fit : AllByRecursion (ArgumentsFit s.arc
     )
 
     -- ---- a call in the body
-    module _ (u : Use) (ts : List Tree) (p : P u) (form : u.form ≡ forms.Called ts) (home : u.around.home ≡ homes.Macro i) (j : ℕ) (first : first_at u.name (macro_rows s.macros) ≡ Some j) (o : MacroOk s k fit of_text bs u.name j) (row : slice_get known j ≡ Some (rows o.ways (names_of o.macro.it.params))) where
-      passed : (x y : Name) (t : Tree) → InPairs (x, o.ways x) t (rows o.ways (names_of o.macro.it.params)) ts → Among (passed_usage (o.ways x) u.around y t) (w y)
+    module _ (u : Use) (ts : List Tree) (p : P u) (form : u.form ≡ forms.Called ts) (home : u.around.home ≡ homes.Macro i) (j : ℕ) (first : first_at u.name (macro_rows s.macros) ≡ Some j) (o : MacroOk s k fit of_text bs u.name j) (row : slice_get known j ≡ Some (rows o.usage (names_of o.macro.it.params))) where
+      passed : (x y : Name) (t : Tree) → InPairs (x, o.usage x) t (rows o.usage (names_of o.macro.it.params)) ts → Among (passed_usage (o.usage x) u.around y t) (w y)
       passed x y t h =
-          among_trans (passed_usage (o.ways x) u.around y t) (usage_by K y u u.form) (w y) (subst (λ f. Among (passed_usage (o.ways x) u.around y t) (usage_by K y u f)) (sym form) (subst (λ qs. Among (passed_usage (o.ways x) u.around y t) (call_usage qs u.around y ts)) (sym (parameters_are s k fit of_text K u.name j o.ways (names_of o.macro.it.params) refl first row)) (call_among no_usage (x, o.ways x) t (rows o.ways (names_of o.macro.it.params)) u.around y ts h))) (use_among K y us u p.1)
+          among_trans (passed_usage (o.usage x) u.around y t) (usage_by K y u u.form) (w y) (subst (λ f. Among (passed_usage (o.usage x) u.around y t) (usage_by K y u f)) (sym form) (subst (λ qs. Among (passed_usage (o.usage x) u.around y t) (call_usage qs u.around y ts)) (sym (parameters_are s k fit of_text K u.name j o.usage (names_of o.macro.it.params) refl first row)) (call_among no_usage (x, o.usage x) t (rows o.usage (names_of o.macro.it.params)) u.around y ts h))) (use_among K y us u p.1)
 
-      given : (ns : List Name) (x : Name) (t : Tree) → InPairs (x, o.ways x) t (rows o.ways (names_of o.macro.it.params)) ts → Given N (C s k fit of_text) (B s k fit of_text) W A ⊥ (Common s k fit of_text) (Inside s k fit of_text qs) R J (homes.Macro i) false joins ns u.around (o.ways x) t
+      given : (ns : List Name) (x : Name) (t : Tree) → InPairs (x, o.usage x) t (rows o.usage (names_of o.macro.it.params)) ts → Given N (C s k fit of_text) (B s k fit of_text) W A ⊥ (Common s k fit of_text) (Inside s k fit of_text qs) R J (homes.Macro i) false joins ns u.around (o.usage x) t
       given ns x t h = record {
-        reads = λ a b e. all_among R (uses [] (record u.around { hidden = a; indexed = b }) t) (λ v c f g. (passed x v.name t h).reads v.around.hidden v.around.indexed ((passed_read (o.ways x) u.around v.name t a b e).reads v.around.hidden v.around.indexed (read_among (uses [] (record u.around { hidden = a; indexed = b }) t) v c f)));
+        reads = λ a b e. all_among R (uses [] (record u.around { hidden = a; indexed = b }) t) (λ v c f g. (passed x v.name t h).reads v.around.hidden v.around.indexed ((passed_read (o.usage x) u.around v.name t a b e).reads v.around.hidden v.around.indexed (read_among (uses [] (record u.around { hidden = a; indexed = b }) t) v c f)));
         writes = λ a e.
-            (let full = parameters_are s k fit of_text (macro_table s.macros) u.name j o.ways (names_of o.macro.it.params) (all_names s k fit of_text) first o.known in
+            (let full = parameters_are s k fit of_text (macro_table s.macros) u.name j o.usage (names_of o.macro.it.params) (all_names s k fit of_text) first o.known in
             let none = subst (λ f. assigned_of s (macro_table s.macros) u f ≡ []) form p.0.assigned in
-            let found = assigned_at s u (x, o.ways x) t (rows o.ways (names_of o.macro.it.params)) ts h (subst (λ qs. assigned_arguments s u qs ts ≡ []) full none) in
-            let b = assigned_base s k fit of_text u x (o.ways x) t a e found in
-            (b.0, b.1, (may_be b.0 (ap (λ z. may_assign s z b.0) (sym home) ∙ b.2), (passed x b.0 t h).writes (join (left_shape t) a) ((passed_write (o.ways x) u.around b.0 t a e).writes (join (left_shape t) a) (base_among a u.around b.0 t b.1))), all_among R (left_uses [] (inside u.around) t) (λ v c f g. (passed x v.name t h).reads v.around.hidden v.around.indexed ((passed_write (o.ways x) u.around v.name t a e).reads v.around.hidden v.around.indexed ((path_among a u.around v.name t).reads v.around.hidden v.around.indexed (read_among (left_uses [] (inside u.around) t) v c f))))));
+            let found = assigned_at s u (x, o.usage x) t (rows o.usage (names_of o.macro.it.params)) ts h (subst (λ qs. assigned_arguments s u qs ts ≡ []) full none) in
+            let b = assigned_base s k fit of_text u x (o.usage x) t a e found in
+            (b.0, b.1, (may_be b.0 (ap (λ z. may_assign s z b.0) (sym home) ∙ b.2), (passed x b.0 t h).writes (join (left_shape t) a) ((passed_write (o.usage x) u.around b.0 t a e).writes (join (left_shape t) a) (base_among a u.around b.0 t b.1))), all_among R (left_uses [] (inside u.around) t) (λ v c f g. (passed x v.name t h).reads v.around.hidden v.around.indexed ((passed_write (o.usage x) u.around v.name t a e).reads v.around.hidden v.around.indexed ((path_among a u.around v.name t).reads v.around.hidden v.around.indexed (read_among (left_uses [] (inside u.around) t) v c f))))));
       }
 
-    called : (ns ms : List Name) (a : Around) (c : PlacedName) (ts : List Tree) → P (record { name = c.name; form = forms.Called ts; inner = is_member c.name ms; around = at_place c.place a }) → IsAt (homes.Macro i) false a → (a.hidden ≡ false) × (a.indexed ≡ false) → Known (Known' s k fit of_text qs ns) ms [] → Within qs ms → ArgumentsSpoken ts → AllByRecursion P (argument_uses ms (as_passed (at_place c.place a)) ts)
+    called : (ns ms : List Name) (a : Around) (c : PlacedName) (ts : List Tree) → P (record { name = c.name; form = forms.Called ts; inner = is_among c.name ms; around = at_place c.place a }) → IsAt (homes.Macro i) false a → (a.hidden ≡ false) × (a.indexed ≡ false) → Known (Known' s k fit of_text qs ns) ms [] → Within qs ms → ArgumentsSpoken ts → AllByRecursion P (argument_uses ms (as_passed (at_place c.place a)) ts)
         → CallOk (C s k fit of_text) (B s k fit of_text) (Common s k fit of_text) N W A ⊥ target bs ns c ts
     called ns ms a c ts p g f v within spoken fine =
-        let u : Use = record { name = c.name; form = forms.Called ts; inner = is_member c.name ms; around = at_place c.place a } in
+        let u : Use = record { name = c.name; form = forms.Called ts; inner = is_among c.name ms; around = at_place c.place a } in
         let e = earlier_first i c.name (macro_rows s.macros) (subst (λ z. may_call (tables_of s) z c.name ≡ true) g.0 (called_known s k fit of_text u ts p.0 refl)) in
         let o = before c.name e.0 e.1 e.2 in
         call_ok s k fit of_text N W A (homes.Macro i) statements qs R J target joins bs ns ms a c ts e.0 o.0 p.0 g f v spoken (only (argument_uses ms (as_passed (at_place c.place a)) ts) fine) (λ x t h. given u ts p refl g.0 e.0 e.1 o.0 o.1 ns x t h)
@@ -239,19 +238,19 @@ module _ (s : Spec) (k : NoFindings s) (fit : AllByRecursion (ArgumentsFit s.arc
         fine_placed (C s k fit of_text) (B s k fit of_text) (Common s k fit of_text) N W A ⊥ target bs (block 0 (labeled m.body)) false []
         (labeled_fine P (homes.Macro i) qs N (C s k fit of_text) (B s k fit of_text) W A (CallOk (C s k fit of_text) (B s k fit of_text) (Common s k fit of_text) N W A ⊥ target bs) ⊥ (Known' s k fit of_text qs) (tells_all s k fit of_text (homes.Macro i) statements qs P N W A (CallOk (C s k fit of_text) (B s k fit of_text) (Common s k fit of_text) N W A ⊥ target bs) ⊥ J rules) (labeled m.body) false qs [] at' none (refl, refl) (refl, refl) (record { known = λ x e. inr (inr e); unit = λ x e. e }) text.1 (all_among P body (λ u c. (let d = among_right u hs body c in (there u d, d)))))
 
-    head_named : (y : Name) (ns : List Name) (a : Around) (ps : List PlacedName) → is_member y (names_of ps) ≡ true → (u : Use) × IsAmong u (heads forms.Named ns a ps) × (u.name ≡ y) × (u.form ≡ forms.Named) × (u.around.home ≡ a.home)
+    head_named : (y : Name) (ns : List Name) (a : Around) (ps : List PlacedName) → is_among y (names_of ps) ≡ true → (u : Use) × IsAmong u (heads forms.Named ns a ps) × (u.name ≡ y) × (u.form ≡ forms.Named) × (u.around.home ≡ a.home)
     head_named y ns a [] h = never h
     head_named y ns a (p ∷ ps) h = go (same_name y p.name) refl h (head_named y (ns ++ p.name ∷ []) a ps)
       where
-        go : (b : Bool) → same_name y p.name ≡ b → (if b then true else is_member y (names_of ps)) ≡ true → (is_member y (names_of ps) ≡ true → (u : Use) × IsAmong u (heads forms.Named (ns ++ p.name ∷ []) a ps) × (u.name ≡ y) × (u.form ≡ forms.Named) × (u.around.home ≡ a.home))
+        go : (b : Bool) → same_name y p.name ≡ b → (b || is_among y (names_of ps)) ≡ true → (is_among y (names_of ps) ≡ true → (u : Use) × IsAmong u (heads forms.Named (ns ++ p.name ∷ []) a ps) × (u.name ≡ y) × (u.form ≡ forms.Named) × (u.around.home ≡ a.home))
             → (u : Use) × IsAmong u (heads forms.Named ns a (p ∷ ps)) × (u.name ≡ y) × (u.form ≡ forms.Named) × (u.around.home ≡ a.home)
-        go true e g more = (record { name = p.name; form = forms.Named; inner = is_member p.name ns; around = at_place p.place a }, inl refl, sym (same_name-is y p.name e), refl, refl)
+        go true e g more = (record { name = p.name; form = forms.Named; inner = is_among p.name ns; around = at_place p.place a }, inl refl, sym (same_name-is y p.name e), refl, refl)
         go false e g more = let r = more g in (r.0, inr r.1, r.2, r.3, r.4)
 
-    pub parameters_apart : (y : Name) → Common s k fit of_text y → is_member y qs ≡ false
-    parameters_apart y c = go (is_member y qs) refl
+    pub parameters_apart : (y : Name) → Common s k fit of_text y → is_among y qs ≡ false
+    parameters_apart y c = go (is_among y qs) refl
       where
-        go : (b : Bool) → is_member y qs ≡ b → is_member y qs ≡ false
+        go : (b : Bool) → is_among y qs ≡ b → is_among y qs ≡ false
         go false e = e
         go true e =
             let at' = start (homes.Macro i) m.name.place in
@@ -262,7 +261,7 @@ module _ (s : Spec) (k : NoFindings s) (fit : AllByRecursion (ArgumentsFit s.arc
   -- ---- all macros, each with those before it
 
   abbrev Before : Bodies → List (List (Name × Usage)) → ℕ → Type 0
-  Before bs known i = (x : Name) (j : ℕ) → first_at x (macro_rows s.macros) ≡ Some j → j < i → (o : MacroOk s k fit of_text bs x j) × (slice_get known j ≡ Some (rows o.ways (names_of o.macro.it.params)))
+  Before bs known i = (x : Name) (j : ℕ) → first_at x (macro_rows s.macros) ≡ Some j → j < i → (o : MacroOk s k fit of_text bs x j) × (slice_get known j ≡ Some (rows o.usage (names_of o.macro.it.params)))
 
   all_unlabelled : (m : Macro) (ms : List Macro) → AreUnlabelled ms → IsAmong m ms → labels_among (labeled m.body) ≡ []
   all_unlabelled m [] u a = absurd a
@@ -285,11 +284,11 @@ module _ (s : Spec) (k : NoFindings s) (fit : AllByRecursion (ArgumentsFit s.arc
       among : IsAmong m s.macros
       among = get_among s.macros i m at_i
 
-      go : (j < i) ⊎ (j ≡ i) → (o : MacroOk s k fit of_text ((m.name.name, record { parameters = map (λ (p : PlacedName). p.name) m.params; statement = placed bs (block 0 (labeled m.body)) }) ∷ bs) x j) × (slice_get (known ++ each_parameter (macro_rows s.macros, known) (macro_uses i m) (names_of m.params) ∷ []) j ≡ Some (rows o.ways (names_of o.macro.it.params)))
+      go : (j < i) ⊎ (j ≡ i) → (o : MacroOk s k fit of_text ((m.name.name, record { parameters = map (λ (p : PlacedName). p.name) m.params; statement = placed bs (block 0 (labeled m.body)) }) ∷ bs) x j) × (slice_get (known ++ each_parameter (macro_rows s.macros, known) (macro_uses i m) (names_of m.params) ∷ []) j ≡ Some (rows o.usage (names_of o.macro.it.params)))
       go (inl l) =
           let r = before x j first l in
           let o = r.0 in
-          (record { macro = o.macro; ways = o.ways; known = o.known; body = o.body; found = other (same_name x m.name.name) refl o.macro o.body o.found; parameters = o.parameters; fine = o.fine; apart = o.apart }, prefix_get known (each_parameter (macro_rows s.macros, known) (macro_uses i m) (names_of m.params) ∷ []) j (rows o.ways (names_of o.macro.it.params)) r.1)
+          (record { macro = o.macro; usage = o.usage; known = o.known; body = o.body; found = other (same_name x m.name.name) refl o.macro o.body o.found; parameters = o.parameters; fine = o.fine; apart = o.apart }, prefix_get known (each_parameter (macro_rows s.macros, known) (macro_uses i m) (names_of m.params) ∷ []) j (rows o.usage (names_of o.macro.it.params)) r.1)
         where
           other : (b : Bool) → same_name x m.name.name ≡ b → FirstMacro s.macros x j → (y : Body) → find x bs ≡ Some y → find x ((m.name.name, record { parameters = map (λ (p : PlacedName). p.name) m.params; statement = placed bs (block 0 (labeled m.body)) }) ∷ bs) ≡ Some y
           other true e f y g =
@@ -299,13 +298,13 @@ module _ (s : Spec) (k : NoFindings s) (fit : AllByRecursion (ArgumentsFit s.arc
           let f = first_macro s.macros x j first in
           let same : f.it ≡ m = some_is f.it m (sym f.at' ∙ ap (slice_get s.macros) e ∙ at_i) in
           let none = all_unlabelled m s.macros unlabelled among in
-          let ways = w m among i at_i (uses_there m i at_i) none known bs before in
-          let here : slice_get (known ++ each_parameter (macro_rows s.macros, known) (macro_uses i m) (names_of m.params) ∷ []) j ≡ Some (rows ways (names_of m.params)) =
+          let usage = w m among i at_i (uses_there m i at_i) none known bs before in
+          let here : slice_get (known ++ each_parameter (macro_rows s.macros, known) (macro_uses i m) (names_of m.params) ∷ []) j ≡ Some (rows usage (names_of m.params)) =
           ap (slice_get (known ++ each_parameter (macro_rows s.macros, known) (macro_uses i m) (names_of m.params) ∷ [])) (e ∙ sym size) ∙ last_get known (each_parameter (macro_rows s.macros, known) (macro_uses i m) (names_of m.params)) ∙ ap Some (each_rows (macro_rows s.macros, known) (macro_uses i m) (names_of m.params)) in (
             record {
               macro = record { it = m; at' = ap (slice_get s.macros) e ∙ at_i; named = ap (λ (z : Macro). z.name.name) (sym same) ∙ f.named; row = f.row ∙ ap (λ (z : Macro). Some (length z.params)) same };
-              ways = ways;
-              known = sym (ap (λ (z : MacroTable). slice_get z.1 j) full) ∙ later_get ms (macro_rows s.macros, known ++ each_parameter (macro_rows s.macros, known) (macro_uses i m) (names_of m.params) ∷ []) (suc i) j (rows ways (names_of m.params)) here;
+              usage = usage;
+              known = sym (ap (λ (z : MacroTable). slice_get z.1 j) full) ∙ later_get ms (macro_rows s.macros, known ++ each_parameter (macro_rows s.macros, known) (macro_uses i m) (names_of m.params) ∷ []) (suc i) j (rows usage (names_of m.params)) here;
               body = record { parameters = map (λ (p : PlacedName). p.name) m.params; statement = placed bs (block 0 (labeled m.body)) };
               found = ap (λ b. if b then Some (record { parameters = map (λ (p : PlacedName). p.name) m.params; statement = placed bs (block 0 (labeled m.body)) }) else find x bs) (ap (λ y. same_name y m.name.name) (sym f.named ∙ ap (λ (z : Macro). z.name.name) same) ∙ same_name-self m.name.name);
               parameters = names_map m.params;

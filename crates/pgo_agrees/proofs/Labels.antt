@@ -3,7 +3,7 @@ use Rattle.std.proofs.Common.{◌≡◌, ◌≤◌, ◌<◌, ◌^◌, ℕ, suc, 
 use Rattle.std.specs.Prelude.{◌⊎◌, is_some}
 use Rattle.std.specs.List.{flat_map}
 use Rattle.pgo_base.specs.Lookup.{Name, same_name, find}
-use Rattle.pgo_model.specs.Names.{same_name-self, same_name-is, or_that, find_append}
+use Rattle.pgo_model.specs.Names.{same_name-self, same_name-is, or_that, find_append, is_among}
 use Rattle.pgo_model.specs.Options.{on}
 use Rattle.pgo_model.specs.Written.{done, written}
 use Rattle.pgo_syntax.specs.declared.name.PlacedName.{PlacedName}
@@ -12,7 +12,7 @@ use Rattle.pgo_syntax.specs.declared.process.Process.{Process}
 use Rattle.pgo_syntax.specs.declared.spec.Spec.{Spec}
 use Rattle.pgo_syntax.specs.Statement.{Statement, skip, assign, if_then, if_else, while_do, either_of, await_that, with_in, print_out, assert_that, go_to, call_macro, yield_as, block, Statements, no_statements, more_statements, LabeledStatements, no_labeled, more_labeled, GuardedStatements, no_guarded, more_guarded, labeled}
 use Rattle.pgo_uses.specs.AllUses.{parameter_names, variable_names, parameter_uses, local_uses, start, archetype_uses}
-use Rattle.pgo_uses.specs.Names.{Rows, is_among, is_member}
+use Rattle.pgo_uses.specs.Names.{Rows, has_row}
 use Rattle.pgo_uses.specs.StatementUses.{at_place, label_uses, with_uses, with_names, statement_uses, uses_of_alternatives, uses_of_block, uses_of_branches}
 use Rattle.pgo_uses.specs.Uses.{uses}
 use Rattle.pgo_uses.specs.declared.uses.Around.{Around}
@@ -57,7 +57,7 @@ second_part x us vs l = (l.0, among_right l.0 us vs l.1, l.2, l.3)
 of_label : (x : Name) (ns : List Name) (a : Around) (o : Option PlacedName) → IsAmong x (on [] o (λ y. y.name ∷ [])) → LabelUse x (label_uses ns a o)
 of_label x ns a None h = absurd h
 of_label x ns a (Some l) (inl e) =
-    (record { name = l.name; form = forms.Label; inner = is_member l.name ns; around = at_place l.place a }, inl refl, refl, sym e)
+    (record { name = l.name; form = forms.Label; inner = is_among l.name ns; around = at_place l.place a }, inl refl, refl, sym e)
 of_label x ns a (Some l) (inr h) = absurd h
 
 either_part : (x : Name) (us vs : List Use) (xs ys : List Name) → (IsAmong x xs → LabelUse x us) → (IsAmong x ys → LabelUse x vs) → IsAmong x (xs ++ ys) → LabelUse x (us ++ vs)
@@ -102,37 +102,37 @@ mutual
 
 -- ---- and so it is a name that the archetype's processes write
 
-one_more : (x l : Name) (before : Rows) → is_among x (before ++ (l, 0) ∷ []) ≡ true → (is_among x before ≡ true) ⊎ (x ≡ l)
+one_more : (x l : Name) (before : Rows) → has_row x (before ++ (l, 0) ∷ []) ≡ true → (has_row x before ≡ true) ⊎ (x ≡ l)
 one_more x l before h = go (find x before) refl (same_name x l) refl (ap is_some (sym (find_append x before ((l, 0) ∷ []))) ∙ h)
   where
-    go : (o : Option ℕ) → find x before ≡ o → (b : Bool) → same_name x l ≡ b → is_some (or_that o (if b then Some 0 else None)) ≡ true → (is_among x before ≡ true) ⊎ (x ≡ l)
+    go : (o : Option ℕ) → find x before ≡ o → (b : Bool) → same_name x l ≡ b → is_some (or_that o (if b then Some 0 else None)) ≡ true → (has_row x before ≡ true) ⊎ (x ≡ l)
     go (Some n) e b f k = inl (ap is_some e)
     go None e true f k = inr (same_name-is x l f)
     go None e false f k = absurd (cc)
 
-label_listed : (u : Use) (before : Rows) (us : List Use) → IsAmong u us → u.form ≡ forms.Label → (is_among u.name before ≡ true) ⊎ IsAmong u.name (labels_from before us)
+label_listed : (u : Use) (before : Rows) (us : List Use) → IsAmong u us → u.form ≡ forms.Label → (has_row u.name before ≡ true) ⊎ IsAmong u.name (labels_from before us)
 label_listed u before [] a e = absurd a
-label_listed u before (v ∷ us) (inl q) e = go (is_among u.name before) refl
+label_listed u before (v ∷ us) (inl q) e = go (has_row u.name before) refl
   where
-    is : new_label before v v.form ≡ (if is_among u.name before then None else Some u.name)
+    is : new_label before v v.form ≡ (if has_row u.name before then None else Some u.name)
     is = ap (λ (w : Use). new_label before w w.form) (sym q) ∙ ap (new_label before u) e
 
-    go : (b : Bool) → is_among u.name before ≡ b → (is_among u.name before ≡ true) ⊎ IsAmong u.name (elim (new_label before v v.form) [ None ↦ labels_from before us | Some l ↦ l ∷ labels_from (before ++ (l, 0) ∷ []) us ])
+    go : (b : Bool) → has_row u.name before ≡ b → (has_row u.name before ≡ true) ⊎ IsAmong u.name (elim (new_label before v v.form) [ None ↦ labels_from before us | Some l ↦ l ∷ labels_from (before ++ (l, 0) ∷ []) us ])
     go true f = inl f
     go false f =
         inr (subst (λ o. IsAmong u.name (elim o [ None ↦ labels_from before us | Some l ↦ l ∷ labels_from (before ++ (l, 0) ∷ []) us ])) (sym (is ∙ ap (λ b. if b then None else Some u.name) f)) (inl refl))
 label_listed u before (v ∷ us) (inr a) e = go (new_label before v v.form) (label_listed u before us a e) (λ l. label_listed u (before ++ (l, 0) ∷ []) us a e)
   where
-    go : (o : Option Name) → (is_among u.name before ≡ true) ⊎ IsAmong u.name (labels_from before us) → ((l : Name) → (is_among u.name (before ++ (l, 0) ∷ []) ≡ true) ⊎ IsAmong u.name (labels_from (before ++ (l, 0) ∷ []) us))
-        → (is_among u.name before ≡ true) ⊎ IsAmong u.name (elim o [ None ↦ labels_from before us | Some l ↦ l ∷ labels_from (before ++ (l, 0) ∷ []) us ])
+    go : (o : Option Name) → (has_row u.name before ≡ true) ⊎ IsAmong u.name (labels_from before us) → ((l : Name) → (has_row u.name (before ++ (l, 0) ∷ []) ≡ true) ⊎ IsAmong u.name (labels_from (before ++ (l, 0) ∷ []) us))
+        → (has_row u.name before ≡ true) ⊎ IsAmong u.name (elim o [ None ↦ labels_from before us | Some l ↦ l ∷ labels_from (before ++ (l, 0) ∷ []) us ])
     go None r f = r
     go (Some l) r f = more (f l)
       where
-        here : (is_among u.name before ≡ true) ⊎ (u.name ≡ l) → (is_among u.name before ≡ true) ⊎ IsAmong u.name (l ∷ labels_from (before ++ (l, 0) ∷ []) us)
+        here : (has_row u.name before ≡ true) ⊎ (u.name ≡ l) → (has_row u.name before ≡ true) ⊎ IsAmong u.name (l ∷ labels_from (before ++ (l, 0) ∷ []) us)
         here (inl g) = inl g
         here (inr g) = inr (inl g)
 
-        more : (is_among u.name (before ++ (l, 0) ∷ []) ≡ true) ⊎ IsAmong u.name (labels_from (before ++ (l, 0) ∷ []) us) → (is_among u.name before ≡ true) ⊎ IsAmong u.name (l ∷ labels_from (before ++ (l, 0) ∷ []) us)
+        more : (has_row u.name (before ++ (l, 0) ∷ []) ≡ true) ⊎ IsAmong u.name (labels_from (before ++ (l, 0) ∷ []) us) → (has_row u.name before ≡ true) ⊎ IsAmong u.name (l ∷ labels_from (before ++ (l, 0) ∷ []) us)
         more (inl g) = here (one_more u.name l before g)
         more (inr g) = inr (inr g)
 
@@ -147,7 +147,7 @@ body_label j a x h =
     let u = second_part x (ps ++ ls) bs (label_among (labeled a.body) x ns s h) in
     subst (λ y. IsAmong y (labels_from [] (archetype_uses j a))) u.3 (listed u.0.name (label_listed u.0 [] (archetype_uses j a) u.1 u.2))
   where
-    listed : (y : Name) → (is_among y [] ≡ true) ⊎ IsAmong y (labels_from [] (archetype_uses j a)) → IsAmong y (labels_from [] (archetype_uses j a))
+    listed : (y : Name) → (has_row y [] ≡ true) ⊎ IsAmong y (labels_from [] (archetype_uses j a)) → IsAmong y (labels_from [] (archetype_uses j a))
     listed y (inl e) = absurd (let q : false ≡ true = e in cc)
     listed y (inr b) = b
 

@@ -4,11 +4,12 @@ use Rattle.std.specs.Prelude.{slice_get}
 use Rattle.std.specs.List.{AllByRecursion}
 use Rattle.pgo_base.specs.Lookup.{Name, same_name, find}
 use Rattle.pgo_base.specs.Tree.{Tree}
+use Rattle.pgo_model.specs.Names.{is_among}
 use Rattle.pgo_syntax.specs.declared.macros.Macro.{Macro}
 use Rattle.pgo_syntax.specs.declared.name.PlacedName.{PlacedName}
 use Rattle.pgo_syntax.specs.declared.spec.Spec.{Spec}
 use Rattle.pgo_uses.specs.AllUses.{macro_uses, names_of}
-use Rattle.pgo_uses.specs.Names.{is_member, first_at}
+use Rattle.pgo_uses.specs.Names.{first_at}
 use Rattle.pgo_uses.specs.StatementUses.{at_place, as_passed, argument_uses}
 use Rattle.pgo_uses.specs.Tables.{macro_rows, tables_of, value_name}
 use Rattle.pgo_uses.specs.declared.uses.Around.{Around}
@@ -47,13 +48,13 @@ module _ (s : Spec) (k : NoFindings s) (fit : AllByRecursion (ArgumentsFit s.arc
   -- a macro whose body, with the macros before it in place, is known to be fine
   pub record MacroOk (bs : Bodies) (x : Name) (j : ℕ) : Type 0 where
     pub macro : FirstMacro s.macros x j
-    pub ways : Name → Usage
-    pub known : slice_get (macro_table s.macros).1 j ≡ Some (rows ways (names_of macro.it.params))
+    pub usage : Name → Usage
+    pub known : slice_get (macro_table s.macros).1 j ≡ Some (rows usage (names_of macro.it.params))
     pub body : Body
     pub found : find x bs ≡ Some body
     pub parameters : body.parameters ≡ names_of macro.it.params
-    pub fine : Fine (MacroName (C s k fit of_text) (B s k fit of_text) (Common s k fit of_text) (names_of macro.it.params) ways) (C s k fit of_text) (B s k fit of_text) (MacroWith (C s k fit of_text) (B s k fit of_text) (Common s k fit of_text) (names_of macro.it.params)) (MacroAssigned (C s k fit of_text) (B s k fit of_text) (Common s k fit of_text) (names_of macro.it.params) ways) (λ ns m ts. Unit {0}) ⊥ false [] body.statement
-    pub apart : (y : Name) → Common s k fit of_text y → is_member y (names_of macro.it.params) ≡ false
+    pub fine : Fine (MacroName (C s k fit of_text) (B s k fit of_text) (Common s k fit of_text) (names_of macro.it.params) usage) (C s k fit of_text) (B s k fit of_text) (MacroWith (C s k fit of_text) (B s k fit of_text) (Common s k fit of_text) (names_of macro.it.params)) (MacroAssigned (C s k fit of_text) (B s k fit of_text) (Common s k fit of_text) (names_of macro.it.params) usage) (λ ns m ts. Unit {0}) ⊥ false [] body.statement
+    pub apart : (y : Name) → Common s k fit of_text y → is_among y (names_of macro.it.params) ≡ false
 
   -- ---- what the rules say of a call
   pub called_known : (u : Use) (ts : List Tree) → FineUse s u → u.form ≡ forms.Called ts → may_call (tables_of s) u.around.home u.name ≡ true
@@ -83,23 +84,23 @@ module _ (s : Spec) (k : NoFindings s) (fit : AllByRecursion (ArgumentsFit s.arc
 
   -- ---- the call, in a unit of these names
   module _ (N : List Name → Bool → Bool → Name → Type 0) (W : Name → Type 0) (A : List Name → Shape → Name → Type 0) (home : Home) (in' : InStatements s k fit of_text home) (qs : List Name) (R : Use → Type 0) (J : Bool → Bool → Name → Type 0) (target : Target (C s k fit of_text) (B s k fit of_text) (Common s k fit of_text) N W A ⊥) (joins : Joins N (C s k fit of_text) (B s k fit of_text) W A ⊥ (Common s k fit of_text) (Inside s k fit of_text qs) R J home false) where
-    pub call_ok : (bs : Bodies) (ns ms : List Name) (a : Around) (m : PlacedName) (ts : List Tree) (j : ℕ) (o : MacroOk bs m.name j) → FineUse s (record { name = m.name; form = forms.Called ts; inner = is_member m.name ms; around = at_place m.place a }) → IsAt home false a → (a.hidden ≡ false) × (a.indexed ≡ false) → Known (Known' s k fit of_text qs ns) ms [] → ArgumentsSpoken ts → AllByRecursion (FineUse s) (argument_uses ms (as_passed (at_place m.place a)) ts)
-        → ((x : Name) (t : Tree) → InPairs (x, o.ways x) t (rows o.ways (names_of o.macro.it.params)) ts → Given N (C s k fit of_text) (B s k fit of_text) W A ⊥ (Common s k fit of_text) (Inside s k fit of_text qs) R J home false joins ns (at_place m.place a) (o.ways x) t)
+    pub call_ok : (bs : Bodies) (ns ms : List Name) (a : Around) (m : PlacedName) (ts : List Tree) (j : ℕ) (o : MacroOk bs m.name j) → FineUse s (record { name = m.name; form = forms.Called ts; inner = is_among m.name ms; around = at_place m.place a }) → IsAt home false a → (a.hidden ≡ false) × (a.indexed ≡ false) → Known (Known' s k fit of_text qs ns) ms [] → ArgumentsSpoken ts → AllByRecursion (FineUse s) (argument_uses ms (as_passed (at_place m.place a)) ts)
+        → ((x : Name) (t : Tree) → InPairs (x, o.usage x) t (rows o.usage (names_of o.macro.it.params)) ts → Given N (C s k fit of_text) (B s k fit of_text) W A ⊥ (Common s k fit of_text) (Inside s k fit of_text qs) R J home false joins ns (at_place m.place a) (o.usage x) t)
         → CallOk (C s k fit of_text) (B s k fit of_text) (Common s k fit of_text) N W A ⊥ target bs ns m ts
     call_ok bs ns ms a m ts j o f w v known spoken fine given =
         let names = names_of o.macro.it.params in
-        let number = called_number (record { name = m.name; form = forms.Called ts; inner = is_member m.name ms; around = at_place m.place a }) ts j o.macro f refl in
+        let number = called_number (record { name = m.name; form = forms.Called ts; inner = is_among m.name ms; around = at_place m.place a }) ts j o.macro f refl in
         record {
           body = o.body;
           found = o.found;
           parameters = names;
-          ways = o.ways;
+          usage = o.usage;
           fine = o.fine;
           arguments = record {
             with' = λ x h. never h;
             parameter = λ x h g.
-                (let q = pair_of o.ways x names ts number g in
-                (q.0, ap (λ xs. find x (handed xs ts)) o.parameters ∙ q.1, handed_so N (C s k fit of_text) (B s k fit of_text) W A ⊥ (Common s k fit of_text) (Inside s k fit of_text qs) R J home false joins ns (at_place m.place a) (o.ways x) q.0 w v.0 (spoken_at (x, o.ways x) q.0 (rows o.ways names) ts q.2 spoken) (argument_first s k fit of_text home in' qs ns ms (at_place m.place a) q.0 w v known (spoken_at (x, o.ways x) q.0 (rows o.ways names) ts q.2 spoken) (uses_at (FineUse s) ms (as_passed (at_place m.place a)) (x, o.ways x) q.0 (rows o.ways names) ts q.2 fine)) (given x q.0 q.2)));
+                (let q = pair_of o.usage x names ts number g in
+                (q.0, ap (λ xs. find x (handed xs ts)) o.parameters ∙ q.1, handed_so N (C s k fit of_text) (B s k fit of_text) W A ⊥ (Common s k fit of_text) (Inside s k fit of_text qs) R J home false joins ns (at_place m.place a) (o.usage x) q.0 w v.0 (spoken_at (x, o.usage x) q.0 (rows o.usage names) ts q.2 spoken) (argument_first s k fit of_text home in' qs ns ms (at_place m.place a) q.0 w v known (spoken_at (x, o.usage x) q.0 (rows o.usage names) ts q.2 spoken) (uses_at (FineUse s) ms (as_passed (at_place m.place a)) (x, o.usage x) q.0 (rows o.usage names) ts q.2 fine)) (given x q.0 q.2)));
             other = λ x h g. ap (λ xs. find x (handed xs ts)) o.parameters ∙ not_handed x names ts g;
             apart = o.apart;
           };

@@ -7,7 +7,7 @@ use Rattle.pgo_model.specs.Names.{same_name-is, or_that, find_append}
 use Rattle.pgo_syntax.specs.declared.macros.Macro.{Macro}
 use Rattle.pgo_syntax.specs.declared.name.PlacedName.{PlacedName}
 use Rattle.pgo_uses.specs.Heads.{macro_names}
-use Rattle.pgo_uses.specs.Names.{Rows, is_among, first_at, is_below, is_earlier}
+use Rattle.pgo_uses.specs.Names.{Rows, has_row, first_at, is_below, is_earlier}
 use Rattle.pgo_uses.specs.Tables.{macro_rows}
 use Rattle.pgo_scope.specs.Findings.{found_if}
 use Rattle.pgo_scope.specs.TextOrder.{in_place, in_text_order}
@@ -32,14 +32,14 @@ counts_in_order : (x : Name) (place : PlacedName → ℕ) (ts : List PlacedName)
 counts_in_order x place [] = refl
 counts_in_order x place (t ∷ ts) = omega (arith, counts_in_place x place t (in_text_order place ts), counts_in_order x place ts)
 
-more_among : (x y : Name) (before : Rows) → is_among x before ≡ true → is_among x (before ++ (y, 0) ∷ []) ≡ true
+more_among : (x y : Name) (before : Rows) → has_row x before ≡ true → has_row x (before ++ (y, 0) ∷ []) ≡ true
 more_among x y before h = ap is_some (find_append x before ((y, 0) ∷ [])) ∙ go (find x before) h
   where
     go : (o : Option ℕ) → is_some o ≡ true → is_some (or_that o (find x ((y, 0) ∷ []))) ≡ true
     go None g = absurd (cc)
     go (Some n) g = refl
 
-last_among : (x y : Name) (before : Rows) → same_name x y ≡ true → is_among x (before ++ (y, 0) ∷ []) ≡ true
+last_among : (x y : Name) (before : Rows) → same_name x y ≡ true → has_row x (before ++ (y, 0) ∷ []) ≡ true
 last_among x y before h = ap is_some (find_append x before ((y, 0) ∷ [])) ∙ go (find x before)
   where
     go : (o : Option ℕ) → is_some (or_that o (if same_name x y then Some 0 else None)) ≡ true
@@ -47,20 +47,20 @@ last_among x y before h = ap is_some (find_append x before ((y, 0) ∷ [])) ∙ 
     go (Some n) = refl
 
 -- none stands twice, and none of those before stands again
-once : (before : Rows) (xs : List PlacedName) → repeated before xs ≡ [] → (x : Name) → (is_among x before ≡ true → count x xs ≡ 0) × (count x xs ≤ 1)
+once : (before : Rows) (xs : List PlacedName) → repeated before xs ≡ [] → (x : Name) → (has_row x before ≡ true → count x xs ≡ 0) × (count x xs ≤ 1)
 once before [] h x = (λ e. refl, omega arith)
 once before (y ∷ ys) h x = go (same_name x y.name) refl (once (before ++ (y.name, 0) ∷ []) ys rest x)
   where
     rest : repeated (before ++ (y.name, 0) ∷ []) ys ≡ []
-    rest = none_right (found_if (is_among y.name before) y.place (errors.Twice y.name)) (repeated (before ++ (y.name, 0) ∷ []) ys) h
+    rest = none_right (found_if (has_row y.name before) y.place (errors.Twice y.name)) (repeated (before ++ (y.name, 0) ∷ []) ys) h
 
-    new : is_among y.name before ≡ false
-    new = nothing_if (is_among y.name before) y.place (errors.Twice y.name) (none_left (found_if (is_among y.name before) y.place (errors.Twice y.name)) (repeated (before ++ (y.name, 0) ∷ []) ys) h)
+    new : has_row y.name before ≡ false
+    new = nothing_if (has_row y.name before) y.place (errors.Twice y.name) (none_left (found_if (has_row y.name before) y.place (errors.Twice y.name)) (repeated (before ++ (y.name, 0) ∷ []) ys) h)
 
-    go : (b : Bool) → same_name x y.name ≡ b → (is_among x (before ++ (y.name, 0) ∷ []) ≡ true → count x ys ≡ 0) × (count x ys ≤ 1) → (is_among x before ≡ true → one_if b + count x ys ≡ 0) × (one_if b + count x ys ≤ 1)
+    go : (b : Bool) → same_name x y.name ≡ b → (has_row x (before ++ (y.name, 0) ∷ []) ≡ true → count x ys ≡ 0) × (count x ys ≤ 1) → (has_row x before ≡ true → one_if b + count x ys ≡ 0) × (one_if b + count x ys ≤ 1)
     go true e r =
         let z = r.0 (last_among x y.name before e) in
-        (λ g. absurd (let s = same_name-is x y.name e in let q : true ≡ false = sym g ∙ ap (λ w. is_among w before) s ∙ new in cc), omega (arith, z))
+        (λ g. absurd (let s = same_name-is x y.name e in let q : true ≡ false = sym g ∙ ap (λ w. has_row w before) s ∙ new in cc), omega (arith, z))
     go false e r =
         let n = r.1 in (λ g. (let z = r.0 (more_among x y.name before g) in omega (arith, z)), omega (arith, n))
 
@@ -110,11 +110,11 @@ first_macro (m ∷ ms) x j h = go (same_name x m.name.name) refl j h (first_macr
         subst (FirstMacro (m ∷ ms) x) same (record { it = m; at' = refl; named = sym (same_name-is x m.name.name e); row = ap (λ c. if c then Some (length m.params) else find x (macro_rows ms)) e })
     go false e n g more = behind (first_at x (macro_rows ms)) refl n g e more
 
-pub there_first : (x : Name) (rs : Rows) → is_among x rs ≡ true → (j : ℕ) × (first_at x rs ≡ Some j)
+pub there_first : (x : Name) (rs : Rows) → has_row x rs ≡ true → (j : ℕ) × (first_at x rs ≡ Some j)
 there_first x [] h = absurd (cc)
 there_first x (r ∷ rs) h = go (same_name x r.0) h (there_first x rs)
   where
-    go : (b : Bool) → is_some (if b then Some r.1 else find x rs) ≡ true → (is_among x rs ≡ true → (j : ℕ) × (first_at x rs ≡ Some j)) → (j : ℕ) × ((if b then Some 0 else option_map suc (first_at x rs)) ≡ Some j)
+    go : (b : Bool) → is_some (if b then Some r.1 else find x rs) ≡ true → (has_row x rs ≡ true → (j : ℕ) × (first_at x rs ≡ Some j)) → (j : ℕ) × ((if b then Some 0 else option_map suc (first_at x rs)) ≡ Some j)
     go true k more = (0, refl)
     go false k more = let q = more k in (suc q.0, ap (option_map suc) q.1)
 

@@ -3,7 +3,7 @@ use Rattle.std.proofs.Common.{◌≡◌, Bool, true, false, not, ◌&&◌, List,
 use Rattle.std.specs.Prelude.{if◌then◌else◌}
 use Rattle.std.specs.List.{AllByRecursion}
 use Rattle.pgo_base.specs.Lookup.{Name, same_name, find}
-use Rattle.pgo_model.specs.Names.{same_name-is}
+use Rattle.pgo_model.specs.Names.{same_name-is, is_among}
 use Rattle.pgo_model.specs.Sequences.{operators, assert_name}
 use Rattle.pgo_model.specs.Written.{self_name}
 use Rattle.pgo_syntax.specs.declared.spec.Spec.{Spec}
@@ -12,7 +12,6 @@ use Rattle.pgo_bound.specs.Among.{IsAmong, all_at}
 use Rattle.pgo_bound.specs.State.{variables_of}
 use Rattle.pgo_accept.proofs.Counted.{different}
 use Rattle.pgo_accept.proofs.Fitting.{ArgumentsFit}
-use Rattle.pgo_sections.specs.Among.{is_among}
 use Rattle.pgo_sections.specs.Code.{content_name}
 use Rattle.pgo_translate.specs.Premises.{ModuleNames, further_names, is_further}
 use Rattle.pgo_agrees.specs.Accepted.{IsOfText, ProcessOfText}

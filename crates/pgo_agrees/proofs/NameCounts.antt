@@ -4,7 +4,7 @@ use Rattle.std.proofs.lemmas.List.{append_cancel_left}
 use Rattle.std.specs.Prelude.{flat_map}
 use Rattle.std.specs.List.{AllByRecursion, filter_map, cons_option}
 use Rattle.pgo_base.specs.Lookup.{Name, same_name, find}
-use Rattle.pgo_model.specs.Names.{same_name-self, same_name-is, same_name-not}
+use Rattle.pgo_model.specs.Names.{same_name-self, same_name-is, same_name-not, is_among}
 use Rattle.pgo_model.specs.Written.{pc, proc_set, terminating, written}
 use Rattle.pgo_syntax.specs.Statement.{labeled}
 use Rattle.pgo_syntax.specs.declared.archetype.Archetype.{Archetype}
@@ -20,7 +20,7 @@ use Rattle.pgo_syntax.specs.declared.spec.Spec.{Spec}
 use Rattle.pgo_uses.specs.AllUses.{archetype_uses, variable_names}
 use Rattle.pgo_uses.specs.Heads.{declared_names}
 use Rattle.pgo_scope.specs.Clash.{fixed_names, fixed_module_names, shared_module_names, value_names, labels_from, own_names, or_none, own_module_names, process_module_names}
-use Rattle.pgo_labels.specs.Labels.{labels_of, is_among as among_labels}
+use Rattle.pgo_labels.specs.Labels.{labels_of}
 use Rattle.pgo_labels.specs.Inside.{with_inside}
 use Rattle.pgo_labels.specs.Rules.{repeated, found_at, label_twice}
 use Rattle.pgo_labels.specs.declared.errors.LabelError.TheVariants.{LabelTwice}
@@ -33,7 +33,6 @@ use Rattle.pgo_bound.specs.State.{variables_of}
 use Rattle.pgo_accept.proofs.Counted.{one_if, times, times-append, times-map_append}
 use Rattle.pgo_accept.proofs.Fitting.{Fits, ArgumentsFit, is_stray}
 use Rattle.pgo_accept.proofs.WrittenOnce.{writes, writes-append}
-use Rattle.pgo_sections.specs.Among.{is_among}
 use Rattle.pgo_meaning.specs.Expansions.{process_expansions}
 use Rattle.pgo_translate.specs.Premises.{process_names, further_names}
 use Rattle.pgo_agrees.proofs.FurtherNames.{label_names, tree_names}
@@ -106,24 +105,24 @@ no_label : (b : Bool) (l : PlacedName) → (if b then l ∷ [] else []) ≡ [] �
 no_label true l h = absurd (cc)
 no_label false l h = refl
 
-not_again : (y : Name) (before ls : List PlacedName) → repeated before ls ≡ [] → among_labels y before ≡ true → times y (map placed_name ls) ≡ 0
+not_again : (y : Name) (before : List Name) (ls : List PlacedName) → repeated before ls ≡ [] → is_among y before ≡ true → times y (map placed_name ls) ≡ 0
 not_again y before [] h a = refl
-not_again y before (l ∷ ls) h a = go (same_name y l.name) refl (not_again y (l ∷ before) ls (none_right (if among_labels l.name before then l ∷ [] else []) (repeated (l ∷ before) ls) h) (or_true (same_name y l.name) (among_labels y before) a))
+not_again y before (l ∷ ls) h a = go (same_name y l.name) refl (not_again y (l.name ∷ before) ls (none_right (if is_among l.name before then l ∷ [] else []) (repeated (l.name ∷ before) ls) h) (or_true (same_name y l.name) (is_among y before) a))
   where
-    none : among_labels l.name before ≡ false
-    none = no_label (among_labels l.name before) l (none_left (if among_labels l.name before then l ∷ [] else []) (repeated (l ∷ before) ls) h)
+    none : is_among l.name before ≡ false
+    none = no_label (is_among l.name before) l (none_left (if is_among l.name before then l ∷ [] else []) (repeated (l.name ∷ before) ls) h)
 
     go : (b : Bool) → same_name y l.name ≡ b → times y (map placed_name ls) ≡ 0 → one_if b + times y (map placed_name ls) ≡ 0
-    go true e r = absurd (let q : true ≡ false = sym a ∙ ap (λ z. among_labels z before) (same_name-is y l.name e) ∙ none in cc)
+    go true e r = absurd (let q : true ≡ false = sym a ∙ ap (λ z. is_among z before) (same_name-is y l.name e) ∙ none in cc)
     go false e r = omega (arith, r)
 
-labels_once : (y : Name) (before ls : List PlacedName) → repeated before ls ≡ [] → times y (map placed_name ls) ≤ 1
+labels_once : (y : Name) (before : List Name) (ls : List PlacedName) → repeated before ls ≡ [] → times y (map placed_name ls) ≤ 1
 labels_once y before [] h = omega arith
 labels_once y before (l ∷ ls) h =
-    let rest = none_right (if among_labels l.name before then l ∷ [] else []) (repeated (l ∷ before) ls) h in
-    go (same_name y l.name) refl (labels_once y (l ∷ before) ls rest) (not_again y (l ∷ before) ls rest)
+    let rest = none_right (if is_among l.name before then l ∷ [] else []) (repeated (l.name ∷ before) ls) h in
+    go (same_name y l.name) refl (labels_once y (l.name ∷ before) ls rest) (not_again y (l.name ∷ before) ls rest)
   where
-    go : (b : Bool) → same_name y l.name ≡ b → times y (map placed_name ls) ≤ 1 → (b || among_labels y before ≡ true → times y (map placed_name ls) ≡ 0) → one_if b + times y (map placed_name ls) ≤ 1
+    go : (b : Bool) → same_name y l.name ≡ b → times y (map placed_name ls) ≤ 1 → (b || is_among y before ≡ true → times y (map placed_name ls) ≡ 0) → one_if b + times y (map placed_name ls) ≤ 1
     go true e r f = omega (arith, f refl)
     go false e r f = omega (arith, r)
 

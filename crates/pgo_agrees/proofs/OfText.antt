@@ -34,7 +34,7 @@ use Rattle.pgo_syntax.specs.declared.name.PlacedName.{PlacedName}
 use Rattle.pgo_syntax.specs.declared.process.Argument.{Argument}
 use Rattle.pgo_syntax.specs.declared.process.Process.{Process}
 use Rattle.pgo_syntax.specs.declared.spec.Spec.{Spec}
-use Rattle.pgo_uses.specs.Tables.{defined}
+use Rattle.pgo_syntax.specs.Defines as defines
 use Rattle.pgo_agrees.specs.Accepted.{DefinitionOfText, MacroParameterOfText, MacroOfText, MappingOfText, ParameterOfText, DeclarationOfText, ArchetypeOfText, ArgumentOfText, ProcessOfText, IsOfText}
 use Rattle.pgo_agrees.specs.TextTokens.{AllowedSign, Allowed, AllAllowed}
 use Rattle.pgo_agrees.proofs.Names.{and_left, and_right}
@@ -181,7 +181,7 @@ define_of : (xs : List Lexeme) (ds : List Definition) → IsDefine xs ds → All
 define_of xs ds (unit.definitions c {xs = ys} r) h = all_in_row false IsDefinition DefinitionOfText (definition_of false) ys ds r (cut false ys _ h.1.1).0
 
 record UnitsOfText (u : Units) : Type 0 where
-  pub define : AllByRecursion DefinitionOfText (defined u.define)
+  pub define : AllByRecursion DefinitionOfText (defines.define_of u.define)
   pub macros : AllByRecursion MacroOfText u.macros
   pub mappings : AllByRecursion MappingOfText u.mappings
   pub archetypes : AllByRecursion ArchetypeOfText u.archetypes
@@ -221,7 +221,7 @@ tokens_of_text hs as' s (spells.spec c {hs = ks} {xs = xs} {h = h} {us = us} hea
     let u = units_of units (told_parts xs _ g.1.1).0 in
     record {
       globals = u.globals;
-      definitions = all_joined DefinitionOfText h.definitions (defined us.define) (header_of head f) u.define;
+      definitions = all_joined DefinitionOfText h.definitions (defines.define_of us.define) (header_of head f) u.define;
       macros = u.macros;
       mappings = u.mappings;
       archetypes = u.archetypes;

@@ -3,7 +3,7 @@ use Rattle.std.proofs.Common.{◌≡◌, ℕ, suc, Bool, true, false, ◌&&◌, 
 use Rattle.std.specs.Prelude.{◌⊎◌}
 use Rattle.std.specs.List.{filter_map, flat_map, cons_option, list_all}
 use Rattle.pgo_base.specs.Lookup.{Name, same_name, find}
-use Rattle.pgo_model.specs.Names.{same_name-self, same_name-is}
+use Rattle.pgo_model.specs.Names.{same_name-self, same_name-is, is_among}
 use Rattle.pgo_model.specs.Written.{pc, written}
 use Rattle.pgo_syntax.specs.declared.name.PlacedName.{PlacedName}
 use Rattle.pgo_syntax.specs.declared.archetype.Archetype.{Archetype}
@@ -27,7 +27,6 @@ use Rattle.pgo_bound.specs.Among.{IsAmong, among_left, among_right, among_append
 use Rattle.pgo_bound.specs.Runs.{Handed, handed_from, archetype_named, mapping_without, mapping_by, speaking, unless_any, is_of_number, is_of_name, target_of, binding_of, is_element, kind_of_extents}
 use Rattle.pgo_bound.specs.State as bind
 use Rattle.pgo_bound.specs.State.{variables_of, names_with, names_or_none, target_extent, kind_in}
-use Rattle.pgo_sections.specs.Among.{is_among}
 use Rattle.pgo_sections.specs.Code.{Place, Whole, Own, variable_of}
 use Rattle.pgo_uses.specs.Tables.{tables_of}
 use Rattle.pgo_scope.specs.Unknown.{unknown_heads}

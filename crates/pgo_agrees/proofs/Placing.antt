@@ -3,7 +3,7 @@ use Rattle.std.proofs.Common.{◌≡◌, ℕ, Bool, true, false, ◌&&◌, ◌||
 use Rattle.std.specs.Prelude.{◌⊎◌, unwrap_or}
 use Rattle.pgo_base.specs.Lookup.{Name, same_name, find}
 use Rattle.pgo_base.specs.Tree.{Tree, name}
-use Rattle.pgo_model.specs.Names.{same_name-self, same_name-is}
+use Rattle.pgo_model.specs.Names.{same_name-self, same_name-is, is_among}
 use Rattle.pgo_model.specs.Options.{on}
 use Rattle.pgo_syntax.specs.declared.assignment.Assignment.{Assignment}
 use Rattle.pgo_syntax.specs.declared.assignment.Left.{Left}
@@ -14,14 +14,12 @@ use Rattle.pgo_syntax.specs.declared.binding.Origin.TheVariants.{Equals, In}
 use Rattle.pgo_syntax.specs.declared.binding.WithName.{WithName}
 use Rattle.pgo_syntax.specs.declared.name.PlacedName.{PlacedName}
 use Rattle.pgo_syntax.specs.Statement.{Statement, skip, assign, if_then, if_else, while_do, either_of, await_that, with_in, print_out, assert_that, go_to, call_macro, yield_as, block, Statements, no_statements, more_statements, LabeledStatements, no_labeled, more_labeled, GuardedStatements, no_guarded, more_guarded}
-use Rattle.pgo_uses.specs.Names.{is_member}
 use Rattle.pgo_uses.specs.StatementUses.{shape_of, origin_tree}
 use Rattle.pgo_uses.specs.declared.uses.Shape.{Shape}
 use Rattle.pgo_uses.specs.declared.uses.Shape.TheVariants.{Bare, OneIndex, Further}
 use Rattle.pgo_scope.specs.Underscores.{has_double}
 use Rattle.pgo_scope.specs.Usage.{join}
 use Rattle.pgo_scope.specs.declared.usage.Usage.{Usage}
-use Rattle.pgo_sections.specs.Among.{is_among}
 use Rattle.pgo_meaning.specs.MacrosPlaced.{marked, Arguments, argument, put_tree, put_step, left_of, put_left, put_assignment, put_origin, with_marked, put_names, under_names, put, put_each, put_among, put_guarded, Body, Bodies, handed, walked, placed, placed_each, placed_among, placed_guarded}
 use Rattle.pgo_agrees.proofs.Fine.{in_with, MayLabel, PathFine, AssignsFine, WithsFine, Fine, EachFine, LabeledFine, GuardedFine}
 use Rattle.pgo_agrees.proofs.Hoist.{never}
@@ -100,13 +98,13 @@ module _ (C B Common : Name → Type 0) where
   -- in a macro's body, with the names of its parameters and the ways in which they stand
   abbrev pub MacroName : List Name → (Name → Usage) → List Name → Bool → Bool → Name → Type 0
   MacroName qs w ns h i x =
-      ((is_among x ns ≡ true) × Declared x) ⊎ (((is_member x qs ≡ true) × (reads_so (w x) h i ≡ true)) ⊎ Common x)
+      ((is_among x ns ≡ true) × Declared x) ⊎ (((is_among x qs ≡ true) × (reads_so (w x) h i ≡ true)) ⊎ Common x)
 
   abbrev pub MacroAssigned : List Name → (Name → Usage) → List Name → Shape → Name → Type 0
-  MacroAssigned qs w ns h x = (is_member x qs ≡ true) × (writes_so (w x) h ≡ true)
+  MacroAssigned qs w ns h x = (is_among x qs ≡ true) × (writes_so (w x) h ≡ true)
 
   abbrev pub MacroWith : List Name → Name → Type 0
-  MacroWith qs x = Declared x × (is_member x qs ≡ false)
+  MacroWith qs x = Declared x × (is_among x qs ≡ false)
 
   module _ (N : List Name → Bool → Bool → Name → Type 0) (W : Name → Type 0) (A : List Name → Shape → Name → Type 0) (Y : Type 0) where
     abbrev pub AnyCall : List Name → PlacedName → List Tree → Type 0
@@ -151,10 +149,10 @@ module _ (C B Common : Name → Type 0) where
       module _ (qs : List Name) (w : Name → Usage) where
         -- what stands for the names of the body
         pub record Standing (es : Arguments) (ns ms : List Name) : Type 0 where
-          pub with' : (x : Name) → is_among x ns ≡ true → (find x es ≡ Some (name (marked x))) × (is_among (marked x) ms ≡ true) × Declared x × (is_member x qs ≡ false)
-          pub parameter : (x : Name) → is_among x ns ≡ false → is_member x qs ≡ true → (t : Tree) × (find x es ≡ Some t) × Handed ms (w x) t
-          pub other : (x : Name) → is_among x ns ≡ false → is_member x qs ≡ false → find x es ≡ None
-          pub apart : (x : Name) → Common x → is_member x qs ≡ false
+          pub with' : (x : Name) → is_among x ns ≡ true → (find x es ≡ Some (name (marked x))) × (is_among (marked x) ms ≡ true) × Declared x × (is_among x qs ≡ false)
+          pub parameter : (x : Name) → is_among x ns ≡ false → is_among x qs ≡ true → (t : Tree) × (find x es ≡ Some t) × Handed ms (w x) t
+          pub other : (x : Name) → is_among x ns ≡ false → is_among x qs ≡ false → find x es ≡ None
+          pub apart : (x : Name) → Common x → is_among x qs ≡ false
 
         with_name : (es : Arguments) (ns ms : List Name) (x : WithName) → MacroWith qs x.name.name → Standing es ns ms → Standing (with_marked x es) (x.name.name ∷ ns) (marked x.name.name ∷ ms)
         with_name es ns ms v d g = record {
@@ -180,13 +178,13 @@ module _ (C B Common : Name → Type 0) where
                 by true e = absurd (cc)
                 by false e = e
 
-            go : (y : Name) (b : Bool) → same_name y v.name.name ≡ b → b || is_among y ns ≡ true → ((if b then Some (name (marked v.name.name)) else find y es) ≡ Some (name (marked y))) × (is_among (marked y) (marked v.name.name ∷ ms) ≡ true) × Declared y × (is_member y qs ≡ false)
+            go : (y : Name) (b : Bool) → same_name y v.name.name ≡ b → b || is_among y ns ≡ true → ((if b then Some (name (marked v.name.name)) else find y es) ≡ Some (name (marked y))) × (is_among (marked y) (marked v.name.name ∷ ms) ≡ true) × Declared y × (is_among y qs ≡ false)
             go y true e h =
                 let s = same_name-is y v.name.name e in (
                   ap (λ z. Some (name (marked z))) (sym s),
                   or_first (same_name (marked y) (marked v.name.name)) (is_among (marked y) ms) (ap (λ z. same_name (marked z) (marked v.name.name)) s ∙ same_name-self (marked v.name.name)),
                   subst Declared (sym s) d.0,
-                  ap (λ z. is_member z qs) s ∙ d.1,
+                  ap (λ z. is_among z qs) s ∙ d.1,
                 )
             go y false e h =
                 let p = g.with' y h in (p.0, or_second (same_name (marked y) (marked v.name.name)) (is_among (marked y) ms) p.1, p.2, p.3)
@@ -320,15 +318,15 @@ module _ (C B Common : Name → Type 0) where
         pub body : Body
         pub found : find m.name bs ≡ Some body
         pub parameters : List Name
-        pub ways : Name → Usage
-        pub fine : Fine (MacroName parameters ways) C B (MacroWith parameters) (MacroAssigned parameters ways) AnyCall ⊥ false [] body.statement
-        pub arguments : Standing parameters ways (handed body.parameters ts) [] ns
+        pub usage : Name → Usage
+        pub fine : Fine (MacroName parameters usage) C B (MacroWith parameters) (MacroAssigned parameters usage) AnyCall ⊥ false [] body.statement
+        pub arguments : Standing parameters usage (handed body.parameters ts) [] ns
 
       module _ (bs : Bodies) where
         call_placed : (p : ℕ) (m : PlacedName) (ts : List Tree) (l : Bool) (ns : List Name) → CallOk bs ns m ts → Fine N C B W A AnyCall Y l ns (placed bs (call_macro p m ts))
         call_placed p m ts l ns c =
             subst (λ o. Fine N C B W A AnyCall Y l ns (on (call_macro p m ts) o (λ b. walked p (put (handed b.parameters ts) b.statement)))) (sym c.found)
-            (tt, tt, (tt, fine_put c.parameters c.ways c.body.statement false l (handed c.body.parameters ts) [] ns (λ e. never e) c.arguments c.fine, tt))
+            (tt, tt, (tt, fine_put c.parameters c.usage c.body.statement false l (handed c.body.parameters ts) [] ns (λ e. never e) c.arguments c.fine, tt))
 
         mutual
           pub fine_placed : (t : Statement) (l : Bool) (ns : List Name) → Fine N C B W A (CallOk bs) Y l ns t → Fine N C B W A AnyCall Y l ns (placed bs t)

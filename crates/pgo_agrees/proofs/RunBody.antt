@@ -1,5 +1,5 @@
 -- The body of an archetype that a process runs, with macros in the place of their calls.
-use Rattle.std.proofs.Common.{◌≡◌, ℕ, Bool, true, false, if◌then◌else◌, List, [], ◌∷◌, ◌++◌, length, Some, None, refl, ap, sym, ◌∙◌, subst, inl, inr}
+use Rattle.std.proofs.Common.{◌≡◌, ℕ, Bool, true, false, ◌||◌, List, [], ◌∷◌, ◌++◌, length, Some, None, refl, ap, sym, ◌∙◌, subst, inl, inr}
 use Rattle.std.specs.Prelude.{◌⊎◌, slice_get}
 use Rattle.std.specs.List.{AllByRecursion}
 use Rattle.pgo_base.specs.Data.{Data}
@@ -14,7 +14,7 @@ use Rattle.pgo_syntax.specs.declared.name.PlacedName.{PlacedName}
 use Rattle.pgo_syntax.specs.declared.process.Process.{Process}
 use Rattle.pgo_syntax.specs.declared.spec.Spec.{Spec}
 use Rattle.pgo_uses.specs.AllUses.{names_of, parameter_names, variable_names, parameter_uses, local_uses, start, archetype_uses}
-use Rattle.pgo_uses.specs.Names.{is_member, first_at}
+use Rattle.pgo_uses.specs.Names.{first_at}
 use Rattle.pgo_uses.specs.StatementUses.{at_place, as_passed, argument_uses, uses_of_block}
 use Rattle.pgo_uses.specs.Tables.{macro_rows, tables_of}
 use Rattle.pgo_uses.specs.Uses.{inside, uses}
@@ -36,7 +36,7 @@ use Rattle.pgo_bound.specs.Runs.{archetype_named}
 use Rattle.pgo_heads.specs.Refusals.{bind_refusal}
 use Rattle.pgo_accept.proofs.Fitting.{ArgumentsFit}
 use Rattle.pgo_labels.specs.LabelHere.{label_in_with}
-use Rattle.pgo_sections.specs.Among.{is_among}
+use Rattle.pgo_model.specs.Names.{is_among}
 use Rattle.pgo_meaning.specs.LabelSections.{AreUnlabelled}
 use Rattle.pgo_meaning.specs.MacrosPlaced.{marked as marked', bodies, placed_among}
 use Rattle.pgo_agrees.specs.Accepted.{IsOfText, ArchetypeOfText}
@@ -69,35 +69,35 @@ where_true : (b : Bool) (fs : List Finding) → b ≡ true → found_where b fs 
 where_true true fs e h = h
 where_true false fs e h = absurd (cc)
 
-ref_parameter : (x : Name) (ps : List Parameter) → is_member x (ref_names ps) ≡ true → is_member x (parameter_names ps) ≡ true
+ref_parameter : (x : Name) (ps : List Parameter) → is_among x (ref_names ps) ≡ true → is_among x (parameter_names ps) ≡ true
 ref_parameter x [] h = h
 ref_parameter x (p ∷ ps) h = go p.kind h (ref_parameter x ps)
   where
-    go : (k : ParameterKind) → is_member x (elim k as (λ k. List Name) [ kinds.Value ↦ ref_names ps | kinds.Ref extent ↦ p.name.name ∷ ref_names ps ]) ≡ true → (is_member x (ref_names ps) ≡ true → is_member x (parameter_names ps) ≡ true) → is_member x (parameter_names (p ∷ ps)) ≡ true
+    go : (k : ParameterKind) → is_among x (elim k as (λ k. List Name) [ kinds.Value ↦ ref_names ps | kinds.Ref extent ↦ p.name.name ∷ ref_names ps ]) ≡ true → (is_among x (ref_names ps) ≡ true → is_among x (parameter_names ps) ≡ true) → is_among x (parameter_names (p ∷ ps)) ≡ true
     go kinds.Value e more = by (same_name x p.name.name) (more e)
       where
-        by : (b : Bool) → is_member x (parameter_names ps) ≡ true → (if b then true else is_member x (parameter_names ps)) ≡ true
+        by : (b : Bool) → is_among x (parameter_names ps) ≡ true → (b || is_among x (parameter_names ps)) ≡ true
         by true f = refl
         by false f = f
     go (kinds.Ref extent) e more = by (same_name x p.name.name) e
       where
-        by : (b : Bool) → (if b then true else is_member x (ref_names ps)) ≡ true → (if b then true else is_member x (parameter_names ps)) ≡ true
+        by : (b : Bool) → (b || is_among x (ref_names ps)) ≡ true → (b || is_among x (parameter_names ps)) ≡ true
         by true f = refl
         by false f = more f
 
-member_first : (x : Name) (xs ys : List Name) → is_member x xs ≡ true → is_member x (xs ++ ys) ≡ true
+member_first : (x : Name) (xs ys : List Name) → is_among x xs ≡ true → is_among x (xs ++ ys) ≡ true
 member_first x [] ys h = never h
 member_first x (z ∷ xs) ys h = go (same_name x z) h (member_first x xs ys)
   where
-    go : (b : Bool) → (if b then true else is_member x xs) ≡ true → (is_member x xs ≡ true → is_member x (xs ++ ys) ≡ true) → (if b then true else is_member x (xs ++ ys)) ≡ true
+    go : (b : Bool) → (b || is_among x xs) ≡ true → (is_among x xs ≡ true → is_among x (xs ++ ys) ≡ true) → (b || is_among x (xs ++ ys)) ≡ true
     go true k more = refl
     go false k more = more k
 
-member_last : (x : Name) (xs ys : List Name) → is_member x ys ≡ true → is_member x (xs ++ ys) ≡ true
+member_last : (x : Name) (xs ys : List Name) → is_among x ys ≡ true → is_among x (xs ++ ys) ≡ true
 member_last x [] ys h = h
 member_last x (z ∷ xs) ys h = go (same_name x z) (member_last x xs ys h)
   where
-    go : (b : Bool) → is_member x (xs ++ ys) ≡ true → (if b then true else is_member x (xs ++ ys)) ≡ true
+    go : (b : Bool) → is_among x (xs ++ ys) ≡ true → (b || is_among x (xs ++ ys)) ≡ true
     go true k = refl
     go false k = k
 
@@ -139,10 +139,10 @@ module _ (s : Spec) (k : NoFindings s) (fit : AllByRecursion (ArgumentsFit s.arc
     reads = λ u r g e. run.read_fine s k fit of_text consts none p a among named declared len j at_j there u g.0 (ap (read_of s u) (sym e) ∙ r);
   }
 
-  mine_of : (x : Name) → may_assign s (homes.Body j) x ≡ true → is_member x qs ≡ true
-  mine_of x h = go (or_in (is_member x (ref_names a.params)) (is_member x (variable_names a.locals)) (ap (λ o. assignable_in o x) (sym at_j) ∙ h))
+  mine_of : (x : Name) → may_assign s (homes.Body j) x ≡ true → is_among x qs ≡ true
+  mine_of x h = go (or_in (is_among x (ref_names a.params)) (is_among x (variable_names a.locals)) (ap (λ o. assignable_in o x) (sym at_j) ∙ h))
     where
-      go : (is_member x (ref_names a.params) ≡ true) ⊎ (is_member x (variable_names a.locals) ≡ true) → is_member x qs ≡ true
+      go : (is_among x (ref_names a.params) ≡ true) ⊎ (is_among x (variable_names a.locals) ≡ true) → is_among x qs ≡ true
       go (inl e) = member_first x (parameter_names a.params) (variable_names a.locals) (ref_parameter x a.params e)
       go (inr e) = member_last x (parameter_names a.params) (variable_names a.locals) e
 
@@ -184,18 +184,18 @@ module _ (s : Spec) (k : NoFindings s) (fit : AllByRecursion (ArgumentsFit s.arc
   written_found b w t f Further e = where_true w.further (argument_written s b Further t) e f.more
 
   given : (u : Use) (ts : List Tree) (n : ℕ) (o : MacroOk s k fit of_text (bodies s.macros) u.name n) → FineUse s u → u.form ≡ forms.Called ts → u.around.home ≡ homes.Body j → first_at u.name (macro_rows s.macros) ≡ Some n
-      → (ns : List Name) (x : Name) (t : Tree) → InPairs (x, o.ways x) t (rows o.ways (names_of o.macro.it.params)) ts → Given N (C s k fit of_text) (B s k fit of_text) (D s k fit of_text) A ⊥ (Common s k fit of_text) (Inside s k fit of_text qs) R J (homes.Body j) false joins ns u.around (o.ways x) t
+      → (ns : List Name) (x : Name) (t : Tree) → InPairs (x, o.usage x) t (rows o.usage (names_of o.macro.it.params)) ts → Given N (C s k fit of_text) (B s k fit of_text) (D s k fit of_text) A ⊥ (Common s k fit of_text) (Inside s k fit of_text qs) R J (homes.Body j) false joins ns u.around (o.usage x) t
   given u ts n o f form home first ns x t h =
       let names = names_of o.macro.it.params in
-      let full = parameters_are s k fit of_text (macro_table s.macros) u.name n o.ways names (all_names s k fit of_text) first o.known in
-      let mapped = mapped_at s u.around (x, o.ways x) t (rows o.ways names) ts h (subst (λ qs. arguments_findings s u.around qs ts ≡ []) full (subst (λ g. mapped_use_of s (macro_table s.macros) u g ≡ []) form f.mapped)) in
-      let assigned = assigned_at s u (x, o.ways x) t (rows o.ways names) ts h (subst (λ qs. assigned_arguments s u qs ts ≡ []) full (subst (λ g. assigned_of s (macro_table s.macros) u g ≡ []) form f.assigned)) in
-      let all = found u.around (o.ways x) t mapped in
+      let full = parameters_are s k fit of_text (macro_table s.macros) u.name n o.usage names (all_names s k fit of_text) first o.known in
+      let mapped = mapped_at s u.around (x, o.usage x) t (rows o.usage names) ts h (subst (λ qs. arguments_findings s u.around qs ts ≡ []) full (subst (λ g. mapped_use_of s (macro_table s.macros) u g ≡ []) form f.mapped)) in
+      let assigned = assigned_at s u (x, o.usage x) t (rows o.usage names) ts h (subst (λ qs. assigned_arguments s u qs ts ≡ []) full (subst (λ g. assigned_of s (macro_table s.macros) u g ≡ []) form f.assigned)) in
+      let all = found u.around (o.usage x) t mapped in
       record {
-        reads = λ b c e. all_empty (read_use s) (uses [] (record u.around { hidden = b; indexed = c }) t) (read_found u.around (o.ways x) t all.reads b c e);
+        reads = λ b c e. all_empty (read_use s) (uses [] (record u.around { hidden = b; indexed = c }) t) (read_found u.around (o.usage x) t all.reads b c e);
         writes = λ b e.
-            (let w = written_found u.around (o.ways x) t all b e in
-            let l = assigned_base s k fit of_text u x (o.ways x) t b e assigned in
+            (let w = written_found u.around (o.usage x) t all b e in
+            let l = assigned_base s k fit of_text u x (o.usage x) t b e assigned in
             let base = none_left (base_written s u.around (left_base t) (join (left_shape t) b)) (each_use (read_use s) (left_uses [] (inside u.around) t)) w in
             let path = none_right (base_written s u.around (left_base t) (join (left_shape t) b)) (each_use (read_use s) (left_uses [] (inside u.around) t)) w in
             let one = ap (λ o. base_written s u.around o (join (left_shape t) b)) (sym l.1) ∙ base in
@@ -203,10 +203,10 @@ module _ (s : Spec) (k : NoFindings s) (fit : AllByRecursion (ArgumentsFit s.arc
             (l.0, l.1, (run.mine_single s k fit of_text consts none p a among named declared len j at_j there l.0 (run.mine s k fit of_text consts none p a among named declared len j at_j there l.0 mem), run.written_fine s k fit of_text consts none p a among named declared len j at_j there u.around l.0 (join (left_shape t) b) home one), all_empty (read_use s) (left_uses [] (inside u.around) t) path));
       }
 
-  called : (ns ms : List Name) (b : Around) (c : PlacedName) (ts : List Tree) → FineUse s (record { name = c.name; form = forms.Called ts; inner = is_member c.name ms; around = at_place c.place b }) → IsAt (homes.Body j) false b → (b.hidden ≡ false) × (b.indexed ≡ false) → Known (Known' s k fit of_text qs ns) ms [] → Within qs ms → ArgumentsSpoken ts → AllByRecursion (FineUse s) (argument_uses ms (as_passed (at_place c.place b)) ts)
+  called : (ns ms : List Name) (b : Around) (c : PlacedName) (ts : List Tree) → FineUse s (record { name = c.name; form = forms.Called ts; inner = is_among c.name ms; around = at_place c.place b }) → IsAt (homes.Body j) false b → (b.hidden ≡ false) × (b.indexed ≡ false) → Known (Known' s k fit of_text qs ns) ms [] → Within qs ms → ArgumentsSpoken ts → AllByRecursion (FineUse s) (argument_uses ms (as_passed (at_place c.place b)) ts)
       → CallOk (C s k fit of_text) (B s k fit of_text) (Common s k fit of_text) N (D s k fit of_text) A ⊥ target (bodies s.macros) ns c ts
   called ns ms b c ts f g v known within spoken fine =
-      let u : Use = record { name = c.name; form = forms.Called ts; inner = is_member c.name ms; around = at_place c.place b } in
+      let u : Use = record { name = c.name; form = forms.Called ts; inner = is_among c.name ms; around = at_place c.place b } in
       let e = there_first c.name (macro_rows s.macros) (subst (λ z. may_call (tables_of s) z c.name ≡ true) g.0 (called_known s k fit of_text u ts f refl)) in
       let o = all_macros s k fit of_text unlabelled c.name e.0 e.1 in
       call_ok s k fit of_text N (D s k fit of_text) A (homes.Body j) (λ x. refl) qs R J target joins (bodies s.macros) ns ms b c ts e.0 o f g v known spoken fine (λ x t h. given u ts e.0 o f refl g.0 e.1 ns x t h)

@@ -4,7 +4,7 @@ use Rattle.std.specs.Prelude.{◌⊎◌, slice_get}
 use Rattle.std.specs.List.{AllByRecursion, filter_map, flat_map}
 use Rattle.pgo_base.specs.Data.{Data}
 use Rattle.pgo_base.specs.Lookup.{Name, same_name, find}
-use Rattle.pgo_model.specs.Names.{same_name-self, same_name-is}
+use Rattle.pgo_model.specs.Names.{same_name-self, same_name-is, is_among}
 use Rattle.pgo_model.specs.Written.{written, done}
 use Rattle.pgo_syntax.specs.declared.name.PlacedName.{PlacedName}
 use Rattle.pgo_syntax.specs.declared.archetype.Archetype.{Archetype}
@@ -35,7 +35,6 @@ use Rattle.pgo_bound.specs.State.{names_with, target_extent, kind_in}
 use Rattle.pgo_heads.specs.Refusals.{bind_refusal}
 use Rattle.pgo_accept.proofs.Fitting.{ArgumentsFit}
 use Rattle.pgo_sections.specs.Access.{Mapped}
-use Rattle.pgo_sections.specs.Among.{is_among}
 use Rattle.pgo_sections.specs.Code.{Place, variable_of, Code, Goto, content_name, content_places, value_name}
 use Rattle.pgo_sections.specs.Domains.{ByElements}
 use Rattle.pgo_sections.specs.WellFormed.{PlainCode}

@@ -1,5 +1,5 @@
 -- What Init asks of names holds of an accepted specification.
-use Rattle.std.proofs.Common.{◌≡◌, true, false, List, map, Option, Some, None, refl, ap, sym, ◌∙◌, subst, inl, inr}
+use Rattle.std.proofs.Common.{◌≡◌, true, false, List, map, refl, ap, sym, ◌∙◌, subst, inl, inr}
 use Rattle.std.specs.Prelude.{◌⊎◌}
 use Rattle.std.specs.List.{AllByRecursion}
 use Rattle.pgo_base.specs.Data.{Data}
@@ -13,7 +13,7 @@ use Rattle.pgo_syntax.specs.declared.declaration.Definition.{Definition}
 use Rattle.pgo_syntax.specs.declared.process.Process.{Process}
 use Rattle.pgo_syntax.specs.declared.spec.Spec.{Spec}
 use Rattle.pgo_uses.specs.Heads.{definition_names as placed_names, unit_names}
-use Rattle.pgo_uses.specs.Tables.{all_definitions, defined}
+use Rattle.pgo_uses.specs.Tables.{all_definitions}
 use Rattle.pgo_scope.specs.Twice.{is_reserved, reserved_name}
 use Rattle.pgo_scope.specs.declared.errors.ScopeError.TheVariants as errors
 use Rattle.pgo_bound.specs.Among.{IsAmong, among_left, among_right, among_append, from_map}
@@ -22,7 +22,7 @@ use Rattle.pgo_bound.specs.Sound.{labels_among}
 use Rattle.pgo_bound.specs.State.{variables_of}
 use Rattle.pgo_bound.specs.Values.{define_of, defs_of}
 use Rattle.pgo_accept.proofs.Fitting.{ArgumentsFit}
-use Rattle.pgo_sections.specs.Among.{is_among}
+use Rattle.pgo_model.specs.Names.{is_among}
 use Rattle.pgo_translate.specs.Premises.{OriginAvoids, ProcessAvoids, StartsAtLabel, StartNames, definition_names, further_names, taken_names, is_taken}
 use Rattle.pgo_agrees.specs.Accepted.{IsOfText}
 use Rattle.pgo_agrees.proofs.Avoided.{taken_apart, global_avoids, archetype_avoids, process_avoids}
@@ -48,10 +48,6 @@ module _ (s : Spec) (k : NoFindings s) (labels : NoLabelFindings s) (fit : AllBy
           listed (among_right x (variables_of s) (further_written s) (further_among s x (named_further s k labels x (name_of s k labels x b))))
 
   -- ---- `defaultInitValue`
-  same_defined : (o : Option (List Definition)) (d : Definition) → IsAmong d (define_of o) → IsAmong d (defined o)
-  same_defined None d a = a
-  same_defined (Some ds) d a = a
-
   definition_reserved : (d : Definition) → IsAmong d (all_definitions s) → is_reserved d.name.name ≡ false
   definition_reserved d a =
       let there = global_unit s k fit of_text d.name (shared_of s k fit of_text d.name (among_right d.name s.constants (placed_names (all_definitions s)) (defined_name d (all_definitions s) a))) in
@@ -72,10 +68,10 @@ module _ (s : Spec) (k : NoFindings s) (labels : NoLabelFindings s) (fit : AllBy
       go : IsAmong default_init_value first ⊎ IsAmong default_init_value second → ⊥
       go (inl b) =
           let m = from_map (λ (d : Definition). d.name.name) default_init_value s.definitions b in
-          no_definition m.0 (among_left m.0 s.definitions (defined s.define) m.1) m.2
+          no_definition m.0 (among_left m.0 s.definitions (define_of s.define) m.1) m.2
       go (inr b) =
           let m = from_map (λ (d : Definition). d.name.name) default_init_value (define_of s.define) b in
-          no_definition m.0 (among_right m.0 s.definitions (defined s.define) (same_defined s.define m.0 m.1)) m.2
+          no_definition m.0 (among_right m.0 s.definitions (define_of s.define) m.1) m.2
 
   -- ---- where processes start
   starts_at : (p : Process) → StartsAtLabel s p

@@ -3,7 +3,7 @@ use Rattle.std.proofs.Common.{◌≡◌, ℕ, suc, ◌+◌, Bool, true, false, �
 use Rattle.std.specs.Prelude.{◌⊎◌}
 use Rattle.std.specs.List.{AllByRecursion, filter_map, flat_map, cons_option}
 use Rattle.pgo_base.specs.Lookup.{Name, same_name, find}
-use Rattle.pgo_model.specs.Names.{same_name-self, same_name-is, same_name-not}
+use Rattle.pgo_model.specs.Names.{same_name-self, same_name-is, same_name-not, is_among}
 use Rattle.pgo_model.specs.Written.{pc, self_name, written}
 use Rattle.pgo_syntax.specs.Statement.{labeled}
 use Rattle.pgo_syntax.specs.declared.name.PlacedName.{PlacedName}
@@ -20,7 +20,6 @@ use Rattle.pgo_uses.specs.AllUses.{all_uses, variable_names, parameter_names, pa
 use Rattle.pgo_uses.specs.Heads.{declared_names, definition_names, shared_names, head_names, unit_names, macro_names, mapping_names, archetype_names, process_names, named_by}
 use Rattle.pgo_uses.specs.StatementUses.{at_place, uses_of_block}
 use Rattle.pgo_uses.specs.Tables.{all_definitions}
-use Rattle.pgo_uses.specs.Names.{is_member}
 use Rattle.pgo_uses.specs.declared.uses.Around.{Around}
 use Rattle.pgo_uses.specs.declared.uses.Home.TheVariants as homes
 use Rattle.pgo_uses.specs.declared.uses.Use.{Use}
@@ -35,7 +34,6 @@ use Rattle.pgo_bound.specs.State as bind
 use Rattle.pgo_bound.specs.State.{variables_of, names_with, names_or_none}
 use Rattle.pgo_accept.proofs.Fitting.{Fits, ArgumentsFit, is_stray}
 use Rattle.pgo_accept.proofs.WrittenOnce.{writes}
-use Rattle.pgo_sections.specs.Among.{is_among}
 use Rattle.pgo_sections.specs.WellFormed.{NotMade}
 use Rattle.pgo_agrees.specs.Accepted.{IsOfText, ArchetypeOfText, ParameterOfText, DeclarationOfText}
 use Rattle.pgo_agrees.proofs.Kept.{NoFindings, nothing_if, none_of_name}
@@ -221,13 +219,13 @@ module _ (s : Spec) (h : name_clashes s ≡ []) (fit : AllByRecursion (Arguments
 parameter_use : (p : Parameter) (ns : List Name) (a : Around) (ps : List Parameter) → IsAmong p ps → (b : Bool) × IsAmong (record { name = p.name.name; form = forms.Named; inner = b; around = at_place p.name.place a }) (parameter_uses ns a ps)
 parameter_use p ns a [] h = absurd h
 parameter_use p ns a (q ∷ ps) (inl e) =
-    (is_member q.name.name ns, inl (ap (λ (z : Parameter). record { name = z.name.name; form = forms.Named; inner = is_member q.name.name ns; around = at_place z.name.place a }) e))
+    (is_among q.name.name ns, inl (ap (λ (z : Parameter). record { name = z.name.name; form = forms.Named; inner = is_among q.name.name ns; around = at_place z.name.place a }) e))
 parameter_use p ns a (q ∷ ps) (inr h) = let r = parameter_use p (ns ++ q.name.name ∷ []) a ps h in (r.0, inr r.1)
 
 local_use : (j : ℕ) (d : Declaration) (ns : List Name) (a : Around) (ds : List Declaration) → IsAmong d ds → (b : Bool) × IsAmong (record { name = d.name.name; form = forms.Named; inner = b; around = at_place d.name.place a }) (local_uses j ns a ds)
 local_use j d ns a [] h = absurd h
 local_use j d ns a (e ∷ ds) (inl q) =
-    (is_member e.name.name ns, inl (ap (λ (z : Declaration). record { name = z.name.name; form = forms.Named; inner = is_member e.name.name ns; around = at_place z.name.place a }) q))
+    (is_among e.name.name ns, inl (ap (λ (z : Declaration). record { name = z.name.name; form = forms.Named; inner = is_among e.name.name ns; around = at_place z.name.place a }) q))
 local_use j d ns a (e ∷ ds) (inr h) =
     let r = local_use j d (ns ++ e.name.name ∷ []) a ds h in
     (r.0, inr (among_right (record { name = d.name.name; form = forms.Named; inner = r.0; around = at_place d.name.place a }) (initial_uses j e) (local_uses j (ns ++ e.name.name ∷ []) a ds) r.1))

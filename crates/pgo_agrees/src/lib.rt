@@ -18,7 +18,7 @@ ghost use Rattle.pgo_bound.specs.BoundOf.{bound_of};
 ghost use Rattle.pgo_bound.specs.Declares.{value_in};
 ghost use Rattle.pgo_bound.specs.Sound.{Sound, IsLabel};
 ghost use Rattle.pgo_bound.specs.State.{IsState, IsStateOnDomains, id_of};
-ghost use Rattle.pgo_sections.specs.Among.{is_among};
+ghost use Rattle.pgo_model.specs.Names.{is_among};
 ghost use Rattle.pgo_meaning.specs.Ends.{KeepsElements};
 ghost use Rattle.pgo_meaning.specs.Expansions.{trees_of};
 ghost use Rattle.pgo_meaning.specs.LabelSections.{AreUnlabelled, NoneIsDone};

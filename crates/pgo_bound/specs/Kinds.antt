@@ -1,5 +1,5 @@
 -- How the instances bind a global, binding by binding.
-use Rattle.std.specs.Prelude.{List, [], ◌∷◌}
+use Rattle.std.specs.Prelude.{Bool, true, false, List, [], ◌∷◌}
 use Rattle.pgo_syntax.specs.declared.archetype.Extent.{Extent}
 use Rattle.pgo_syntax.specs.declared.archetype.Extent.TheVariants.{Whole, Element}
 use Rattle.pgo_bound.specs.declared.kinds.Kind.{Kind}
@@ -16,3 +16,9 @@ with_extent ByElement Element = ByElement
 abbrev pub all_extents : Kind → List Extent → Kind
 all_extents k [] = k
 all_extents k (e ∷ es) = all_extents (with_extent k e) es
+
+-- the global is one resource for each of its elements
+abbrev pub is_by_element : Kind → Bool
+is_by_element Unbound = false
+is_by_element AsWhole = false
+is_by_element ByElement = true

@@ -17,6 +17,8 @@ use Rattle.pgo_syntax.specs.declared.declaration.Definition.{Definition}
 use Rattle.pgo_syntax.specs.declared.binding.Origin.{Origin}
 use Rattle.pgo_syntax.specs.declared.binding.Origin.TheVariants.{Equals, In}
 use Rattle.pgo_syntax.specs.declared.spec.Spec.{Spec}
+pub use Rattle.pgo_syntax.specs.Defines.{define_of}
+use Rattle.pgo_syntax.specs.PlacedNames.{names_of}
 
 -- what the last entry of the name has, and before where there is none
 abbrev pub latest : {A : Type 0} → Name → Option A → List (Name × A) → Option A
@@ -31,18 +33,11 @@ given_value consts c = latest c None consts
 abbrev pub given_constant : List (Name × Data) → PlacedName → Option Defined
 given_constant consts c = option_map (λ v. Given c.name (value_from v)) (given_value consts c.name)
 
-abbrev pub parameter_names : List PlacedName → List Name
-parameter_names ps = map (λ p. p.name) ps
-
 abbrev pub meant : Definition → Defined
-meant d = Means d.name.name (parameter_names d.params) d.body
+meant d = Means d.name.name (names_of d.params) d.body
 
 abbrev pub default_definition : Defined
 default_definition = Given default_init_value (value_from (model default_init_value))
-
-abbrev pub define_of : Option (List Definition) → List Definition
-define_of None = []
-define_of (Some ds) = ds
 
 -- the constants in the order of declaration with their values, `defaultInitValue`, the module's definitions, and those
 -- of `define`

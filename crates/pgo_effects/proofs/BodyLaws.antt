@@ -3,7 +3,7 @@ use Rattle.std.proofs.Common.{◌≡◌, List, [], ◌∷◌, ◌++◌, refl, ap
 use Rattle.pgo_syntax.specs.Statement.{Statement, skip, assign, if_then, if_else, while_do, either_of, await_that, with_in, print_out, assert_that, go_to, call_macro, yield_as, block, Statements, no_statements, more_statements, LabeledStatements, no_labeled, more_labeled, GuardedStatements, no_guarded, more_guarded}
 use Rattle.pgo_syntax.specs.declared.macros.Macro.{Macro}
 use Rattle.pgo_meaning.specs.MacrosPlaced.{Bodies, placed, placed_each, placed_among, placed_guarded, bodies_with, bodies}
-use Rattle.pgo_effects.specs.Called.{body_after}
+use Rattle.pgo_effects.specs.Bodies.{body_after}
 
 bodies_behind : (ms : List Macro) (done' : Bodies) (m : Macro) → bodies_with done' (ms ++ m ∷ []) ≡ (m.name.name, body_after (bodies_with done' ms) m) ∷ bodies_with done' ms
 bodies_behind [] done' m = refl

@@ -12,3 +12,5 @@ pub mod PlaceLaws
 pub mod LeftLaws
 pub mod ChangedLaws
 pub mod LocalLaws
+pub mod ParameterLaws
+pub mod LastLaws

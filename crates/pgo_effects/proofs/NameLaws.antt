@@ -12,13 +12,14 @@ use Rattle.pgo_meaning.specs.MacrosPlaced.{unmarked, placed}
 use Rattle.pgo_meaning.specs.Statements.{Setting, bind_name, bind_names, code}
 use Rattle.pgo_effects.specs.declared.piece.Effect.{Effect}
 use Rattle.pgo_effects.specs.Around.{Surroundings, stands, written_label}
-use Rattle.pgo_effects.specs.Origins.{of_origin, with_value, binding_code}
+use Rattle.pgo_syntax.specs.Origins.{origin_tree}
+use Rattle.pgo_effects.specs.Origins.{with_value, binding_code}
 use Rattle.pgo_effects.specs.Pieces.{effect_code, code_with}
 use Rattle.pgo_effects.specs.Puts.{Layers, puts, puts_tree, puts_origin, puts_name, puts_names, behind_name, behind_names, marked_by}
 use Rattle.pgo_effects.proofs.PieceLaws.{pushed, from_none}
 use Rattle.pgo_effects.proofs.PutLaws.{puts_equals, puts_in, puts_with}
 
-origin_put : (ls : Layers) (o : Origin) → puts_origin ls o ≡ with_value o (puts_tree ls (of_origin o))
+origin_put : (ls : Layers) (o : Origin) → puts_origin ls o ≡ with_value o (puts_tree ls (origin_tree o))
 origin_put ls (Equals e) = puts_equals ls e
 origin_put ls (In e) = puts_in ls e
 
@@ -34,7 +35,7 @@ module _ (s : Setting) where
       ∙ step (λ e k. binding_code o (unmarked x) x e c)
       ∙ ap (code_with es) (bound_by s o x v c)
 
-  pub name_added : (es new : List Effect) (ls : Layers) (w : WithName) (x : Name) (v g : Tree) → g ≡ of_origin w.origin → x ≡ marked_by ls w.name.name → v ≡ puts_tree ls g → ((c : Code) → code_with new c ≡ code_with es (bind_name s x (with_value w.origin v) c)) → (c : Code) → code_with new c ≡ code_with es (bind_name s (puts_name ls w).name.name (puts_name ls w).origin c)
+  pub name_added : (es new : List Effect) (ls : Layers) (w : WithName) (x : Name) (v g : Tree) → g ≡ origin_tree w.origin → x ≡ marked_by ls w.name.name → v ≡ puts_tree ls g → ((c : Code) → code_with new c ≡ code_with es (bind_name s x (with_value w.origin v) c)) → (c : Code) → code_with new c ≡ code_with es (bind_name s (puts_name ls w).name.name (puts_name ls w).origin c)
   name_added es new ls w x v g eg ex ev step c =
       step c
       ∙ (λ i. code_with es (bind_name s (ex i) (with_value w.origin ((ev ∙ ap (puts_tree ls) eg) i)) c))

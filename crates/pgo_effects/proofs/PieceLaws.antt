@@ -34,6 +34,5 @@ index_first es new index b n i v is eb ei e f =
     ∙ ap (λ o. code_with es (read_first (option_map named_tree o) f)) (sym is)
 
 -- the reads that come before an expression
-pub evaluated_by : (es new : List Effect) (m n : MappedNames) (e : Tree) (k : ℕ) (h : Hoisted Tree) → n ≡ m → h ≡ hoisted n [] e k → ((c : Code) → code_with new c ≡ code_with es (after h.reads c)) → (f : Tree → ℕ → Code) → code_with new (f h.rest h.used) ≡ code_with es (evaluated m e k f)
-evaluated_by es new m n e k h em eh step f =
-    step (f h.rest h.used) ∙ ap (λ p. code_with es (after p.reads (f p.rest p.used))) (eh ∙ ap (λ z. hoisted z [] e k) em)
+pub evaluated_by : (es new : List Effect) (m : MappedNames) (e : Tree) (k : ℕ) (h : Hoisted Tree) → h ≡ hoisted m [] e k → ((c : Code) → code_with new c ≡ code_with es (after h.reads c)) → (f : Tree → ℕ → Code) → code_with new (f h.rest h.used) ≡ code_with es (evaluated m e k f)
+evaluated_by es new m e k h eh step f = step (f h.rest h.used) ∙ ap (λ p. code_with es (after p.reads (f p.rest p.used))) eh

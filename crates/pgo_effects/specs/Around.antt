@@ -15,7 +15,7 @@ pub record Surroundings : Type 0 where
   pub label : Option Name
 
 abbrev pub around_view : Around → Surroundings
-around_view a = record { layers = a.layers.value.items; bodies = bodies a.macros.now; label = option_map (λ x. x.now) a.label }
+around_view a = record { layers = a.layers.value.items; bodies = bodies a.macros; label = option_map (λ x. x.now) a.label }
 
 abbrev pub stands : Surroundings → Statement → Statement
 stands a t = puts a.layers (placed a.bodies t)

@@ -4,6 +4,7 @@ pub mod Puts
 pub mod Around
 pub mod Todos
 pub mod Pieces
+pub mod Bodies
 pub mod Called
 pub mod Origins
 pub mod Assigned

@@ -1,15 +1,11 @@
--- The expression from which a name of a `with` has its value.
+-- What binds a name of a `with`, with another expression.
 use Rattle.pgo_base.specs.Lookup.{Name}
 use Rattle.pgo_base.specs.Tree.{Tree}
 use Rattle.pgo_syntax.specs.declared.binding.Origin.{Origin}
 use Rattle.pgo_syntax.specs.declared.binding.Origin.TheVariants.{Equals, In}
 use Rattle.pgo_sections.specs.Code.{Code, Let, Pick}
 
-abbrev pub of_origin : Origin → Tree
-of_origin (Equals e) = e
-of_origin (In e) = e
-
--- the same with another expression
+-- the same origin with another expression
 abbrev pub with_value : Origin → Tree → Origin
 with_value (Equals e) v = Equals v
 with_value (In e) v = In v

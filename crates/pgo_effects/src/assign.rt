@@ -27,7 +27,6 @@ use crate::todo::Todo;
 use pgo_base::expr::{Expr, Exprs, Sub, Update, Updates};
 use pgo_base::results::both;
 use pgo_base::text::Text;
-use pgo_rewrite::mapped::mapped_named;
 use pgo_rewrite::reads::place;
 use pgo_syntax::assignment::{Assignment, Left, Step};
 use std::alloc::{AllocError, Global};
@@ -230,7 +229,7 @@ fn assigned<'a>(
 ) -> Result<Change<'a>, AllocError>
     ensures { IfOk result (λ c. change_code c ≡ spec.assigned (setting_view setting.entry) x.now (map part_view path.now) w) }
 {
-    let found = mapped_named(setting.bindings(), x);
+    let found = setting.mapped_named(x);
     match found {
         None => assigned_place(alloc, setting, x, path, w),
         Some(m) => Ok(Change::Write(m, index_of(alloc, path)?, w)),

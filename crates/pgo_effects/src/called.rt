@@ -1,11 +1,13 @@
 // The macro that a call names, and its arguments.
-ghost use Rattle.std.specs.Prelude.{◌≡◌, ◌≤◌, ◌⊎◌, map, option_map, IfOk};
+ghost use Rattle.std.specs.Prelude.{◌≡◌, ◌≤◌, ◌⊎◌, map, Some, option_map, IfOk};
 ghost use Rattle.pgo_base.specs.ExprView.{tree};
 ghost use Rattle.pgo_base.specs.Lookup.{find};
 ghost use Rattle.pgo_meaning.specs.MacrosPlaced as spec;
 ghost use Rattle.pgo_meaning.specs.MacrosPlaced.{bodies};
+ghost use Rattle.pgo_effects.specs.Bodies.{body_at};
 ghost use Rattle.pgo_effects.specs.Called.{called_body};
 
+use crate::indexed_macros::IndexedMacros;
 use pgo_base::expr::Expr;
 use pgo_base::text::Text;
 use pgo_rewrite::arguments::Arguments;
@@ -13,26 +15,31 @@ use pgo_syntax::macros::Macro;
 use pgo_syntax::name::PlacedName;
 use std::alloc::{AllocError, Global};
 
-/// A macro, and those that may be called in it.
+/// A macro, and its place: those before it may be called in it.
 #[derive(Clone, Copy)]
 pub(crate) struct Called<'a> {
     pub of: &'a Macro,
-    pub before: &'a [Macro],
+    pub place: usize,
 }
 
 /// The last macro of the name.
-#[tactic(auto, using(crate::proofs::BodyLaws::bodies_last))]
-pub(crate) fn find_macro<'a>(macros: &'a [Macro], x: &Text) -> Option<Called<'a>>
-    ensures { option_map called_body result ≡ find x.now (bodies macros.entry.now) }
+pub(crate) fn find_macro<'a>(macros: &IndexedMacros<'a>, x: &Text) -> Option<Called<'a>>
+    ensures { option_map (called_body macros.now) result ≡ find x.now (bodies macros.now) }
 {
-    let mut left = macros;
-    while let Some((m, before)) = left.split_last() {
-        if x.is(&m.name.name) {
-            return Some(Called { of: m, before });
-        }
-        left = before;
+    match macros.place(x) {
+        None => None,
+        Some(place) => called_at(macros, place),
     }
-    None
+}
+
+/// The macro in this place.
+fn called_at<'a>(macros: &IndexedMacros<'a>, place: usize) -> Option<Called<'a>>
+    ensures { option_map (called_body macros.now) result ≡ body_at macros.now (Some place) }
+{
+    match macros.list().get(place) {
+        None => None,
+        Some(of) => Some(Called { of, place }),
+    }
 }
 
 /// The lesser of two numbers.

@@ -1,5 +1,5 @@
 // One level of a macro's call: its body in the place of the call.
-ghost use Rattle.std.specs.Prelude.{◌≡◌, ℕ, [], ◌∷◌, map, IfOk};
+ghost use Rattle.std.specs.Prelude.{◌≡◌, ℕ, [], ◌∷◌, map, take, IfOk};
 ghost use Rattle.pgo_base.specs.ExprView.{tree};
 ghost use Rattle.pgo_effects.specs.Around.{around_view, stands, written_label as label_at};
 ghost use Rattle.pgo_effects.specs.Called.{called_body};
@@ -45,12 +45,13 @@ fn body_todo<'a>(
     called: Called<'a>,
     arguments: Arguments,
 ) -> Result<Todo<'a>, AllocError>
-    ensures { IfOk result (λ t. (s : Meant) → code_of s t ≡ in_order s (label_at s (around_view around.now).label) (puts_among (arguments ∷ (around_view around.now).layers) (spec.placed_among (spec.bodies called.entry.before.now) (labeled called.entry.of.now.body)))) }
+    ensures { IfOk result (λ t. (s : Meant) → code_of s t ≡ in_order s (label_at s (around_view around.now).label) (puts_among (arguments ∷ (around_view around.now).layers) (spec.placed_among (spec.bodies (take called.entry.place around.now.macros)) (labeled called.entry.of.now.body)))) }
 {
     let layers = Rc::new(alloc, within(alloc, arguments, &around.layers)?)?;
+    let macros = around.macros.before(called.place)?;
     let inner = Around {
         layers,
-        macros: called.before,
+        macros,
         label: around.label,
     };
     Ok(Todo::Text(Part::Order(called.of.body.as_slice()), inner))
@@ -63,7 +64,7 @@ fn body_row<'a>(
     called: Called<'a>,
     arguments: Arguments,
 ) -> Result<Vec<Todo<'a>>, AllocError>
-    ensures { IfOk result (λ v. (s : Meant) → codes_of s v.items ≡ Skip ∷ in_order s (label_at s (around_view around.now).label) (puts_among (arguments ∷ (around_view around.now).layers) (spec.placed_among (spec.bodies called.entry.before.now) (labeled called.entry.of.now.body))) ∷ []) }
+    ensures { IfOk result (λ v. (s : Meant) → codes_of s v.items ≡ Skip ∷ in_order s (label_at s (around_view around.now).label) (puts_among (arguments ∷ (around_view around.now).layers) (spec.placed_among (spec.bodies (take called.entry.place around.now.macros)) (labeled called.entry.of.now.body))) ∷ []) }
 {
     let mut todos = Vec::new(alloc);
     todos.push(Todo::Skip)?;
@@ -78,7 +79,7 @@ fn body_piece<'a>(
     called: Called<'a>,
     list: &[Expr],
 ) -> Result<Piece<'a>, AllocError>
-    ensures { IfOk result (λ p. (s : Meant) (n : ℕ) → piece_code s p ≡ code s (label_at s (around_view around.now).label) (puts (around_view around.now).layers (spec.walked n (spec.put (spec.handed (called_body called.entry).parameters (map tree list.now)) (called_body called.entry).statement)))) }
+    ensures { IfOk result (λ p. (s : Meant) (n : ℕ) → piece_code s p ≡ code s (label_at s (around_view around.now).label) (puts (around_view around.now).layers (spec.walked n (spec.put (spec.handed (called_body around.now.macros called.entry).parameters (map tree list.now)) (called_body around.now.macros called.entry).statement)))) }
 {
     let arguments = handed(alloc, called.of.params.as_slice(), list)?;
     let todos = body_row(alloc, around, called, arguments)?;
@@ -94,7 +95,7 @@ pub(crate) fn call_piece<'a>(
 ) -> Result<Piece<'a>, AllocError>
     ensures { IfOk result (λ p. (s : Meant) (n : ℕ) → piece_code s p ≡ code s (label_at s (around_view around.now).label) (stands (around_view around.now) (call_macro n m.now (map tree list.now)))) }
 {
-    match find_macro(around.macros, &m.name) {
+    match find_macro(&around.macros, &m.name) {
         None => Ok(last_alone(alloc, Last::Empty)),
         Some(called) => body_piece(alloc, around, called, list),
     }

@@ -7,8 +7,8 @@ ghost use Rattle.pgo_effects.specs.Around.{around_view};
 ghost use Rattle.pgo_effects.specs.Pieces.{code_with};
 ghost use Rattle.pgo_effects.specs.Puts.{puts_tree};
 ghost use Rattle.pgo_effects.specs.SettingView.{setting_view};
-ghost use Rattle.pgo_rewrite.specs.Views.{read_view, read_views};
-ghost use Rattle.pgo_sections.specs.Access.{after, evaluated, read_first};
+ghost use Rattle.pgo_rewrite.specs.Views.{hoisted_view, read_view, read_views};
+ghost use Rattle.pgo_sections.specs.Access.{after, evaluated, hoisted, read_first};
 ghost use Rattle.pgo_sections.specs.Code.{Code};
 
 use crate::around::Around;
@@ -18,7 +18,8 @@ use pgo_base::expr::{Expr, Sub};
 use pgo_base::results::both;
 use pgo_base::text::Text;
 use pgo_rewrite::arguments::{Arguments, put};
-use pgo_rewrite::reads::Read;
+use pgo_rewrite::indexed_bindings::IndexedBindings;
+use pgo_rewrite::reads::{Hoisted, Read};
 use pgo_rewrite::rewrite::hoist;
 use std::alloc::{AllocError, Global};
 
@@ -95,6 +96,21 @@ fn add_reads<'a>(
     Ok(())
 }
 
+/// An expression with the reads of the setting's mapped parameters hoisted out of it, where `used` places are in use.
+fn hoist_in<'a>(
+    alloc: Global,
+    setting: Setting<'a, '_>,
+    e: &Expr,
+    used: u64,
+) -> Result<Hoisted<'a>, AllocError>
+    ensures { IfOk result (λ h. hoisted_view h ≡ hoisted (setting_view setting.entry).mapped [] (tree e.now) used) }
+{
+    match setting {
+        Setting::Process { bindings, .. } => hoist(alloc, bindings, e, used),
+        Setting::Block => hoist(alloc, &IndexedBindings::none(alloc), e, used),
+    }
+}
+
 /// Adds the reads that come before an expression in which each argument is in place, and gives what is left of it and how many
 /// places are in use.
 pub(crate) fn evaluate_put<'a>(
@@ -106,7 +122,7 @@ pub(crate) fn evaluate_put<'a>(
 ) -> Result<(Expr, u64), AllocError>
     ensures { IfOk result (λ r. (f : Tree → ℕ → Code) → code_with effects.new.items (f (tree r.0) r.1) ≡ code_with effects.old.items (evaluated (setting_view setting.entry).mapped (tree e.now) used f)) }
 {
-    let hoisted = hoist(alloc, setting.bindings(), e, used)?;
+    let hoisted = hoist_in(alloc, setting, e, used)?;
     let added = add_reads(alloc, effects, hoisted.reads);
     let (rest, _added) = both(Ok(hoisted.rest), added)?;
     Ok((rest, hoisted.used))

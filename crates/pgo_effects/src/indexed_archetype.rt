@@ -1,6 +1,6 @@
 // An archetype whose locals are found by name.
 ghost use Rattle.std.specs.Prelude.{◌≡◌, IfOk};
-ghost use Rattle.pgo_uses.specs.Names.{is_among};
+ghost use Rattle.pgo_uses.specs.Names.{has_row};
 ghost use Rattle.pgo_uses.specs.Tables.{variable_rows};
 
 use pgo_base::text::Text;
@@ -24,7 +24,7 @@ impl<'a> Model for IndexedArchetype<'a> {
     ghost use Rattle.pgo_base.specs.TreeCode.{coded_tree};
     ghost use Rattle.pgo_syntax.specs.StatementCode.{coded_statement};
     ghost use Rattle.pgo_syntax.specs.declared.archetype.Archetype.{Archetype};
-    ghost use Rattle.pgo_uses.specs.Names.{is_among};
+    ghost use Rattle.pgo_uses.specs.Names.{has_row};
     ghost use Rattle.pgo_uses.specs.Tables.{variable_rows};
 
     ghost Value = { Archetype };
@@ -33,7 +33,7 @@ impl<'a> Model for IndexedArchetype<'a> {
 
     ghost view = { λ a. a.archetype.now };
 
-    ghost invariant = { λ a. (x : Name) → is_among x a.names ≡ is_among x (variable_rows a.archetype.now.locals) };
+    ghost invariant = { λ a. (x : Name) → has_row x a.names ≡ has_row x (variable_rows a.archetype.now.locals) };
 }
 
 impl<'a> IndexedArchetype<'a> {
@@ -54,7 +54,7 @@ impl<'a> IndexedArchetype<'a> {
 
     /// Whether this is the name of a local.
     pub fn has_local(&self, name: &Text) -> bool
-        ensures { result ≡ is_among name.now (variable_rows self.now.locals) }
+        ensures { result ≡ has_row name.now (variable_rows self.now.locals) }
     {
         self.names.has(name)
     }

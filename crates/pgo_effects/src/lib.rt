@@ -9,6 +9,7 @@ mod calls;
 pub mod change;
 mod evaluate;
 pub mod indexed_archetype;
+pub mod indexed_macros;
 mod lefts;
 pub mod names;
 pub mod piece;

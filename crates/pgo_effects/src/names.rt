@@ -6,13 +6,14 @@ ghost use Rattle.pgo_effects.specs.Around.{around_view, stands};
 ghost use Rattle.pgo_effects.specs.Around.{written_label as label_at};
 ghost use Rattle.pgo_effects.specs.Pieces.{code_with, effect_code, piece_code};
 ghost use Rattle.pgo_effects.specs.Puts.{behind_name, behind_names, marked_by, puts, puts_name, puts_names, puts_tree};
-ghost use Rattle.pgo_effects.specs.Origins.{binding_code, of_origin, with_value};
+ghost use Rattle.pgo_effects.specs.Origins.{binding_code, with_value};
 ghost use Rattle.pgo_effects.specs.SettingView.{setting_view};
 ghost use Rattle.pgo_effects.specs.Todos.{code_of};
 ghost use Rattle.pgo_meaning.specs.MacrosPlaced as spec;
 ghost use Rattle.pgo_meaning.specs.MacrosPlaced.{placed};
 ghost use Rattle.pgo_meaning.specs.Statements.{Setting as Meant, bind_name, bind_names, code};
 ghost use Rattle.pgo_sections.specs.Code.{Code};
+ghost use Rattle.pgo_syntax.specs.Origins.{origin_tree};
 ghost use Rattle.pgo_syntax.specs.Statement.{with_in};
 ghost use Rattle.pgo_syntax.specs.StatementView.{statement};
 
@@ -57,7 +58,7 @@ fn unmarked(alloc: Global, x: &Text) -> Result<Text, AllocError>
 
 /// The expression from which a name has its value.
 pub fn origin_of(origin: &Origin) -> &Expr
-    ensures { tree result.now ≡ of_origin origin.now }
+    ensures { tree result.now ≡ origin_tree origin.now }
 {
     match origin {
         Origin::Equals(e) => e.get(),
@@ -235,9 +236,10 @@ pub(crate) fn under<'a>(
     ensures { IfOk result (λ t. (s : Meant) → code_of s t ≡ code s (label_at s (around_view around.now).label) (puts layers.items (placed (around_view around.now).bodies (statement body.entry.now)))) }
 {
     let layers = Rc::new(alloc, layers)?;
+    let macros = around.macros.copy()?;
     let around = Around {
         layers,
-        macros: around.macros,
+        macros,
         label: around.label,
     };
     Ok(Todo::Text(Part::Statement(body), around))

@@ -10,7 +10,8 @@ use crate::indexed_archetype::IndexedArchetype;
 use crate::setting::Setting;
 use crate::written::written_name;
 use pgo_base::text::Text;
-use pgo_syntax::bound::{Binding, Target};
+use pgo_rewrite::indexed_bindings::IndexedBindings;
+use pgo_syntax::bound::Target;
 use std::alloc::{AllocError, Global};
 
 /// A variable as a whole, or its part at `self`.
@@ -59,20 +60,15 @@ fn target_place(
 fn parameter_place(
     alloc: Global,
     process: &Text,
-    bindings: &[Binding],
+    bindings: &IndexedBindings<'_>,
     x: &Text,
 ) -> Result<Option<Place>, AllocError>
     ensures { IfOk result (λ p. option_map place_view p ≡ find x.now (parameter_places process.now bindings.now)) }
 {
-    for b in bindings {
-        if x.is(&b.parameter) {
-            let found = target_place(alloc, process, &b.parameter, &b.target)?;
-            if found.is_some() {
-                return Ok(found);
-            }
-        }
+    match bindings.unmapped_named(x) {
+        Some(target) => target_place(alloc, process, x, target),
+        None => Ok(None),
     }
-    Ok(None)
 }
 
 /// The place of a local.
@@ -97,7 +93,7 @@ fn process_place(
     alloc: Global,
     process: &Text,
     archetype: &IndexedArchetype<'_>,
-    bindings: &[Binding],
+    bindings: &IndexedBindings<'_>,
     x: &Text,
 ) -> Result<Option<Place>, AllocError>
     ensures { IfOk result (λ p. option_map place_view p ≡ find x.now (places_of process.now archetype.now bindings.now)) }

@@ -9,6 +9,7 @@ ghost use Rattle.pgo_meaning.specs.Parameters.{block_code, block_setting};
 
 use crate::around::Around;
 use crate::change::Change;
+use crate::indexed_macros::IndexedMacros;
 use pgo_base::text::Text;
 use pgo_rewrite::mapped::Mapped;
 use pgo_syntax::bound::Mapping;
@@ -71,7 +72,8 @@ impl<'a> Todo<'a> {
 fn block_todo<'a>(alloc: Global, list: &'a [Labeled]) -> Result<Todo<'a>, AllocError>
     ensures { IfOk result (λ t. code_of block_setting t ≡ block_code (map labeled_pair list.entry.now)) }
 {
-    let around = Around::new(alloc, &[])?;
+    let macros = IndexedMacros::new(alloc, &[])?;
+    let around = Around::new(alloc, macros)?;
     Ok(Todo::Text(Part::Order(list), around))
 }
 

@@ -18,6 +18,8 @@ use crate::own::own_of;
 use crate::trees::expanded;
 use pgo_base::items::{Copied, Items};
 use pgo_base::results::both;
+use pgo_effects::indexed_macros::IndexedMacros;
+use pgo_heads::indexed_spec::IndexedSpec;
 use pgo_pluscal::pluscal::{ExpandedProcess, Header, PlusCal};
 use pgo_syntax::declaration::{Declarations, Definitions};
 use pgo_syntax::spec::Spec;
@@ -79,10 +81,19 @@ fn processes(alloc: Global, spec: &Spec, names: &Names) -> Result<Vec<ExpandedPr
     requires variables { names.now.variables.items ≡ variables_of spec.now }
     ensures { IfOk result (λ v. v.items ≡ map (process_of spec.now) spec.now.processes) }
 {
+    let indexed = IndexedSpec::new(alloc, spec)?;
+    let macros = IndexedMacros::new(alloc, spec.macros.as_slice())?;
     let mut list = Vec::new(alloc);
     for process in spec.processes.as_slice() {
         let own = own_of(alloc, process, spec.archetypes.as_slice())?;
-        list.push(expanded(alloc, spec, names.variables.as_slice(), process, own)?)?;
+        list.push(expanded(
+            alloc,
+            &indexed,
+            &macros,
+            names.variables.as_slice(),
+            process,
+            own,
+        )?)?;
     }
     Ok(list)
 }

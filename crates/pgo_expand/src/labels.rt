@@ -2,18 +2,18 @@
 ghost use Rattle.std.specs.Prelude.{◌≡◌, IfOk};
 ghost use Rattle.pgo_meaning.specs.Expansions.{process_bindings};
 
+use pgo_heads::indexed_spec::IndexedSpec;
 use pgo_heads::mapping::bindings_of;
 use pgo_heads::runs::{Run, matched};
 use pgo_syntax::archetype::Archetype;
 use pgo_syntax::bound::Binding;
 use pgo_syntax::process::Process;
-use pgo_syntax::spec::Spec;
 use std::alloc::{AllocError, Global};
 
 /// What a process binds the parameters of its archetype to, whatever its identifiers are.
 pub fn bindings(
     alloc: Global,
-    spec: &Spec,
+    spec: &IndexedSpec<'_>,
     process: &Process,
     archetype: &Archetype,
 ) -> Result<Vec<Binding>, AllocError>

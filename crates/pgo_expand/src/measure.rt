@@ -16,10 +16,13 @@ use crate::labels::bindings;
 use crate::start::start;
 use pgo_base::text::Text;
 use pgo_effects::indexed_archetype::IndexedArchetype;
+use pgo_effects::indexed_macros::IndexedMacros;
 use pgo_effects::setting::Setting;
+use pgo_heads::indexed_spec::IndexedSpec;
 use pgo_heads::runs::archetype_named;
 use pgo_measure::heights::joined;
 use pgo_measure::measure::{Size, measure};
+use pgo_rewrite::indexed_bindings::IndexedBindings;
 use pgo_section_list::sections::{Section, sections};
 use pgo_syntax::archetype::Archetype;
 use pgo_syntax::process::Process;
@@ -106,30 +109,28 @@ fn behind_labels<'a, 'i>(
 /// What is left behind the trees of a process that runs an archetype.
 fn behind_archetype<'a>(
     alloc: Global,
-    spec: &'a Spec,
+    spec: &IndexedSpec<'a>,
+    macros: &IndexedMacros<'_>,
     names: &Names,
     process: &'a Process,
     archetype: &'a Archetype,
     left: Left,
 ) -> Result<Option<Left>, AllocError>
-    requires { AreUnlabelled spec.now.macros }
+    requires unlabelled { AreUnlabelled spec.now.macros }
+    requires macros { macros.now ≡ spec.now.macros }
     ensures { IfOk result (λ o. option_map left_view o ≡ measured_labels names.now.variables.items names.now.globals.items left.nodes left.height (expansions_of names.now.variables.items spec.now.macros process.now.name.name archetype.now (process_bindings spec.now process.now archetype.now))) }
 {
-    let bindings = bindings(alloc, spec, process, archetype)?;
+    let list = bindings(alloc, spec, process, archetype)?;
     let name = &process.name.name;
+    let macros = macros.within()?;
     let indexed = IndexedArchetype::new(alloc, archetype)?;
+    let bindings = IndexedBindings::new(alloc, list.as_slice())?;
     let setting = Setting::Process {
         name,
         archetype: &indexed,
-        bindings: bindings.as_slice(),
+        bindings: &bindings,
     };
-    let found = sections(
-        alloc,
-        spec.macros.as_slice(),
-        name,
-        &indexed,
-        bindings.as_slice(),
-    )?;
+    let found = sections(alloc, &macros, name, &indexed, &bindings)?;
     behind_labels(alloc, names, setting, found.as_slice(), left)
 }
 
@@ -146,21 +147,24 @@ fn calls_height(alloc: Global, count: usize) -> Result<u64, AllocError>
 }
 
 /// What is left behind the trees of a process; it has none where it hasn't its archetype.
-fn behind_process(
+fn behind_process<'a>(
     alloc: Global,
-    spec: &Spec,
+    spec: &IndexedSpec<'a>,
+    macros: &IndexedMacros<'_>,
     names: &Names,
-    process: &Process,
+    process: &'a Process,
     left: Left,
 ) -> Result<Option<Left>, AllocError>
     requires unlabelled { AreUnlabelled spec.now.macros }
+    requires macros { macros.now ≡ spec.now.macros }
     requires variables { names.now.variables.items ≡ variables_of spec.now }
     requires globals { names.now.globals.items ≡ globals_of spec.now }
     ensures { IfOk result (λ o. option_map left_view o ≡ measured_labels (variables_of spec.now) (globals_of spec.now) left.nodes left.height (process_expansions spec.now process.now)) }
 {
-    match archetype_named(&process.archetype.name, spec.archetypes.as_slice()) {
+    let archetypes = spec.spec().archetypes.as_slice();
+    match archetype_named(&process.archetype.name, archetypes) {
         None => Ok(Some(told_apart(left))),
-        Some(archetype) => behind_archetype(alloc, spec, names, process, archetype, left),
+        Some(archetype) => behind_archetype(alloc, spec, macros, names, process, archetype, left),
     }
 }
 
@@ -176,9 +180,11 @@ pub fn behind_all(
     requires globals { names.now.globals.items ≡ globals_of spec.now }
     ensures { IfOk result (λ o. option_map left_view o ≡ measured_processes spec.now left.nodes left.height spec.now.processes) }
 {
+    let indexed = IndexedSpec::new(alloc, spec)?;
+    let macros = IndexedMacros::new(alloc, spec.macros.as_slice())?;
     let mut now = left;
     for process in spec.processes.as_slice() {
-        match behind_process(alloc, spec, names, process, now)? {
+        match behind_process(alloc, &indexed, &macros, names, process, now)? {
             None => return Ok(None),
             Some(behind) => now = behind,
         }

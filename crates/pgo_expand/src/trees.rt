@@ -16,15 +16,17 @@ use pgo_base::items::Items;
 use pgo_base::results::both;
 use pgo_base::text::Text;
 use pgo_effects::indexed_archetype::IndexedArchetype;
+use pgo_effects::indexed_macros::IndexedMacros;
 use pgo_effects::setting::Setting;
+use pgo_heads::indexed_spec::IndexedSpec;
 use pgo_heads::runs::archetype_named;
 use pgo_pluscal::part::Part;
 use pgo_pluscal::pluscal::{ExpandedProcess, Trees, set_of_ids};
+use pgo_rewrite::indexed_bindings::IndexedBindings;
 use pgo_section_list::sections::{Section, sections};
 use pgo_syntax::archetype::Archetype;
 use pgo_syntax::declaration::Declarations;
 use pgo_syntax::process::Process;
-use pgo_syntax::spec::Spec;
 use pgo_walk::make::make;
 use std::alloc::{AllocError, Global};
 
@@ -65,63 +67,66 @@ fn trees_of<'a, 'i>(
 /// The trees of a process that runs an archetype.
 fn archetype_trees<'a>(
     alloc: Global,
-    spec: &'a Spec,
+    spec: &IndexedSpec<'a>,
+    macros: &IndexedMacros<'_>,
     variables: &[Text],
     process: &'a Process,
     archetype: &'a Archetype,
 ) -> Result<Trees, AllocError>
-    requires { AreUnlabelled spec.now.macros }
+    requires unlabelled { AreUnlabelled spec.now.macros }
+    requires macros { macros.now ≡ spec.now.macros }
     ensures { IfOk result (λ ts. ts ≡ expansions_of variables.now spec.now.macros process.now.name.name archetype.now (process_bindings spec.now process.now archetype.now)) }
 {
-    let bindings = bindings(alloc, spec, process, archetype)?;
+    let list = bindings(alloc, spec, process, archetype)?;
     let name = &process.name.name;
+    let macros = macros.within()?;
     let indexed = IndexedArchetype::new(alloc, archetype)?;
+    let bindings = IndexedBindings::new(alloc, list.as_slice())?;
     let setting = Setting::Process {
         name,
         archetype: &indexed,
-        bindings: bindings.as_slice(),
+        bindings: &bindings,
     };
-    let found = sections(
-        alloc,
-        spec.macros.as_slice(),
-        name,
-        &indexed,
-        bindings.as_slice(),
-    )?;
+    let found = sections(alloc, &macros, name, &indexed, &bindings)?;
     Ok(Items::from_vec(trees_of(alloc, variables, setting, found.as_slice())?))
 }
 
 /// The trees of a process; none where it hasn't its archetype.
-fn process_trees(
+fn process_trees<'a>(
     alloc: Global,
-    spec: &Spec,
+    spec: &IndexedSpec<'a>,
+    macros: &IndexedMacros<'_>,
     variables: &[Text],
-    process: &Process,
+    process: &'a Process,
 ) -> Result<Trees, AllocError>
     requires unlabelled { AreUnlabelled spec.now.macros }
+    requires macros { macros.now ≡ spec.now.macros }
     requires variables { variables.now ≡ variables_of spec.now }
     ensures { IfOk result (λ ts. ts ≡ process_expansions spec.now process.now) }
 {
-    match archetype_named(&process.archetype.name, spec.archetypes.as_slice()) {
+    let archetypes = spec.spec().archetypes.as_slice();
+    match archetype_named(&process.archetype.name, archetypes) {
         None => Ok(Items::new(alloc)),
-        Some(archetype) => archetype_trees(alloc, spec, variables, process, archetype),
+        Some(archetype) => archetype_trees(alloc, spec, macros, variables, process, archetype),
     }
 }
 
 /// A process whose labels are expanded; `own` are its value parameters and its locals.
-pub fn expanded(
+pub fn expanded<'a>(
     alloc: Global,
-    spec: &Spec,
+    spec: &IndexedSpec<'a>,
+    macros: &IndexedMacros<'_>,
     variables: &[Text],
-    process: &Process,
+    process: &'a Process,
     own: Declarations,
 ) -> Result<ExpandedProcess, AllocError>
     requires unlabelled { AreUnlabelled spec.now.macros }
+    requires macros { macros.now ≡ spec.now.macros }
     requires variables { variables.now ≡ variables_of spec.now }
     requires own { own ≡ own_in spec.now.archetypes process.now }
     ensures { IfOk result (λ p. p ≡ process_of spec.now process.now) }
 {
-    let trees = process_trees(alloc, spec, variables, process)?;
+    let trees = process_trees(alloc, spec, macros, variables, process)?;
     let ids = set_of_ids(alloc, &process.ids)?;
     let name = process.name.name.copy(alloc)?;
     Ok(ExpandedProcess {

@@ -1,6 +1,7 @@
 -- What tokens of a text spell is well formed.
 use Rattle.std.proofs.Common.{◌≡◌, ◌≤◌, ℕ, Bool, true, false, ◌&&◌, ◌||◌, ◌⊎◌, inl, inr, List, [], ◌∷◌, ◌++◌, refl, ap, sym, subst, arith, nat_eq, nat_le}
-use Rattle.std.proofs.lemmas.Bool.{and_parts, eqb-true, leb-true, le-leb}
+use Rattle.std.proofs.lemmas.Bool.{and_parts, eqb-true, leb-true}
+use Rattle.std.proofs.lemmas.Bool.Decides.{nat_tests}
 use Rattle.pgo_base.specs.Lookup.{Name}
 use Rattle.pgo_base.specs.Tree.{Tree, Trees, no_trees, more_trees, trees, named, arms, bound, paths}
 use Rattle.pgo_base.specs.Tree as e
@@ -52,7 +53,7 @@ either true y h = inl refl
 either false y h = inr h
 
 printed : (b : ℕ) → 32 ≤ b → b ≤ 126 → is_string_byte b ≡ true
-printed b l h = ap (λ z. z || (nat_eq b 9 || nat_eq b 10)) (λ i. le-leb 32 b l i && le-leb b 126 h i)
+printed b l h = grind (arith, nat_tests, l, h)
 
 between_printed : (b k n : ℕ) → 32 ≤ k → n ≤ 126 → (nat_le k b && nat_le b n) ≡ true → is_string_byte b ≡ true
 between_printed b k n l m h = let q = and_parts (nat_le k b) (nat_le b n) h in let x = leb-true k b q.0 in let y = leb-true b n q.1 in printed b (omega (arith, l, x)) (omega (arith, m, y))

@@ -3,6 +3,7 @@ use Rattle.std.proofs.Common.{◌≡◌, ◌≤◌, ◌<◌, ◌+◌, ◌-◌, �
 use Rattle.std.specs.Int.{IsInRange}
 use Rattle.std.specs.Fmt.{signed_decimal}
 use Rattle.std.proofs.lemmas.Bool.{and_parts, eqb-true, le-leb, leb-true}
+use Rattle.std.proofs.lemmas.Bool.Decides.{nat_tests}
 use Rattle.std.proofs.lemmas.Str.Parse.{IsDigitsTest, FoldsDigits, IsNumeralModel, numerals_by_fold}
 use Rattle.std.proofs.lemmas.Fmt.{digits_decimal, digits_value-decimal, decimal_nonempty}
 use Rattle.pgo_model.specs.ValueText.{is_digit, is_letter, is_word_byte, all_word_bytes, has_letter, is_identifier, string_text, all_escaped, is_one_of, reserved_words}
@@ -115,15 +116,10 @@ module _ (bs s : List ℕ) (d : Quoted bs s) where
   plain_byte : (b : ℕ) → is_string_byte b ≡ true → nat_eq b 34 ≡ false → nat_eq b 92 ≡ false → nat_eq b 10 ≡ false → nat_eq b 9 ≡ false → IsQuoted b
   plain_byte b h e34 e92 e10 e9 =
       let shape : v.escaped b ≡ b ∷ [] = cond_false _ _ _ e34 ∙ cond_false _ _ _ e92 ∙ cond_false _ _ _ e10 ∙ cond_false _ _ _ e9 in
-      let printed : is_printed b ≡ true = printed_of (is_printed b) (nat_eq b 9) (nat_eq b 10) h e9 e10 in
+      let printed : is_printed b ≡ true = grind (arith, nat_tests, h, e9, e10) in
       let is : is_plain b ≡ true = λ i. printed i && (not (e34 i) && not (e92 i)) in
       let P : List ℕ → Type 0 = λ z. Quoted (z ++ bs) (b ∷ s) in
       subst P (sym shape) (l.plain is d)
-    where
-      printed_of : (x y z : Bool) → (x || (y || z)) ≡ true → y ≡ false → z ≡ false → x ≡ true
-      printed_of true y z h a c = refl
-      printed_of false true z h a c = cc
-      printed_of false false z h a c = sym c ∙ h
 
   by_tab : (b : ℕ) → is_string_byte b ≡ true → nat_eq b 34 ≡ false → nat_eq b 92 ≡ false → nat_eq b 10 ≡ false → (c : Bool) → nat_eq b 9 ≡ c → IsQuoted b
   by_tab b h e34 e92 e10 true e = subst IsQuoted (sym (eqb-true b 9 e)) (l.escape refl d)

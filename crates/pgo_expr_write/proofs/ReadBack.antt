@@ -1,6 +1,7 @@
 -- What a text spells is well formed, and what is well formed is spelled by its canonical text.
 use Rattle.std.proofs.Common.{◌≡◌, ◌≤◌, ℕ, Bool, true, false, ◌&&◌, ◌||◌, not, List, [], ◌∷◌, ◌++◌, length, Some, None, Option, Result, Ok, Err, IfOk, refl, ap, sym, subst, arith, cond, nat_eq}
 use Rattle.std.proofs.lemmas.Bool.{and_parts, eqb-true}
+use Rattle.std.proofs.lemmas.Bool.Decides.{nat_tests}
 use Rattle.std.proofs.lemmas.List.{append-nil}
 use Rattle.pgo_base.specs.Tree.{Tree}
 use Rattle.pgo_model.specs.ExprText.{expr_text}
@@ -26,7 +27,7 @@ use Rattle.pgo_expr_write.proofs.Formed.{Told, AllTold, formed}
 -- ---- the tokens of a text
 
 plain_told : (b : ℕ) → is_plain b ≡ true → is_string_byte b ≡ true
-plain_told b h = ap (λ z. z || (nat_eq b 9 || nat_eq b 10)) (and_parts (is_printed b) (not (nat_eq b 34) && not (nat_eq b 92)) h).0
+plain_told b h = let p = and_parts (is_printed b) (not (nat_eq b 34) && not (nat_eq b 92)) h in grind (arith, nat_tests, p)
 
 IsTold : ℕ → Type 0
 IsTold b = is_string_byte b ≡ true

@@ -1,13 +1,14 @@
 -- Which trees have a text of their own. They are those that some text spells, but for their height.
-use Rattle.std.specs.Prelude.{◌≡◌, ◌≤◌, ◌⊎◌, ℕ, ℤ, pos, Bool, true, false, ◌||◌, nat_eq, IsTrue, List, [], ◌∷◌, length}
+use Rattle.std.specs.Prelude.{◌≡◌, ◌≤◌, ◌⊎◌, ℤ, pos, Bool, true, false, IsTrue, List, [], ◌∷◌, length}
 use Rattle.pgo_base.specs.declared.expr.Infix.{Infix}
 use Rattle.pgo_base.specs.declared.expr.Infix.TheVariants as op
 use Rattle.pgo_base.specs.declared.expr.Word.{Word}
 use Rattle.pgo_base.specs.declared.expr.Word.TheVariants as words
 use Rattle.pgo_base.specs.Lookup.{Name}
 use Rattle.pgo_base.specs.Tree.{Tree, name, primed, number, text, truth, at, word, unary, binary, product, cond_of, case_of, case_other, let_in, quantified, choose, tuple, set_of, filter_of, image, fun_of, fun_set, record_of, record_set, except, index, field, call, unchanged, Trees, no_trees, more_trees, NamedTrees, no_named, more_named, TreePairs, no_arms, more_arms, BoundTrees, no_bound, more_bound, PathTrees, no_paths, more_paths}
+pub use Rattle.pgo_model.specs.BundleParts.{is_string_byte}
 use Rattle.pgo_model.specs.ValueText.{is_identifier}
-use Rattle.pgo_lexer.specs.Lexemes.{all_are, is_printed, largest}
+use Rattle.pgo_lexer.specs.Lexemes.{all_are, largest}
 
 -- an identifier of at most 512 bytes
 abbrev pub IsName : Name → Type 0
@@ -26,10 +27,6 @@ AreSomeNames (x ∷ xs) = IsName x × AreNames xs
 abbrev pub IsNumber : ℤ → Type 0
 IsNumber (pos n) = n ≤ largest
 IsNumber z = ⊥
-
--- bytes 32 to 126, newline and tab
-abbrev pub is_string_byte : ℕ → Bool
-is_string_byte b = is_printed b || (nat_eq b 9 || nat_eq b 10)
 
 abbrev pub is_boolean : Word → Bool
 is_boolean words.BooleanSet = true

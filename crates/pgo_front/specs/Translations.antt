@@ -31,8 +31,8 @@ use Rattle.pgo_front.specs.Asked.{AsksTranslation}
 
 -- the trees of the expansion allow exactly the pairs of states that the sections allow: of each instance, at each label of its
 -- process, from each state in which it stands there
-abbrev pub TreesAgree : Spec → List (Name × Data) → Type 0
-TreesAgree s consts =
+abbrev pub ExpansionAgrees : Spec → List (Name × Data) → Type 0
+ExpansionAgrees s consts =
     (k : ℕ) (i : Instance) (l : Name) (t u : Vars) → nth (bound_of s consts).instances k ≡ Some i → IsLabel i l
     → IsState (bound_of s consts) t → IsState (bound_of s consts) u → value_in t pc (id_of i) ≡ Some (string l)
     → TreeAllows (trees_in (pluscal_of s)) (bound_of s consts) l (id_of i) t u ↔ Allows (bound_of s consts) k t u
@@ -45,7 +45,7 @@ pub record ExpandsTo (text : List ℕ) (consts : List (Name × Data)) (written :
   pub only : (other : Spec) → SpellsSpec text other → spec ≡ other
   pub passes : NothingRefuses spec consts
   pub written_is : written ≡ pluscal_text (pluscal_of spec)
-  pub agrees : TreesAgree spec consts
+  pub agrees : ExpansionAgrees spec consts
 
 -- it spells such a specification, and this is the text of its module, whose actions are TRUE of exactly the pairs of states that the sections
 -- allow, Init of the declared starts, and Next of the steps of instances and

@@ -4,6 +4,6 @@ pub mod Matching
 pub mod Firsts
 pub mod Ordered
 pub mod KnownParts
-pub mod SameNames
+pub mod SameNumbers
 pub mod NamedGlobals
 pub mod SpokenLaws

@@ -12,8 +12,7 @@ use Rattle.pgo_syntax.specs.declared.process.Argument.TheVariants as arguments
 use Rattle.pgo_syntax.specs.declared.process.MappingClause.{MappingClause}
 use Rattle.pgo_syntax.specs.declared.process.MappingTarget.{MappingTarget}
 use Rattle.pgo_syntax.specs.declared.process.MappingTarget.TheVariants as clauses
-use Rattle.pgo_bound.specs.declared.kinds.Kind.{Kind}
-use Rattle.pgo_bound.specs.declared.kinds.Kind.TheVariants.{Unbound, AsWhole, ByElement}
+pub use Rattle.pgo_bound.specs.Kinds.{is_by_element}
 use Rattle.pgo_bound.specs.Values.{Start, Missing, Empty, Begins}
 use Rattle.pgo_bound.specs.Runs.{Run, Handed, has_ids, speaking}
 use Rattle.pgo_bound.specs.BoundOf.{GlobalStart}
@@ -42,12 +41,6 @@ abbrev pub begins_as_function : Start → Bool
 begins_as_function Missing = false
 begins_as_function Empty = false
 begins_as_function (Begins v) = is_function v
-
--- the global is one resource for each of its elements
-abbrev pub is_by_element : Kind → Bool
-is_by_element Unbound = false
-is_by_element AsWhole = false
-is_by_element ByElement = true
 
 -- an element-bound global that doesn't start as a function
 abbrev pub has_no_elements : GlobalStart → Bool

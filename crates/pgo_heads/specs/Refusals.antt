@@ -15,7 +15,7 @@ pub use Rattle.pgo_heads.specs.Findings.{where_true, at_place, first, earlier, f
 pub use Rattle.pgo_heads.specs.Limits.{most_local_depth, most_global_depth, more_than}
 pub use Rattle.pgo_heads.specs.LocalSets.{is_run, archetypes_run, local_set, lacks, lacks_in, lacking_local, lacking_in, lacking}
 pub use Rattle.pgo_heads.specs.ConstMissing.{missing}
-pub use Rattle.pgo_heads.specs.ConstUnknown.{is_declared, unknown}
+pub use Rattle.pgo_heads.specs.ConstUnknown.{unknown}
 pub use Rattle.pgo_heads.specs.BadMapping.{same_extent, clause_extent, is_function, begins_as_function, is_by_element, has_no_elements, names_no_elements, differs, is_bad_ref, is_bad_argument, is_bad_handed, bad_arguments, is_ref, is_ref_to, has_ref_to, has_ref_at, has_number, bad_clause, bad_clauses, bad_places, bad_mappings}
 pub use Rattle.pgo_heads.specs.SameId.{put_in_order, ordered, repeated_behind, repeated, ids_shared}
 pub use Rattle.pgo_heads.specs.IdsNoValue.{is_some_deep, has_no_ids, ids_unknown}

@@ -1,11 +1,11 @@
 -- Of the mapping clauses that speak of an argument, the first, and whether there are more.
 use Rattle.std.specs.Prelude.{ℕ, Bool, false, not, ◌||◌, if◌then◌else◌, List, [], ◌∷◌, Option, Some, None, option_map, is_some}
 use Rattle.std.specs.BTreeMap.{BTreeMap}
-use denote.Ref.{Bor}
 use Rattle.pgo_base.specs.Lookup.{Name}
 use Rattle.pgo_syntax.specs.declared.archetype.Extent.{Extent}
 use Rattle.pgo_syntax.specs.declared.bound.Mapping.{Mapping}
 use Rattle.pgo_syntax.specs.declared.bound.Mapping.TheVariants.{Macro}
+use Rattle.pgo_syntax.specs.declared.name_map.NameMap.{NameMap}
 use Rattle.pgo_syntax.specs.declared.process.MappingClause.{MappingClause}
 use Rattle.pgo_syntax.specs.declared.spec.Spec.{Spec}
 use Rattle.pgo_bound.specs.Runs.{mapping_named, mapping_without}
@@ -28,7 +28,7 @@ spoken_view s = (s.first.now, s.several)
 abbrev pub clauses_at : BTreeMap ℕ code_spoken.Spoken → ℕ → Option (MappingClause × Bool)
 clauses_at m n = option_map spoken_view (numbered m n)
 
-abbrev pub clauses_under : BTreeMap (Bor (List ℕ)) code_spoken.Spoken → Name → Option (MappingClause × Bool)
+abbrev pub clauses_under : NameMap code_spoken.Spoken → Name → Option (MappingClause × Bool)
 clauses_under m x = option_map spoken_view (found m x)
 
 -- there are several, or the one speaks of another extent, or b

@@ -6,9 +6,9 @@ ghost use Rattle.pgo_heads.specs.NameMaps.{has_name};
 ghost use Rattle.pgo_heads.specs.Refusals as specs;
 ghost use Rattle.pgo_heads.specs.Views.{run_view};
 
-use crate::name_map::NameMap;
 use crate::runs::Run;
 use pgo_syntax::archetype::Archetype;
+use pgo_syntax::name_map::NameMap;
 use std::alloc::{AllocError, Global};
 use std::marker::Model;
 
@@ -16,7 +16,7 @@ use std::marker::Model;
 #[derive(Drop)]
 pub struct ArchetypesRun<'l, 'a> {
     runs: &'l [Run<'a>],
-    names: NameMap<'a, &'a Archetype>,
+    names: NameMap<()>,
 }
 
 impl<'l, 'a> Model for ArchetypesRun<'l, 'a> {
@@ -37,7 +37,7 @@ impl<'l, 'a> Model for ArchetypesRun<'l, 'a> {
 
     ghost view = { λ s. map run_view s.runs.now };
 
-    ghost invariant = { λ s. (n : Name) → has_name s.names.map n ≡ list_any (λ (r : Run). same_name n r.archetype.name.name) (map run_view s.runs.now) };
+    ghost invariant = { λ s. (n : Name) → has_name s.names n ≡ list_any (λ (r : Run). same_name n r.archetype.name.name) (map run_view s.runs.now) };
 }
 
 impl<'l, 'a> ArchetypesRun<'l, 'a> {
@@ -57,13 +57,13 @@ impl<'l, 'a> ArchetypesRun<'l, 'a> {
     }
 }
 
-/// Each archetype that a process runs, under its name.
-fn names_run<'a>(alloc: Global, runs: &[Run<'a>]) -> Result<NameMap<'a, &'a Archetype>, AllocError>
-    ensures { IfOk result (λ m. (n : Name) → has_name m.map n ≡ list_any (λ r. same_name n r.archetype.name.name) (map run_view runs.now)) }
+/// The names of the archetypes that a process runs.
+fn names_run(alloc: Global, runs: &[Run<'_>]) -> Result<NameMap<()>, AllocError>
+    ensures { IfOk result (λ m. (n : Name) → has_name m n ≡ list_any (λ r. same_name n r.archetype.name.name) (map run_view runs.now)) }
 {
     let mut names = NameMap::new(alloc);
     for r in runs {
-        names.set(&r.archetype.name.name, r.archetype)?;
+        names.set(alloc, &r.archetype.name.name, ())?;
     }
     Ok(names)
 }

@@ -9,9 +9,9 @@ ghost use Rattle.pgo_heads.specs.Spoken.{is_badly_spoken, spoken_view};
 ghost use Rattle.pgo_heads.specs.Views.{handed_view, run_view, global_view};
 ghost use Rattle.pgo_heads.specs.declared.errors.BindError.TheVariants as errors;
 
-use crate::arguments::Arguments;
 use crate::errors::BindError;
 use crate::globals::GlobalStart;
+use crate::indexed_arguments::IndexedArguments;
 use crate::mapping_clauses::{MappingClauses, Spoken};
 use crate::named_globals::NamedGlobals;
 use crate::runs::{Handed, Run};
@@ -120,7 +120,7 @@ fn bad_argument(
 }
 
 /// What is shown of a clause that names no `ref` argument.
-fn bad_clause(arguments: &Arguments<'_, '_>, target: &MappingTarget) -> Option<u64>
+fn bad_clause(arguments: &IndexedArguments<'_, '_>, target: &MappingTarget) -> Option<u64>
     ensures { result ≡ spec.bad_clause arguments.now target.now }
 {
     match target {
@@ -144,7 +144,7 @@ fn bad_clause(arguments: &Arguments<'_, '_>, target: &MappingTarget) -> Option<u
 }
 
 /// What is shown of the first of these clauses that names no `ref` argument.
-fn first_bad(arguments: &Arguments<'_, '_>, clauses: &[MappingClause]) -> Option<u64>
+fn first_bad(arguments: &IndexedArguments<'_, '_>, clauses: &[MappingClause]) -> Option<u64>
     ensures { result ≡ findings.first (filter_map (λ c. spec.bad_clause arguments.now c.target) clauses.now) }
 {
     for c in clauses {
@@ -160,7 +160,7 @@ fn first_bad(arguments: &Arguments<'_, '_>, clauses: &[MappingClause]) -> Option
 fn first_bad_clause(alloc: Global, run: &Run<'_>) -> Result<Option<u64>, AllocError>
     ensures { IfOk result (λ o. o ≡ findings.first (spec.bad_clauses (run_view run.now))) }
 {
-    let arguments = Arguments::new(alloc, run.handed.as_slice())?;
+    let arguments = IndexedArguments::new(alloc, run.handed.as_slice())?;
     Ok(first_bad(&arguments, run.process.clauses.as_slice()))
 }
 

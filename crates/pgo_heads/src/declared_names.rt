@@ -1,12 +1,12 @@
 // The names that are declared.
-ghost use Rattle.std.specs.Prelude.{◌≡◌, IfOk};
+ghost use Rattle.std.specs.Prelude.{◌≡◌, map, IfOk};
 ghost use Rattle.pgo_base.specs.Lookup.{Name};
+ghost use Rattle.pgo_model.specs.Names.{is_among};
 ghost use Rattle.pgo_heads.specs.NameMaps.{has_name};
-ghost use Rattle.pgo_heads.specs.Refusals as specs;
 
-use crate::name_map::NameMap;
 use pgo_base::text::Text;
 use pgo_syntax::name::PlacedName;
+use pgo_syntax::name_map::NameMap;
 use std::alloc::{AllocError, Global};
 use std::marker::Model;
 
@@ -14,16 +14,16 @@ use std::marker::Model;
 #[derive(Drop)]
 pub struct DeclaredNames<'a> {
     list: &'a [PlacedName],
-    known: NameMap<'a, &'a PlacedName>,
+    known: NameMap<()>,
 }
 
 impl<'a> Model for DeclaredNames<'a> {
-    ghost use Rattle.std.specs.Prelude.{◌≡◌, List};
+    ghost use Rattle.std.specs.Prelude.{◌≡◌, List, map};
     ghost use Rattle.pgo_base.specs.Lookup.{Name};
+    ghost use Rattle.pgo_model.specs.Names.{is_among};
     ghost use Rattle.pgo_syntax.specs.declared.name.PlacedName.{PlacedName};
     ghost use Rattle.pgo_syntax.specs.NameCode.{coded_placed_names};
     ghost use Rattle.pgo_heads.specs.NameMaps.{has_name};
-    ghost use Rattle.pgo_heads.specs.Refusals.{is_declared};
 
     ghost Value = { List PlacedName };
 
@@ -31,7 +31,7 @@ impl<'a> Model for DeclaredNames<'a> {
 
     ghost view = { λ s. s.list.now };
 
-    ghost invariant = { λ s. (n : Name) → has_name s.known.map n ≡ is_declared n s.list.now };
+    ghost invariant = { λ s. (n : Name) → has_name s.known n ≡ is_among n (map (λ d. d.name) s.list.now) };
 }
 
 impl<'a> DeclaredNames<'a> {
@@ -45,22 +45,19 @@ impl<'a> DeclaredNames<'a> {
 
     /// Whether this is one of them.
     pub fn has(&self, name: &Text) -> bool
-        ensures { result ≡ specs.is_declared name.now self.now }
+        ensures { result ≡ is_among name.now (map (λ d. d.name) self.now) }
     {
         self.known.get(name).is_some()
     }
 }
 
-/// Each of these under its name.
-fn known_names<'a>(
-    alloc: Global,
-    list: &'a [PlacedName],
-) -> Result<NameMap<'a, &'a PlacedName>, AllocError>
-    ensures { IfOk result (λ m. (n : Name) → has_name m.map n ≡ specs.is_declared n list.now) }
+/// Their names.
+fn known_names(alloc: Global, list: &[PlacedName]) -> Result<NameMap<()>, AllocError>
+    ensures { IfOk result (λ m. (n : Name) → has_name m n ≡ is_among n (map (λ d. d.name) list.now)) }
 {
     let mut known = NameMap::new(alloc);
     for c in list {
-        known.set(&c.name, c)?;
+        known.set(alloc, &c.name, ())?;
     }
     Ok(known)
 }

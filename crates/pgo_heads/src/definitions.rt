@@ -3,6 +3,7 @@ ghost use Rattle.std.specs.Prelude.{◌≡◌, ◌++◌, map, IfOk};
 ghost use Rattle.std.specs.List.{filter_map};
 ghost use Rattle.pgo_base.specs.View.{named_data};
 ghost use Rattle.pgo_bound.specs.Values as values;
+ghost use Rattle.pgo_syntax.specs.PlacedNames.{names_of};
 
 use crate::given_values::GivenValues;
 use pgo_base::consts::Consts;
@@ -53,7 +54,7 @@ fn default_definition(alloc: Global) -> Result<Defined, AllocError>
 
 /// The names without their places.
 fn parameter_names(alloc: Global, params: &[PlacedName]) -> Result<Names, AllocError>
-    ensures { IfOk result (λ ns. ns ≡ values.parameter_names params.now) }
+    ensures { IfOk result (λ ns. ns ≡ names_of params.now) }
 {
     let mut list = Vec::with_capacity(alloc, params.len())?;
     for p in params {

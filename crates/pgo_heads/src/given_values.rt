@@ -5,9 +5,9 @@ ghost use Rattle.pgo_base.specs.View.{data_of, named_data};
 ghost use Rattle.pgo_bound.specs.Values as values;
 ghost use Rattle.pgo_heads.specs.NameMaps.{value_in};
 
-use crate::name_map::NameMap;
 use pgo_base::text::Text;
 use pgo_base::value::Value;
+use pgo_syntax::name_map::NameMap;
 use std::alloc::{AllocError, Global};
 use std::marker::Model;
 
@@ -15,7 +15,7 @@ use std::marker::Model;
 #[derive(Drop)]
 pub struct GivenValues<'a> {
     list: &'a [(Text, Value)],
-    last: NameMap<'a, &'a Value>,
+    last: NameMap<&'a Value>,
 }
 
 impl<'a> Model for GivenValues<'a> {
@@ -33,7 +33,7 @@ impl<'a> Model for GivenValues<'a> {
 
     ghost view = { λ s. map named_data s.list.now };
 
-    ghost invariant = { λ s. (n : Name) → value_in s.last.map n ≡ given_value (map named_data s.list.now) n };
+    ghost invariant = { λ s. (n : Name) → value_in s.last n ≡ given_value (map named_data s.list.now) n };
 }
 
 impl<'a> GivenValues<'a> {
@@ -49,7 +49,7 @@ impl<'a> GivenValues<'a> {
     pub fn get(&self, name: &Text) -> Option<&'a Value>
         ensures { option_map (λ r. data_of r.now) result ≡ values.given_value self.now name.now }
     {
-        self.last.get(name)
+        self.last.get(name).copied()
     }
 }
 
@@ -57,12 +57,12 @@ impl<'a> GivenValues<'a> {
 fn last_values<'a>(
     alloc: Global,
     list: &'a [(Text, Value)],
-) -> Result<NameMap<'a, &'a Value>, AllocError>
-    ensures { IfOk result (λ m. (n : Name) → value_in m.map n ≡ values.given_value (map named_data list.now) n) }
+) -> Result<NameMap<&'a Value>, AllocError>
+    ensures { IfOk result (λ m. (n : Name) → value_in m n ≡ values.given_value (map named_data list.now) n) }
 {
     let mut last = NameMap::new(alloc);
     for c in list {
-        last.set(&c.0, &c.1)?;
+        last.set(alloc, &c.0, &c.1)?;
     }
     Ok(last)
 }

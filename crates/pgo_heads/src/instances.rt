@@ -4,6 +4,7 @@ ghost use Rattle.pgo_base.specs.View.{data_of};
 ghost use Rattle.pgo_bound.specs.BoundOf as specs;
 ghost use Rattle.pgo_heads.specs.Views.{run_view};
 
+use crate::indexed_spec::IndexedSpec;
 use crate::mapping::{bindings_of, copy_bindings};
 use crate::runs::Run;
 use pgo_base::items::Copied;
@@ -34,7 +35,7 @@ fn instance_at(
 /// The instances of a process, at the end.
 fn add_instances(
     alloc: Global,
-    spec: &Spec,
+    spec: &IndexedSpec<'_>,
     run: &Run<'_>,
     list: &mut Vec<Instance>,
 ) -> Result<(), AllocError>
@@ -59,9 +60,10 @@ pub fn instances_of(
     requires { length (specs.places_of (map run_view runs.now)) ≤ 64 }
     ensures { IfOk result (λ v. v.items ≡ specs.instances_of spec.now (map run_view runs.now)) }
 {
+    let indexed = IndexedSpec::new(alloc, spec)?;
     let mut list = Vec::new(alloc);
     for r in runs {
-        add_instances(alloc, spec, r, &mut list)?;
+        add_instances(alloc, &indexed, r, &mut list)?;
     }
     Ok(list)
 }

@@ -1,16 +1,16 @@
 // How the instances bind the globals.
-ghost use Rattle.std.specs.Prelude.{◌≡◌, map, IfOk, OnOk};
+ghost use Rattle.std.specs.Prelude.{◌≡◌, map, IfOk};
 ghost use Rattle.pgo_base.specs.Lookup.{Name};
 ghost use Rattle.pgo_bound.specs.Runs as specs;
 ghost use Rattle.pgo_bound.specs.Kinds.{with_extent, all_extents};
 ghost use Rattle.pgo_heads.specs.NameMaps.{kind_in, with_binding, extent_if};
 ghost use Rattle.pgo_heads.specs.Views.{handed_view, run_view};
 
-use crate::name_map::NameMap;
 use crate::runs::{Handed, Run};
 use pgo_base::text::Text;
 use pgo_bound::kinds::Kind;
 use pgo_syntax::archetype::Extent;
+use pgo_syntax::name_map::NameMap;
 use pgo_syntax::process::Argument;
 use std::alloc::{AllocError, Global};
 use std::marker::Model;
@@ -19,7 +19,7 @@ use std::marker::Model;
 #[derive(Drop)]
 pub struct Kinds<'l, 'a> {
     runs: &'l [Run<'a>],
-    kinds: NameMap<'a, Kind>,
+    kinds: NameMap<Kind>,
 }
 
 impl<'l, 'a> Model for Kinds<'l, 'a> {
@@ -39,7 +39,7 @@ impl<'l, 'a> Model for Kinds<'l, 'a> {
 
     ghost view = { λ s. map run_view s.runs.now };
 
-    ghost invariant = { λ s. (n : Name) → kind_in s.kinds.map n ≡ kind_of n (map run_view s.runs.now) };
+    ghost invariant = { λ s. (n : Name) → kind_in s.kinds n ≡ kind_of n (map run_view s.runs.now) };
 }
 
 impl<'l, 'a> Kinds<'l, 'a> {
@@ -55,7 +55,7 @@ impl<'l, 'a> Kinds<'l, 'a> {
     pub fn kind_of(&self, name: &Text) -> Kind
         ensures { result ≡ specs.kind_of name.now self.now }
     {
-        self.kinds.get(name).unwrap_or(Kind::Unbound)
+        self.kinds.get(name).copied().unwrap_or(Kind::Unbound)
     }
 }
 
@@ -71,46 +71,55 @@ fn with_extent(kind: Kind, extent: Extent) -> Kind
 }
 
 /// The kind of a global with one binding more.
-fn add_extent<'a>(
-    kinds: &mut NameMap<'a, Kind>,
-    name: &'a Text,
+fn add_extent(
+    alloc: Global,
+    kinds: &mut NameMap<Kind>,
+    name: &Text,
     extent: Extent,
 ) -> Result<(), AllocError>
-    ensures { OnOk result ((n : Name) → kind_in kinds.new.map n ≡ with_binding (kind_in kinds.old.map n) (extent_if n name.now extent)) }
+    ensures { IfOk result (λ _. (n : Name) → kind_in kinds.new n ≡ with_binding (kind_in kinds.old n) (extent_if n name.now extent)) }
 {
-    let before = kinds.get(name).unwrap_or(Kind::Unbound);
-    kinds.set(name, with_extent(before, extent))?;
+    let before = kinds.get(name).copied().unwrap_or(Kind::Unbound);
+    kinds.set(alloc, name, with_extent(before, extent))?;
     Ok(())
 }
 
 /// The kind of each global with the binding of an argument more.
-fn add_argument<'a>(kinds: &mut NameMap<'a, Kind>, argument: &'a Argument) -> Result<(), AllocError>
-    ensures { OnOk result ((n : Name) → kind_in kinds.new.map n ≡ with_binding (kind_in kinds.old.map n) (specs.extent_of n argument.now)) }
+fn add_argument(
+    alloc: Global,
+    kinds: &mut NameMap<Kind>,
+    argument: &Argument,
+) -> Result<(), AllocError>
+    ensures { IfOk result (λ _. (n : Name) → kind_in kinds.new n ≡ with_binding (kind_in kinds.old n) (specs.extent_of n argument.now)) }
 {
     match argument {
         Argument::Value(..) => Ok(()),
-        Argument::Ref(global, extent) => add_extent(kinds, &global.name, *extent),
+        Argument::Ref(global, extent) => add_extent(alloc, kinds, &global.name, *extent),
     }
 }
 
 /// The kind of each global with the bindings of a process more.
-fn add_arguments<'a>(kinds: &mut NameMap<'a, Kind>, handed: &[Handed<'a>]) -> Result<(), AllocError>
-    ensures { OnOk result ((n : Name) → kind_in kinds.new.map n ≡ all_extents (kind_in kinds.old.map n) (specs.extents_in n (map handed_view handed.now))) }
+fn add_arguments(
+    alloc: Global,
+    kinds: &mut NameMap<Kind>,
+    handed: &[Handed<'_>],
+) -> Result<(), AllocError>
+    ensures { IfOk result (λ _. (n : Name) → kind_in kinds.new n ≡ all_extents (kind_in kinds.old n) (specs.extents_in n (map handed_view handed.now))) }
 {
     for h in handed {
-        add_argument(kinds, h.argument)?;
+        add_argument(alloc, kinds, h.argument)?;
     }
     Ok(())
 }
 
 /// The kind of each global by the bindings of all instances.
-fn kinds_of<'a>(alloc: Global, runs: &[Run<'a>]) -> Result<NameMap<'a, Kind>, AllocError>
-    ensures { IfOk result (λ m. (n : Name) → kind_in m.map n ≡ specs.kind_of n (map run_view runs.now)) }
+fn kinds_of(alloc: Global, runs: &[Run<'_>]) -> Result<NameMap<Kind>, AllocError>
+    ensures { IfOk result (λ m. (n : Name) → kind_in m n ≡ specs.kind_of n (map run_view runs.now)) }
 {
     let mut kinds = NameMap::new(alloc);
     for r in runs {
         if r.has_ids() {
-            add_arguments(&mut kinds, r.handed.as_slice())?;
+            add_arguments(alloc, &mut kinds, r.handed.as_slice())?;
             continue;
         }
     }

@@ -6,7 +6,6 @@
 #![tactic(auto)]
 
 pub mod archetypes_run;
-mod arguments;
 pub mod bad_mapping;
 pub mod const_missing;
 pub mod const_unknown;
@@ -18,12 +17,13 @@ pub mod given_values;
 pub mod globals;
 pub mod identifiers;
 pub mod ids_no_value;
+mod indexed_arguments;
+pub mod indexed_spec;
 pub mod instances;
 pub mod kinds;
 pub mod known;
 pub mod mapping;
 mod mapping_clauses;
-mod name_map;
 pub mod named_archetypes;
 mod named_globals;
 mod number_map;

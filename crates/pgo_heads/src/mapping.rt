@@ -4,28 +4,15 @@ ghost use Rattle.pgo_bound.specs.Runs as specs;
 ghost use Rattle.pgo_heads.specs.Spoken.{mapping_by_first, spoken_view};
 ghost use Rattle.pgo_heads.specs.Views.{handed_view, run_view};
 
+use crate::indexed_spec::IndexedSpec;
 use crate::mapping_clauses::{MappingClauses, Spoken};
 use crate::runs::{Handed, Run};
 use pgo_base::items::Copied;
 use pgo_base::text::Text;
 use pgo_syntax::archetype::Extent;
 use pgo_syntax::bound::{Binding, Mapping, Target};
-use pgo_syntax::macros::MappingMacro;
 use pgo_syntax::process::Argument;
-use pgo_syntax::spec::Spec;
 use std::alloc::{AllocError, Global};
-
-/// The first mapping macro of the name.
-fn mapping_named<'a>(name: &Text, mappings: &'a [MappingMacro]) -> Option<&'a MappingMacro>
-    ensures { option_map (λ r. r.now) result ≡ specs.mapping_named name.now mappings.now }
-{
-    for m in mappings {
-        if name.is(&m.name.name) {
-            return Some(m);
-        }
-    }
-    None
-}
 
 /// What an argument is mapped by that no clause speaks of.
 fn mapping_without(extent: Extent) -> Option<Mapping>
@@ -40,7 +27,7 @@ fn mapping_without(extent: Extent) -> Option<Mapping>
 /// What the clauses that speak of an argument make of it.
 fn mapping_by(
     alloc: Global,
-    spec: &Spec,
+    spec: &IndexedSpec<'_>,
     extent: Extent,
     spoken: Option<Spoken<'_>>,
 ) -> Result<Option<Mapping>, AllocError>
@@ -49,7 +36,7 @@ fn mapping_by(
     let Some(by) = spoken else {
         return Ok(mapping_without(extent));
     };
-    match mapping_named(&by.first.mapping.name, spec.mappings.as_slice()) {
+    match spec.mapping_named(&by.first.mapping.name) {
         None => Ok(None),
         Some(m) => Ok(Some(Mapping::Macro(m.copy(alloc)?))),
     }
@@ -58,7 +45,7 @@ fn mapping_by(
 /// What a process makes of the argument of this number, which is this global.
 fn mapping_of(
     alloc: Global,
-    spec: &Spec,
+    spec: &IndexedSpec<'_>,
     clauses: &MappingClauses<'_>,
     number: u64,
     global: &Text,
@@ -72,7 +59,7 @@ fn mapping_of(
 /// What a parameter stands for that is handed this argument.
 fn target_of(
     alloc: Global,
-    spec: &Spec,
+    spec: &IndexedSpec<'_>,
     clauses: &MappingClauses<'_>,
     number: u64,
     argument: &Argument,
@@ -95,7 +82,7 @@ fn target_of(
 /// A parameter with what it stands for.
 fn binding_of(
     alloc: Global,
-    spec: &Spec,
+    spec: &IndexedSpec<'_>,
     clauses: &MappingClauses<'_>,
     h: &Handed<'_>,
 ) -> Result<Binding, AllocError>
@@ -109,7 +96,11 @@ fn binding_of(
 }
 
 /// A binding for each parameter, in order.
-pub fn bindings_of(alloc: Global, spec: &Spec, run: &Run<'_>) -> Result<Vec<Binding>, AllocError>
+pub fn bindings_of(
+    alloc: Global,
+    spec: &IndexedSpec<'_>,
+    run: &Run<'_>,
+) -> Result<Vec<Binding>, AllocError>
     ensures { IfOk result (λ v. v.items ≡ specs.bindings_of spec.now (run_view run.now)) }
 {
     let clauses = MappingClauses::new(alloc, run.process.clauses.as_slice())?;

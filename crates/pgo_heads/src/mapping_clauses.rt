@@ -1,12 +1,12 @@
 // The mapping clauses of a process, found by the arguments that they speak of.
-ghost use Rattle.std.specs.Prelude.{◌≡◌, ℕ, filter, option_map, IfOk, OnOk};
+ghost use Rattle.std.specs.Prelude.{◌≡◌, ℕ, filter, option_map, IfOk};
 ghost use Rattle.pgo_base.specs.Lookup.{Name};
 ghost use Rattle.pgo_bound.specs.Runs as specs;
 ghost use Rattle.pgo_heads.specs.Spoken.{first_of, one_more, spoken_view, clauses_at, clauses_under};
 
-use crate::name_map::NameMap;
 use crate::number_map::NumberMap;
 use pgo_base::text::Text;
+use pgo_syntax::name_map::NameMap;
 use pgo_syntax::process::{MappingClause, MappingTarget};
 use std::alloc::{AllocError, Global};
 use std::marker::Model;
@@ -23,7 +23,7 @@ pub struct Spoken<'a> {
 pub struct MappingClauses<'a> {
     list: &'a [MappingClause],
     by_number: NumberMap<Spoken<'a>>,
-    by_name: NameMap<'a, Spoken<'a>>,
+    by_name: NameMap<Spoken<'a>>,
 }
 
 impl<'a> Model for MappingClauses<'a> {
@@ -42,7 +42,7 @@ impl<'a> Model for MappingClauses<'a> {
 
     ghost view = { λ s. s.list.now };
 
-    ghost invariant = { λ s. ((n : ℕ) → clauses_at s.by_number.map n ≡ first_of (filter (λ (c : MappingClause). is_of_number n c.target) s.list.now)) × ((x : Name) → clauses_under s.by_name.map x ≡ first_of (filter (λ (c : MappingClause). is_of_name x c.target) s.list.now)) };
+    ghost invariant = { λ s. ((n : ℕ) → clauses_at s.by_number.map n ≡ first_of (filter (λ (c : MappingClause). is_of_number n c.target) s.list.now)) × ((x : Name) → clauses_under s.by_name x ≡ first_of (filter (λ (c : MappingClause). is_of_name x c.target) s.list.now)) };
 }
 
 impl<'a> MappingClauses<'a> {
@@ -64,7 +64,7 @@ impl<'a> MappingClauses<'a> {
         ensures { option_map spoken_view result ≡ first_of (specs.speaking number global.now self.now) }
     {
         match self.by_number.get(number) {
-            None => self.by_name.get(global),
+            None => self.by_name.get(global).copied(),
             Some(spoken) => Some(spoken),
         }
     }
@@ -75,7 +75,7 @@ fn add_number<'a>(
     known: &mut NumberMap<Spoken<'a>>,
     clause: &'a MappingClause,
 ) -> Result<(), AllocError>
-    ensures { OnOk result ((n : ℕ) → clauses_at known.new.map n ≡ one_more (specs.is_of_number n clause.now.target) clause.now (clauses_at known.old.map n)) }
+    ensures { IfOk result (λ _. (n : ℕ) → clauses_at known.new.map n ≡ one_more (specs.is_of_number n clause.now.target) clause.now (clauses_at known.old.map n)) }
 {
     match &clause.target {
         MappingTarget::Global { .. } => Ok(()),
@@ -94,16 +94,18 @@ fn add_number<'a>(
 
 /// A clause before others, among those by name.
 fn add_name<'a>(
-    known: &mut NameMap<'a, Spoken<'a>>,
+    alloc: Global,
+    known: &mut NameMap<Spoken<'a>>,
     clause: &'a MappingClause,
 ) -> Result<(), AllocError>
-    ensures { OnOk result ((x : Name) → clauses_under known.new.map x ≡ one_more (specs.is_of_name x clause.now.target) clause.now (clauses_under known.old.map x)) }
+    ensures { IfOk result (λ _. (x : Name) → clauses_under known.new x ≡ one_more (specs.is_of_name x clause.now.target) clause.now (clauses_under known.old x)) }
 {
     match &clause.target {
         MappingTarget::Argument { .. } => Ok(()),
         MappingTarget::Global { name, .. } => {
             let several = known.get(&name.name).is_some();
             known.set(
+                alloc,
                 &name.name,
                 Spoken {
                     first: clause,
@@ -132,17 +134,14 @@ fn by_number<'a>(
 }
 
 /// The clauses by name, under their names.
-fn by_name<'a>(
-    alloc: Global,
-    list: &'a [MappingClause],
-) -> Result<NameMap<'a, Spoken<'a>>, AllocError>
-    ensures { IfOk result (λ m. (x : Name) → clauses_under m.map x ≡ first_of (filter (λ c. specs.is_of_name x c.target) list.now)) }
+fn by_name<'a>(alloc: Global, list: &'a [MappingClause]) -> Result<NameMap<Spoken<'a>>, AllocError>
+    ensures { IfOk result (λ m. (x : Name) → clauses_under m x ≡ first_of (filter (λ c. specs.is_of_name x c.target) list.now)) }
 {
     let mut known = NameMap::new(alloc);
     let mut i = list.len();
     while i > 0 {
         i -= 1;
-        add_name(&mut known, &list[i])?;
+        add_name(alloc, &mut known, &list[i])?;
     }
     Ok(known)
 }

@@ -4,9 +4,9 @@ ghost use Rattle.pgo_base.specs.Lookup.{Name};
 ghost use Rattle.pgo_bound.specs.Runs as specs;
 ghost use Rattle.pgo_heads.specs.NameMaps.{archetype_in};
 
-use crate::name_map::NameMap;
 use pgo_base::text::Text;
 use pgo_syntax::archetype::Archetype;
+use pgo_syntax::name_map::NameMap;
 use std::alloc::{AllocError, Global};
 use std::marker::Model;
 
@@ -14,7 +14,7 @@ use std::marker::Model;
 #[derive(Drop)]
 pub struct NamedArchetypes<'a> {
     list: &'a [Archetype],
-    first: NameMap<'a, &'a Archetype>,
+    first: NameMap<&'a Archetype>,
 }
 
 impl<'a> Model for NamedArchetypes<'a> {
@@ -34,7 +34,7 @@ impl<'a> Model for NamedArchetypes<'a> {
 
     ghost view = { λ s. s.list.now };
 
-    ghost invariant = { λ s. (n : Name) → archetype_in s.first.map n ≡ archetype_named n s.list.now };
+    ghost invariant = { λ s. (n : Name) → archetype_in s.first n ≡ archetype_named n s.list.now };
 }
 
 impl<'a> NamedArchetypes<'a> {
@@ -50,7 +50,7 @@ impl<'a> NamedArchetypes<'a> {
     pub fn get(&self, name: &Text) -> Option<&'a Archetype>
         ensures { option_map (λ r. r.now) result ≡ specs.archetype_named name.now self.now }
     {
-        self.first.get(name)
+        self.first.get(name).copied()
     }
 }
 
@@ -58,15 +58,15 @@ impl<'a> NamedArchetypes<'a> {
 fn first_archetypes<'a>(
     alloc: Global,
     list: &'a [Archetype],
-) -> Result<NameMap<'a, &'a Archetype>, AllocError>
-    ensures { IfOk result (λ m. (n : Name) → archetype_in m.map n ≡ specs.archetype_named n list.now) }
+) -> Result<NameMap<&'a Archetype>, AllocError>
+    ensures { IfOk result (λ m. (n : Name) → archetype_in m n ≡ specs.archetype_named n list.now) }
 {
     let mut first = NameMap::new(alloc);
     let mut i = list.len();
     while i > 0 {
         i -= 1;
         let a = &list[i];
-        first.set(&a.name.name, a)?;
+        first.set(alloc, &a.name.name, a)?;
     }
     Ok(first)
 }

@@ -1,5 +1,5 @@
 // The globals, found by name.
-ghost use Rattle.std.specs.Prelude.{◌≡◌, Some, cond, map, IfOk, OnOk};
+ghost use Rattle.std.specs.Prelude.{◌≡◌, Some, cond, map, IfOk};
 ghost use Rattle.pgo_base.specs.Lookup.{Name, same_name};
 ghost use Rattle.pgo_base.specs.View.{data_of};
 ghost use Rattle.pgo_heads.specs.NameMaps.{found, is_true_in};
@@ -7,11 +7,11 @@ ghost use Rattle.pgo_heads.specs.Refusals as specs;
 ghost use Rattle.pgo_heads.specs.Views.{start_view, global_view};
 
 use crate::globals::GlobalStart;
-use crate::name_map::NameMap;
 use crate::start_values::Start;
 use pgo_base::text::Text;
 use pgo_base::value::Value;
 use pgo_bound::kinds::Kind;
+use pgo_syntax::name_map::NameMap;
 use std::alloc::{AllocError, Global};
 use std::marker::Model;
 
@@ -19,7 +19,7 @@ use std::marker::Model;
 #[derive(Drop)]
 pub struct NamedGlobals<'l, 'a> {
     list: &'l [GlobalStart<'a>],
-    without_elements: NameMap<'a, bool>,
+    without_elements: NameMap<bool>,
 }
 
 impl<'l, 'a> Model for NamedGlobals<'l, 'a> {
@@ -39,7 +39,7 @@ impl<'l, 'a> Model for NamedGlobals<'l, 'a> {
 
     ghost view = { λ s. map global_view s.list.now };
 
-    ghost invariant = { λ s. (n : Name) → is_true_in s.without_elements.map n ≡ names_no_elements (map global_view s.list.now) n };
+    ghost invariant = { λ s. (n : Name) → is_true_in s.without_elements n ≡ names_no_elements (map global_view s.list.now) n };
 }
 
 impl<'l, 'a> NamedGlobals<'l, 'a> {
@@ -61,7 +61,7 @@ impl<'l, 'a> NamedGlobals<'l, 'a> {
     pub fn names_no_elements(&self, name: &Text) -> bool
         ensures { result ≡ specs.names_no_elements self.now name.now }
     {
-        self.without_elements.get(name).unwrap_or(false)
+        self.without_elements.get(name).copied().unwrap_or(false)
     }
 }
 
@@ -108,25 +108,26 @@ fn has_no_elements(g: &GlobalStart<'_>) -> bool
 }
 
 /// This global is the one of its name from now on.
-fn put_first<'a>(known: &mut NameMap<'a, bool>, g: &GlobalStart<'a>) -> Result<(), AllocError>
-    ensures { OnOk result ((n : Name) → found known.new.map n ≡ cond (same_name n g.now.declaration.now.name.name) (Some (specs.has_no_elements (global_view g.now))) (found known.old.map n)) }
+fn put_first(
+    alloc: Global,
+    known: &mut NameMap<bool>,
+    g: &GlobalStart<'_>,
+) -> Result<(), AllocError>
+    ensures { IfOk result (λ _. (n : Name) → found known.new n ≡ cond (same_name n g.now.declaration.now.name.name) (Some (specs.has_no_elements (global_view g.now))) (found known.old n)) }
 {
-    known.set(&g.declaration.name.name, has_no_elements(g))?;
+    known.set(alloc, &g.declaration.name.name, has_no_elements(g))?;
     Ok(())
 }
 
 /// For each name whether the first global of that name is by element and doesn't start as a function.
-fn without_elements<'a>(
-    alloc: Global,
-    list: &[GlobalStart<'a>],
-) -> Result<NameMap<'a, bool>, AllocError>
-    ensures { IfOk result (λ m. (n : Name) → is_true_in m.map n ≡ specs.names_no_elements (map global_view list.now) n) }
+fn without_elements(alloc: Global, list: &[GlobalStart<'_>]) -> Result<NameMap<bool>, AllocError>
+    ensures { IfOk result (λ m. (n : Name) → is_true_in m n ≡ specs.names_no_elements (map global_view list.now) n) }
 {
     let mut known = NameMap::new(alloc);
     let mut i = list.len();
     while i > 0 {
         i -= 1;
-        put_first(&mut known, &list[i])?;
+        put_first(alloc, &mut known, &list[i])?;
     }
     Ok(known)
 }

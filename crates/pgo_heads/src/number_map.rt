@@ -1,5 +1,5 @@
 // What numbers stand for, found without going over a list.
-ghost use Rattle.std.specs.Prelude.{◌≡◌, ℕ, None, Some, cond, nat_eq, OnOk};
+ghost use Rattle.std.specs.Prelude.{◌≡◌, ℕ, None, Some, cond, nat_eq, IfOk};
 ghost use Rattle.pgo_heads.specs.NameMaps.{numbered};
 
 use std::alloc::{AllocError, Global};
@@ -30,7 +30,7 @@ impl<V: Copy> NumberMap<V> {
 
     /// The number stands for this from now on.
     pub fn set(&mut self, number: u64, value: V) -> Result<(), AllocError>
-        ensures { OnOk result ((n : ℕ) → numbered self.new.map n ≡ cond (nat_eq n number) (Some value) (numbered self.old.map n)) }
+        ensures { IfOk result (λ _. (n : ℕ) → numbered self.new.map n ≡ cond (nat_eq n number) (Some value) (numbered self.old.map n)) }
     {
         self.map.insert(number, value)?;
         Ok(())

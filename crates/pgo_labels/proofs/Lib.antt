@@ -1,7 +1,6 @@
 mod Rows
 pub mod Nesting
 pub mod Leasts
-pub mod SameNames
 pub mod Found
 pub mod Repeats
 pub mod Lasts

@@ -1,7 +1,6 @@
 -- The labels among statements, and the name `Done`.
-use Rattle.std.specs.Prelude.{Bool, codes, List, option_to_list, flat_map}
-use Rattle.std.specs.List.{list_any}
-use Rattle.pgo_base.specs.Lookup.{Name, same_name}
+use Rattle.std.specs.Prelude.{codes, List, option_to_list, flat_map}
+use Rattle.pgo_base.specs.Lookup.{Name}
 use Rattle.pgo_syntax.specs.declared.name.PlacedName.{PlacedName}
 use Rattle.pgo_syntax.specs.declared.archetype.Archetype.{Archetype}
 use Rattle.pgo_labels.specs.Inside.{Item, with_inside}
@@ -11,9 +10,6 @@ labels_of is = flat_map (λ i. option_to_list i.0) is
 
 abbrev pub labels : Archetype → List PlacedName
 labels a = labels_of (with_inside a.body)
-
-abbrev pub is_among : Name → List PlacedName → Bool
-is_among n ls = list_any (λ l. same_name n l.name) ls
 
 abbrev pub done : Name
 done = codes "Done"

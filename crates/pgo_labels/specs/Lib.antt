@@ -11,7 +11,6 @@ pub mod ReservedDone
 pub mod YieldRule
 pub mod TooManyLabels
 pub mod Lent
-pub mod NameSets
 pub mod ItemEnds
 pub mod Rules
 pub mod Refusal

@@ -6,9 +6,8 @@ use Rattle.pgo_base.specs.Lookup.{Name}
 use Rattle.pgo_operands.specs.Mentions.{mentions}
 use Rattle.pgo_syntax.specs.declared.assignment.Step.{Step}
 use Rattle.pgo_syntax.specs.declared.assignment.Step.TheVariants.{Index, Field}
-use Rattle.pgo_syntax.specs.declared.binding.Origin.{Origin}
-use Rattle.pgo_syntax.specs.declared.binding.Origin.TheVariants.{Equals, In}
 use Rattle.pgo_syntax.specs.declared.macros.MappingMacro.{MappingMacro}
+use Rattle.pgo_syntax.specs.Origins.{origin_tree}
 use Rattle.pgo_syntax.specs.Statement.{Statement, skip, assign, if_then, if_else, while_do, either_of, await_that, with_in, print_out, assert_that, go_to, call_macro, yield_as, block, Statements, no_statements, more_statements, LabeledStatements, no_labeled, more_labeled, GuardedStatements, no_guarded, more_guarded, labeled}
 use Rattle.pgo_labels.specs.declared.errors.LabelError.TheVariants.{YieldRule}
 use Rattle.pgo_labels.specs.declared.finding.Finding.{Finding}
@@ -68,10 +67,6 @@ indices [] = []
 indices (Index e ∷ steps) = e ∷ indices steps
 indices (Field f ∷ steps) = indices steps
 
-abbrev pub of_origin : Origin → Tree
-of_origin (Equals e) = e
-of_origin (In e) = e
-
 abbrev pub conditions : GuardedStatements → List Tree
 conditions no_guarded = []
 conditions (more_guarded p e s ss) = e ∷ conditions ss
@@ -85,7 +80,7 @@ expressions (if_else p bs s) = conditions bs
 expressions (while_do p e s) = e ∷ []
 expressions (either_of p ss) = []
 expressions (await_that p e) = e ∷ []
-expressions (with_in p ns s) = map (λ w. of_origin w.origin) ns
+expressions (with_in p ns s) = map (λ w. origin_tree w.origin) ns
 expressions (print_out p e) = e ∷ []
 expressions (assert_that p e) = e ∷ []
 expressions (go_to p l) = []

@@ -5,22 +5,23 @@ ghost use Rattle.pgo_labels.specs.Least.{least};
 ghost use Rattle.pgo_labels.specs.Lent.{lent};
 
 use crate::finding::{Finding, Rule, least_finding};
-use crate::name_set::NameSet;
 use crate::names::body_labels;
 use pgo_syntax::archetype::Archetype;
 use pgo_syntax::name::PlacedName;
+use pgo_syntax::name_map::NameMap;
 use std::alloc::{AllocError, Global};
 
 /// Those of the labels that stand before too.
 fn repeated<'a>(alloc: Global, labels: &[&'a PlacedName]) -> Result<Vec<&'a PlacedName>, AllocError>
     ensures { IfOk result (λ v. lent v.items ≡ spec.repeated [] (lent labels.now)) }
 {
-    let mut before = NameSet::new(alloc);
+    let mut before = NameMap::new(alloc);
     let mut names = Vec::new(alloc);
     for label in labels {
-        if !before.insert(&label.name)? {
+        if before.get(&label.name).is_some() {
             names.push(*label)?;
         }
+        before.set(alloc, &label.name, ())?;
     }
     Ok(names)
 }

@@ -7,7 +7,6 @@ mod finding;
 mod items;
 mod label_here;
 mod label_twice;
-mod name_set;
 mod names;
 mod needs_label;
 mod reserved_done;

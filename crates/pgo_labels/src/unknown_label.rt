@@ -1,21 +1,22 @@
 // Rule 3: a `goto` names neither a label of its archetype nor `Done`.
 ghost use Rattle.std.specs.Prelude.{◌≡◌, ◌||◌, map, not, filter, IfOk, option_copied, option_to_list};
 ghost use Rattle.pgo_base.specs.Lookup.{Name, same_name};
+ghost use Rattle.pgo_model.specs.Names.{is_among};
+ghost use Rattle.pgo_syntax.specs.NameMaps.{has_name};
 ghost use Rattle.pgo_syntax.specs.StatementView.{statement};
 ghost use Rattle.pgo_labels.specs.Inside.{with_inside};
-ghost use Rattle.pgo_labels.specs.Labels.{is_among, done};
+ghost use Rattle.pgo_labels.specs.Labels.{done};
 ghost use Rattle.pgo_labels.specs.Least.{least};
 ghost use Rattle.pgo_labels.specs.Lent.{lent};
-ghost use Rattle.pgo_labels.specs.NameSets.{has_name};
 ghost use Rattle.pgo_labels.specs.Parts.{see};
 ghost use Rattle.pgo_labels.specs.UnknownLabel as spec;
 
 use crate::finding::{Finding, Rule, least_finding};
 use crate::items::{Item, items_of_body};
-use crate::name_set::NameSet;
 use crate::names::{body_labels, is_done};
 use pgo_syntax::archetype::Archetype;
 use pgo_syntax::name::PlacedName;
+use pgo_syntax::name_map::NameMap;
 use pgo_syntax::statement::{Block, Stmt};
 use std::alloc::{AllocError, Global};
 
@@ -50,13 +51,13 @@ fn body_targets<'a>(alloc: Global, body: &'a Block) -> Result<Vec<&'a PlacedName
     targets_of(alloc, items.as_slice())
 }
 
-/// The set of these labels.
-fn set_of<'a>(alloc: Global, labels: &[&'a PlacedName]) -> Result<NameSet<'a>, AllocError>
-    ensures { IfOk result (λ s. (n : Name) → has_name s.set n ≡ is_among n (lent labels.now)) }
+/// The names of these labels.
+fn set_of(alloc: Global, labels: &[&PlacedName]) -> Result<NameMap<()>, AllocError>
+    ensures { IfOk result (λ s. (n : Name) → has_name s n ≡ is_among n (map (λ l. l.name) (lent labels.now))) }
 {
-    let mut label_set = NameSet::new(alloc);
+    let mut label_set = NameMap::new(alloc);
     for label in labels {
-        label_set.insert(&label.name)?;
+        label_set.set(alloc, &label.name, ())?;
     }
     Ok(label_set)
 }
@@ -64,15 +65,15 @@ fn set_of<'a>(alloc: Global, labels: &[&'a PlacedName]) -> Result<NameSet<'a>, A
 /// Those of the targets that are neither among the labels nor `Done`.
 fn unknown<'a>(
     alloc: Global,
-    labels: &[&'a PlacedName],
+    labels: &[&PlacedName],
     targets: &[&'a PlacedName],
 ) -> Result<Vec<&'a PlacedName>, AllocError>
-    ensures { IfOk result (λ v. lent v.items ≡ filter (λ t. not (is_among t.name (lent labels.now) || same_name t.name done)) (lent targets.now)) }
+    ensures { IfOk result (λ v. lent v.items ≡ filter (λ t. not (is_among t.name (map (λ l. l.name) (lent labels.now)) || same_name t.name done)) (lent targets.now)) }
 {
     let label_set = set_of(alloc, labels)?;
     let mut names = Vec::new(alloc);
     for target in targets {
-        if !label_set.contains(&target.name) && !is_done(&target.name) {
+        if label_set.get(&target.name).is_none() && !is_done(&target.name) {
             names.push(*target)?;
         }
     }

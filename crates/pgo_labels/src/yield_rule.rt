@@ -2,6 +2,7 @@
 ghost use Rattle.std.specs.Prelude.{◌≡◌, [], ◌∷◌, ◌++◌, codes, true, false, map, flat_map, IfOk};
 ghost use Rattle.std.specs.List.{list_any};
 ghost use Rattle.pgo_base.specs.ExprView.{tree};
+ghost use Rattle.pgo_syntax.specs.Origins.{origin_tree};
 ghost use Rattle.pgo_syntax.specs.Statement.{guarded, labeled};
 ghost use Rattle.pgo_syntax.specs.StatementView.{statement};
 ghost use Rattle.pgo_operands.specs.Operands.{lent_trees};
@@ -175,7 +176,7 @@ fn conditions<'a>(alloc: Global, branches: &'a Branches) -> Result<Vec<&'a Expr>
 
 /// The expression from which a name of a `with` has its value.
 fn origin_of<'a>(origin: &'a Origin) -> &'a Expr
-    ensures { tree result.now ≡ spec.of_origin origin.entry.now }
+    ensures { tree result.now ≡ origin_tree origin.entry.now }
 {
     match origin {
         Origin::Equals(e) => e.get(),
@@ -185,7 +186,7 @@ fn origin_of<'a>(origin: &'a Origin) -> &'a Expr
 
 /// The expressions from which the names of a `with` have their values.
 fn origins<'a>(alloc: Global, names: &'a WithNames) -> Result<Vec<&'a Expr>, AllocError>
-    ensures { IfOk result (λ v. lent_trees v.items ≡ map (λ w. spec.of_origin w.origin) names.entry.now) }
+    ensures { IfOk result (λ v. lent_trees v.items ≡ map (λ w. origin_tree w.origin) names.entry.now) }
 {
     let mut parts = Vec::new(alloc);
     let list = names.as_slice();

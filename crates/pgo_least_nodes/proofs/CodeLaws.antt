@@ -12,7 +12,7 @@ use Rattle.pgo_put_sizes.specs.Least.{passes, yields}
 use Rattle.pgo_sections.specs.Access.{Mapped, MappedNames, place, evaluated}
 use Rattle.pgo_sections.specs.Nodes.{tree_nodes}
 use Rattle.pgo_put_sizes.proofs.Replaced.{replaced_nodes}
-use Rattle.pgo_effects.specs.Origins.{of_origin}
+use Rattle.pgo_syntax.specs.Origins.{origin_tree}
 use Rattle.pgo_sections.specs.Code.{Place, Code, Empty, Skip, Let, Pick, Await, Assert, Print, If, Seq, Goto, in_turn, at_base, val_base, Write}
 use Rattle.pgo_syntax.specs.Statement.{Statement, skip, assign, if_then, if_else, while_do, either_of as either, await_that, with_in, print_out, assert_that, go_to, call_macro, yield_as, block, Statements, no_statements, more_statements, LabeledStatements, no_labeled, more_labeled, GuardedStatements, no_guarded, more_guarded, labeled}
 use Rattle.pgo_syntax.specs.declared.assignment.Assignment.{Assignment}
@@ -127,25 +127,25 @@ module _ (p : Name) (mapped : MappedNames) (places : List (Name × Place)) (read
 
   -- ---- the names of a `with`
 
-  name_has : (w : Count) (x : Name) (o : Origin) (c : Code) → Has w c → HasMore (suc (tree_nodes (of_origin o))) w (bind_name s x o c)
+  name_has : (w : Count) (x : Name) (o : Origin) (c : Code) → Has w c → HasMore (suc (tree_nodes (origin_tree o))) w (bind_name s x o c)
   name_has w x (Equals e) c h = read_before w e 0 (λ e' k. Let (unmarked x) x e' c) (λ e' k. bound_before w (unmarked x) x e' c h)
   name_has w x (In e) c h = read_before w e 0 (λ e' k. Pick (unmarked x) x e' c) (λ e' k. picked_before w (unmarked x) x e' c h)
 
   names_keep : (w : Count) (ws : List WithName) (c : Code) → Has w c → Has w (bind_names s ws c)
   names_keep w [] c h = h
   names_keep w (n ∷ ns) c h =
-      no_more_of (suc (tree_nodes (of_origin n.origin))) w (bind_name s n.name.name n.origin (bind_names s ns c)) (name_has w n.name.name n.origin (bind_names s ns c) (names_keep w ns c h))
+      no_more_of (suc (tree_nodes (origin_tree n.origin))) w (bind_name s n.name.name n.origin (bind_names s ns c)) (name_has w n.name.name n.origin (bind_names s ns c) (names_keep w ns c h))
 
-  origin_nodes : (ls : Layers) (o : Origin) → tree_nodes (of_origin o) ≤ tree_nodes (of_origin (puts_origin ls o))
-  origin_nodes ls (Equals e) = subst (λ o. tree_nodes e ≤ tree_nodes (of_origin o)) (sym (puts_equals ls e)) (puts_nodes ls e)
-  origin_nodes ls (In e) = subst (λ o. tree_nodes e ≤ tree_nodes (of_origin o)) (sym (puts_in ls e)) (puts_nodes ls e)
+  origin_nodes : (ls : Layers) (o : Origin) → tree_nodes (origin_tree o) ≤ tree_nodes (origin_tree (puts_origin ls o))
+  origin_nodes ls (Equals e) = subst (λ o. tree_nodes e ≤ tree_nodes (origin_tree o)) (sym (puts_equals ls e)) (puts_nodes ls e)
+  origin_nodes ls (In e) = subst (λ o. tree_nodes e ≤ tree_nodes (origin_tree o)) (sym (puts_in ls e)) (puts_nodes ls e)
 
-  names_have : (w : Count) (ls : Layers) (ws : List WithName) (c : Code) → Has w c → Has (then' (said_first (map (λ w. of_origin w.origin) ws)) w) (bind_names s (puts_names ls ws) c)
+  names_have : (w : Count) (ls : Layers) (ws : List WithName) (c : Code) → Has w c → Has (then' (said_first (map (λ w. origin_tree w.origin) ws)) w) (bind_names s (puts_names ls ws) c)
   names_have w ls [] c h = λ m ps ren cur n k j y g. omega (arith, step_then 0 w m, h m ps ren cur n k j y g)
   names_have w ls (x ∷ ws) c h =
       let n = puts_name ls x in
       let rest = puts_names (behind_name ls x.name.name) ws in
-      said_then (of_origin x.origin) (tree_nodes (of_origin n.origin)) w (bind_name s n.name.name n.origin (bind_names s rest c)) (origin_nodes ls x.origin)
+      said_then (origin_tree x.origin) (tree_nodes (origin_tree n.origin)) w (bind_name s n.name.name n.origin (bind_names s rest c)) (origin_nodes ls x.origin)
       (name_has w n.name.name n.origin (bind_names s rest c) (names_keep w rest c h))
 
   -- ---- statements

@@ -3,16 +3,15 @@
 -- Of each statement one node is counted, and one of its expression or three where that is an operation on two others, once for each
 -- path that leads to it. What stands in the place
 -- of a macro's call is counted once for the macro.
-use Rattle.std.specs.Prelude.{ℕ, suc, ◌+◌, ◌*◌, ◌^◌, ◌-◌, min, Bool, true, false, List, [], ◌∷◌, map, reverse, Option, Some, None}
+use Rattle.std.specs.Prelude.{ℕ, suc, ◌+◌, ◌*◌, ◌^◌, ◌-◌, min, Bool, true, false, List, [], ◌∷◌, map, Option, Some, None}
 use Rattle.pgo_base.specs.Lookup.{Name, find}
 use Rattle.pgo_base.specs.Tree.{Tree, binary}
-use Rattle.pgo_effects.specs.Origins.{of_origin}
+use Rattle.pgo_syntax.specs.Origins.{origin_tree}
 use Rattle.pgo_syntax.specs.Statement.{Statement, skip, assign, if_then, if_else, while_do, either_of as either, await_that, with_in, print_out, assert_that, go_to, call_macro, yield_as, block, Statements, no_statements, more_statements, LabeledStatements, no_labeled, more_labeled, GuardedStatements, no_guarded, more_guarded, labeled}
 use Rattle.pgo_syntax.specs.declared.archetype.Archetype.{Archetype}
 use Rattle.pgo_syntax.specs.declared.macros.Macro.{Macro}
 use Rattle.pgo_least_nodes.specs.declared.count.Count.{Count}
 use Rattle.pgo_least_nodes.specs.declared.count.Counts.{Counts}
-use Rattle.pgo_least_nodes.specs.declared.macros.MacroCount.{MacroCount}
 
 abbrev pub sum : ℕ → ℕ → ℕ
 sum a b = min (a + b) (2 ^ 64 - 1)
@@ -101,7 +100,7 @@ abbrev mutual
   counts ms (while_do p e t) = branch e (ended (counts ms t)) (plain (step 0))
   counts ms (either p ts) = behind (step 1) (arms_counts ms ts)
   counts ms (await_that p e) = plain (said e)
-  counts ms (with_in p ws t) = behind (said_first (map (λ w. of_origin w.origin) ws)) (counts ms t)
+  counts ms (with_in p ws t) = behind (said_first (map (λ w. origin_tree w.origin) ws)) (counts ms t)
   counts ms (print_out p e) = plain (said e)
   counts ms (assert_that p e) = plain (said e)
   counts ms (go_to p x) = plain jump
@@ -130,10 +129,6 @@ counts_with ms (m ∷ rest) = counts_with ((m.name.name, (row_counts ms (labeled
 
 abbrev pub macro_counts : List Macro → Table
 macro_counts ms = counts_with [] ms
-
--- the table as it lies in memory, the oldest first
-abbrev pub table : List MacroCount → Table
-table ms = reverse (map (λ m. (m.name, m.count)) ms)
 
 -- of all sections of an archetype's labels
 abbrev pub least_nodes : Table → Archetype → ℕ

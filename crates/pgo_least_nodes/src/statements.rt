@@ -1,16 +1,15 @@
 // The counts of statements.
 ghost use Rattle.std.specs.Prelude.{◌≡◌, map};
 ghost use Rattle.pgo_base.specs.ExprView.{tree};
-ghost use Rattle.pgo_effects.specs.Origins.{of_origin};
+ghost use Rattle.pgo_syntax.specs.Origins.{origin_tree};
 ghost use Rattle.pgo_least_nodes.specs.Counts as spec;
-ghost use Rattle.pgo_least_nodes.specs.Counts.{table};
 ghost use Rattle.pgo_syntax.specs.Statement.{guarded, labeled, statements};
 ghost use Rattle.pgo_syntax.specs.StatementView.{branch_parts, labeled_pair, statement};
 
 use crate::count::{
     Count, Counts, behind, either_of, ended, in_row, jump, labelled, none, plain, step,
 };
-use crate::macros::{MacroCount, called};
+use crate::macros::{MacroCounts, called};
 use pgo_base::expr::Expr;
 use pgo_syntax::assignment::Assignment;
 use pgo_syntax::binding::{Origin, WithName};
@@ -45,7 +44,7 @@ fn first_assignment(list: &[Assignment]) -> Count
 
 /// A statement with the expression of a name of a `with`.
 fn said_origin(origin: &Origin) -> Count
-    ensures { result ≡ spec.said (of_origin origin.now) }
+    ensures { result ≡ spec.said (origin_tree origin.now) }
 {
     match origin {
         Origin::Equals(e) => said(e.get()),
@@ -55,7 +54,7 @@ fn said_origin(origin: &Origin) -> Count
 
 /// The first of these names of a `with`, if there is one.
 fn first_name(list: &[WithName]) -> Count
-    ensures { result ≡ spec.said_first (map (λ w. of_origin w.origin) list.now) }
+    ensures { result ≡ spec.said_first (map (λ w. origin_tree w.origin) list.now) }
 {
     match list.first() {
         None => step(0),
@@ -65,8 +64,8 @@ fn first_name(list: &[WithName]) -> Count
 
 /// Of a statement. It recurses to the nesting of statements.
 #[cycle(counts)]
-pub(crate) fn statement_counts(macros: &[MacroCount], t: &Stmt) -> Counts
-    ensures { result ≡ spec.counts (table macros.now) (statement t.now) }
+pub(crate) fn statement_counts(macros: &MacroCounts, t: &Stmt) -> Counts
+    ensures { result ≡ spec.counts macros.now (statement t.now) }
 {
     match t {
         Stmt::Skip(_) => plain(step(1)),
@@ -105,8 +104,8 @@ fn branch(e: &Expr, a: Counts, b: Counts) -> Counts
 
 /// Of the statements of an `either`.
 #[cycle(counts)]
-fn arms_counts(macros: &[MacroCount], list: &[Stmt]) -> Counts
-    ensures { result ≡ spec.arms_counts (table macros.now) (statements (map statement list.now)) }
+fn arms_counts(macros: &MacroCounts, list: &[Stmt]) -> Counts
+    ensures { result ≡ spec.arms_counts macros.now (statements (map statement list.now)) }
 {
     let mut all = plain(none());
     let mut at = list.len();
@@ -119,8 +118,8 @@ fn arms_counts(macros: &[MacroCount], list: &[Stmt]) -> Counts
 
 /// Of the branches of an `if`, and what is done where none is taken.
 #[cycle(counts)]
-fn branches_counts(macros: &[MacroCount], other: Counts, list: &[Branch]) -> Counts
-    ensures { result ≡ spec.branches_counts (table macros.now) other (guarded (map branch_parts list.now)) }
+fn branches_counts(macros: &MacroCounts, other: Counts, list: &[Branch]) -> Counts
+    ensures { result ≡ spec.branches_counts macros.now other (guarded (map branch_parts list.now)) }
 {
     let mut all = other;
     let mut at = list.len();
@@ -149,8 +148,8 @@ fn with_rest(is_labelled: bool, a: Counts, rest: Counts) -> Counts
 
 /// Of the statements of a block.
 #[cycle(counts)]
-pub(crate) fn row_counts(macros: &[MacroCount], list: &[Labeled]) -> Counts
-    ensures { result ≡ spec.row_counts (table macros.now) (labeled (map labeled_pair list.now)) }
+pub(crate) fn row_counts(macros: &MacroCounts, list: &[Labeled]) -> Counts
+    ensures { result ≡ spec.row_counts macros.now (labeled (map labeled_pair list.now)) }
 {
     let mut all = plain(step(0));
     let mut at = list.len();

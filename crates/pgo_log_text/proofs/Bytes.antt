@@ -3,7 +3,7 @@ use Rattle.std.proofs.Common.{◌≡◌, ◌<◌, ◌^◌, ℕ, true, IsTrue, Li
 use Rattle.pgo_base.specs.Data.{Data}
 use Rattle.pgo_base.specs.Lookup.{Name}
 use Rattle.pgo_model.specs.ValueText.{value_text}
-use Rattle.pgo_model.specs.IsBundle.{is_read_name}
+use Rattle.pgo_model.specs.BundleParts.{is_read_name}
 use Rattle.pgo_log_text.specs.IsBundle.{IsCanonicalValue}
 use Rattle.pgo_log_text.specs.Bytes.{is_apart, is_behind_value, expect, taken, number, name, value}
 use Rattle.pgo_log_text.proofs.BytesRuns.{expected, expects, counted, counts}

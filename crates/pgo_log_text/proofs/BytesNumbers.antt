@@ -7,7 +7,7 @@ use Rattle.std.proofs.lemmas.Str.Parse.{IsDigitsTest, FoldsDigits, IsNumeralMode
 use Rattle.std.proofs.lemmas.Fmt.{digits_decimal, digits_value-decimal, decimal-digits_value, decimal_nonempty, decimal_digit, first_decimal}
 use Rattle.pgo_base.specs.Lookup.{Name}
 use Rattle.pgo_model.specs.ValueText.{is_digit, is_letter, is_word_byte, all_word_bytes, is_identifier}
-use Rattle.pgo_model.specs.IsBundle.{count_limit, is_read_name}
+use Rattle.pgo_model.specs.BundleParts.{count_limit, is_read_name}
 use Rattle.pgo_log_text.specs.Parsers.{Outcome}
 use Rattle.pgo_log_text.specs.Bytes.{is_apart, front, behind, most, natural_from, is_shortest, natural_of, give, natural, number, name}
 use Rattle.pgo_log_text.proofs.BytesSteps.{if_some, cond_true, cond_false, bind_then, then_at, some_pair, give_some}

@@ -8,7 +8,7 @@ use Rattle.pgo_model.specs.ValueText.{is_word_byte, all_word_bytes, has_letter, 
 use Rattle.pgo_model.specs.ModuleText.{line, flatten}
 use Rattle.pgo_model.specs.Outcome.{Kind, Blocked, NoValue, AssertFails}
 use Rattle.pgo_model.specs.Bundle.{fields, indexed_text}
-use Rattle.pgo_model.specs.IsBundle.{is_read_name}
+use Rattle.pgo_model.specs.BundleParts.{is_read_name}
 use Rattle.pgo_log_text.specs.IsBundle.{IsCanonicalIndex, AttemptLine, StepLine, NoteLine, HeldLine, HeldLogLine, DownLine, FullLine, attempt_fields, attempt_lines, IsAttemptLine, AreAttemptLines}
 use Rattle.pgo_log_text.specs.Bytes.{is_apart, begins}
 use Rattle.pgo_log_text.specs.Lines.{number_word, number_form, last_component, held_at, held_form, down_form, attempt_form, attempt_line, attempts}

@@ -8,7 +8,7 @@ use Rattle.pgo_model.specs.ValueText.{value_text}
 use Rattle.pgo_model.specs.ModuleText.{line, flatten}
 use Rattle.pgo_model.specs.Log.{Unowned, Change}
 use Rattle.pgo_model.specs.Bundle.{indexed_text, change_line}
-use Rattle.pgo_model.specs.IsBundle.{is_read_name}
+use Rattle.pgo_model.specs.BundleParts.{is_read_name}
 use Rattle.pgo_log_text.specs.IsBundle.{IsCanonicalValue, IsCanonicalIndex, IsChange, AreChanges}
 use Rattle.pgo_log_text.specs.Bytes.{is_apart, begins}
 use Rattle.pgo_log_text.specs.Lines.{index_part, as_index, index, change, changes}

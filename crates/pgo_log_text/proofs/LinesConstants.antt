@@ -9,7 +9,7 @@ use Rattle.pgo_model.specs.ValueText.{value_text}
 use Rattle.pgo_model.specs.ModuleText.{Line, line, flatten}
 use Rattle.pgo_model.specs.Log.{Log}
 use Rattle.pgo_model.specs.Bundle.{value_line}
-use Rattle.pgo_model.specs.IsBundle.{is_read_name}
+use Rattle.pgo_model.specs.BundleParts.{is_read_name}
 use Rattle.pgo_log_text.specs.IsBundle.{IsCanonicalValue, AreConstants, head_lines, IsLogText}
 use Rattle.pgo_log_text.specs.Lines.{constant_line, constants, constants_part, module_part, are_named, log_of}
 use Rattle.pgo_log_text.proofs.BytesSteps.{if_some, cond_true, bind_then, then_at, some_pair}

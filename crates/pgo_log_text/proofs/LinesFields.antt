@@ -5,7 +5,7 @@ use Rattle.std.proofs.lemmas.Bool.{eqb-true, eq-eqb}
 use Rattle.pgo_base.specs.Data.{Data}
 use Rattle.pgo_base.specs.Lookup.{Name}
 use Rattle.pgo_model.specs.ValueText.{value_text}
-use Rattle.pgo_model.specs.IsBundle.{is_read_name}
+use Rattle.pgo_model.specs.BundleParts.{is_read_name}
 use Rattle.pgo_log_text.specs.IsBundle.{IsCanonicalValue}
 use Rattle.pgo_log_text.specs.Bytes.{is_apart}
 use Rattle.pgo_log_text.specs.Lines.{where_holds, this_number, this_field, number_field, name_field, last_number, last_value}

@@ -9,7 +9,7 @@ use Rattle.pgo_model.specs.Machine.{Entry}
 use Rattle.pgo_model.specs.Log.{Effect, Log}
 use Rattle.pgo_model.specs.ModuleText.{Line, line, flatten}
 use Rattle.pgo_model.specs.Bundle.{value_line, entries_lines}
-use Rattle.pgo_model.specs.IsBundle.{is_run_status}
+use Rattle.pgo_model.specs.BundleParts.{is_run_status}
 use Rattle.pgo_log_text.specs.Bytes.{is_apart, begins, at_end}
 use Rattle.pgo_log_text.specs.Lines.{most_parts, run_status, nothing_behind, finish, heading, log_and_end}
 use Rattle.pgo_log_text.specs.IsBundle.{AreCanonical, AreEntries, Account, read_accounts_lines, AreAccounts, log_lines, IsLogText}

@@ -3,7 +3,7 @@ use Rattle.std.specs.Prelude.{ℕ, zero, suc, ◌+◌, ◌-◌, Bool, true, fals
 use Rattle.pgo_base.specs.Data.{Data}
 use Rattle.pgo_base.specs.Lookup.{Name}
 use Rattle.pgo_model.specs.ValueText.{is_digit, is_word_byte, same_bytes, value_text}
-use Rattle.pgo_model.specs.IsBundle.{count_limit, is_read_name}
+use Rattle.pgo_model.specs.BundleParts.{count_limit, is_read_name}
 pub use Rattle.pgo_value_text.specs.Parsers.{give}
 pub use Rattle.pgo_value_text.specs.Reading.{expect, begins, front, behind, most}
 unfoldable pub use Rattle.pgo_value_text.specs.Reading.{natural_from}

@@ -11,7 +11,7 @@ use Rattle.pgo_model.specs.Log.{Unowned, Change, Effect, Log}
 use Rattle.pgo_model.specs.Module.{Module}
 use Rattle.pgo_model.specs.ModuleText.{Line, line, flatten}
 use Rattle.pgo_model.specs.Bundle.{fields, indexed_text, kind_text, end_text, value_line, entries_lines}
-use Rattle.pgo_model.specs.IsBundle.{count_limit, is_read_name, is_run_status}
+use Rattle.pgo_model.specs.BundleParts.{count_limit, is_read_name, is_run_status}
 use Rattle.pgo_value_text.specs.IsValueText.{IsValueText}
 use Rattle.pgo_module_spells.specs.Spells.{SpellsModule}
 

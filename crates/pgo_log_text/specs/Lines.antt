@@ -4,7 +4,7 @@ use Rattle.pgo_base.specs.Data.{Data}
 use Rattle.pgo_base.specs.Lookup.{Name, Vars, same_name}
 use Rattle.pgo_model.specs.Machine.{Entry}
 use Rattle.pgo_model.specs.Log.{Unowned, Change, Effect, Log}
-use Rattle.pgo_model.specs.IsBundle.{is_run_status}
+use Rattle.pgo_model.specs.BundleParts.{is_run_status}
 use Rattle.pgo_log_text.specs.Parsers.{Parser, and_then, ◌>>=◌, ◌>>◌, pure}
 use Rattle.pgo_log_text.specs.Bytes.{expect, begins, taken, at_end, number, name, value}
 

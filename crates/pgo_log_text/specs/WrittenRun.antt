@@ -7,7 +7,7 @@ use Rattle.pgo_model.specs.Accounts.{journal}
 use Rattle.pgo_model.specs.Log.{Change, Effect}
 use Rattle.pgo_model.specs.Module.{Module}
 use Rattle.pgo_model.specs.ModuleText.{Text}
-use Rattle.pgo_model.specs.IsBundle.{count_limit, is_read_name, is_run_status}
+use Rattle.pgo_model.specs.BundleParts.{count_limit, is_read_name, is_run_status}
 use Rattle.pgo_module_spells.specs.Spells.{SpellsModule}
 use Rattle.pgo_log_text.specs.IsBundle.{IsCanonicalValue, IsCanonicalIndex, AreCanonical, AreConstants}
 

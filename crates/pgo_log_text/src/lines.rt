@@ -1,6 +1,6 @@
 // The lines of a bundle from `init` to `end`.
 ghost use Rattle.std.specs.Prelude.{◌≡◌, [], map};
-ghost use Rattle.pgo_model.specs.IsBundle as is_bundle;
+ghost use Rattle.pgo_model.specs.BundleParts as bundle_parts;
 ghost use Rattle.pgo_base.specs.View.{data_of, named_data};
 ghost use Rattle.pgo_model.specs.LogView.{log_view};
 ghost use Rattle.pgo_log_text.specs.Lines as spec;
@@ -53,7 +53,7 @@ fn start(alloc: Global, cursor: &mut Cursor<'_>, names: &[Text]) -> Result<State
 
 /// Whether this is a status of a run.
 fn is_run_status(status: u32) -> bool
-    ensures { result ≡ is_bundle.is_run_status status }
+    ensures { result ≡ bundle_parts.is_run_status status }
 {
     status == 0 || status == 20 || status == 21 || status == 23
 }

@@ -3,9 +3,8 @@ use Rattle.std.proofs.Common.{◌≡◌, ◌∙◌, ℕ, suc, Bool, true, false,
 use Rattle.std.specs.Prelude.{if◌then◌else◌, ◌||◌}
 use Rattle.std.proofs.lemmas.List.{append-nil, map-append}
 use Rattle.pgo_base.specs.Lookup.{Name, same_name, find}
-use Rattle.pgo_model.specs.Names.{same_name-is, same_name-not, same_name-self}
+use Rattle.pgo_model.specs.Names.{same_name-is, same_name-not, same_name-self, is_among}
 use Rattle.pgo_model.specs.Occurrences.{first_occurrences, without}
-use Rattle.pgo_sections.specs.Among.{is_among}
 use Rattle.pgo_code.specs.Steps.{Unmapped, Target, Resource, Own}
 use Rattle.pgo_lower.specs.Lowered.{read_before, reads_among}
 use Rattle.pgo_lower.specs.Gathered.{read_behind, noted, gathered, own_names, part_names}

@@ -18,7 +18,9 @@ use pgo_base::module::Defs;
 use pgo_base::results::both;
 use pgo_code::program::{Code, Program, Section};
 use pgo_effects::indexed_archetype::IndexedArchetype;
+use pgo_effects::indexed_macros::IndexedMacros;
 use pgo_effects::setting::Setting;
+use pgo_rewrite::indexed_bindings::IndexedBindings;
 use pgo_section_list::sections::{Section as Listed, sections};
 use pgo_syntax::bound::{Bound, Instance};
 use std::alloc::{AllocError, Global};
@@ -65,32 +67,29 @@ fn all_sections<'a>(
 fn sections_with<'a, 't>(
     alloc: Global,
     globals: &'t Globals<'a>,
+    macros: &IndexedMacros<'a>,
     i: &'a Instance,
     slots: &'t IndexedSlots,
     left: &mut u64,
 ) -> Result<Vec<Section<'a>>, AllocError>
     requires unlabelled { AreUnlabelled globals.now.bound.now.spec.macros }
+    requires macros { macros.now ≡ globals.now.bound.now.spec.macros }
     requires slots { slot_views slots.now ≡ targets_in globals.now.bound.now i.now }
     ensures { IfOk result (λ v. map bare_section v.items ≡ map (lowered_section (tables_in globals.now.bound.now i.entry.now)) (sections_of globals.now.bound.now.spec.macros i.entry.now.process i.entry.now.archetype i.entry.now.bindings)) }
 {
     let indexed = IndexedArchetype::new(alloc, &i.archetype)?;
+    let bindings = IndexedBindings::new(alloc, i.bindings.as_slice())?;
     let setting = Setting::Process {
         name: &i.process,
         archetype: &indexed,
-        bindings: i.bindings.as_slice(),
+        bindings: &bindings,
     };
     let names = Names {
         setting,
         slots,
         globals,
     };
-    let listed = sections(
-        alloc,
-        globals.bound.spec.macros.as_slice(),
-        &i.process,
-        &indexed,
-        i.bindings.as_slice(),
-    )?;
+    let listed = sections(alloc, macros, &i.process, &indexed, &bindings)?;
     all_sections(alloc, &names, listed, left)
 }
 
@@ -98,14 +97,16 @@ fn sections_with<'a, 't>(
 fn code<'a>(
     alloc: Global,
     globals: &Globals<'a>,
+    macros: &IndexedMacros<'a>,
     i: &'a Instance,
     left: &mut u64,
 ) -> Result<Code<'a>, AllocError>
-    requires { AreUnlabelled globals.now.bound.now.spec.macros }
+    requires unlabelled { AreUnlabelled globals.now.bound.now.spec.macros }
+    requires macros { macros.now ≡ globals.now.bound.now.spec.macros }
     ensures { IfOk result (λ c. IsLowered globals.now.bound.now i.entry.now c) }
 {
     let slots = IndexedSlots::new(alloc, slots_of(alloc, globals, i)?)?;
-    let sections = sections_with(alloc, globals, i, &slots, left);
+    let sections = sections_with(alloc, globals, macros, i, &slots, left);
     let (variables, sections) = both(variables(alloc, slots.as_slice()), sections)?;
     Ok(Code {
         variables,
@@ -131,10 +132,11 @@ pub fn lower<'a>(
     ensures codes { IfOk result (λ p. AreLowered bound.entry.now bound.entry.now.instances p.codes.items) }
 {
     let globals = Globals::new(alloc, bound)?;
+    let macros = IndexedMacros::new(alloc, bound.spec.macros.as_slice())?;
     let mut left = MOST_TASKS;
     let mut codes = Vec::new(alloc);
     for i in bound.instances.as_slice() {
-        codes.push(code(alloc, &globals, i, &mut left)?)?;
+        codes.push(code(alloc, &globals, &macros, i, &mut left)?)?;
     }
     Ok(Program {
         bound,

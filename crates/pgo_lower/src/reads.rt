@@ -9,7 +9,7 @@ ghost use Rattle.pgo_lower.specs.Slots.{slot_views};
 ghost use Rattle.pgo_operands.specs.Operands.{lent_trees};
 ghost use Rattle.pgo_rewrite.specs.Scoped.{under_at};
 ghost use Rattle.pgo_rewrite.specs.Scopes.{in_scope};
-ghost use Rattle.pgo_sections.specs.Among.{is_among};
+ghost use Rattle.pgo_model.specs.Names.{is_among};
 ghost use Rattle.pgo_sections.specs.FreeNames.{free_names};
 
 use crate::indexed_slots::IndexedSlots;

@@ -166,10 +166,10 @@ module _ (ds : List Defined) (id old : Data) (d : Words) where
       → ((v : Data) (run' : SectionRun) (m : Now) → Agrees run' m → Same (f v run') (h ((x, Some v) ∷ env) m)) → Same (runs.picked ms d run f) (named_then x env (given.choose d ms n) h)
   same_picked x env [] run n ag f h each = failed Blocked run n ag
   same_picked x env (m ∷ ms) run n ag f h each =
-      let ways = length (m ∷ ms) in
-      let i = pick (d (length run.choices)) ways in
-      subst (λ u. Same (f (get_or (m ∷ ms) i m) (chosen ways i run)) (h ((x, Some (get_or (m ∷ ms) (pick (d u) ways) m)) ∷ env) (drawn n))) ag.1
-      (each (get_or (m ∷ ms) i m) (chosen ways i run) (drawn n) (ag.0, ap suc ag.1))
+      let count = length (m ∷ ms) in
+      let i = pick (d (length run.choices)) count in
+      subst (λ u. Same (f (get_or (m ∷ ms) i m) (chosen count i run)) (h ((x, Some (get_or (m ∷ ms) (pick (d u) count) m)) ∷ env) (drawn n))) ag.1
+      (each (get_or (m ∷ ms) i m) (chosen count i run) (drawn n) (ag.0, ap suc ag.1))
 
   -- an expression is evaluated as it stands
   plainly : (e : Tree) (j : ℕ) (f : Tree → ℕ → Code) (env : Names) (run : SectionRun) (x : Answer) → Same (exec (f e j) env run) x → Same (exec (evaluated [] e j f) env run) x
@@ -350,11 +350,11 @@ module _ (ds : List Defined) (id old : Data) (d : Words) where
           (λ now. exec (Goto l) env now) (λ m. Fails NoValue m.used) (λ now m ag2. failed NoValue now m ag2))
           (λ run' ag'. gone run' n ag'))
       same_run (either_of p ts) env run n ag =
-          let ways = execs.count (code.arms block_setting l ts) in
-          let i = pick (d (length run.choices)) ways in
+          let count = execs.count (code.arms block_setting l ts) in
+          let i = pick (d (length run.choices)) count in
           subst (λ w. Same (exec (codes.Either (code.arms block_setting l ts)) env run) (run_specs.arm g ts (pick (d n.used) w) env (drawn n))) (arms_counted l ts)
-          (subst (λ u. Same (exec (codes.Either (code.arms block_setting l ts)) env run) (run_specs.arm g ts (pick (d u) ways) env (drawn n))) ag.1
-          (same_arm ts i env (chosen ways i run) (drawn n) (ag.0, ap suc ag.1)))
+          (subst (λ u. Same (exec (codes.Either (code.arms block_setting l ts)) env run) (run_specs.arm g ts (pick (d u) count) env (drawn n))) ag.1
+          (same_arm ts i env (chosen count i run) (drawn n) (ag.0, ap suc ag.1)))
       same_run (await_that p e) env run n ag =
           plainly e 0 (λ e' j. Await e') env run _
           (same_if _ _ (ap truth_of (value_same run.changes n.content ag.0 e env)) (read_unmapped k e run) n ag

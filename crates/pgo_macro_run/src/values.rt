@@ -87,10 +87,10 @@ pub fn next_pick(picks: &mut Picks, n: usize) -> Result<usize, OpStop>
     if picks.used() == u64::MAX {
         return Err(OpStop::NoMemory);
     }
-    let Ok(ways) = u32::try_from(n) else {
+    let Ok(count) = u32::try_from(n) else {
         return Err(OpStop::NoMemory);
     };
-    Ok(picks.next(ways) as usize)
+    Ok(picks.next(count) as usize)
 }
 
 /// The member of a set that the next word picks.

@@ -4,7 +4,7 @@ use Rattle.std.specs.List.{flat_map}
 use Rattle.pgo_base.specs.Data.{Data, boolean, integer, string, model, set, function, graph, keys}
 use Rattle.pgo_base.specs.Lookup.{Name, Vars, same_name, find}
 use Rattle.pgo_model.specs.Machine.{nth}
-use Rattle.pgo_model.specs.Names.{same_name-self}
+use Rattle.pgo_model.specs.Names.{same_name-self, is_among}
 use Rattle.pgo_model.specs.Options.{on}
 use Rattle.pgo_model.specs.Outcome.{Next}
 use Rattle.pgo_model.specs.State.{AllValues, is_shallow}
@@ -20,7 +20,6 @@ use Rattle.pgo_bound.specs.Declares.{value_in}
 use Rattle.pgo_bound.specs.State.{AreDifferent, IsState, IsStateOnDomains, id_of, kind_in, own_names, variables_of}
 use Rattle.pgo_bound.specs.declared.kinds.Kind.TheVariants.{ByElement}
 use Rattle.pgo_sections.specs.SectionsAgree.{keys as names_of}
-use Rattle.pgo_sections.specs.Among.{is_among}
 use Rattle.pgo_sections.specs.Code.{Code}
 use Rattle.pgo_sections.specs.Context.{Context}
 use Rattle.pgo_sections.specs.Domains.{ByElements, KeepsDomain, place, own, elements}

@@ -266,7 +266,7 @@ abbrev pub choosing : MappingMacro
 choosing = mapping (codes "M") ((None, either_of 0 (statements (yield_as 0 (n 1) ∷ yield_as 0 no_value ∷ []))) ∷ []) []
 
 abbrev pub made_of_two : ℕ → ChoiceMade
-made_of_two i = record { ways = 2; taken = i }
+made_of_two i = record { count = 2; taken = i }
 
 reads_one : MacRead (Macro choosing) [] (int 1) (int 9) (word_at (1 ∷ 0 ∷ [])) (made_of_two 1 ∷ []) ≡ Gives (int 1, None) (made_of_two 0 ∷ made_of_two 1 ∷ [])
 reads_one = refl
@@ -278,7 +278,7 @@ reads_none = refl
 abbrev pub of_three : MappingMacro
 of_three = mapping (codes "M") ((None, with_in 0 (with_name (codes "e") (In (set_of (trees (n 4 ∷ n 5 ∷ n 6 ∷ [])))) ∷ []) (yield_as 0 (name (codes "e")))) ∷ []) []
 
-reads_third : MacRead (Macro of_three) [] (int 1) (int 9) (word_at (5 ∷ [])) [] ≡ Gives (int 6, None) (record { ways = 3; taken = 2 } ∷ [])
+reads_third : MacRead (Macro of_three) [] (int 1) (int 9) (word_at (5 ∷ [])) [] ≡ Gives (int 6, None) (record { count = 3; taken = 2 } ∷ [])
 reads_third = refl
 
 identity : MacRead Identity [] (int 1) (int 9) (word_at []) [] ≡ Gives (int 9, None) []

@@ -5,7 +5,7 @@ use Rattle.pgo_base.specs.Data.{Data, function, graph, keys}
 use Rattle.pgo_base.specs.Lookup.{Name, Vars, same_name, find}
 use Rattle.pgo_model.specs.Core.{number_among, same_index}
 use Rattle.pgo_model.specs.Machine.{nth}
-use Rattle.pgo_model.specs.Names.{same_name-self, same_name-is}
+use Rattle.pgo_model.specs.Names.{same_name-self, same_name-is, is_among}
 use Rattle.pgo_model.specs.Options.{on}
 use Rattle.pgo_model.specs.Outcome.{Section}
 use Rattle.pgo_model.specs.System.{Resource, Touched, Words}
@@ -27,7 +27,6 @@ use Rattle.pgo_bound.specs.Sound.{Sound, index_in}
 use Rattle.pgo_bound.specs.State.{IsStateOnDomains, id_of, kind_in}
 use Rattle.pgo_model.specs.Written.{pc}
 use Rattle.pgo_sections.specs.Access.{Mapped}
-use Rattle.pgo_sections.specs.Among.{is_among}
 use Rattle.pgo_sections.specs.Code.{Place, Whole, Own, Code}
 use Rattle.pgo_sections.specs.Context.{Context}
 use Rattle.pgo_sections.specs.Domains.{Uses, AllUse, ByElements, PlaceIn, UsesOnly, IsPart, IsEvent}

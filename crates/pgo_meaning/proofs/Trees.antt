@@ -17,7 +17,7 @@ use Rattle.pgo_sections.specs.Closed.{ClosedAlike}
 use Rattle.pgo_sections.specs.Code.{Place, Whole, Own, Code}
 use Rattle.pgo_sections.specs.Section.{section}
 use Rattle.pgo_model.specs.Choice.{word_at}
-use Rattle.pgo_sections.specs.Among.{is_among}
+use Rattle.pgo_model.specs.Names.{is_among}
 use Rattle.pgo_meaning.specs.Parameters.{places_of}
 use Rattle.pgo_sections.specs.Expand.{expansion}
 use Rattle.pgo_sections.specs.Expansion.{Path}

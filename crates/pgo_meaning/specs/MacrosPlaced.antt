@@ -5,9 +5,10 @@
 -- of macros called in it. What a macro's expressions bind stays as it is: no argument holds such a name, by the rules on
 -- names.
 use Rattle.std.specs.Prelude.{ℕ, nat_eq, if◌then◌else◌, List, [], ◌∷◌, ◌++◌, map, Option, Some, None, option_map, unwrap_or}
-use Rattle.pgo_base.specs.Tree.{Tree, name, index, field, Trees, no_trees, more_trees}
+use Rattle.pgo_base.specs.Tree.{Tree, name, index, field}
 use Rattle.pgo_base.specs.Lookup.{Name, find}
 use Rattle.pgo_model.specs.Options.{on}
+pub use Rattle.pgo_syntax.specs.Lefts.{only}
 use Rattle.pgo_syntax.specs.Statement.{Statement, skip, assign, if_then, if_else, while_do, either_of, await_that, with_in, print_out, assert_that, go_to, call_macro, yield_as, block, Statements, no_statements, more_statements, LabeledStatements, no_labeled, more_labeled, GuardedStatements, no_guarded, more_guarded, labeled}
 use Rattle.pgo_syntax.specs.declared.assignment.Assignment.{Assignment}
 use Rattle.pgo_syntax.specs.declared.assignment.Left.{Left}
@@ -17,7 +18,7 @@ use Rattle.pgo_syntax.specs.declared.binding.Origin.{Origin}
 use Rattle.pgo_syntax.specs.declared.binding.Origin.TheVariants.{Equals, In}
 use Rattle.pgo_syntax.specs.declared.binding.WithName.{WithName}
 use Rattle.pgo_syntax.specs.declared.macros.Macro.{Macro}
-use Rattle.pgo_sections.specs.Among.{is_among}
+use Rattle.pgo_model.specs.Names.{is_among}
 use Rattle.pgo_sections.specs.Replaced.{replaced}
 
 -- `!`: no identifier has this byte
@@ -46,11 +47,6 @@ put_tree es t = replaced (argument es) [] t
 abbrev pub put_step : Arguments → Step → Step
 put_step es (step.Index e) = step.Index (put_tree es e)
 put_step es (step.Field x) = step.Field x
-
-abbrev pub only : Trees → Option Tree
-only no_trees = None
-only (more_trees t no_trees) = Some t
-only (more_trees t (more_trees u us)) = None
 
 abbrev pub with_step : Step → Left → Left
 with_step s l = record { name = l.name; path = l.path ++ s ∷ [] }

@@ -1,6 +1,6 @@
 -- The meaning of a section: one step of one instance on a whole state.
 -- Source: one step of PlusCal (A PlusCal User's Manual) and one critical section of Modular PlusCal.
-use Rattle.std.specs.Prelude.{◌≡◌, ℕ, Bool, true, false, List, [], map, Option, Some, None}
+use Rattle.std.specs.Prelude.{◌≡◌, ℕ, List, [], map, Option, Some, None}
 use Rattle.pgo_base.specs.Data.{Data, string}
 use Rattle.pgo_base.specs.Lookup.{Vars, find}
 use Rattle.pgo_model.specs.Machine.{nth}
@@ -11,9 +11,8 @@ use Rattle.pgo_model.specs.Val.{meanings}
 use Rattle.pgo_model.specs.Written.{pc}
 use Rattle.pgo_syntax.specs.declared.bound.Bound.{Bound}
 use Rattle.pgo_syntax.specs.declared.bound.Instance.{Instance}
-use Rattle.pgo_bound.specs.declared.kinds.Kind as kind
-use Rattle.pgo_bound.specs.declared.kinds.Kind.TheVariants as kinds
 use Rattle.pgo_bound.specs.Declares.{value_in}
+pub use Rattle.pgo_bound.specs.Kinds.{is_by_element}
 use Rattle.pgo_bound.specs.State.{id_of, kind_in}
 use Rattle.pgo_sections.specs.Code.{Code}
 use Rattle.pgo_sections.specs.Context.{Context}
@@ -22,11 +21,6 @@ use Rattle.pgo_sections.specs.Section.{section}
 use Rattle.pgo_model.specs.Choice.{word_at}
 use Rattle.pgo_meaning.specs.Parameters.{places_of, own_variables}
 use Rattle.pgo_meaning.specs.Sections.{sections_of}
-
-abbrev pub is_by_element : kind.Kind → Bool
-is_by_element kinds.Unbound = false
-is_by_element kinds.AsWhole = false
-is_by_element kinds.ByElement = true
 
 abbrev pub context_of : Bound → Instance → Vars → Context
 context_of b i s = record {

@@ -13,7 +13,7 @@ use Rattle.pgo_sections.specs.SectionsAgree.{IsPlace}
 use Rattle.pgo_sections.specs.Closed.{AreClosed}
 use Rattle.pgo_sections.specs.Code.{Place, Code}
 use Rattle.pgo_sections.specs.Expansion.{Expansion}
-use Rattle.pgo_sections.specs.Among.{is_among}
+use Rattle.pgo_model.specs.Names.{is_among}
 use Rattle.pgo_meaning.specs.Parameters.{places_of, own_variables}
 use Rattle.pgo_sections.specs.WellFormed.{NotMade, PlainCode}
 use Rattle.pgo_sections.specs.Expand.{expansion}

@@ -24,7 +24,7 @@ ghost use Rattle.pgo_bound.specs.BoundOf.{bound_of};
 ghost use Rattle.pgo_bound.specs.Declares.{value_in};
 ghost use Rattle.pgo_bound.specs.Sound.{Sound, IsLabel, labels_among};
 ghost use Rattle.pgo_bound.specs.State.{IsState, IsStateOnDomains, id_of};
-ghost use Rattle.pgo_sections.specs.Among.{is_among};
+ghost use Rattle.pgo_model.specs.Names.{is_among};
 ghost use Rattle.pgo_sections.specs.Code.{Code, Read, Write};
 ghost use Rattle.pgo_sections.specs.Exec.{Gives, if_gives, touching};
 ghost use Rattle.pgo_sections.specs.BoundValues.{bindable, value_under};

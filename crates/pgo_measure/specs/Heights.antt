@@ -4,7 +4,7 @@ use Rattle.pgo_base.specs.Lookup.{Name, same_name, find}
 use Rattle.pgo_model.specs.Options.{on}
 use Rattle.pgo_model.specs.Written.{pc}
 use Rattle.pgo_expr_read.specs.Heights.{height}
-use Rattle.pgo_sections.specs.Among.{is_among}
+use Rattle.pgo_model.specs.Names.{is_among}
 use Rattle.pgo_sections.specs.Expansion.{Expansion, With, In, Skip, Await, Assert, Print, If, Either, End, Expansions, no_expansions, more_expansions}
 
 -- of a conjunction with one more item behind those so far

@@ -30,7 +30,7 @@ pub mod ValueText
 pub mod ExprText
 pub mod ModuleText
 pub mod Bundle
-pub mod IsBundle
+pub mod BundleParts
 pub mod Names
 pub mod ModuleView
 pub mod LogView

@@ -1,6 +1,6 @@
--- When two names are one, lists in which none are, and what stands under a name in two lists together.
-use Rattle.std.specs.Prelude.{◌≡◌, ℕ, Bool, true, false, ◌&&◌, nat_eq, if◌then◌else◌, List, [], ◌∷◌, ◌++◌, Option, Some, None, refl}
-use Rattle.std.proofs.Common.{ap, arith}
+-- When two names are one, whether a name is in a list, lists in which no two are one, and what stands under a name in two lists together.
+use Rattle.std.specs.Prelude.{◌≡◌, ℕ, Bool, true, false, ◌&&◌, ◌||◌, nat_eq, if◌then◌else◌, List, [], ◌∷◌, ◌++◌, Option, Some, None, refl}
+use Rattle.std.proofs.Common.{ap, arith, ◌∙◌}
 use Rattle.std.specs.declared.cmp.Ordering.{Ordering}
 use Rattle.std.specs.declared.cmp.Ordering.TheVariants.{Less, Equal, Greater}
 use Rattle.std.specs.List.{AllByRecursion}
@@ -31,6 +31,24 @@ same_name-not x y h = go (same_name x y) refl
     go : (b : Bool) → same_name x y ≡ b → b ≡ false
     go true e = absurd (h (same_name-is x y e))
     go false e = refl
+
+one_way : (x y : Name) → same_name x y ≡ true → same_name y x ≡ true
+one_way x y h = ap (λ z. same_name y z) (same_name-is x y h) ∙ same_name-self y
+
+both_ways : (x y : Name) (b c : Bool) → same_name x y ≡ b → same_name y x ≡ c → b ≡ c
+both_ways x y true true h k = refl
+both_ways x y false false h k = refl
+both_ways x y true false h k = let t : same_name y x ≡ true = one_way x y h in cc
+both_ways x y false true h k = let t : same_name x y ≡ true = one_way y x k in cc
+
+-- whether two names are one doesn't depend on their order
+pub same_name_back : (x y : Name) → same_name x y ≡ same_name y x
+same_name_back x y = both_ways x y (same_name x y) (same_name y x) refl refl
+
+-- the name is one of these
+abbrev pub is_among : Name → List Name → Bool
+is_among x [] = false
+is_among x (y ∷ ys) = same_name x y || is_among x ys
 
 -- no two of these names are one
 abbrev pub AreDifferent : List Name → Type 0

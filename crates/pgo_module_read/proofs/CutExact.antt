@@ -8,7 +8,7 @@ use Rattle.pgo_lexer.specs.declared.token.Lexeme.{Lexeme}
 use Rattle.pgo_lexer.specs.declared.piece.Piece.{Piece}
 use Rattle.pgo_lexer.specs.Lexemes.{IsPiece, columns_behind}
 use Rattle.pgo_lexer.specs.Pieces.{first_piece}
-use Rattle.pgo_lexer.specs.Lexing.{and_then}
+use Rattle.pgo_lexer.specs.Lexing.{and_then, added}
 use Rattle.pgo_lexer.proofs.Runs.{if_some, no_some, cond_true, cond_false}
 use Rattle.pgo_lexer.proofs.PieceSound.{piece_sound}
 use Rattle.pgo_lexer.proofs.PieceComplete.{piece_found}
@@ -17,7 +17,7 @@ use Rattle.pgo_spec_text.specs.SpecText as s
 use Rattle.pgo_spec_text.proofs.Adding.{column_of, column_further, offset_further}
 use Rattle.pgo_module_spells.specs.Spells.{is_defines, is_row, EndsWithRow}
 use Rattle.pgo_module_spells.specs.Spells as m
-use Rattle.pgo_module_read.specs.Cutting.{added, row_behind, touches, is_last, module_tokens}
+use Rattle.pgo_module_read.specs.Cutting.{row_behind, touches, is_last, module_tokens}
 
 -- ---- the closing row
 

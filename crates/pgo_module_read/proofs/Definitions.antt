@@ -19,11 +19,11 @@ use Rattle.pgo_mpcal_read.specs.Elements as elements
 use Rattle.pgo_mpcal_read.specs.Reading.{Parser, name, items, row}
 use Rattle.pgo_mpcal_read.specs.Signs.{sees}
 use Rattle.pgo_mpcal_read.specs.ReadingSpec.{begins_list}
-use Rattle.pgo_mpcal_read.proofs.Expressions.{IsWithin, sound_within, reach_within}
+use Rattle.pgo_mpcal_read.proofs.Expressions.{sound_within, reach_within}
 use Rattle.pgo_mpcal_read.proofs.Lists.{sound_items, reach_items, sound_row, reach_row}
 use Rattle.pgo_expr_read.proofs.Steps.{some_pair, next_step}
 use Rattle.pgo_mpcal_read.proofs.Parts.{Front, Sound, Reach, Quiet, front_then, expect_then, name_then, eaten_then, sound_name, expect_gives, eat_true, eat_false}
-use Rattle.pgo_module_spells.specs.Grammar.{IsExpression, IsDefined, AreListed, bare, most_height}
+use Rattle.pgo_module_spells.specs.Grammar.{IsExpression, IsDefined, AreListed, most_height}
 use Rattle.pgo_module_spells.specs.Grammar as g
 use Rattle.pgo_module_read.specs.Reading.{expression, with_parameters, without_parameters, definition, is_definition, definitions, with_self, action, is_action, actions, body_of, names_behind, fixed}
 use Rattle.pgo_module_read.proofs.FixedRows.{AreFixed, FixedUnit, word_then, word_gives, sound_fixed, fixed_gives}
@@ -32,12 +32,10 @@ use Rattle.pgo_module_read.proofs.FixedRows as fixes
 -- ---- expressions and names
 
 pub sound_expression : Sound IsExpression expression
-sound_expression i a rest got =
-    let h = sound_within most_height i a rest got in
-    record { front = h.front; split = h.split; holds = record { spells = h.holds.spells } }
+sound_expression i a rest got = sound_within most_height i a rest got
 
 pub reach_expression : Reach IsExpression expression Quiet
-reach_expression xs a d rest q = reach_within most_height xs a (record { spells = d.spells }) rest q
+reach_expression xs a d rest q = reach_within most_height xs a d rest q
 
 reach_name : Reach IsName name (λ rest. Unit {0})
 reach_name front a elements.name rest q = refl

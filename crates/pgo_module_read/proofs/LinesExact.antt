@@ -21,7 +21,8 @@ use Rattle.pgo_expr_read.specs.Steps.{and_then}
 use Rattle.pgo_mpcal_read.specs.Reading.{Outcome}
 use Rattle.pgo_mpcal_read.specs.ReadingSpec.{whole}
 use Rattle.pgo_mpcal_read.proofs.Parts.{Front}
-use Rattle.pgo_module_spells.specs.Grammar.{IsExpression, IsDefined, IsHeading, AreListed, IsEnding, AreParts, bare}
+use Rattle.pgo_syntax.specs.PlacedNames.{names_of}
+use Rattle.pgo_module_spells.specs.Grammar.{IsExpression, IsDefined, IsHeading, AreListed, IsEnding, AreParts}
 use Rattle.pgo_module_spells.specs.Grammar as g
 use Rattle.pgo_module_spells.specs.Parts.{Parts, parts_of, tuple_of}
 use Rattle.pgo_module_spells.specs.Parts as parts
@@ -176,7 +177,7 @@ first_of (elements.another {xs = xs} {ys = ys} {a = a} {as' = as'} o m) x ds q =
     let rest_is : as' ≡ ds = cc in
     record { front = xs; others = ys; split = refl; is = subst (λ z. IsDefined xs z) same o; row = subst (λ z. Row IsDefined ys z) rest_is m }
 
-some_names : {xs : List Lexeme} {ps : List PlacedName} → Items IsName symbol.Comma xs ps → bare ps ≡ [] → ⊥
+some_names : {xs : List Lexeme} {ps : List PlacedName} → Items IsName symbol.Comma xs ps → names_of ps ≡ [] → ⊥
 some_names (elements.items elements.name m) q = cc
 
 body_named : (n o : Spot) (x w : Name) (ts : List Lexeme) (f e : Tree) → x ≡ w → f ≡ e → IsExpression ts f → IsBody w (word n x ∷ (at o symbol.Defines ∷ ts)) e
@@ -187,7 +188,7 @@ body_named n o x w ts f e q r m =
 
 body_is : {ts : List Lexeme} {x : Defined} → IsDefined ts x → (w : Name) (e : Tree) → x ≡ Means w [] e → IsBody w ts e
 body_is (g.without_parameters {n = n} {d = o} {x = x} {ts = ts} {e = f} m) w e q = body_named n o x w ts f e (let z : x ≡ w = cc in z) (let z : f ≡ e = cc in z) m
-body_is (g.with_parameters c o {ps = ps} n m) w e q = absurd (some_names n (let z : bare ps ≡ [] = cc in z))
+body_is (g.with_parameters c o {ps = ps} n m) w e q = absurd (some_names n (let z : names_of ps ≡ [] = cc in z))
 
 selved : (n o s c k : Spot) (x w y : Name) (ts : List Lexeme) (f e : Tree) → x ≡ w → y ≡ self_name → f ≡ e → IsExpression ts f
     → IsAction (word n x ∷ (at o (symbol.Open bracket.Round) ∷ (word s y ∷ (at c (symbol.Close bracket.Round) ∷ (at k symbol.Defines ∷ ts))))) (record { name = w; body = e })
@@ -197,7 +198,7 @@ selved n o s c k x w y ts f e q r v m =
     let Q : Tree → Type 0 = λ z. IsAction (word n x ∷ (at o (symbol.Open bracket.Round) ∷ (word s self_name ∷ (at c (symbol.Close bracket.Round) ∷ (at k symbol.Defines ∷ ts))))) (record { name = x; body = z }) in
     subst P q (subst R (sym r) (subst Q v (d.action_of m)))
 
-one_name : (n o c k : Spot) (x w : Name) (ts xs : List Lexeme) (ps : List PlacedName) (f e : Tree) → Items IsName symbol.Comma xs ps → x ≡ w → bare ps ≡ self_name ∷ [] → f ≡ e → IsExpression ts f
+one_name : (n o c k : Spot) (x w : Name) (ts xs : List Lexeme) (ps : List PlacedName) (f e : Tree) → Items IsName symbol.Comma xs ps → x ≡ w → names_of ps ≡ self_name ∷ [] → f ≡ e → IsExpression ts f
     → IsAction (word n x ∷ (at o (symbol.Open bracket.Round) ∷ (xs ++ (at c (symbol.Close bracket.Round) ∷ (at k symbol.Defines ∷ ts))))) (record { name = w; body = e })
 one_name n o c k x w ts front all f e (elements.items (elements.name {p = s} {x = y}) elements.no_more) q r v m = selved n o s c k x w y ts f e q (let z : y ≡ self_name = cc in z) v m
 one_name n o c k x w ts front all f e (elements.items elements.name (elements.one_more elements.name u)) q r v m = cc
@@ -205,7 +206,7 @@ one_name n o c k x w ts front all f e (elements.items elements.name (elements.on
 action_is : {ts : List Lexeme} {x : Defined} → IsDefined ts x → (a : Action) → x ≡ defined_action a → IsAction ts a
 action_is (g.without_parameters m) a q = cc
 action_is (g.with_parameters {n = n} {o = o} c k {x = x} {xs = xs} {ts = ts} {ps = ps} {e = f} u m) a q =
-    one_name n o c k x a.name ts xs ps f a.body u (let z : x ≡ a.name = cc in z) (let z : bare ps ≡ self_name ∷ [] = cc in z) (let z : f ≡ a.body = cc in z) m
+    one_name n o c k x a.name ts xs ps f a.body u (let z : x ≡ a.name = cc in z) (let z : names_of ps ≡ self_name ∷ [] = cc in z) (let z : f ≡ a.body = cc in z) m
 
 -- a row of actions, and the others
 record Actions (fs : List Lexeme) (as' : List Action) (ds : List Defined) : Type 0 where

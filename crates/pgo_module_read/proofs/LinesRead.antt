@@ -19,7 +19,8 @@ use Rattle.pgo_mpcal_read.specs.Signs.{sees}
 use Rattle.pgo_mpcal_read.proofs.Dashes.{IsDashesUnit, sound_dashes, reach_dashes}
 use Rattle.pgo_expr_read.proofs.Steps.{some_pair, next_step}
 use Rattle.pgo_mpcal_read.proofs.Parts.{Front, Sound, Reach, Quiet, front_then, expect_then, name_then, expect_gives}
-use Rattle.pgo_module_spells.specs.Grammar.{IsHeading, AreListed, IsEnding, bare, extended}
+use Rattle.pgo_syntax.specs.PlacedNames.{names_of}
+use Rattle.pgo_module_spells.specs.Grammar.{IsHeading, AreListed, IsEnding, extended}
 use Rattle.pgo_module_spells.specs.Grammar as g
 use Rattle.pgo_module_read.specs.declared.lines.Declared.{Declared}
 use Rattle.pgo_module_read.specs.declared.lines.Further.{Further}
@@ -41,7 +42,7 @@ record Modules (ts : List Lexeme) : Type 0 where
   listed : List PlacedName
   split : ts ≡ word spot (codes "EXTENDS") ∷ names
   items : Items IsName symbol.Comma names listed
-  is : bare listed ≡ extended
+  is : names_of listed ≡ extended
 
 modules_of : {ts us : List Lexeme} → AreFixed first_modules ts → AreFixed last_modules us → Modules (ts ++ us)
 modules_of (f.word_next {p = e} (f.word_next {p = a} (f.sign_next {p = x} (f.word_next {p = b} f.none)))) (f.sign_next {p = y} (f.word_next {p = c} (f.sign_next {p = z} (f.word_next {p = o} f.none)))) = record {
@@ -96,7 +97,7 @@ four e a b c o x y z i j k l p q r s = record {
   last_is = f.sign_next (f.word_next (f.sign_next (f.word_next f.none)));
 }
 
-halves_of : {zs : List Lexeme} {es : List PlacedName} → Items IsName symbol.Comma zs es → bare es ≡ extended → (e : Spot) → Halves (word e (codes "EXTENDS") ∷ zs)
+halves_of : {zs : List Lexeme} {es : List PlacedName} → Items IsName symbol.Comma zs es → names_of es ≡ extended → (e : Spot) → Halves (word e (codes "EXTENDS") ∷ zs)
 halves_of (elements.items elements.name elements.no_more) q e = cc
 halves_of (elements.items elements.name (elements.one_more elements.name elements.no_more)) q e = cc
 halves_of (elements.items elements.name (elements.one_more elements.name (elements.one_more elements.name elements.no_more))) q e = cc

@@ -20,7 +20,8 @@ use Rattle.pgo_expr_write.specs.WellFormed.{AreNames, AreSomeNames}
 use Rattle.pgo_expr_write.specs.WellFormed as well
 use Rattle.pgo_expr_write.proofs.Formed.{AllTold, formed}
 use Rattle.pgo_expr_write.proofs.ReadBack.{TheyTell, piece_told, marked_told, all_told}
-use Rattle.pgo_module_spells.specs.Grammar.{IsExpression, IsDefined, IsHeading, AreListed, AreParts, bare}
+use Rattle.pgo_syntax.specs.PlacedNames.{names_of}
+use Rattle.pgo_module_spells.specs.Grammar.{IsExpression, IsDefined, IsHeading, AreListed, AreParts}
 use Rattle.pgo_module_spells.specs.Grammar as g
 use Rattle.pgo_module_spells.specs.Parts.{Parts, parts_of, HasProcesses}
 use Rattle.pgo_module_spells.specs.Written.{IsWritable, IsWrittenDefinition, IsWrittenAction, IsWrittenProcess, IsWritten}
@@ -52,11 +53,11 @@ told_parts (x ∷ xs) ys h = let q = told_parts xs ys h.2 in ((h.0, h.1, q.0), q
 expression_formed : (ts : List Lexeme) (e : Tree) → IsExpression ts e → AreTold ts → IsWritable e
 expression_formed ts e d h = record { formed = formed d.spells.2 h; low = d.spells.3 }
 
-behind_formed : {v : Symbol} {xs : List Lexeme} {ns : List PlacedName} → Behind IsName v xs ns → AreTold xs → AreNames (bare ns)
+behind_formed : {v : Symbol} {xs : List Lexeme} {ns : List PlacedName} → Behind IsName v xs ns → AreTold xs → AreNames (names_of ns)
 behind_formed elements.no_more h = tt
 behind_formed (elements.one_more elements.name m) h = (h.2.0, behind_formed m h.2.2)
 
-names_formed : {v : Symbol} {xs : List Lexeme} {ns : List PlacedName} → Items IsName v xs ns → AreTold xs → AreSomeNames (bare ns)
+names_formed : {v : Symbol} {xs : List Lexeme} {ns : List PlacedName} → Items IsName v xs ns → AreTold xs → AreSomeNames (names_of ns)
 names_formed (elements.items elements.name m) h = (h.0, behind_formed m h.2)
 
 listed_formed : {w : Name} {xs : List Lexeme} {ns : List Name} → AreListed w xs ns → AreTold xs → AreSomeNames ns
@@ -70,7 +71,7 @@ definition_formed : {ts : List Lexeme} {d : Defined} → IsDefined ts d → AreT
 definition_formed (g.without_parameters {ts = ts} {e = e} m) h = (h.0, tt, expression_formed ts e m h.2.2)
 definition_formed (g.with_parameters c d {xs = xs} {ts = ts} {ps = ps} {e = e} n m) h =
     let q = told_parts xs _ h.2.2 in
-    (h.0, are_names (bare ps) (names_formed n q.0), expression_formed ts e m q.1.2.2)
+    (h.0, are_names (names_of ps) (names_formed n q.0), expression_formed ts e m q.1.2.2)
 
 row_formed : {ts : List Lexeme} {ds : List Defined} → Row IsDefined ts ds → AreTold ts → AllByRecursion IsWrittenDefinition ds
 row_formed elements.nothing h = tt

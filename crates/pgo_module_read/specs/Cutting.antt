@@ -1,21 +1,15 @@
 -- The tokens of a module's text as functions on lists, in the shape of the code.
-use Rattle.std.specs.Prelude.{ℕ, zero, suc, ◌+◌, ◌-◌, Bool, true, false, ◌&&◌, nat_eq, nat_lt, if◌then◌else◌, List, [], ◌∷◌, ◌++◌, length, take, drop, Option, Some, None}
+use Rattle.std.specs.Prelude.{ℕ, zero, suc, ◌+◌, ◌-◌, Bool, true, false, ◌&&◌, nat_eq, if◌then◌else◌, List, [], length, take, drop, Option, Some, None}
 use Rattle.pgo_lexer.specs.declared.token.Token.{Token}
 use Rattle.pgo_lexer.specs.declared.token.Lexeme.{Lexeme}
 use Rattle.pgo_lexer.specs.Lexemes.{columns_behind}
-use Rattle.pgo_lexer.specs.Lexing.{and_then}
+use Rattle.pgo_lexer.specs.Lexing.{and_then, added}
 use Rattle.pgo_lexer.specs.Marking.{marked}
 use Rattle.pgo_lexer.specs.Pieces.{first_piece}
 use Rattle.pgo_expr_read.specs.Texts.{most_tokens}
 use Rattle.pgo_spec_text.specs.Cutting.{column_at}
 use Rattle.pgo_spec_text.specs.Searching.{module_from}
 use Rattle.pgo_module_spells.specs.Spells.{is_defines}
-
--- one more token, if the limit allows it
-abbrev pub added : (limit column start : ℕ) → List Lexeme → ℕ → Option Token → Option (List Lexeme)
-added limit column start done n None = Some done
-added limit column start done n (Some token) =
-    if nat_lt (length done) limit then Some (done ++ record { token = token; column = column; start = start; stop = start + n } ∷ []) else None
 
 -- where the last token stops, if it is a `==`; this piece is behind it
 abbrev pub row_behind : Option ℕ → (stop : ℕ) → Option Token → Option ℕ

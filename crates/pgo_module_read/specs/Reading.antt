@@ -16,7 +16,8 @@ use Rattle.pgo_syntax.specs.declared.name.PlacedName.{PlacedName}
 use Rattle.pgo_expr_read.specs.Steps.{◌>>=◌, ◌>>◌, and_then, pure}
 use Rattle.pgo_mpcal_read.specs.Reading.{Parser, eat, expect, name, sees_second, expression_within, items, row}
 use Rattle.pgo_mpcal_read.specs.ReadingSpec.{expect_word, dashes, begins_list, whole}
-use Rattle.pgo_module_spells.specs.Grammar.{most_height, bare}
+use Rattle.pgo_syntax.specs.PlacedNames.{names_of}
+use Rattle.pgo_module_spells.specs.Grammar.{most_height}
 use Rattle.pgo_module_read.specs.declared.lines.Declared.{Declared}
 use Rattle.pgo_module_read.specs.declared.lines.Further.{Further}
 use Rattle.pgo_module_read.specs.declared.lines.Lines.{Lines}
@@ -61,7 +62,7 @@ with_parameters x = do
   expect (symbol.Close bracket.Round)
   expect symbol.Defines
   e ← expression
-  pure (Means x.name (bare ps) e)
+  pure (Means x.name (names_of ps) e)
 
 unfoldable pub definition : Parser Defined
 definition = do
@@ -124,7 +125,7 @@ unfoldable pub names_behind : Name → Parser (List Name)
 names_behind w = do
   expect_word w
   xs ← items symbol.Comma name
-  pure (bare xs)
+  pure (names_of xs)
 
 -- `Spec == Init /\ []`
 abbrev pub spec_begins : List Fixed

@@ -1,6 +1,7 @@
 // The tokens of a module's text.
 ghost use Rattle.std.specs.Prelude.{◌≡◌, ◌≤◌, ◌<◌, ◌+◌, ◌*◌, [], None, length, drop};
 ghost use Rattle.pgo_lexer.specs.Answers.{Gives, ok_as};
+ghost use Rattle.pgo_lexer.specs.Lexing.{added};
 ghost use Rattle.pgo_module_spells.specs.Spells as spells;
 ghost use Rattle.pgo_module_read.specs.Cutting as spec;
 
@@ -66,7 +67,7 @@ fn add(
     piece: Piece,
 ) -> Result<(), TextStop>
     requires { start + piece.length < 18446744073709551616 }
-    ensures { Gives (spec.added limit column start tokens.old piece.length piece.token) (ok_as tokens.new result) }
+    ensures { Gives (added limit column start tokens.old piece.length piece.token) (ok_as tokens.new result) }
 {
     let stop = start + piece.length;
     match piece.token {

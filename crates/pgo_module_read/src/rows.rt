@@ -3,7 +3,7 @@ ghost use Rattle.std.specs.Prelude.{◌≡◌, IfOk};
 ghost use Rattle.pgo_expr_read.specs.Steps.{Reads};
 ghost use Rattle.pgo_mpcal_read.specs.Reading as reading;
 ghost use Rattle.pgo_mpcal_read.specs.ReadingSpec.{Updates};
-ghost use Rattle.pgo_module_spells.specs.Grammar.{bare};
+ghost use Rattle.pgo_syntax.specs.PlacedNames.{names_of};
 ghost use Rattle.pgo_module_read.specs.Reading as spec;
 
 use pgo_base::expr::{Names, Sub};
@@ -21,7 +21,7 @@ const MOST_HEIGHT: u32 = 512;
 
 /// Names without their places.
 pub fn bare(alloc: Global, names: PlacedNames) -> Result<Names, AllocError>
-    ensures { IfOk result (λ xs. xs ≡ bare names) }
+    ensures { IfOk result (λ xs. xs ≡ names_of names) }
 {
     let mut list = Names::new(alloc);
     for x in names.into_vec() {

@@ -1,6 +1,6 @@
 -- Which lists of tokens spell the parts of a written module: one rule for each form of the grammar. Words and names stand in the order of the
 -- module's lines; any expressions stand in the definitions, in any layout.
-use Rattle.std.specs.Prelude.{◌≡◌, ℕ, List, [], ◌∷◌, ◌++◌, map, codes}
+use Rattle.std.specs.Prelude.{◌≡◌, ℕ, List, [], ◌∷◌, ◌++◌, codes}
 use Rattle.pgo_base.specs.declared.expr.Infix.TheVariants as operator
 use Rattle.pgo_base.specs.Lookup.{Name}
 use Rattle.pgo_base.specs.Tree.{Tree}
@@ -8,10 +8,9 @@ use Rattle.pgo_model.specs.Val.{Defined, Means}
 use Rattle.pgo_lexer.specs.declared.symbol.Bracket.TheVariants as bracket
 use Rattle.pgo_lexer.specs.declared.symbol.Symbol.TheVariants as symbol
 use Rattle.pgo_lexer.specs.declared.token.Lexeme.{Lexeme}
-use Rattle.pgo_expr_read.specs.Lookahead.{tokens_of}
-use Rattle.pgo_expr_read.specs.Spells as expression
 use Rattle.pgo_syntax.specs.declared.name.PlacedName.{PlacedName}
-use Rattle.pgo_mpcal_read.specs.Elements.{Spot, at, word, IsName, Items, Row}
+use Rattle.pgo_syntax.specs.PlacedNames.{names_of}
+use Rattle.pgo_mpcal_read.specs.Elements.{Spot, at, word, IsName, IsExpressionWithin, Items, Row}
 use Rattle.pgo_mpcal_read.specs.Spells.{IsDashes}
 use Rattle.pgo_module_spells.specs.Parts.{Parts}
 
@@ -19,18 +18,14 @@ use Rattle.pgo_module_spells.specs.Parts.{Parts}
 abbrev pub most_height : ℕ
 most_height = 512
 
-pub record IsExpression (ts : List Lexeme) (a : Tree) : Type 0 where
-  pub spells : expression.Spells most_height (tokens_of ts) a
-
--- names without their places
-abbrev pub bare : List PlacedName → List Name
-bare xs = map (λ x. x.name) xs
+abbrev pub IsExpression : List Lexeme → Tree → Type 0
+IsExpression = IsExpressionWithin most_height
 
 -- `name == e` and `name(names) == e`
 pub data IsDefined : List Lexeme → Defined → Type 0 where
   without_parameters : {n d : Spot} {x : Name} {ts : List Lexeme} {e : Tree} → IsExpression ts e → IsDefined (word n x ∷ (at d symbol.Defines ∷ ts)) (Means x [] e)
   with_parameters : {n o : Spot} (c d : Spot) {x : Name} {xs ts : List Lexeme} {ps : List PlacedName} {e : Tree} → Items IsName symbol.Comma xs ps → IsExpression ts e
-      → IsDefined (word n x ∷ (at o (symbol.Open bracket.Round) ∷ (xs ++ (at c (symbol.Close bracket.Round) ∷ (at d symbol.Defines ∷ ts))))) (Means x (bare ps) e)
+      → IsDefined (word n x ∷ (at o (symbol.Open bracket.Round) ∷ (xs ++ (at c (symbol.Close bracket.Round) ∷ (at d symbol.Defines ∷ ts))))) (Means x (names_of ps) e)
 
 -- the modules of the line of EXTENDS
 abbrev pub extended : List Name
@@ -38,12 +33,12 @@ extended = codes "Integers" ∷ codes "Sequences" ∷ codes "FiniteSets" ∷ cod
 
 -- `---- MODULE name ----` and `EXTENDS Integers, Sequences, FiniteSets, TLC`
 pub data IsHeading : List Lexeme → Name → Type 0 where
-  heading : (p n e : Spot) {x : Name} {xs ys zs : List Lexeme} {es : List PlacedName} → IsDashes xs → IsDashes ys → Items IsName symbol.Comma zs es → bare es ≡ extended
+  heading : (p n e : Spot) {x : Name} {xs ys zs : List Lexeme} {es : List PlacedName} → IsDashes xs → IsDashes ys → Items IsName symbol.Comma zs es → names_of es ≡ extended
       → IsHeading (xs ++ (word p (codes "MODULE") ∷ (word n x ∷ (ys ++ (word e (codes "EXTENDS") ∷ zs))))) x
 
 -- names with commas between them, behind this word
 pub data AreListed (heading : Name) : List Lexeme → List Name → Type 0 where
-  listed : (p : Spot) {xs : List Lexeme} {ns : List PlacedName} → Items IsName symbol.Comma xs ns → AreListed heading (word p heading ∷ xs) (bare ns)
+  listed : (p : Spot) {xs : List Lexeme} {ns : List PlacedName} → Items IsName symbol.Comma xs ns → AreListed heading (word p heading ∷ xs) (names_of ns)
 
 -- `Spec == Init /\ [][Next]_vars`, and the closing row, which is two `==`
 pub data IsEnding : List Lexeme → Type 0 where

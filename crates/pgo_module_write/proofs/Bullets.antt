@@ -15,7 +15,7 @@ use Rattle.pgo_expr_read.specs.declared.table.Form.{Form}
 use Rattle.pgo_expr_read.specs.declared.table.Form.TheVariants as form
 use Rattle.pgo_expr_read.specs.declared.read.Ending.{Ending}
 use Rattle.pgo_expr_read.specs.declared.read.Ending.TheVariants as ending
-use Rattle.pgo_expr_read.specs.Kinds as things
+use Rattle.pgo_expr_read.specs.Kinds as kinds
 use Rattle.pgo_expr_read.specs.Lookahead.{tokens_of, has_mapped}
 use Rattle.pgo_expr_read.specs.Spells.{Spelled, Behind, joined}
 use Rattle.pgo_expr_read.specs.Spells as e
@@ -50,11 +50,11 @@ rows_bullets : {c : ℕ} {rs ms : List Lexeme} {as' : List Tree} → Rows c rs m
 rows_bullets no_rows p = (p, m.none)
 rows_bullets (row is here i d) p = let r = rows_bullets d i.behind in (r.0, m.next is here i.marked r.1)
 
-rows_behind : {c : ℕ} {rs ms : List Lexeme} {as' : List Tree} → Rows c rs ms as' → (o : Ending) → (u : Ending) × Behind things.item o u (tokens_of ms) as'
+rows_behind : {c : ℕ} {rs ms : List Lexeme} {as' : List Tree} → Rows c rs ms as' → (o : Ending) → (u : Ending) × Behind kinds.item o u (tokens_of ms) as'
 rows_behind no_rows o = (o, e.none)
 rows_behind (row {xs = xs} {ms = ms} {a = a} {as' = as'} is here i d) o =
     let r = rows_behind d i.ending in
-    (r.0, subst (λ ts. Behind things.item o r.0 (t.ListNext ∷ ts) (a ∷ as')) (sym (tokens_append xs ms)) (e.one_more refl (e.item i.spelled) r.1))
+    (r.0, subst (λ ts. Behind kinds.item o r.0 (t.ListNext ∷ ts) (a ∷ as')) (sym (tokens_append xs ms)) (e.one_more refl (e.item i.spelled) r.1))
 
 pub rows_plain : {c : ℕ} {rs ms : List Lexeme} {as' : List Tree} → Rows c rs ms as' → has_mapped (tokens_of ms) ≡ false
 rows_plain no_rows = refl

@@ -14,7 +14,8 @@ use Rattle.pgo_expr_read.specs.Spells.{names, more_names}
 use Rattle.pgo_syntax.specs.declared.name.PlacedName.{PlacedName}
 use Rattle.pgo_mpcal_read.specs.Elements.{Spot, lexeme, at, word, placed, IsName, Items, Behind}
 use Rattle.pgo_mpcal_read.specs.Elements as l
-use Rattle.pgo_module_spells.specs.Grammar.{IsExpression, IsDefined, bare}
+use Rattle.pgo_syntax.specs.PlacedNames.{names_of}
+use Rattle.pgo_module_spells.specs.Grammar.{IsExpression, IsDefined}
 use Rattle.pgo_module_spells.specs.Grammar as g
 use Rattle.pgo_module_write.proofs.NameLines.{head_tokens}
 
@@ -58,7 +59,7 @@ parted (k ∷ ts) us ls e =
 pub record AreMore (ls : List Lexeme) (xs : List Name) : Type 0 where
   pub placed_names : List PlacedName
   pub behind : Behind IsName symbol.Comma ls placed_names
-  pub same : bare placed_names ≡ xs
+  pub same : names_of placed_names ≡ xs
 
 pub more_shape : (xs : List Name) (ls : List Lexeme) → tokens_of ls ≡ more_names xs → AreMore ls xs
 more_shape [] ls e = record { placed_names = []; behind = subst (λ z. Behind IsName symbol.Comma z []) (sym (no_token ls e)) l.no_more; same = refl }
@@ -76,7 +77,7 @@ more_shape (x ∷ xs) ls e =
 pub record AreItems (ls : List Lexeme) (xs : List Name) : Type 0 where
   pub placed_names : List PlacedName
   pub items : Items IsName symbol.Comma ls placed_names
-  pub same : bare placed_names ≡ xs
+  pub same : names_of placed_names ≡ xs
 
 pub names_shape : (x : Name) (xs : List Name) (ls : List Lexeme) → tokens_of ls ≡ names x xs → AreItems ls (x ∷ xs)
 names_shape x xs ls e =

@@ -13,10 +13,9 @@ use Rattle.pgo_expr_read.specs.Lookahead.{tokens_of}
 use Rattle.pgo_expr_read.specs.Parsers as expression_parsers
 use Rattle.pgo_expr_read.specs.Reading as expressions
 use Rattle.pgo_expr_read.specs.Spells.{Spelled, Range}
-use Rattle.pgo_expr_read.specs.Spells as spelled
 use Rattle.pgo_expr_read.proofs.Exact.{front, read_whole}
 use Rattle.pgo_expr_read.proofs.Ranges.{range_front, range_whole}
-use Rattle.pgo_mpcal_read.specs.Elements.{IsExpression, most_height}
+use Rattle.pgo_mpcal_read.specs.Elements.{IsExpressionWithin, IsExpression, most_height}
 use Rattle.pgo_mpcal_read.specs.Elements as elements
 use Rattle.pgo_mpcal_read.specs.Reading.{expression, expression_within, range, on_tokens, left_of}
 use Rattle.pgo_expr_read.proofs.Steps.{some_pair}
@@ -67,11 +66,7 @@ left_gives xs rest =
     let same : length (xs ++ rest) - length (tokens_of rest) ≡ length xs = omega (arith, a, b) in
     ap (λ n. drop n (xs ++ rest)) same ∙ drop_front xs rest
 
--- tokens that spell an expression no higher than the limit
-pub record IsWithin (limit : ℕ) (ts : List Lexeme) (a : Tree) : Type 0 where
-  pub spells : spelled.Spells limit (tokens_of ts) a
-
-sound_by : (limit : ℕ) (o : expression_parsers.Outcome (Read Tree)) (i : List Lexeme) (a : Tree) (rest : List Lexeme) → expressions.expr limit 0 (tokens_of i) ≡ o → on_tokens i o ≡ Some (a, rest) → Front (IsWithin limit) i a rest
+sound_by : (limit : ℕ) (o : expression_parsers.Outcome (Read Tree)) (i : List Lexeme) (a : Tree) (rest : List Lexeme) → expressions.expr limit 0 (tokens_of i) ≡ o → on_tokens i o ≡ Some (a, rest) → Front (IsExpressionWithin limit) i a rest
 sound_by limit (Some p) i a rest is got =
     let g = front limit 0 (tokens_of i) p.0 p.1 is in
     let c = cut g.front i p.1 g.split in
@@ -79,18 +74,16 @@ sound_by limit (Some p) i a rest is got =
     let x = g.height in
     let low = g.within in
     let P : List Token → Type 0 = λ z. Spelled p.0.form p.0.ending z p.0.tree in
-    let Q : Tree → Type 0 = λ z. Front (IsWithin limit) i z rest in
+    let Q : Tree → Type 0 = λ z. Front (IsExpressionWithin limit) i z rest in
     subst Q q.0 (record { front = c.front; split = left_is g.front p.1 i c g.split ∙ ap (λ z. c.front ++ z) q.1; holds = record { spells = (p.0.form, p.0.ending, subst P (sym c.same) g.spelled, omega (arith, x, low)) } })
 sound_by limit None i a rest is got = cc
 
-pub sound_within : (limit : ℕ) → Sound (IsWithin limit) (expression_within limit)
+pub sound_within : (limit : ℕ) → Sound (IsExpressionWithin limit) (expression_within limit)
 unfolding expression_within
 sound_within limit i a rest got = sound_by limit (expressions.expr limit 0 (tokens_of i)) i a rest refl got
 
 pub sound_expression : Sound IsExpression expression
-sound_expression i a rest got =
-    let g = sound_within most_height i a rest got in
-    record { front = g.front; split = g.split; holds = record { spells = g.holds.spells } }
+sound_expression i a rest got = sound_within most_height i a rest got
 
 range_by : (o : expression_parsers.Outcome (Read Tree)) (i : List Lexeme) (a : Tree) (rest : List Lexeme) → expressions.range most_height (expressions.expr most_height) 0 (tokens_of i) ≡ o → on_tokens i o ≡ Some (a, rest) → Front elements.IsRange i a rest
 range_by (Some p) i a rest is got =
@@ -111,7 +104,7 @@ sound_range i a rest got = range_by (expressions.range most_height (expressions.
 quiet_ends : (o : Ending) (x : Next) → x ≡ next.End → Ended o x
 quiet_ends o x h = let P : Next → Type 0 = λ z. Ended o z in subst P (sym h) tt
 
-pub reach_within : (limit : ℕ) → Reach (IsWithin limit) (expression_within limit) Quiet
+pub reach_within : (limit : ℕ) → Reach (IsExpressionWithin limit) (expression_within limit) Quiet
 unfolding expression_within
 reach_within limit xs a d rest q =
     let k = d.spells in
@@ -119,7 +112,7 @@ reach_within limit xs a d rest q =
     ap (λ z. on_tokens (xs ++ rest) (expressions.expr limit 0 z)) (tokens_append xs rest) ∙ ap (on_tokens (xs ++ rest)) got ∙ ap (λ z. Some (a, z)) (left_gives xs rest)
 
 pub reach_expression : Reach IsExpression expression Quiet
-reach_expression xs a d rest q = reach_within most_height xs a (record { spells = d.spells }) rest q
+reach_expression xs a d rest q = reach_within most_height xs a d rest q
 
 pub reach_range : Reach elements.IsRange range Quiet
 unfolding range

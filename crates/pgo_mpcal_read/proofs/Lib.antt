@@ -19,3 +19,4 @@ pub mod Exact
 pub mod Spelled
 pub mod DepthLimits
 pub mod IfAllowed
+pub mod FirstDepths

@@ -1,13 +1,16 @@
 -- How deep statements nest, with macros in the place of their calls.
-use Rattle.std.specs.Prelude.{ℕ, suc, max, if◌then◌else◌, List, [], ◌∷◌}
-use Rattle.pgo_base.specs.Lookup.{same_name}
+use Rattle.std.specs.Prelude.{ℕ, suc, max, List, map, Option, unwrap_or}
+use Rattle.pgo_base.specs.Lookup.{Name, find}
 use Rattle.pgo_syntax.specs.Statement.{Statement, skip, assign, if_then, if_else, while_do, either_of, await_that, with_in, print_out, assert_that, go_to, call_macro, yield_as, block, Statements, no_statements, more_statements, LabeledStatements, no_labeled, more_labeled, GuardedStatements, no_guarded, more_guarded}
 use Rattle.pgo_mpcal_read.specs.declared.depths.MacroDepth.{MacroDepth}
 
--- the depth of the body of a macro of this name, 0 where there is none
-abbrev pub depth_of : List MacroDepth → List ℕ → ℕ
-depth_of [] x = 0
-depth_of (m ∷ ms) x = if same_name m.name x then m.depth else depth_of ms x
+-- the depth of the body of the first macro of this name
+abbrev pub first_depth : List MacroDepth → Name → Option ℕ
+first_depth ms x = find x (map (λ m. (m.name, m.depth)) ms)
+
+-- the same, 0 where there is none
+abbrev pub depth_of : List MacroDepth → Name → ℕ
+depth_of ms x = unwrap_or (first_depth ms x) 0
 
 -- a block, `if`, `while`, `either` or `with` is one deeper than the deepest statement in it, and a macro's call is one
 -- deeper than the macro's body, where the macro is one of these. An `if` that is the `else` of another is no deeper.

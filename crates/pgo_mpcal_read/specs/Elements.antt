@@ -68,8 +68,12 @@ most_height = 128
 abbrev pub most_depth : ℕ
 most_depth = 128
 
-pub record IsExpression (ts : List Lexeme) (a : Tree) : Type 0 where
-  pub spells : expression.Spells most_height (tokens_of ts) a
+-- an expression no higher than the limit
+pub record IsExpressionWithin (limit : ℕ) (ts : List Lexeme) (a : Tree) : Type 0 where
+  pub spells : expression.Spells limit (tokens_of ts) a
+
+abbrev pub IsExpression : List Lexeme → Tree → Type 0
+IsExpression = IsExpressionWithin most_height
 
 -- what stands at the right of a `\in`: an expression, or `Nat`, `Int` or `STRING` alone
 pub record IsRange (ts : List Lexeme) (a : Tree) : Type 0 where

@@ -1,10 +1,16 @@
 // The depths of macros.
-ghost use Rattle.std.specs.Prelude.{◌≡◌, [], ◌∷◌, ◌++◌, IfOk};
+ghost use Rattle.std.specs.Prelude.{◌≡◌, [], ◌∷◌, ◌++◌, IfOk, IfErr};
+ghost use Rattle.pgo_base.specs.Lookup.{Name};
+ghost use Rattle.pgo_model.specs.Names.{or_that};
+ghost use Rattle.pgo_syntax.specs.NameMaps.{found};
 ghost use Rattle.pgo_mpcal_read.specs.Depths as spec;
+ghost use Rattle.pgo_mpcal_read.specs.Depths.{first_depth};
 
 use pgo_base::text::Text;
+use pgo_syntax::name_map::NameMap;
 use std::alloc::{AllocError, Global};
 use std::marker::Model;
+use std::mem::replace;
 
 /// How deep the statements of a macro's body nest, with macros in the place of their calls.
 #[derive(Drop)]
@@ -13,19 +19,25 @@ pub struct MacroDepth {
     pub depth: u32,
 }
 
-/// The depths of macros in the order of the text.
+/// The depths of macros in the order of the text. The first of a name is found without going over the list.
 #[derive(Drop)]
 pub struct MacroDepths {
     list: Vec<MacroDepth>,
+    first: NameMap<u32>,
 }
 
 impl Model for MacroDepths {
-    ghost use Rattle.std.specs.Prelude.{List};
+    ghost use Rattle.std.specs.Prelude.{◌≡◌, List};
+    ghost use Rattle.pgo_base.specs.Lookup.{Name};
+    ghost use Rattle.pgo_syntax.specs.NameMaps.{found};
     ghost use Rattle.pgo_mpcal_read.specs.declared.depths.MacroDepth.{MacroDepth};
+    ghost use Rattle.pgo_mpcal_read.specs.Depths.{first_depth};
 
     ghost Value = { List MacroDepth };
 
     ghost view = { λ l. l.list.items };
+
+    ghost invariant = { λ l. (n : Name) → found l.first n ≡ first_depth l.list.items n };
 }
 
 impl MacroDepths {
@@ -35,33 +47,48 @@ impl MacroDepths {
     {
         MacroDepths {
             list: Vec::new(alloc),
+            first: NameMap::new(alloc),
         }
     }
 
-    /// One macro more, at the end.
-    pub fn push(&mut self, depth: MacroDepth) -> Result<(), AllocError>
-        ensures { IfOk result (λ _. self.new ≡ self.old ++ depth ∷ []) }
+    /// These, and one macro more at the end.
+    fn with(self, alloc: Global, depth: MacroDepth) -> Result<MacroDepths, AllocError>
+        ensures { IfOk result (λ l. l ≡ self ++ depth ∷ []) }
     {
-        self.list.push(depth)?;
-        Ok(())
+        let mut list = self.list;
+        let mut first = self.first;
+        note(alloc, &mut first, &depth)?;
+        list.push(depth)?;
+        Ok(MacroDepths { list, first })
     }
 
-    /// The depths as a slice.
-    pub fn as_slice(&self) -> &[MacroDepth]
-        ensures { result.now ≡ self.now }
+    /// One macro more, at the end. Where there is no memory for it, no macro is left.
+    pub fn push(&mut self, alloc: Global, depth: MacroDepth) -> Result<(), AllocError>
+        ensures added { IfOk result (λ _. self.new ≡ self.old ++ depth ∷ []) }
+        ensures emptied { IfErr result (λ _. self.new ≡ []) }
     {
-        self.list.as_slice()
+        let before = replace(self, MacroDepths::new(alloc));
+        *self = before.with(alloc, depth)?;
+        Ok(())
     }
 }
 
-/// The depth of the body of the macro of this name, 0 where there is none.
+/// Notes the depth of this macro, where none is noted of its name.
+fn note(alloc: Global, first: &mut NameMap<u32>, depth: &MacroDepth) -> Result<(), AllocError>
+    ensures { IfOk result (λ _. (n : Name) → found first.new n ≡ or_that (found first.old n) (first_depth (depth.now ∷ []) n)) }
+{
+    if first.get(&depth.name).is_some() {
+        return Ok(());
+    }
+    first.set(alloc, &depth.name, depth.depth)
+}
+
+/// The depth of the body of the first macro of this name, 0 where there is none.
 pub fn depth_of(macros: &MacroDepths, name: &Text) -> u32
     ensures { result ≡ spec.depth_of macros.now name.now }
 {
-    for m in macros.as_slice() {
-        if m.name.is(name) {
-            return m.depth;
-        }
+    match macros.first.get(name) {
+        Some(depth) => *depth,
+        None => 0,
     }
-    0
 }

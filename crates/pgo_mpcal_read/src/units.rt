@@ -74,7 +74,7 @@ fn macro_unit(alloc: Global, cursor: &mut Cursor<'_>, all: &mut Units) -> Result
     let name = m.part.name.name.copy(alloc)?;
     let depth = m.depth;
     all.macros.push(m.part)?;
-    all.depths.push(MacroDepth { name, depth })?;
+    all.depths.push(alloc, MacroDepth { name, depth })?;
     Ok(())
 }
 

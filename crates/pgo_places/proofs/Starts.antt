@@ -172,22 +172,22 @@ module _ (a : Attempt) where
   labels l ch (p ∷ o) = ap (λ os. (p.0, if same_name p.0 pc then string l else on p.1 (find p.0 ch) (λ v. v)) ∷ os) (labels l ch o)
 
   ended_same : (l : Name) (env : Names) (p : Progress) → accesses.ended a l p ≡ ended l (stand_at a env p)
-  ended_same l env p = ap (λ o. if none_deep p.deep && all_shallow o then Stop (Goes o p.prints) else no_value) (labels l p.changes a.own)
+  ended_same l env p = ap (λ o. if none_deep p.too_deep && all_shallow o then Stop (Goes o p.prints) else no_value) (labels l p.changes a.own)
 
   read_same : (e : Bool) (r : ℕ) (p : Progress) (m : MacroEnd (Data × Data)) (f g : Data → Progress → Walk)
-      → ((v : Data) (d : List ℕ) (u : ℕ) → f v (record p { deep = d; used = u }) ≡ g v (record p { changes = []; deep = d; used = u }))
+      → ((v : Data) (d : List ℕ) (u : ℕ) → f v (record p { too_deep = d; used = u }) ≡ g v (record p { changes = []; too_deep = d; used = u }))
       → behind_read e r p m f ≡ behind_read e r (record p { changes = [] }) m g
-  read_same e r p (Gives x cs) f g h = ap (λ w. if can_stand e x.1 then w else no_value) (h x.0 (marked (is_too_deep e x.1) r p.deep) (length cs))
+  read_same e r p (Gives x cs) f g h = ap (λ w. if can_stand e x.1 then w else no_value) (h x.0 (marked (is_too_deep e x.1) r p.too_deep) (length cs))
   read_same e r p (Stops kind cs) f g h = refl
 
   write_same : (e : Bool) (r : ℕ) (p : Progress) (m : MacroEnd Data) (f g : Progress → Walk)
-      → ((d : List ℕ) (u : ℕ) → f (record p { deep = d; used = u }) ≡ g (record p { changes = []; deep = d; used = u }))
+      → ((d : List ℕ) (u : ℕ) → f (record p { too_deep = d; used = u }) ≡ g (record p { changes = []; too_deep = d; used = u }))
       → behind_write e r p m f ≡ behind_write e r (record p { changes = [] }) m g
-  write_same e r p (Gives x cs) f g h = ap (λ w. if can_stand e x then w else no_value) (h (marked (is_too_deep e x) r p.deep) (length cs))
+  write_same e r p (Gives x cs) f g h = ap (λ w. if can_stand e x then w else no_value) (h (marked (is_too_deep e x) r p.too_deep) (length cs))
   write_same e r p (Stops kind cs) f g h = refl
 
   reading_same : (c : Content) (j : Option Data) (p : Progress) (f g : Data → Progress → Walk)
-      → ((v : Data) (d : List ℕ) (u : ℕ) → f v (record p { deep = d; used = u }) ≡ g v (record p { changes = []; deep = d; used = u }))
+      → ((v : Data) (d : List ℕ) (u : ℕ) → f v (record p { too_deep = d; used = u }) ≡ g v (record p { changes = []; too_deep = d; used = u }))
       → reading a c j p f ≡ reading (with_words a.words (bare a)) c j (record p { changes = [] }) g
   reading_same c j p f g h =
       let q : (λ (r : ℕ) (at : Option Data). Touch r (λ v. left_by_read v (read_here a c.reads at p.used v)) (λ v. behind_read c.is_element r p (read_here a c.reads at p.used v) f))
@@ -196,7 +196,7 @@ module _ (a : Attempt) where
       ap (λ F. accessing a c j F) q
 
   writing_same : (c : Content) (j o : Option Data) (p : Progress) (f g : Progress → Walk)
-      → ((d : List ℕ) (u : ℕ) → f (record p { deep = d; used = u }) ≡ g (record p { changes = []; deep = d; used = u }))
+      → ((d : List ℕ) (u : ℕ) → f (record p { too_deep = d; used = u }) ≡ g (record p { changes = []; too_deep = d; used = u }))
       → writing a c j o p f ≡ writing (with_words a.words (bare a)) c j o (record p { changes = [] }) g
   writing_same c j o p f g h =
       let q : (λ (r : ℕ) (at : Option Data). Touch r (λ v. left_by_write v (write_here a c.writes at o p.used v)) (λ v. behind_write c.is_element r p (write_here a c.writes at o p.used v) f))
@@ -250,12 +250,12 @@ module _ (a : Attempt) where
       with_same (index_value i env) (λ j. reading a c j p (λ v q. steps.steps n a is ((w, Some v) ∷ env) q))
       (λ j. reading (with_words a.words (bare a)) c j (record p { changes = [] }) (λ v q. resume (bare a) K n is (binding w v (going q (stand_at a env p)))))
       (λ j. reading_same c j p (λ v q. steps.steps n a is ((w, Some v) ∷ env) q) (λ v q. resume (bare a) K n is (binding w v (going q (stand_at a env p))))
-      (λ v d u. same_walk n is ((w, Some v) ∷ env) (record p { deep = d; used = u })))
+      (λ v d u. same_walk n is ((w, Some v) ∷ env) (record p { too_deep = d; used = u })))
   same_walk (suc n) (Write c i w ∷ is) env p =
       with_same (index_value i env) (λ j. writing a c j (value_under w env) p (steps.steps n a is env))
       (λ j. writing (with_words a.words (bare a)) c j (value_under w env) (record p { changes = [] }) (λ q. resume (bare a) K n is (going q (stand_at a env p))))
       (λ j. writing_same c j (value_under w env) p (steps.steps n a is env) (λ q. resume (bare a) K n is (going q (stand_at a env p)))
-      (λ d u. same_walk n is env (record p { deep = d; used = u })))
+      (λ d u. same_walk n is env (record p { too_deep = d; used = u })))
   same_walk (suc n) (Fail ∷ is) env p = refl
 
 map_twice : {A B C : Type 0} (f : A → B) (g : B → C) (xs : List A) → map g (map f xs) ≡ map (λ x. g (f x)) xs

@@ -97,7 +97,7 @@ module _ (a : Attempt) (k : Fixed) (names : List Name) where
       (λ r at. (tt, λ v. keeps_write c.is_element r p (write_here b c.writes at o p.used v) g h))
 
   keeps_ended : (l : Name) (s : Stand) → Named s → Keeps (ended l s)
-  keeps_ended l s n = keeps_cond (none_deep s.progress.deep && all_shallow (labelled l s.own)) _ (names_put pc (string l) s.own ∙ n)
+  keeps_ended l s n = keeps_cond (none_deep s.progress.too_deep && all_shallow (labelled l s.own)) _ (names_put pc (string l) s.own ∙ n)
 
   pub resume_keeps : (n : ℕ) (is : List Step) (s : Stand) → Named s → Keeps (resume a k n is s)
   resume_keeps zero is s h = tt

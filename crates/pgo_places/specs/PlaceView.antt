@@ -16,7 +16,7 @@ abbrev pub fixed_view : memory_fixed.Fixed → Fixed
 fixed_view x = record { identity = x.identity; owners = x.owners.items }
 
 abbrev pub progress_view : memory_stand.Stand → Progress
-progress_view s = record { changes = []; deep = s.deep.items; used = used_of s.picks; prints = map data_of s.prints.items }
+progress_view s = record { changes = []; too_deep = s.too_deep.items; used = used_of s.picks; prints = map data_of s.prints.items }
 
 abbrev pub stand_view : memory_stand.Stand → Stand
 stand_view s = record {

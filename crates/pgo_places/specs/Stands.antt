@@ -113,7 +113,7 @@ putting k (OwnTarget y) v s f = f (assigned k y v s)
 
 -- the section ends at this written label, where no value is too deep for a state
 abbrev pub ended : Name → Stand → Walk
-ended l s = let o = labelled l s.own in if none_deep s.progress.deep && all_shallow o then Stop (Goes o s.progress.prints) else no_value
+ended l s = let o = labelled l s.own in if none_deep s.progress.too_deep && all_shallow o then Stop (Goes o s.progress.prints) else no_value
 
 abbrev pub with_words : Words → Attempt → Attempt
 with_words d a = record a { words = d }

@@ -38,7 +38,7 @@ pub fn all_fit(alloc: Global, own: &[(Text, Value)]) -> Result<bool, AllocError>
 fn ended(alloc: Global, stand: &Stand) -> Result<Flow, AllocError>
     ensures { IfOk result (λ f. (a : Attempt) (k : Fixed) (l : Name) → LeadsTo a k (End l) (stand_view stand.now) f (stand_view stand.now)) }
 {
-    if !stand.deep.is_empty() {
+    if !stand.too_deep.is_empty() {
         return Ok(Flow::Noted(NoteKind::NoValue));
     }
     if all_fit(alloc, &stand.own)? {

@@ -37,7 +37,7 @@ pub struct Stand {
     /// the own components as they are now
     pub own: Vec<(Text, Value)>,
     /// the resources that are too deep for a state now, the newest first
-    pub deep: Vec<u32>,
+    pub too_deep: Vec<u32>,
     pub picks: Picks,
     pub prints: Vec<Value>,
 }
@@ -158,9 +158,9 @@ impl Stand {
         is_too_deep: bool,
         resource: u32,
     ) -> Result<(), AllocError>
-        ensures { IfOk result (λ _. stand_view self.new ≡ going (record (progress_view self.old) { deep = marked is_too_deep resource self.old.deep.items }) (stand_view self.old)) }
+        ensures { IfOk result (λ _. stand_view self.new ≡ going (record (progress_view self.old) { too_deep = marked is_too_deep resource self.old.too_deep.items }) (stand_view self.old)) }
     {
-        self.deep = marked(alloc, self.deep.as_slice(), is_too_deep, resource)?;
+        self.too_deep = marked(alloc, self.too_deep.as_slice(), is_too_deep, resource)?;
         Ok(())
     }
 }

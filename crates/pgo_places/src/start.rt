@@ -140,7 +140,7 @@ fn stand(alloc: Global, code: &Code<'_>, own: &State, picks: Picks) -> Result<St
         env: Vec::new(alloc),
         variables,
         own,
-        deep: Vec::new(alloc),
+        too_deep: Vec::new(alloc),
         picks,
         prints: Vec::new(alloc),
     })
@@ -167,7 +167,7 @@ fn nowhere(alloc: Global, picks: Picks) -> Place
             env: Vec::new(alloc),
             variables: Vec::new(alloc),
             own: Vec::new(alloc),
-            deep: Vec::new(alloc),
+            too_deep: Vec::new(alloc),
             picks,
             prints: Vec::new(alloc),
         },

@@ -4,7 +4,7 @@ use Rattle.std.specs.Prelude.{if◌then◌else◌}
 use Rattle.pgo_base.specs.Lookup.{Name, find}
 use Rattle.pgo_base.specs.Tree.{Tree}
 use Rattle.pgo_effects.specs.Around.{Surroundings, around_view, written_label}
-use Rattle.pgo_effects.specs.Origins.{of_origin}
+use Rattle.pgo_syntax.specs.Origins.{origin_tree}
 use Rattle.pgo_effects.specs.Puts.{Layers, puts, puts_tree, puts_assignment, puts_origin, puts_name, puts_names, puts_guarded, behind_name, behind_names}
 use Rattle.pgo_effects.specs.Todos.{otherwise, part_code, code_of}
 use Rattle.pgo_effects.specs.declared.todo.Part.{Part as Text_part}
@@ -39,9 +39,9 @@ plain_put : (ls : Layers) (as' : List Assignment) → plain (map (puts_assignmen
 plain_put ls [] = refl
 plain_put ls (a ∷ as') = ap (λ n. assignment_nodes ls a + n) (plain_put ls as')
 
-origin_put : (ls : Layers) (o : Origin) → of_origin (puts_origin ls o) ≡ puts_tree ls (of_origin o)
-origin_put ls (Equals e) = ap of_origin (puts_equals ls e)
-origin_put ls (In e) = ap of_origin (puts_in ls e)
+origin_put : (ls : Layers) (o : Origin) → origin_tree (puts_origin ls o) ≡ puts_tree ls (origin_tree o)
+origin_put ls (Equals e) = ap origin_tree (puts_equals ls e)
+origin_put ls (In e) = ap origin_tree (puts_in ls e)
 
 least_as : (c d : Code) (n : ℕ) → d ≡ c → n ≤ least c → n ≤ least d
 least_as c d n e h = let l : least d ≡ least c = ap least e in omega (arith, l, h)
@@ -92,7 +92,7 @@ module _ (s : Setting) (ok : (x : Name) (m : Mapped) → find x s.mapped ≡ Som
       go true None h = all_least as' 0 []
       go true (Some e) h = h e refl
 
-  name_least : (x : Name) (o : Origin) (c : Code) (m : ℕ) → m ≤ least c → tree_nodes (of_origin o) + m ≤ least (bind_name s x o c)
+  name_least : (x : Name) (o : Origin) (c : Code) (m : ℕ) → m ≤ least c → tree_nodes (origin_tree o) + m ≤ least (bind_name s x o c)
   name_least x (Equals e) c m h = behind e 0 m (λ e' k. Let (unmarked x) x e' c) (λ e' k. omega (arith, h))
   name_least x (In e) c m h = behind e 0 m (λ e' k. Pick (unmarked x) x e' c) (λ e' k. omega (arith, h))
 
@@ -101,7 +101,7 @@ module _ (s : Setting) (ok : (x : Name) (m : Mapped) → find x s.mapped ≡ Som
   names_least ls (w ∷ ws) c =
       let n = puts_name ls w in
       let rest = bind_names s (puts_names (behind_name ls w.name.name) ws) c in
-      let e : tree_nodes (of_origin n.origin) ≡ tree_nodes (puts_tree ls (of_origin w.origin)) = ap tree_nodes (origin_put ls w.origin) in
+      let e : tree_nodes (origin_tree n.origin) ≡ tree_nodes (puts_tree ls (origin_tree w.origin)) = ap tree_nodes (origin_put ls w.origin) in
       omega (arith, e, name_least n.name.name n.origin rest (names_nodes (behind_name ls w.name.name) ws) (names_least (behind_name ls w.name.name) ws c))
 
   branches_least : (l : Name) (ls : Layers) (ms : Bodies) (bs : GuardedStatements) (c : Code) → branches_nodes ls bs ≤ least (branches s l (puts_guarded ls (placed_guarded ms bs)) c)

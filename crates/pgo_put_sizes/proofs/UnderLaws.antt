@@ -8,7 +8,7 @@ use Rattle.pgo_meaning.specs.MacrosPlaced.{Arguments, argument, put_tree}
 use Rattle.pgo_operands.specs.Operands.{operands}
 use Rattle.pgo_rewrite.specs.Scoped.{names_by, under_at}
 use Rattle.pgo_sections.specs.Access.{name_alone}
-use Rattle.pgo_sections.specs.Among.{is_among}
+use Rattle.pgo_model.specs.Names.{is_among}
 use Rattle.pgo_sections.specs.Nodes.{tree_nodes}
 use Rattle.pgo_sections.specs.Replaced.{replaced}
 use Rattle.pgo_sizes.specs.Sums.{nodes_in}

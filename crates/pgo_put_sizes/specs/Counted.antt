@@ -1,7 +1,7 @@
 -- The nodes of the expressions of one level of code, counted before it is looked at.
 use Rattle.std.specs.Prelude.{ℕ, ◌+◌, List, [], ◌∷◌, map}
 use Rattle.pgo_effects.specs.Around.{around_view}
-use Rattle.pgo_effects.specs.Origins.{of_origin}
+use Rattle.pgo_syntax.specs.Origins.{origin_tree}
 use Rattle.pgo_effects.specs.Puts.{Layers, puts_tree, puts_left, behind_name}
 use Rattle.pgo_effects.specs.declared.todo.Part.{Part}
 use Rattle.pgo_effects.specs.declared.todo.Part.TheVariants as parts
@@ -25,7 +25,7 @@ assignments_nodes ls (a ∷ as') = assignment_nodes ls a + assignments_nodes ls 
 -- of the names of a `with`, each under the arguments that stand behind those before it
 abbrev pub names_nodes : Layers → List WithName → ℕ
 names_nodes ls [] = 0
-names_nodes ls (w ∷ ws) = tree_nodes (puts_tree ls (of_origin w.origin)) + names_nodes (behind_name ls w.name.name) ws
+names_nodes ls (w ∷ ws) = tree_nodes (puts_tree ls (origin_tree w.origin)) + names_nodes (behind_name ls w.name.name) ws
 
 -- of the first condition
 abbrev pub branches_nodes : Layers → GuardedStatements → ℕ

@@ -8,7 +8,7 @@ use Rattle.pgo_operands.specs.Operands.{operands}
 use Rattle.pgo_put_sizes.specs.Under.{puts_under}
 use Rattle.pgo_rewrite.specs.Scoped.{names_by, under_at}
 use Rattle.pgo_sections.specs.Access.{name_alone}
-use Rattle.pgo_sections.specs.Among.{is_among}
+use Rattle.pgo_model.specs.Names.{is_among}
 use Rattle.pgo_sizes.specs.Sums.{nodes_in}
 use Rattle.pgo_sizes.specs.Tuples.{own_nodes}
 

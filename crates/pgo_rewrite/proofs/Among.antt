@@ -1,7 +1,7 @@
 -- A name is among those of a group and those around it where it is among the one or the other.
 use Rattle.std.proofs.Common.{◌≡◌, ℕ, Bool, true, false, ◌||◌, List, [], ◌∷◌, take, refl, ◌∙◌}
 use Rattle.pgo_base.specs.Lookup.{Name, same_name}
-use Rattle.pgo_sections.specs.Among.{is_among}
+use Rattle.pgo_model.specs.Names.{is_among}
 use Rattle.pgo_sections.specs.Bound.{below}
 
 swapped : (a b c : Bool) → a || (b || c) ≡ b || (a || c)

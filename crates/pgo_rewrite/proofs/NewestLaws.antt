@@ -9,7 +9,8 @@ use Rattle.std.specs.Ordering.{nat_cmp, is_eq, eq_by_cmp}
 use Rattle.std.proofs.lemmas.List.{reverse-append, reverse-reverse, length-reverse}
 use Rattle.pgo_base.specs.Lookup.{Name, same_name, find}
 use Rattle.pgo_model.specs.Names.{same_name-is}
-use Rattle.pgo_rewrite.specs.Newest.{found_in, place_of, IsPlaced}
+use Rattle.pgo_syntax.specs.NameMaps.{found_in}
+use Rattle.pgo_rewrite.specs.Newest.{place_of, IsPlaced}
 
 -- the value in this place
 abbrev pub value_at : {A : Type 0} → List (Name × A) → Option ℕ → Option A

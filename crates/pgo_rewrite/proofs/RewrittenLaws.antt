@@ -8,7 +8,7 @@ use Rattle.pgo_meaning.specs.Parameters.{all_mapped}
 use Rattle.pgo_rewrite.specs.Scopes.{Groups, in_scope}
 use Rattle.pgo_model.specs.Options.{on}
 use Rattle.pgo_sections.specs.Access.{Mapped, MappedNames, MappedRead, pure, then_hoist, read_whole, read_element, index_tree, if_whole, if_element, name_alone, mapped_under, element_of, hoisted, hoisted_all, hoisted_arms, hoisted_fields, hoisted_let, hoisted_bound, hoisted_paths}
-use Rattle.pgo_sections.specs.Among.{is_among}
+use Rattle.pgo_model.specs.Names.{is_among}
 use Rattle.pgo_sections.specs.Bound.{names_of, names_bound, below}
 use Rattle.pgo_sections.specs.Replaced.{replaced, replaced_all, replaced_arms, replaced_fields, replaced_let, replaced_bound, replaced_paths}
 use Rattle.pgo_rewrite.specs.Rewritten.{standing, rewritten, rewritten_all, rewritten_arms, rewritten_fields, rewritten_let, rewritten_bound, rewritten_paths}

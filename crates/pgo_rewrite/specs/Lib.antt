@@ -7,3 +7,4 @@ pub mod ScopesFall
 pub mod Rebuilt
 pub mod Parts
 pub mod Views
+pub mod Unmapped

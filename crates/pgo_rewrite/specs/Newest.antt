@@ -1,11 +1,7 @@
 -- Names with values of which the newest counts, and an ordered map that says where the newest of each name stands.
 use Rattle.std.specs.Prelude.{◌≡◌, ℕ, if◌then◌else◌, List, [], ◌∷◌, Option, Some, None, length, reverse}
-use Rattle.std.specs.Map.{lookup}
 use Rattle.pgo_base.specs.Lookup.{Name, same_name}
-
--- what the entries have under a name
-abbrev pub found_in : {K : Type 0} → (K → Name) → List (K × ℕ) → Name → Option ℕ
-found_in f es x = lookup (λ k. same_name x (f k)) es
+use Rattle.pgo_syntax.specs.NameMaps.{found_in}
 
 -- how many rows are older than the newest of the name, where the newest row is first
 abbrev pub place_of : {A : Type 0} → Name → List (Name × A) → Option ℕ

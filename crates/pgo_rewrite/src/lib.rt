@@ -11,6 +11,7 @@
 
 pub mod arguments;
 pub mod bound_names;
+pub mod indexed_bindings;
 mod lists;
 pub mod mapped;
 pub mod newest;

@@ -1,12 +1,11 @@
-// The mapped parameters of an instance.
+// The mapped parameters of a process.
 ghost use Rattle.std.specs.Prelude.{◌≡◌, option_map};
-ghost use Rattle.pgo_base.specs.Lookup.{find};
-ghost use Rattle.pgo_meaning.specs.Parameters.{all_mapped, by_element};
+ghost use Rattle.pgo_meaning.specs.Parameters.{by_element};
 ghost use Rattle.pgo_rewrite.specs.Views.{mapped_view, of_target};
 
 use pgo_base::text::Text;
 use pgo_syntax::archetype::Extent;
-use pgo_syntax::bound::{Binding, Mapping, Target};
+use pgo_syntax::bound::{Mapping, Target};
 
 /// What a mapped parameter is: a global, whether it is by element, and what a read and a write of it do.
 #[derive(Clone, Copy)]
@@ -27,7 +26,7 @@ fn is_by_element(extent: Extent) -> bool
 }
 
 /// The mapped parameter that stands behind a target, if one does.
-fn mapped_target<'a>(target: &'a Target) -> Option<Mapped<'a>>
+pub(crate) fn mapped_target<'a>(target: &'a Target) -> Option<Mapped<'a>>
     ensures { option_map mapped_view result ≡ of_target target.entry.now }
 {
     match target {
@@ -42,21 +41,4 @@ fn mapped_target<'a>(target: &'a Target) -> Option<Mapped<'a>>
         }),
         _ => None,
     }
-}
-
-/// The mapped parameter of a name, if it is one.
-///
-/// Where two bindings have the name, the first mapped one.
-pub fn mapped_named<'a>(bindings: &'a [Binding], x: &Text) -> Option<Mapped<'a>>
-    ensures { option_map mapped_view result ≡ find x.now (all_mapped bindings.entry.now) }
-{
-    for binding in bindings {
-        if x.is(&binding.parameter) {
-            let found = mapped_target(&binding.target);
-            if found.is_some() {
-                return found;
-            }
-        }
-    }
-    None
 }

@@ -7,12 +7,12 @@ ghost use Rattle.pgo_rewrite.specs.Views.{hoisted_view};
 ghost use Rattle.pgo_sections.specs.Access.{hoisted};
 ghost use Rattle.pgo_sections.specs.Replaced.{replaced};
 
+use crate::indexed_bindings::IndexedBindings;
 use crate::reads::{Hoisted, Reads};
 use crate::scopes::Scope;
 use crate::substitution::{Nothing, Substitution};
 use crate::walk::rewritten;
 use pgo_base::expr::Expr;
-use pgo_syntax::bound::Binding;
 use std::alloc::{AllocError, Global};
 
 /// An expression with what stands for its names in their place.
@@ -22,11 +22,12 @@ pub fn substitute<S: Substitution>(alloc: Global, names: &S, e: &Expr) -> Result
     ensures { IfOk result (λ r. tree r ≡ replaced (standing (S.stands names.now)) [] (tree e.now)) }
 {
     let scope = Scope::new();
+    let bindings = IndexedBindings::none(alloc);
     let mut reads = Reads {
         list: Vec::new(alloc),
         used: 0,
     };
-    rewritten(alloc, names, &[], &scope, e, &mut reads)
+    rewritten(alloc, names, &bindings, &scope, e, &mut reads)
 }
 
 /// An expression with the reads of the mapped parameters hoisted out of it, where `used` places are in use.
@@ -34,7 +35,7 @@ pub fn substitute<S: Substitution>(alloc: Global, names: &S, e: &Expr) -> Result
 /// Err only where there is no memory, or where the reads need more than 2^64 places.
 pub fn hoist<'a>(
     alloc: Global,
-    bindings: &'a [Binding],
+    bindings: &IndexedBindings<'a>,
     e: &Expr,
     used: u64,
 ) -> Result<Hoisted<'a>, AllocError>

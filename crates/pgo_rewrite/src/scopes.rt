@@ -1,7 +1,7 @@
 // The names that an expression binds around a place in it.
 ghost use Rattle.std.specs.Prelude.{◌≡◌, [], ◌∷◌, take};
 ghost use Rattle.pgo_rewrite.specs.Scopes.{in_scope};
-ghost use Rattle.pgo_sections.specs.Among.{is_among};
+ghost use Rattle.pgo_model.specs.Names.{is_among};
 
 use pgo_base::expr::Names;
 use pgo_base::text::Text;

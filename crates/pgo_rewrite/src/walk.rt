@@ -12,8 +12,9 @@ ghost use Rattle.pgo_rewrite.specs.Views.{mapped_view, read_views};
 ghost use Rattle.pgo_sections.specs.Access.{if_whole, if_element, mapped_under, index_tree, name_alone as name_of};
 
 use crate::bound_names::{count_at, names_by};
+use crate::indexed_bindings::IndexedBindings;
 use crate::lists::push_item;
-use crate::mapped::{Mapped, mapped_named};
+use crate::mapped::Mapped;
 use crate::parts::Parts;
 use crate::reads::Reads;
 use crate::rebuild::rebuilt;
@@ -22,17 +23,16 @@ use crate::substitution::Substitution;
 use pgo_base::expr::{Expr, Exprs, Names};
 use pgo_base::text::Text;
 use pgo_operands::operands::operands;
-use pgo_syntax::bound::Binding;
 use std::alloc::{AllocError, Global};
 
 /// The mapped parameter that a name is, where these names are bound around it.
-fn mapped_in<'a>(bindings: &'a [Binding], scope: &Scope<'_>, x: &Text) -> Option<Mapped<'a>>
-    ensures { option_map mapped_view result ≡ mapped_under (all_mapped bindings.entry.now) (in_scope scope.now) x.now }
+fn mapped_in<'a>(bindings: &IndexedBindings<'a>, scope: &Scope<'_>, x: &Text) -> Option<Mapped<'a>>
+    ensures { option_map mapped_view result ≡ mapped_under (all_mapped bindings.now) (in_scope scope.now) x.now }
 {
     if scope.has(x) {
         None
     } else {
-        mapped_named(bindings, x)
+        bindings.mapped_named(x)
     }
 }
 
@@ -57,8 +57,8 @@ fn if_as_whole<'a>(found: Option<Mapped<'a>>) -> Option<Mapped<'a>>
 }
 
 /// The mapped parameter whose element an expression itself reads.
-fn element_by<'a>(bindings: &'a [Binding], scope: &Scope<'_>, e: &Expr) -> Option<Mapped<'a>>
-    ensures { option_map mapped_view result ≡ spec.element_by (all_mapped bindings.entry.now) (in_scope scope.now) (tree e.now) }
+fn element_by<'a>(bindings: &IndexedBindings<'a>, scope: &Scope<'_>, e: &Expr) -> Option<Mapped<'a>>
+    ensures { option_map mapped_view result ≡ spec.element_by (all_mapped bindings.now) (in_scope scope.now) (tree e.now) }
 {
     match e {
         Expr::Index(f, _) => match f.get() {
@@ -105,7 +105,7 @@ fn standing_for<S: Substitution>(
 fn rewrite_name<'a, S: Substitution>(
     alloc: Global,
     names: &S,
-    bindings: &'a [Binding],
+    bindings: &IndexedBindings<'a>,
     scope: &Scope<'_>,
     x: &Text,
     reads: &mut Reads<'a>,
@@ -134,7 +134,7 @@ fn name_alone(e: &Expr) -> Option<&Text>
 fn finished<'a, S: Substitution>(
     alloc: Global,
     names: &S,
-    bindings: &'a [Binding],
+    bindings: &IndexedBindings<'a>,
     scope: &Scope<'_>,
     e: &Expr,
     list: Vec<Expr>,
@@ -153,7 +153,7 @@ fn finished<'a, S: Substitution>(
 /// The same of an expression that is no name.
 fn rewrite_form<'a>(
     alloc: Global,
-    bindings: &'a [Binding],
+    bindings: &IndexedBindings<'a>,
     scope: &Scope<'_>,
     e: &Expr,
     list: Vec<Expr>,
@@ -180,7 +180,7 @@ fn rewrite_form<'a>(
 pub(crate) fn rewritten<'a, S: Substitution>(
     alloc: Global,
     names: &S,
-    bindings: &'a [Binding],
+    bindings: &IndexedBindings<'a>,
     scope: &Scope<'_>,
     e: &Expr,
     reads: &mut Reads<'a>,
@@ -209,7 +209,7 @@ pub(crate) fn rewritten<'a, S: Substitution>(
 fn rewrite_parts<'a, S: Substitution>(
     alloc: Global,
     names: &S,
-    bindings: &'a [Binding],
+    bindings: &IndexedBindings<'a>,
     scope: &Scope<'_>,
     e: &Expr,
     bound: &Names,

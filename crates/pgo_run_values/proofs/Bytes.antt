@@ -2,7 +2,7 @@
 use Rattle.std.proofs.Common.{◌≡◌, ℕ, Bool, true, false, ◌&&◌, ◌||◌, nat_eq, if◌then◌else◌, List, [], ◌∷◌, Some, None, refl, ap, ◌∙◌, subst, arith}
 use Rattle.std.proofs.lemmas.Bool.{and_parts}
 use Rattle.std.proofs.lemmas.Bool.Decides.{nat_tests}
-use Rattle.pgo_model.specs.IsBundle.{is_string_byte, all_string_bytes}
+use Rattle.pgo_model.specs.BundleParts.{is_string_byte, all_string_bytes}
 use Rattle.pgo_model.specs.ValueText.{is_word_byte, all_word_bytes, has_letter, is_identifier}
 use Rattle.pgo_lexer.specs.Lexemes.{Quoted, is_plain, is_printed, escaped}
 use Rattle.pgo_lexer.specs.Lexemes as piece

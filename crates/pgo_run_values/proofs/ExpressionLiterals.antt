@@ -1,6 +1,6 @@
 -- The literals of an expression that tokens spell can be written where the tokens' numbers, strings and names can.
 use Rattle.std.proofs.Common.{IsTrue, List, [], ◌∷◌}
-use Rattle.pgo_model.specs.IsBundle.{all_string_bytes}
+use Rattle.pgo_model.specs.BundleParts.{all_string_bytes}
 use Rattle.pgo_base.specs.Lookup.{Name}
 use Rattle.pgo_base.specs.Tree.{Tree, Trees, no_trees, more_trees, trees, named, arms, bound, paths}
 use Rattle.pgo_base.specs.Tree as e

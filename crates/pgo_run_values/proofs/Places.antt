@@ -12,7 +12,7 @@ use Rattle.pgo_base.specs.Exact.{data_itself}
 use Rattle.pgo_base.specs.Lookup.{Name, Vars, same_name, find}
 use Rattle.pgo_base.specs.Order.{data_cmp}
 use Rattle.pgo_base.specs.Sets.{IsSorted, in_order, insert_member}
-use Rattle.pgo_model.specs.IsBundle.{is_string_byte, all_string_bytes}
+use Rattle.pgo_model.specs.BundleParts.{is_string_byte, all_string_bytes}
 use Rattle.pgo_model.specs.Machine.{nth}
 use Rattle.pgo_model.specs.Names.{same_name-is}
 use Rattle.pgo_model.specs.Operators.{apply, lookup, most_members, same_data}

@@ -2,7 +2,7 @@
 use Rattle.std.proofs.Common.{List, [], ◌∷◌, ◌++◌, IsTrue}
 use Rattle.pgo_lexer.specs.declared.token.Token.{Token}
 use Rattle.pgo_lexer.specs.declared.token.Token.TheVariants as t
-use Rattle.pgo_model.specs.IsBundle.{all_string_bytes}
+use Rattle.pgo_model.specs.BundleParts.{all_string_bytes}
 use Rattle.pgo_model.specs.Operators.{fits_i64}
 
 -- a number is an integer of 64 bits, and a string, as a name, has bytes that can be written

@@ -4,7 +4,7 @@ use Rattle.std.specs.Prelude.{◌≡◌, IsTrue, nat_le, List, [], ◌∷◌, le
 use Rattle.pgo_base.specs.Data.{Data, boolean, integer, string, model, set, function, Items, no_items, item, members, Pairs, no_pairs, pair, graph, keys}
 use Rattle.pgo_base.specs.Lookup.{Name, Names, Vars, find}
 use Rattle.pgo_base.specs.Sets.{IsSorted}
-use Rattle.pgo_model.specs.IsBundle.{all_string_bytes}
+use Rattle.pgo_model.specs.BundleParts.{all_string_bytes}
 use Rattle.pgo_model.specs.Operators.{fits_i64, most_members}
 use Rattle.pgo_model.specs.Val.{Scope, Meaning, call_def}
 use Rattle.pgo_value_text.specs.IsValueText.{is_name}

@@ -12,7 +12,7 @@ use Rattle.pgo_syntax.specs.declared.bound.Mapping.TheVariants.{Identity, Macro}
 use Rattle.pgo_syntax.specs.declared.bound.Target.{Target}
 use Rattle.pgo_syntax.specs.declared.bound.Target.TheVariants as targets
 use Rattle.pgo_base.specs.Lookup.{Name, find}
-use Rattle.pgo_model.specs.IsBundle.{all_string_bytes}
+use Rattle.pgo_model.specs.BundleParts.{all_string_bytes}
 use Rattle.pgo_model.specs.ModuleView.{defined_view}
 use Rattle.pgo_sections.specs.Code.{Code}
 use Rattle.pgo_meaning.specs.TreesAgree.{sections_at}

@@ -12,12 +12,11 @@ use Rattle.pgo_bound.specs.Among.{among_nth}
 use Rattle.pgo_bound.specs.BoundOf.{bound_of}
 use Rattle.pgo_bound.specs.Sound.{Sound}
 use Rattle.pgo_bound.specs.State.{id_of}
-use Rattle.pgo_sections.specs.Among.{is_among}
+use Rattle.pgo_model.specs.Names.{is_among}
 use Rattle.pgo_meaning.specs.MacrosPlaced.{bodies, placed_among}
 use Rattle.pgo_meaning.specs.Parameters.{own_variables}
 use Rattle.pgo_meaning.specs.System.{system_of}
 use Rattle.pgo_meaning.specs.SystemStates.{GlobalsBound}
-use Rattle.pgo_workers.specs.Worlds.{is_own_name}
 use Rattle.pgo_accesses.specs.Runnable.{Runnable}
 use Rattle.pgo_accesses.specs.WithoutYield.{LabeledWithout}
 use Rattle.pgo_bind.proofs.SoundBound.{sound_answer}
@@ -35,7 +34,7 @@ module _ (s : Spec) (consts : List (Name × Data)) (h : IsAccepted s consts) whe
     r : RunsAs s consts i
     r = runs_as s consts k i at_k
 
-    owns : (x : Name) → is_among x (own_variables i.process i.archetype i.bindings) ≡ true → is_own_name x (own_names (id_of i) (system_of (bound_of s consts)).own) ≡ true
+    owns : (x : Name) → is_among x (own_variables i.process i.archetype i.bindings) ≡ true → is_among x (own_names (id_of i) (system_of (bound_of s consts)).own) ≡ true
     owns x e =
         own_is (bound_of s consts) r.process r.archetype r.among r.named i (among_nth i (bound_of s consts).instances k at_k) (ap (λ (z : Instance). z.process) r.is) x
         (subst (λ (z : Instance). is_among x (own_variables z.process z.archetype z.bindings) ≡ true) r.is e)

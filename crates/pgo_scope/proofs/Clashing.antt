@@ -3,7 +3,7 @@ use Rattle.std.proofs.Common.{◌≡◌, ◌<◌, ◌+◌, ℕ, zero, suc, take,
 use Rattle.std.specs.Prelude.{if◌then◌else◌}
 use Rattle.std.proofs.lemmas.List.{append-nil}
 use Rattle.pgo_base.specs.Lookup.{same_name}
-use Rattle.pgo_uses.specs.Names.{Rows, is_among}
+use Rattle.pgo_uses.specs.Names.{Rows, has_row}
 use Rattle.pgo_uses.proofs.Among.{among_cons}
 use Rattle.pgo_scope.specs.declared.errors.ScopeError.TheVariants as errors
 use Rattle.pgo_scope.specs.declared.finding.Finding.{Finding}
@@ -34,30 +34,30 @@ step t u us c h = ap (λ b. if b then record { place = t.place; error = errors.N
 apart : (t u : ModuleName) → same_name t.written u.written ≡ false → clash t u ≡ false
 apart t u h = ap (λ b. b && not (t.bound && u.bound)) h
 
-none_at_all : (t : ModuleName) (us : List ModuleName) → is_among t.written (any_rows us) ≡ false → clash_with us t ≡ []
+none_at_all : (t : ModuleName) (us : List ModuleName) → has_row t.written (any_rows us) ≡ false → clash_with us t ≡ []
 none_at_all t [] h = refl
 none_at_all t (u ∷ us) h =
-    let e : same_name t.written u.written || is_among t.written (any_rows us) ≡ false = sym (among_cons t.written (u.written, 0) (any_rows us)) ∙ h in
+    let e : same_name t.written u.written || has_row t.written (any_rows us) ≡ false = sym (among_cons t.written (u.written, 0) (any_rows us)) ∙ h in
     step t u us (apart t u (or_left _ _ e)) (none_at_all t us (or_right _ _ e))
 
 both_bound : (s b c : Bool) → b ≡ true → c ≡ true → s && not (b && c) ≡ false
 both_bound true b c h i = (λ k. not (h k && i k))
 both_bound false b c h i = refl
 
-none_unbound : (t : ModuleName) (us : List ModuleName) → t.bound ≡ true → is_among t.written (unbound_rows us) ≡ false → clash_with us t ≡ []
+none_unbound : (t : ModuleName) (us : List ModuleName) → t.bound ≡ true → has_row t.written (unbound_rows us) ≡ false → clash_with us t ≡ []
 none_unbound t [] b h = refl
 none_unbound t (u ∷ us) b h = go u.bound refl h (none_unbound t us b)
   where
-    go : (c : Bool) → u.bound ≡ c → is_among t.written ((if c then [] else (u.written, 0) ∷ []) ++ unbound_rows us) ≡ false → (is_among t.written (unbound_rows us) ≡ false → clash_with us t ≡ []) → clash_with (u ∷ us) t ≡ []
+    go : (c : Bool) → u.bound ≡ c → has_row t.written ((if c then [] else (u.written, 0) ∷ []) ++ unbound_rows us) ≡ false → (has_row t.written (unbound_rows us) ≡ false → clash_with us t ≡ []) → clash_with (u ∷ us) t ≡ []
     go true k e f = step t u us (both_bound (same_name t.written u.written) t.bound u.bound b k) (f e)
     go false k e f =
-        let g : same_name t.written u.written || is_among t.written (unbound_rows us) ≡ false = sym (among_cons t.written (u.written, 0) (unbound_rows us)) ∙ e in
+        let g : same_name t.written u.written || has_row t.written (unbound_rows us) ≡ false = sym (among_cons t.written (u.written, 0) (unbound_rows us)) ∙ e in
         step t u us (apart t u (or_left _ _ g)) (f (or_right _ _ g))
 
 pub no_clash : (us : List ModuleName) (t : ModuleName) → may_clash (any_rows us) (unbound_rows us) t ≡ false → clash_with us t ≡ []
 no_clash us t h = go t.bound refl h
   where
-    go : (b : Bool) → t.bound ≡ b → (if b then is_among t.written (unbound_rows us) else is_among t.written (any_rows us)) ≡ false → clash_with us t ≡ []
+    go : (b : Bool) → t.bound ≡ b → (if b then has_row t.written (unbound_rows us) else has_row t.written (any_rows us)) ≡ false → clash_with us t ≡ []
     go true k e = none_unbound t us k e
     go false k e = none_at_all t us e
 

@@ -3,6 +3,7 @@ use Rattle.std.proofs.Common.{◌≡◌, ℕ, suc, Bool, true, false, ◌||◌, 
 use Rattle.std.specs.Prelude.{if◌then◌else◌, slice_get, Option, Some, None, option_map, is_some}
 use Rattle.std.proofs.lemmas.Option.{slice_get-map}
 use Rattle.pgo_base.specs.Lookup.{Name, same_name, find}
+use Rattle.pgo_model.specs.Names.{is_among}
 use Rattle.pgo_syntax.specs.declared.name.PlacedName.{PlacedName}
 use Rattle.pgo_syntax.specs.declared.declaration.Declaration.{Declaration}
 use Rattle.pgo_syntax.specs.declared.macros.Macro.{Macro}
@@ -11,7 +12,7 @@ use Rattle.pgo_syntax.specs.declared.archetype.Parameter.{Parameter}
 use Rattle.pgo_syntax.specs.declared.archetype.ParameterKind.{ParameterKind}
 use Rattle.pgo_syntax.specs.declared.archetype.ParameterKind.TheVariants as kinds
 use Rattle.pgo_syntax.specs.declared.process.Process.{Process}
-use Rattle.pgo_uses.specs.Names.{Rows, is_member, is_among, first_at}
+use Rattle.pgo_uses.specs.Names.{Rows, has_row, first_at}
 use Rattle.pgo_uses.specs.Tables.{name_rows, variable_rows}
 use Rattle.pgo_uses.specs.AllUses.{names_of, parameter_names, variable_names}
 use Rattle.pgo_scope.specs.declared.mapped.Mapped.{Mapped}
@@ -21,36 +22,36 @@ use Rattle.pgo_scope.specs.Unknown.{is_own, is_own_of}
 use Rattle.pgo_scope.specs.UnitRows.{parameter_rows, ref_rows, own_rows, assignable_rows, macro_parameter_rows, among, among_in, mapped_kinds, kinds_of, Kinds, kind_at, kind_of, kind_in}
 
 -- one name before others
-before : (b c d : Bool) → c ≡ d → (o : Option ℕ) → is_some o ≡ c → is_some (if b then Some 0 else o) ≡ (if b then true else d)
+before : (b c d : Bool) → c ≡ d → (o : Option ℕ) → is_some o ≡ c → is_some (if b then Some 0 else o) ≡ b || d
 before true c d e o h = refl
 before false c d e o h = h ∙ e
 
-variables : (x : Name) (ds : List Declaration) → is_among x (variable_rows ds) ≡ is_member x (variable_names ds)
+variables : (x : Name) (ds : List Declaration) → has_row x (variable_rows ds) ≡ is_among x (variable_names ds)
 variables x [] = refl
-variables x (d ∷ ds) = before (same_name x d.name.name) (is_among x (variable_rows ds)) (is_member x (variable_names ds)) (variables x ds) (find x (variable_rows ds)) refl
+variables x (d ∷ ds) = before (same_name x d.name.name) (has_row x (variable_rows ds)) (is_among x (variable_names ds)) (variables x ds) (find x (variable_rows ds)) refl
 
-names : (x : Name) (ns : List PlacedName) → is_among x (name_rows ns) ≡ is_member x (names_of ns)
+names : (x : Name) (ns : List PlacedName) → has_row x (name_rows ns) ≡ is_among x (names_of ns)
 names x [] = refl
-names x (n ∷ ns) = before (same_name x n.name) (is_among x (name_rows ns)) (is_member x (names_of ns)) (names x ns) (find x (name_rows ns)) refl
+names x (n ∷ ns) = before (same_name x n.name) (has_row x (name_rows ns)) (is_among x (names_of ns)) (names x ns) (find x (name_rows ns)) refl
 
 -- one name before two lists
-before_both : (b c : Bool) (o : Option ℕ) (m : Bool) → is_some o ≡ m || c → is_some (if b then Some 0 else o) ≡ (if b then true else m) || c
+before_both : (b c : Bool) (o : Option ℕ) (m : Bool) → is_some o ≡ m || c → is_some (if b then Some 0 else o) ≡ (b || m) || c
 before_both true c o m h = refl
 before_both false c o m h = h
 
-own : (x : Name) (ps : List Parameter) (ds : List Declaration) → is_among x (parameter_rows ps ++ variable_rows ds) ≡ is_member x (parameter_names ps) || is_member x (variable_names ds)
+own : (x : Name) (ps : List Parameter) (ds : List Declaration) → has_row x (parameter_rows ps ++ variable_rows ds) ≡ is_among x (parameter_names ps) || is_among x (variable_names ds)
 own x [] ds = variables x ds
 own x (p ∷ ps) ds =
-    before_both (same_name x p.name.name) (is_member x (variable_names ds)) (find x (parameter_rows ps ++ variable_rows ds)) (is_member x (parameter_names ps)) (own x ps ds)
+    before_both (same_name x p.name.name) (is_among x (variable_names ds)) (find x (parameter_rows ps ++ variable_rows ds)) (is_among x (parameter_names ps)) (own x ps ds)
 
-assignable : (x : Name) (ps : List Parameter) (ds : List Declaration) → is_among x (ref_rows ps ++ variable_rows ds) ≡ is_member x (ref_names ps) || is_member x (variable_names ds)
+assignable : (x : Name) (ps : List Parameter) (ds : List Declaration) → has_row x (ref_rows ps ++ variable_rows ds) ≡ is_among x (ref_names ps) || is_among x (variable_names ds)
 assignable x [] ds = variables x ds
 assignable x (p ∷ ps) ds = go p.kind (assignable x ps ds)
   where
-    go : (k : ParameterKind) → is_among x (ref_rows ps ++ variable_rows ds) ≡ is_member x (ref_names ps) || is_member x (variable_names ds) → is_among x (ref_rows (record p { kind = k } ∷ ps) ++ variable_rows ds) ≡ is_member x (ref_names (record p { kind = k } ∷ ps)) || is_member x (variable_names ds)
+    go : (k : ParameterKind) → has_row x (ref_rows ps ++ variable_rows ds) ≡ is_among x (ref_names ps) || is_among x (variable_names ds) → has_row x (ref_rows (record p { kind = k } ∷ ps) ++ variable_rows ds) ≡ is_among x (ref_names (record p { kind = k } ∷ ps)) || is_among x (variable_names ds)
     go kinds.Value h = h
     go (kinds.Ref extent) h =
-        before_both (same_name x p.name.name) (is_member x (variable_names ds)) (find x (ref_rows ps ++ variable_rows ds)) (is_member x (ref_names ps)) h
+        before_both (same_name x p.name.name) (is_among x (variable_names ds)) (find x (ref_rows ps ++ variable_rows ds)) (is_among x (ref_names ps)) h
 
 mapped : (r : Name) (procs : List Process) (n : ℕ) (ps : List Parameter) (x : Name) → kind_at (first_at x (parameter_rows ps)) (mapped_kinds r procs n ps) ≡ mapped_among r procs n ps x
 mapped r procs n [] x = refl

@@ -2,9 +2,8 @@ mod Answered
 mod Clashing
 mod Declaring
 mod Doubled
+mod ForbiddenLaws
 mod Gathering
-mod Handing
-mod Inserting
 mod Only
 mod Owning
 mod Sorting

@@ -4,7 +4,7 @@ use Rattle.std.specs.Prelude.{None}
 use Rattle.pgo_base.specs.declared.expr.Expr.{Expr}
 use Rattle.pgo_base.specs.ExprView.{tree}
 use Rattle.pgo_base.specs.Tree.{Tree, trees}
-use Rattle.pgo_scope.specs.Usage.{only}
+use Rattle.pgo_syntax.specs.Lefts.{only}
 
 none_only : (es : List Expr) → (length es ≡ 1 → ⊥) → only (trees (map tree es)) ≡ None
 none_only [] h = refl

@@ -2,6 +2,7 @@
 use Rattle.std.specs.Prelude.{Bool, true, false, not, ◌||◌, if◌then◌else◌, List, [], ◌∷◌, ◌++◌, slice_get, Option, Some, None}
 use Rattle.pgo_base.specs.Tree.{Tree}
 use Rattle.pgo_base.specs.Lookup.{Name, same_name}
+use Rattle.pgo_model.specs.Names.{is_among}
 use Rattle.pgo_syntax.specs.declared.macros.Macro.{Macro}
 use Rattle.pgo_syntax.specs.declared.archetype.Archetype.{Archetype}
 use Rattle.pgo_syntax.specs.declared.archetype.Parameter.{Parameter}
@@ -12,7 +13,6 @@ use Rattle.pgo_uses.specs.declared.uses.Home.TheVariants as homes
 use Rattle.pgo_uses.specs.declared.uses.Form.{Form}
 use Rattle.pgo_uses.specs.declared.uses.Form.TheVariants as forms
 use Rattle.pgo_uses.specs.declared.uses.Use.{Use}
-use Rattle.pgo_uses.specs.Names.{is_member}
 use Rattle.pgo_uses.specs.Tables.{variable_name, value_name}
 use Rattle.pgo_uses.specs.AllUses.{all_uses, names_of, variable_names}
 use Rattle.pgo_scope.specs.declared.errors.ScopeError.TheVariants as errors
@@ -28,11 +28,11 @@ ref_names (p ∷ ps) = elim p.kind [ kinds.Value ↦ ref_names ps | kinds.Ref ex
 
 abbrev pub assignable_in : Option Archetype → Name → Bool
 assignable_in None x = false
-assignable_in (Some r) x = is_member x (ref_names r.params) || is_member x (variable_names r.locals)
+assignable_in (Some r) x = is_among x (ref_names r.params) || is_among x (variable_names r.locals)
 
 abbrev pub parameter_in : Option Macro → Name → Bool
 parameter_in None x = false
-parameter_in (Some m) x = is_member x (names_of m.params)
+parameter_in (Some m) x = is_among x (names_of m.params)
 
 -- what may be assigned: in an archetype its `ref` parameters and its local variables, in a macro its parameters, in a
 -- mapping macro `$variable`. A value parameter, a name of a `with`, a constant, a definition, `defaultInitValue` and `self`

@@ -17,7 +17,7 @@ use Rattle.pgo_syntax.specs.declared.spec.Spec.{Spec}
 use Rattle.pgo_uses.specs.declared.uses.Form.{Form}
 use Rattle.pgo_uses.specs.declared.uses.Form.TheVariants as forms
 use Rattle.pgo_uses.specs.declared.uses.Use.{Use}
-use Rattle.pgo_uses.specs.Names.{Rows, is_among}
+use Rattle.pgo_uses.specs.Names.{Rows, has_row}
 use Rattle.pgo_uses.specs.AllUses.{all_uses, archetype_uses, variable_names}
 use Rattle.pgo_uses.specs.Heads.{shared_names}
 use Rattle.pgo_scope.specs.declared.errors.ScopeError.TheVariants as errors
@@ -56,7 +56,7 @@ value_names (p ∷ ps) = elim p.kind [ kinds.Value ↦ p.name.name ∷ value_nam
 
 -- a label that is not among those before it, which are rows with the number 0
 abbrev pub new_label : Rows → Use → Form → Option Name
-new_label before u forms.Label = if is_among u.name before then None else Some u.name
+new_label before u forms.Label = if has_row u.name before then None else Some u.name
 new_label before u f = None
 
 -- labels in the order of the text, each once

@@ -5,7 +5,7 @@ use Rattle.pgo_uses.specs.declared.tables.Tables.{Tables}
 use Rattle.pgo_uses.specs.declared.uses.Form.{Form}
 use Rattle.pgo_uses.specs.declared.uses.Form.TheVariants as forms
 use Rattle.pgo_uses.specs.declared.uses.Use.{Use}
-use Rattle.pgo_uses.specs.Names.{is_among}
+use Rattle.pgo_uses.specs.Names.{has_row}
 use Rattle.pgo_uses.specs.Tables.{tables_of}
 use Rattle.pgo_uses.specs.AllUses.{all_uses}
 use Rattle.pgo_scope.specs.declared.errors.ScopeError.TheVariants as errors
@@ -14,9 +14,9 @@ use Rattle.pgo_scope.specs.Findings.{found_if, each_use}
 
 -- a name that nothing around it gives a meaning; as a label or behind `goto` it means the label
 abbrev pub is_global : Tables → Use → Form → Bool
-is_global ts u forms.Alone = not u.inner && is_among u.name ts.globals
-is_global ts u (forms.Applied n) = not u.inner && is_among u.name ts.globals
-is_global ts u (forms.Assigned s) = not u.inner && is_among u.name ts.globals
+is_global ts u forms.Alone = not u.inner && has_row u.name ts.globals
+is_global ts u (forms.Applied n) = not u.inner && has_row u.name ts.globals
+is_global ts u (forms.Assigned s) = not u.inner && has_row u.name ts.globals
 is_global ts u (forms.Called es) = false
 is_global ts u forms.Bound = false
 is_global ts u forms.Named = false

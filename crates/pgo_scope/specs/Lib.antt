@@ -2,8 +2,7 @@ pub mod Findings
 pub mod TextOrder
 pub mod Unknown
 pub mod Twice
-pub mod NameMaps
-pub mod Handed
+pub mod Forbidden
 pub mod CaptureView
 pub mod Arity
 pub mod Globals

@@ -15,7 +15,7 @@ use Rattle.pgo_scope.specs.declared.rules.UseRule.{UseRule}
 use Rattle.pgo_scope.specs.declared.rules.UseRule.TheVariants as use_rules
 use Rattle.pgo_scope.specs.Findings.{each_name, each_use, earliest}
 use Rattle.pgo_scope.specs.Unknown.{unknown_use, unknown_heads}
-use Rattle.pgo_scope.specs.Twice.{Tests, captures, declared_twice, reserved_name, hiding_use, capture_use}
+use Rattle.pgo_scope.specs.Twice.{CaptureTable, captures, declared_twice, reserved_name, hiding_use, capture_use}
 use Rattle.pgo_scope.specs.Arity.{arity_use, arity_heads}
 use Rattle.pgo_scope.specs.Globals.{global_finding}
 use Rattle.pgo_scope.specs.Usage.{MacroTable, macro_table}
@@ -29,7 +29,7 @@ pub record Context : Type 0 where
   pub spec : Spec
   pub tables : Tables
   pub macros : MacroTable
-  pub captures : Tests
+  pub captures : CaptureTable
   pub uses : List Use
 
 abbrev pub context_of : Spec → Context

@@ -1,6 +1,6 @@
 -- How the names before are written, by which most clashes are ruled out.
 use Rattle.std.specs.Prelude.{Bool, if◌then◌else◌, List, [], ◌∷◌, ◌++◌}
-use Rattle.pgo_uses.specs.Names.{Rows, is_among}
+use Rattle.pgo_uses.specs.Names.{Rows, has_row}
 use Rattle.pgo_scope.specs.declared.module_names.ModuleName.{ModuleName}
 
 -- all of them
@@ -18,4 +18,4 @@ unbound_rows (t ∷ ts) = unbound_row t ++ unbound_rows ts
 
 -- whether t may clash with one of these
 abbrev pub may_clash : Rows → Rows → ModuleName → Bool
-may_clash any unbound t = if t.bound then is_among t.written unbound else is_among t.written any
+may_clash any unbound t = if t.bound then has_row t.written unbound else has_row t.written any

@@ -6,7 +6,7 @@ use Rattle.pgo_syntax.specs.declared.archetype.Parameter.{Parameter}
 use Rattle.pgo_syntax.specs.declared.archetype.ParameterKind.TheVariants as kinds
 use Rattle.pgo_syntax.specs.declared.macros.Macro.{Macro}
 use Rattle.pgo_syntax.specs.declared.process.Process.{Process}
-use Rattle.pgo_uses.specs.Names.{Rows, is_among, first_at}
+use Rattle.pgo_uses.specs.Names.{Rows, has_row, first_at}
 use Rattle.pgo_uses.specs.Tables.{name_rows, variable_rows}
 use Rattle.pgo_scope.specs.declared.mapped.Mapped.{Mapped}
 use Rattle.pgo_scope.specs.declared.mapped.Mapped.TheVariants.{Unmapped}
@@ -34,7 +34,7 @@ macro_parameter_rows m = name_rows m.params
 
 abbrev pub among : Option Rows → Name → Bool
 among None x = false
-among (Some rows) x = is_among x rows
+among (Some rows) x = has_row x rows
 
 -- the name is one of those of this number
 abbrev pub among_in : List Rows → ℕ → Name → Bool

@@ -5,6 +5,7 @@
 -- of its own.
 use Rattle.std.specs.Prelude.{ℕ, Bool, true, false, not, ◌&&◌, ◌||◌, List, [], ◌∷◌, ◌++◌, slice_get, Option, Some, None}
 use Rattle.pgo_base.specs.Lookup.{Name, same_name}
+use Rattle.pgo_model.specs.Names.{is_among}
 use Rattle.pgo_model.specs.Written.{self_name, default_init_value}
 use Rattle.pgo_syntax.specs.declared.name.PlacedName.{PlacedName}
 use Rattle.pgo_syntax.specs.declared.archetype.Archetype.{Archetype}
@@ -21,7 +22,7 @@ use Rattle.pgo_uses.specs.declared.uses.Home.TheVariants.{Definition, Global, Ma
 use Rattle.pgo_uses.specs.declared.uses.Form.{Form}
 use Rattle.pgo_uses.specs.declared.uses.Form.TheVariants as forms
 use Rattle.pgo_uses.specs.declared.uses.Use.{Use}
-use Rattle.pgo_uses.specs.Names.{Rows, is_member, is_among, is_earlier, is_at}
+use Rattle.pgo_uses.specs.Names.{Rows, has_row, is_earlier, is_at}
 use Rattle.pgo_uses.specs.Tables.{tables_of, operator_rows}
 use Rattle.pgo_uses.specs.AllUses.{all_uses, parameter_names, variable_names}
 use Rattle.pgo_scope.specs.declared.errors.ScopeError.TheVariants as errors
@@ -30,16 +31,16 @@ use Rattle.pgo_scope.specs.Findings.{found_if, each_use}
 
 -- constants, operators and `defaultInitValue` have a meaning everywhere
 abbrev pub is_constant : Tables → Name → Bool
-is_constant ts x = is_among x ts.constants || is_among x operator_rows || same_name x default_init_value
+is_constant ts x = has_row x ts.constants || has_row x operator_rows || same_name x default_init_value
 
 -- and so have definitions and globals, but in definitions and in their own initial values
 abbrev pub is_common : Tables → Name → Bool
-is_common ts x = is_constant ts x || is_among x ts.definitions || is_among x ts.globals
+is_common ts x = is_constant ts x || has_row x ts.definitions || has_row x ts.globals
 
 -- a parameter or a local variable of an archetype
 abbrev pub is_own_of : Option Archetype → Name → Bool
 is_own_of None x = false
-is_own_of (Some r) x = is_member x (parameter_names r.params) || is_member x (variable_names r.locals)
+is_own_of (Some r) x = is_among x (parameter_names r.params) || is_among x (variable_names r.locals)
 
 abbrev pub is_own : List Archetype → ℕ → Name → Bool
 is_own rs j x = is_own_of (slice_get rs j) x
@@ -58,7 +59,7 @@ knows_self InArgument = true
 
 -- whether the name has a meaning in this home
 abbrev pub means : Tables → List Archetype → Home → Name → Bool
-means ts rs (Definition i) x = is_constant ts x || is_earlier i x ts.definitions || is_among x ts.globals
+means ts rs (Definition i) x = is_constant ts x || is_earlier i x ts.definitions || has_row x ts.globals
 means ts rs (Global i) x = not (is_at i x ts.globals) && is_common ts x
 means ts rs (Macro i) x = is_common ts x || same_name x self_name
 means ts rs Mapping x = is_common ts x || same_name x self_name
@@ -71,7 +72,7 @@ means ts rs InArgument x = is_common ts x || same_name x self_name
 -- a macro calls only macros before it
 abbrev pub may_call : Tables → Home → Name → Bool
 may_call ts (Macro i) x = is_earlier i x ts.macros
-may_call ts h x = is_among x ts.macros
+may_call ts h x = has_row x ts.macros
 
 abbrev pub is_unknown : Tables → List Archetype → Use → Form → Bool
 is_unknown ts rs u forms.Alone = not u.inner && not (means ts rs u.around.home u.name)
@@ -89,7 +90,7 @@ unknown_use ts rs u = found_if (is_unknown ts rs u u.form) u.around.place (error
 
 -- a name in the head of a process that is not one of those that may stand there
 abbrev pub unknown_in : Rows → PlacedName → List Finding
-unknown_in rows x = found_if (not (is_among x.name rows)) x.place (errors.Unknown x.name)
+unknown_in rows x = found_if (not (has_row x.name rows)) x.place (errors.Unknown x.name)
 
 abbrev pub unknown_argument : Tables → Argument → List Finding
 unknown_argument ts (Value p e) = []

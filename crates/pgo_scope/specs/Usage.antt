@@ -7,9 +7,10 @@
 -- bodies in place would give: an argument's own names keep their order and their forms, and of its place only the
 -- usage matters.
 use Rattle.std.specs.Prelude.{ℕ, suc, Bool, true, false, not, ◌&&◌, ◌||◌, if◌then◌else◌, List, [], ◌∷◌, ◌++◌, slice_get, Option, Some, None}
-use Rattle.pgo_base.specs.Tree.{Tree, name, index, field, Trees, no_trees, more_trees}
+use Rattle.pgo_base.specs.Tree.{Tree, name, index, field}
 use Rattle.pgo_base.specs.Lookup.{Name, same_name}
 use Rattle.pgo_syntax.specs.declared.macros.Macro.{Macro}
+use Rattle.pgo_syntax.specs.Lefts.{only}
 use Rattle.pgo_uses.specs.declared.uses.Around.{Around}
 use Rattle.pgo_uses.specs.declared.uses.Shape.{Shape}
 use Rattle.pgo_uses.specs.declared.uses.Shape.TheVariants.{Bare, OneIndex, Further}
@@ -29,12 +30,6 @@ join OneIndex Bare = OneIndex
 join OneIndex OneIndex = Further
 join OneIndex Further = Further
 join Further s = Further
-
--- the one index, where there is one alone
-abbrev pub only : Trees → Option Tree
-only no_trees = None
-only (more_trees t no_trees) = Some t
-only (more_trees t (more_trees u us)) = None
 
 -- the variable of a left side, `x`, `x[i]`, `x.f` and so on; none where the expression is no left side
 abbrev pub left_base : Tree → Option Name

@@ -6,14 +6,14 @@ ghost use Rattle.pgo_scope.specs.Usage as spec;
 
 use crate::usage::{Usage, either_usage, no_usage, read_usage};
 use pgo_base::text::Text;
+use pgo_syntax::name_map::NameMap;
 use pgo_uses::uses::{Form, Use};
 use std::alloc::{AllocError, Global};
-use std::collections::BTreeMap;
 
 /// Names with their usage; a name that isn't among them isn't used.
 #[derive(Drop)]
 pub struct NameUsage {
-    pub map: BTreeMap<Vec<u8>, Usage>,
+    pub map: NameMap<Usage>,
 }
 
 impl NameUsage {
@@ -22,7 +22,7 @@ impl NameUsage {
         ensures { (p : Name) → usage_of result p ≡ spec.no_usage }
     {
         NameUsage {
-            map: BTreeMap::new(alloc),
+            map: NameMap::new(alloc),
         }
     }
 
@@ -30,7 +30,7 @@ impl NameUsage {
     pub fn of(&self, name: &Text) -> Usage
         ensures { result ≡ usage_of self.now name.now }
     {
-        match self.map.get(name.as_bytes()) {
+        match self.map.get(name) {
             Some(usage) => *usage,
             None => no_usage(),
         }
@@ -41,8 +41,7 @@ impl NameUsage {
         ensures { IfOk result (λ _. (p : Name) → usage_of self.new p ≡ spec.either_usage (usage_of self.old p) (spec.usage_if (same_name p name.now) usage)) }
     {
         let all = either_usage(self.of(name), usage);
-        let key = Vec::from_slice(alloc, name.as_bytes())?;
-        self.map.insert(key, all)?;
+        self.map.set(alloc, name, all)?;
         Ok(())
     }
 

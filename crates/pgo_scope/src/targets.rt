@@ -1,10 +1,12 @@
 // What the mapping clauses of processes name, found without going over them.
-ghost use Rattle.std.specs.Prelude.{◌≡◌, ◌||◌, false, suc, ℕ, List, nat_eq, slice_get, map, option_map, IfOk};
+ghost use Rattle.std.specs.Prelude.{◌≡◌, ◌||◌, ◌&&◌, false, suc, ℕ, List, nat_eq, slice_get, option_map, IfOk};
+ghost use Rattle.pgo_base.specs.Lookup.{Name, same_name};
 ghost use Rattle.pgo_syntax.specs.declared.process.Argument.{Argument as SpecArgument};
 ghost use Rattle.pgo_scope.specs.Mapped as mapping;
 ghost use Rattle.pgo_scope.specs.Targets as spec;
 
 use pgo_base::text::Text;
+use pgo_syntax::name_map::NameMap;
 use pgo_syntax::process::{Argument, MappingClause, MappingTarget, Process};
 use pgo_uses::names::Names;
 use std::alloc::{AllocError, Global};
@@ -18,11 +20,11 @@ pub struct Targets {
     pub numbers: BTreeSet<u64>,
 }
 
-/// A process, with what its mapping clauses name.
+/// The parameters of archetypes that a clause of some process names.
 #[derive(Drop)]
-pub struct Run<'a> {
-    pub arguments: &'a [Argument],
-    pub targets: Targets,
+pub struct NamedParameters {
+    /// for the name of each archetype, the numbers of these, from 0
+    pub map: NameMap<BTreeSet<u64>>,
 }
 
 /// Whether the argument is one of these globals.
@@ -36,22 +38,15 @@ fn is_ref_among(globals: &Names, argument: Option<&Argument>) -> bool
 }
 
 impl Targets {
-    /// Nothing.
-    fn new(alloc: Global) -> Targets
-        ensures { (n : ℕ) (es : List SpecArgument) → spec.is_target result n es ≡ false }
+    /// The arguments of these numbers alone.
+    #[tactic(auto, using(crate::proofs::Targeting::no_global))]
+    fn new(alloc: Global, numbers: BTreeSet<u64>) -> Targets
+        ensures { (n : ℕ) (es : List SpecArgument) → spec.is_target result n es ≡ spec.has_number numbers n }
     {
         Targets {
             globals: Names::new(alloc),
-            numbers: BTreeSet::new(alloc),
+            numbers,
         }
-    }
-
-    /// Whether the argument of this number is named, from 0.
-    fn is_target(&self, number: usize, args: &[Argument]) -> bool
-        ensures { result ≡ spec.is_target self.now number args.now }
-    {
-        let number_there = number as u64;
-        self.numbers.contains(&number_there) || is_ref_among(&self.globals, args.get(number))
     }
 
     /// The argument of this number too, from 1.
@@ -83,54 +78,120 @@ impl Targets {
     }
 }
 
-/// What these clauses name.
-fn targets_of(alloc: Global, list: &[MappingClause]) -> Result<Targets, AllocError>
-    ensures { IfOk result (λ t. (n : ℕ) (es : List SpecArgument) → spec.is_target t n es ≡ spec.some_clause_or false n es list.now) }
+/// What these clauses name, and the arguments of these numbers.
+fn targets_of(
+    alloc: Global,
+    numbers: BTreeSet<u64>,
+    list: &[MappingClause],
+) -> Result<Targets, AllocError>
+    ensures { IfOk result (λ t. (n : ℕ) (es : List SpecArgument) → spec.is_target t n es ≡ spec.some_clause_or (spec.has_number numbers n) n es list.now) }
 {
-    let mut targets = Targets::new(alloc);
+    let mut targets = Targets::new(alloc, numbers);
     for c in list {
         targets.add(alloc, &c.target)?;
     }
     Ok(targets)
 }
 
-#[tactic(auto, using(crate::proofs::Targeting::some_clause_is))]
-fn run_of<'a>(alloc: Global, p: &'a Process) -> Result<Run<'a>, AllocError>
-    ensures { IfOk result (λ r. spec.see_run r ≡ (λ n. mapping.some_clause n p.now.arguments p.now.clauses)) }
+/// Whether the argument of this number is one of these globals, from 0.
+fn is_ref_at(globals: &Names, args: &[Argument], number: usize) -> bool
+    ensures { result ≡ spec.ref_among globals.now (slice_get args.now number) }
 {
-    let targets = targets_of(alloc, p.clauses.as_slice())?;
-    Ok(Run {
-        arguments: p.arguments.as_slice(),
-        targets,
-    })
+    is_ref_among(globals, args.get(number))
 }
 
-/// The processes of the archetype.
-pub fn runs<'a>(
+/// Adds the number, if it is.
+fn add_number_if(is: bool, number: usize, numbers: &mut BTreeSet<u64>) -> Result<(), AllocError>
+    ensures { IfOk result (λ _. (n : ℕ) → spec.has_number numbers.new n ≡ (is && nat_eq number n) || spec.has_number numbers.old n) }
+{
+    if is {
+        numbers.insert(number as u64)?;
+    }
+    Ok(())
+}
+
+/// Adds the numbers of the arguments that are among these globals.
+fn add_refs(
+    globals: &Names,
+    args: &[Argument],
+    numbers: &mut BTreeSet<u64>,
+) -> Result<(), AllocError>
+    ensures { IfOk result (λ _. (n : ℕ) → spec.has_number numbers.new n ≡ spec.has_number numbers.old n || spec.ref_among globals.now (slice_get args.now n)) }
+{
+    for i in 0..args.len() {
+        add_number_if(is_ref_at(globals, args, i), i, numbers)?;
+    }
+    Ok(())
+}
+
+/// The numbers of the arguments that the clauses of the process name, and these.
+#[tactic(auto, using(crate::proofs::Targeting::some_or))]
+fn numbers_with(
     alloc: Global,
-    archetype: &Text,
-    list: &'a [Process],
-) -> Result<Vec<Run<'a>>, AllocError>
-    ensures { IfOk result (λ v. map spec.see_run v.items ≡ spec.runs archetype.now list.now) }
+    numbers: BTreeSet<u64>,
+    p: &Process,
+) -> Result<BTreeSet<u64>, AllocError>
+    ensures { IfOk result (λ s. (n : ℕ) → spec.has_number s n ≡ spec.has_number numbers n || mapping.some_clause n p.now.arguments p.now.clauses) }
 {
-    let mut all = Vec::new(alloc);
-    for p in list {
-        if !archetype.is(&p.archetype.name) {
-            continue;
-        }
-        all.push(run_of(alloc, p)?)?;
-    }
-    Ok(all)
+    let targets = targets_of(alloc, numbers, p.clauses.as_slice())?;
+    let Targets {
+        globals,
+        mut numbers,
+    } = targets;
+    add_refs(&globals, p.arguments.as_slice(), &mut numbers)?;
+    Ok(numbers)
 }
 
-/// Whether a clause of some of these processes names the argument of this number, from 0.
-pub fn some_run(number: usize, list: &[Run<'_>]) -> bool
-    ensures { result ≡ spec.some_run (map spec.see_run list.now) number }
-{
-    for r in list {
-        if r.targets.is_target(number, r.arguments) {
-            return true;
+impl NamedParameters {
+    /// None.
+    fn new(alloc: Global) -> NamedParameters
+        ensures { (r : Name) (n : ℕ) → spec.is_named result r n ≡ false }
+    {
+        NamedParameters {
+            map: NameMap::new(alloc),
         }
     }
-    false
+
+    /// Whether the parameter of this number is among those of the archetype, from 0.
+    pub fn has(&self, archetype: &Text, number: usize) -> bool
+        ensures { result ≡ spec.is_named self.now archetype.now number }
+    {
+        let number_there = number as u64;
+        match self.map.get(archetype) {
+            Some(numbers) => numbers.contains(&number_there),
+            None => false,
+        }
+    }
+
+    /// Takes the numbers of the archetype; the others keep theirs.
+    fn take(&mut self, alloc: Global, archetype: &Text) -> BTreeSet<u64>
+        ensures value { (n : ℕ) → spec.has_number result n ≡ spec.is_named self.old archetype.now n }
+        ensures others { (r : Name) → same_name r archetype.now ≡ false → (n : ℕ) → spec.is_named self.new r n ≡ spec.is_named self.old r n }
+    {
+        match self.map.take(archetype) {
+            Some(numbers) => numbers,
+            None => BTreeSet::new(alloc),
+        }
+    }
+
+    /// Those that the clauses of this process name too.
+    fn add(&mut self, alloc: Global, p: &Process) -> Result<(), AllocError>
+        ensures { IfOk result (λ _. (r : Name) (n : ℕ) → spec.is_named self.new r n ≡ spec.is_named self.old r n || spec.names_parameter r n p.now) }
+    {
+        let before = self.take(alloc, &p.archetype.name);
+        let numbers = numbers_with(alloc, before, p)?;
+        self.map.set(alloc, &p.archetype.name, numbers)?;
+        Ok(())
+    }
+}
+
+/// The parameters that a clause of some of these processes names.
+pub fn named_parameters(alloc: Global, list: &[Process]) -> Result<NamedParameters, AllocError>
+    ensures { IfOk result (λ k. (r : Name) (n : ℕ) → spec.is_named k r n ≡ spec.some_process_or false r n list.now) }
+{
+    let mut named = NamedParameters::new(alloc);
+    for p in list {
+        named.add(alloc, p)?;
+    }
+    Ok(named)
 }

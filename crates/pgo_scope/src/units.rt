@@ -9,7 +9,7 @@ ghost use Rattle.pgo_scope.specs.UnitRows as rows;
 ghost use Rattle.pgo_scope.specs.Targets as targets;
 
 use crate::mapped::{Mapped, mapped_kind};
-use crate::targets::{Run, runs, some_run};
+use crate::targets::{NamedParameters, named_parameters};
 use pgo_base::text::Text;
 use pgo_syntax::archetype::{Archetype, Parameter, ParameterKind};
 use pgo_syntax::declaration::Declaration;
@@ -46,7 +46,7 @@ pub struct UnitNames<'a> {
 }
 
 /// Whether the name is one of those of this number.
-fn is_among(list: &[Names], number: usize, x: &Text) -> bool
+fn has_name(list: &[Names], number: usize, x: &Text) -> bool
     ensures { result ≡ rows.among_in list.now number x.now }
 {
     match list.get(number) {
@@ -83,14 +83,14 @@ impl<'a> UnitNames<'a> {
     pub fn is_own(&self, number: usize, x: &Text) -> bool
         ensures { result ≡ unknown.is_own self.now.spec.now.archetypes number x.now }
     {
-        is_among(self.own.as_slice(), number, x)
+        has_name(self.own.as_slice(), number, x)
     }
 
     /// Whether the archetype of this number has a `ref` parameter or a local variable of the name.
     pub fn is_assignable(&self, number: usize, x: &Text) -> bool
         ensures { result ≡ assigning.assignable_in (slice_get self.now.spec.now.archetypes number) x.now }
     {
-        is_among(self.assignable.as_slice(), number, x)
+        has_name(self.assignable.as_slice(), number, x)
     }
 
     /// What the name is in the archetype of this number.
@@ -104,7 +104,7 @@ impl<'a> UnitNames<'a> {
     pub fn is_parameter(&self, number: usize, x: &Text) -> bool
         ensures { result ≡ assigning.parameter_in (slice_get self.now.spec.now.macros number) x.now }
     {
-        is_among(self.params.as_slice(), number, x)
+        has_name(self.params.as_slice(), number, x)
     }
 }
 
@@ -166,25 +166,32 @@ fn macro_parameters(alloc: Global, list: &[PlacedName]) -> Result<Names, AllocEr
     Ok(names)
 }
 
-/// What each parameter of an archetype with these processes is to the rule of mapped parameters.
-fn kinds(alloc: Global, list: &[Run<'_>], params: &[Parameter]) -> Result<Vec<Mapped>, AllocError>
-    ensures { IfOk result (λ v. v.items ≡ targets.kinds_by (map targets.see_run list.now) 0 params.now) }
+/// What each parameter of the archetype is to the rule of mapped parameters, where these are named.
+fn kinds(
+    alloc: Global,
+    named: &NamedParameters,
+    archetype: &Text,
+    params: &[Parameter],
+) -> Result<Vec<Mapped>, AllocError>
+    ensures { IfOk result (λ v. v.items ≡ targets.kinds_by (targets.is_named named.now archetype.now) 0 params.now) }
 {
     let mut kinds = Vec::new(alloc);
     for (n, p) in params.iter().enumerate() {
-        kinds.push(mapped_kind(some_run(n, list), p.kind))?;
+        kinds.push(mapped_kind(named.has(archetype, n), p.kind))?;
     }
     Ok(kinds)
 }
 
-#[tactic(auto, using(crate::proofs::Targeting::kinds_are))]
-fn mapped_names(alloc: Global, list: &[Process], r: &Archetype) -> Result<MappedNames, AllocError>
-    ensures { IfOk result (λ m. rows.see_kinds m ≡ rows.kinds_of list.now r.now) }
+fn mapped_names(
+    alloc: Global,
+    named: &NamedParameters,
+    r: &Archetype,
+) -> Result<MappedNames, AllocError>
+    ensures { IfOk result (λ m. rows.see_kinds m ≡ targets.kinds_with (targets.is_named named.now) r.now) }
 {
     let mut params = Names::new(alloc);
     add_parameters(alloc, r.params.as_slice(), &mut params)?;
-    let runs = runs(alloc, &r.name.name, list)?;
-    let kinds = kinds(alloc, runs.as_slice(), r.params.as_slice())?;
+    let kinds = kinds(alloc, named, &r.name.name, r.params.as_slice())?;
     Ok(MappedNames { params, kinds })
 }
 
@@ -208,6 +215,21 @@ fn all_assignable(alloc: Global, list: &[Archetype]) -> Result<Vec<Names>, Alloc
     Ok(all)
 }
 
+/// The parameters of each archetype, where these are named.
+fn all_mapped_by(
+    alloc: Global,
+    named: &NamedParameters,
+    list: &[Archetype],
+) -> Result<Vec<MappedNames>, AllocError>
+    ensures { IfOk result (λ v. map rows.see_kinds v.items ≡ map (targets.kinds_with (targets.is_named named.now)) list.now) }
+{
+    let mut all = Vec::new(alloc);
+    for r in list {
+        all.push(mapped_names(alloc, named, r)?)?;
+    }
+    Ok(all)
+}
+
 fn all_mapped(
     alloc: Global,
     processes: &[Process],
@@ -215,10 +237,8 @@ fn all_mapped(
 ) -> Result<Vec<MappedNames>, AllocError>
     ensures { IfOk result (λ v. map rows.see_kinds v.items ≡ map (rows.kinds_of processes.now) list.now) }
 {
-    let mut all = Vec::new(alloc);
-    for r in list {
-        all.push(mapped_names(alloc, processes, r)?)?;
-    }
+    let named = named_parameters(alloc, processes)?;
+    let all = all_mapped_by(alloc, &named, list)?;
     Ok(all)
 }
 

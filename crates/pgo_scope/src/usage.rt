@@ -3,6 +3,7 @@ ghost use Rattle.std.specs.Prelude.{◌≡◌, if◌then◌else◌, option_map};
 ghost use Rattle.pgo_base.specs.ExprView.{tree};
 ghost use Rattle.pgo_base.specs.Tree.{trees};
 ghost use Rattle.pgo_scope.specs.Usage as spec;
+ghost use Rattle.pgo_syntax.specs.Lefts.{only};
 
 use pgo_base::expr::{Expr, Exprs};
 use pgo_base::text::Text;
@@ -107,7 +108,7 @@ pub fn join(first: Shape, second: Shape) -> Shape
 
 /// The one expression of these, where there is one alone.
 pub fn only(list: &Exprs) -> Option<&Expr>
-    ensures { option_map (λ e. tree e.now) result ≡ spec.only (trees list.now) }
+    ensures { option_map (λ e. tree e.now) result ≡ only (trees list.now) }
 {
     let items = list.as_slice();
     if items.len() == 1 {

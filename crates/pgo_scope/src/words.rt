@@ -1,8 +1,8 @@
 // The names that a specification has anyway.
 ghost use Rattle.std.specs.Prelude.{◌≡◌, map};
 ghost use Rattle.pgo_base.specs.Lookup.{same_name, find};
+ghost use Rattle.pgo_model.specs.Names.{is_among};
 ghost use Rattle.pgo_model.specs.Written.{self_name, default_init_value};
-ghost use Rattle.pgo_uses.specs.Names.{is_member};
 ghost use Rattle.pgo_uses.specs.Tables.{operator_rows};
 ghost use Rattle.pgo_scope.specs.Modules.{modules};
 ghost use Rattle.pgo_scope.specs.Underscores.{has_double};
@@ -39,7 +39,7 @@ pub fn is_word(name: &Text, word: &[u8]) -> bool
 
 /// Whether the name is one of these words.
 fn is_one_of(name: &Text, words: &[&[u8]]) -> bool
-    ensures { result ≡ is_member name.now (map (λ w. w.now) words.now) }
+    ensures { result ≡ is_among name.now (map (λ w. w.now) words.now) }
 {
     for word in words {
         if is_word(name, word) {
@@ -51,7 +51,7 @@ fn is_one_of(name: &Text, words: &[&[u8]]) -> bool
 
 /// Whether there is a module of the name.
 pub fn is_module(name: &Text) -> bool
-    ensures { result ≡ is_member name.now modules }
+    ensures { result ≡ is_among name.now modules }
 {
     is_one_of(name, &MODULES)
 }

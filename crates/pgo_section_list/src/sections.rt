@@ -16,11 +16,11 @@ use crate::inner::{Inner, in_block, inners_of};
 use pgo_base::text::Text;
 use pgo_effects::around::Around;
 use pgo_effects::indexed_archetype::IndexedArchetype;
+use pgo_effects::indexed_macros::IndexedMacros;
 use pgo_effects::setting::Setting;
 use pgo_effects::todo::{Part, Todo};
 use pgo_effects::written::written_label;
-use pgo_syntax::bound::Binding;
-use pgo_syntax::macros::Macro;
+use pgo_rewrite::indexed_bindings::IndexedBindings;
 use pgo_syntax::statement::Stmt;
 use std::alloc::{AllocError, Global};
 
@@ -64,7 +64,7 @@ pub struct Follow<'a> {
 #[derive(Clone, Copy)]
 pub struct Source<'a, 'i> {
     pub setting: Setting<'a, 'i>,
-    pub macros: &'a [Macro],
+    pub macros: &'i IndexedMacros<'a>,
 }
 
 /// A part of the source's text below a label.
@@ -76,7 +76,7 @@ fn todo_in<'a>(
 ) -> Result<Todo<'a>, AllocError>
     ensures { IfOk result (λ t. (s : Meant) → code_of s t ≡ part_code s (surroundings source.entry label.entry) part.entry) }
 {
-    let mut around = Around::new(alloc, source.macros)?;
+    let mut around = Around::new(alloc, source.macros.copy()?)?;
     around.label = label;
     Ok(Todo::Text(part, around))
 }
@@ -201,12 +201,12 @@ fn gather<'a>(
 /// The sections of a process that runs an archetype, in the order in which their labels stand in the text.
 ///
 /// Err where there is no memory.
-pub fn sections<'a>(
+pub fn sections<'a, 'i>(
     alloc: Global,
-    macros: &'a [Macro],
+    macros: &'i IndexedMacros<'a>,
     process: &'a Text,
-    archetype: &IndexedArchetype<'a>,
-    bindings: &'a [Binding],
+    archetype: &'i IndexedArchetype<'a>,
+    bindings: &'i IndexedBindings<'a>,
 ) -> Result<Vec<Section<'a>>, AllocError>
     requires { AreUnlabelled macros.now }
     ensures { IfOk result (λ v. map (section_view (setting_of process.entry.now archetype.entry.now bindings.entry.now)) v.items ≡ sections_of macros.entry.now process.entry.now archetype.entry.now bindings.entry.now) }

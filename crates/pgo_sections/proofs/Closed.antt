@@ -6,7 +6,7 @@ use Rattle.pgo_base.specs.Tree.{Tree, name, primed, number, text, truth, at, wor
 use Rattle.pgo_model.specs.Sequences.{operators}
 use Rattle.pgo_model.specs.Val.{or_else, Meaning, val, plain, call_def, name_values, Defined, Given, Means, meanings, meaning_of, default_meaning}
 use Rattle.pgo_sections.specs.Closed.{Apart, IsClosed, AreClosed}
-use Rattle.pgo_sections.specs.Among.{is_among}
+use Rattle.pgo_model.specs.Names.{is_among}
 use Rattle.pgo_sections.specs.Plain.{Plain}
 use Rattle.pgo_sections.specs.Bound.{names_of, names_bound, below}
 use Rattle.pgo_sections.specs.Replaced.{replaced, replaced_all, replaced_arms, replaced_fields, replaced_let, replaced_bound, replaced_paths}

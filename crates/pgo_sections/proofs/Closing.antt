@@ -4,12 +4,11 @@ use Rattle.std.specs.List.{AllByRecursion}
 use Rattle.pgo_base.specs.Data.{Data}
 use Rattle.pgo_base.specs.Lookup.{Name, Vars, same_name, find}
 use Rattle.pgo_model.specs.Machine.{nth}
-use Rattle.pgo_model.specs.Names.{AreDifferent, same_name-self, same_name-is}
+use Rattle.pgo_model.specs.Names.{AreDifferent, same_name-self, same_name-is, is_among}
 use Rattle.pgo_model.specs.Operators.{both}
 use Rattle.pgo_sections.specs.SectionsAgree.{keys}
 use Rattle.pgo_sections.specs.Context.{Context}
 use Rattle.pgo_sections.specs.Section.{closed_value, closed}
-use Rattle.pgo_sections.specs.Among.{is_among}
 use Rattle.pgo_sections.proofs.Iff.{some_is}
 use Rattle.pgo_sections.proofs.Later.{find_in, find_on}
 

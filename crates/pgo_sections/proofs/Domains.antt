@@ -9,7 +9,7 @@ use Rattle.pgo_base.specs.Order.{data_cmp}
 use Rattle.pgo_base.specs.Lookup.{Name, Names, Vars, same_name, find}
 use Rattle.pgo_base.specs.Size.{depth}
 use Rattle.std.specs.Ordering.{is_eq}
-use Rattle.pgo_model.specs.Names.{same_name-is}
+use Rattle.pgo_model.specs.Names.{same_name-is, is_among}
 use Rattle.pgo_model.specs.Operators.{members_of, truth_of, same_data, lookup, built, if_few, most_depth, most_members, function_of, replace_at, put_at, set_from}
 use Rattle.pgo_model.specs.Options.{on}
 use Rattle.pgo_model.specs.Outcome.{Blocked, NoValue, AssertFails, Next, Stuck, Nowhere}
@@ -18,7 +18,6 @@ use Rattle.pgo_model.specs.System.{Words}
 use Rattle.pgo_model.specs.Variables.{IsFunctionOn}
 use Rattle.pgo_model.specs.Written.{pc}
 use Rattle.pgo_sections.specs.SectionsAgree.{keys as names_of}
-use Rattle.pgo_sections.specs.Among.{is_among}
 use Rattle.pgo_sections.specs.Code.{Whole, variable_of, Code, Empty, Skip, Let, Pick, Become, Set, Await, Assert, Print, If, Either, Seq, Goto, Yield, Read, Write, Codes, no_codes, more_codes}
 use Rattle.pgo_sections.specs.Context.{Context, content, index_value, put_content, put_new, value_now, value_of, with_content}
 use Rattle.pgo_sections.specs.Domains.{AllUse, HasIndex, HaveDomains, ByElements, KeepsDomain, place, own, elements}

@@ -3,7 +3,7 @@ use Rattle.std.proofs.Common.{◌≡◌, ℕ, suc, ◌≤◌, Bool, true, false,
 use Rattle.pgo_base.specs.Data.{Data}
 use Rattle.pgo_base.specs.Lookup.{Name, Names, Vars, same_name, find}
 use Rattle.pgo_base.specs.Tree.{Tree, name}
-use Rattle.pgo_model.specs.Names.{same_name-self, same_name-is}
+use Rattle.pgo_model.specs.Names.{same_name-self, same_name-is, is_among}
 use Rattle.pgo_model.specs.Options.{on}
 use Rattle.pgo_model.specs.Sequences.{operators}
 use Rattle.pgo_model.specs.Val.{or_else, Meaning, Scope, sem, val, plain, call_def, value_of_name, value_of_call}
@@ -11,7 +11,6 @@ use Rattle.pgo_model.specs.Written.{made, self_name}
 use Rattle.pgo_sections.specs.SectionsAgree.{IsPlace}
 use Rattle.pgo_sections.specs.Code.{Place, Whole, Own, variable_of, content_name}
 use Rattle.pgo_sections.specs.Context.{Context, value_before, value_now, view, value_of, content_state}
-use Rattle.pgo_sections.specs.Among.{is_among}
 use Rattle.pgo_sections.specs.Expand.{Renames, Current, untouched, current, placed, named, current_tree, content_now}
 use Rattle.pgo_sections.specs.Plain.{All}
 use Rattle.pgo_sections.specs.WellFormed.{NotMade, Bindable, Alone, Applied, PlainTree}

@@ -4,7 +4,7 @@ use Rattle.std.specs.Prelude.{unwrap_or}
 use Rattle.pgo_base.specs.Data.{Data, boolean}
 use Rattle.pgo_base.specs.Lookup.{Name, Names, Vars, same_name, find}
 use Rattle.pgo_base.specs.Tree.{Tree, name, index, except, trees, no_paths, more_paths}
-use Rattle.pgo_model.specs.Names.{same_name-self}
+use Rattle.pgo_model.specs.Names.{same_name-self, is_among}
 use Rattle.pgo_model.specs.Operators.{apply, both, members_of, put_at, lookup, graph_of, function_of, replace_at}
 use Rattle.pgo_model.specs.Options.{on}
 use Rattle.pgo_model.specs.Val.{or_else, Scope, sem, plain, call_def, meanings, index_of}
@@ -13,7 +13,6 @@ use Rattle.pgo_sections.specs.SectionsAgree.{IsPlace}
 use Rattle.pgo_sections.specs.Code.{Place, Whole, variable_of, Code, Empty, Skip, Let, Pick, Become, Set, Await, Assert, Print, If, Either, Seq, Goto, Yield, Read, Write, Codes, no_codes, more_codes, content_name, content_places, value_name, old_base, val_base, new_base}
 use Rattle.pgo_sections.specs.Context.{Context, value_now, content, with_content, put_content, content_state, index_value, is_assigned}
 use Rattle.pgo_sections.specs.BoundValues.{bindable, value_under, put_part}
-use Rattle.pgo_sections.specs.Among.{is_among}
 use Rattle.pgo_sections.specs.Expand.{Renames, Current, current, current_tree, content_tree, content_put, becoming, content_now, value_handed, OnGo, OnJump, OnYield, no_go, no_jump, put_back, left_behind, expand, expand_arms}
 use Rattle.pgo_sections.specs.Expansion.{Expansion, With, PathContext, Path, SomePath, value_on}
 use Rattle.pgo_sections.specs.Nodes.{most_names, most_of_arms}

@@ -5,10 +5,9 @@ use Rattle.std.specs.Fmt.{digit_glyph, digits_onto, digits}
 use Rattle.pgo_base.specs.Lookup.{Name, same_name, find}
 use Rattle.pgo_base.specs.Tree.{Tree, name, primed, number, text, truth, at, word, unary, binary, product, cond_of, case_of, case_other, let_in, quantified, choose, tuple, set_of, filter_of, image, fun_of, fun_set, record_of, record_set, except, index, field, call, unchanged, Trees, no_trees, more_trees, NamedTrees, no_named, more_named, TreePairs, no_arms, more_arms, BoundTrees, no_bound, more_bound, PathTrees, no_paths, more_paths}
 use Rattle.pgo_model.specs.ValueText.{is_digit, all_digits}
-use Rattle.pgo_model.specs.Names.{AreDifferent, same_name-is}
+use Rattle.pgo_model.specs.Names.{AreDifferent, same_name-is, is_among}
 use Rattle.pgo_model.specs.Written.{made, self_name}
 use Rattle.pgo_sections.specs.Code.{Place, Code, Empty, Skip, Let, Pick, Become, Set, Await, Assert, Print, If, Either, Seq, Goto, Yield, Read, Write, Codes, no_codes, more_codes, content_name, content_places, value_name}
-use Rattle.pgo_sections.specs.Among.{is_among}
 use Rattle.pgo_sections.specs.Plain.{All, Plain, PlainAll, PlainArms, PlainFields, PlainLet, PlainBound, PlainPaths}
 use Rattle.pgo_sections.specs.PlainTest.{digits_behind, looks_made, all_names, is_plain, plain_all, plain_arms, plain_fields, plain_let, plain_bound, plain_paths, is_bindable, is_alone, is_applied, plain_tree, known_index, plain_code, plain_codes, distinct_names, is_written, is_place, all_places, NamesTestIsSound}
 use Rattle.pgo_sections.specs.WellFormed.{NotMade, Bindable, Alone, Applied, PlainTree, KnownIndex, PlainCode, PlainCodes}

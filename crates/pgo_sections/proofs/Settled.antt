@@ -2,8 +2,7 @@
 use Rattle.std.proofs.Common.{◌≡◌, Bool, true, false, ◌||◌, if◌then◌else◌, List, [], ◌∷◌, Option, Some, None, refl, sym, ap, ◌∙◌, option_map}
 use Rattle.std.specs.List.{cons_option}
 use Rattle.pgo_base.specs.Lookup.{Name, same_name, find}
-use Rattle.pgo_model.specs.Names.{same_name-is}
-use Rattle.pgo_sections.specs.Among.{is_among}
+use Rattle.pgo_model.specs.Names.{same_name-is, is_among}
 use Rattle.pgo_sections.specs.Expand.{Current, settled}
 use Rattle.pgo_sections.proofs.Later.{find_in, find_on}
 

@@ -12,7 +12,7 @@ use Rattle.pgo_model.specs.Operators.{apply, members_of, truth_of, same_data, lo
 use Rattle.pgo_model.specs.Outcome.{Blocked, AssertFails}
 use Rattle.pgo_model.specs.System.{Words, Touched}
 use Rattle.pgo_sections.specs.Access.{touched_whole, reads_among, unmapped_reads}
-use Rattle.pgo_sections.specs.Among.{is_among}
+use Rattle.pgo_model.specs.Names.{is_among}
 use Rattle.pgo_sections.specs.Code.{Place, Whole, Own, variable_of, Code, Empty, Skip, Let, Pick, Become, Set, Await, Assert, Print, If, Either, Seq, Goto, Yield, Read, Write, Codes, no_codes, more_codes}
 use Rattle.pgo_sections.specs.Context.{Context, content, index_value, put_content, put_new, value_now, value_of}
 use Rattle.pgo_sections.specs.Domains.{Uses, AllUse, HasIndex, ByElements, PlaceIn, UsesOnly, IsPart, IsEvent}

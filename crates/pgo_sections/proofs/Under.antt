@@ -10,7 +10,7 @@ use Rattle.pgo_model.specs.FunctionSets.{choice_count, product_choices, function
 use Rattle.pgo_model.specs.Operators.{truth_of, from_truth, any3, all3, first3, filter3, both, each, where_few, set_from, function_from, members_of, apply, sequence, choices, put, spread, put_at}
 use Rattle.pgo_model.specs.Sequences.{assert_name, assert}
 use Rattle.pgo_model.specs.Val.{or_else, Meaning, Scope, sem, plain, value_of_name, value_of_call, with_name, with_names, with_part, unary_sem, binary_sem, functions_sem, decide, over_each, some_of, every_of, quantify, name_values, names_over, sets_over, index_of, function_over, values_of, asserted, let_scope, case_value, ranges, fields, updated}
-use Rattle.pgo_sections.specs.Among.{is_among}
+use Rattle.pgo_model.specs.Names.{is_among}
 use Rattle.pgo_sections.specs.Plain.{All, Plain, PlainAll, PlainArms, PlainFields, PlainLet, PlainBound, PlainPaths}
 use Rattle.pgo_sections.specs.Bound.{names_of, names_bound, below}
 use Rattle.pgo_sections.specs.Replaced.{replaced, replaced_all, replaced_arms, replaced_fields, replaced_let, replaced_bound, replaced_paths}

@@ -3,7 +3,7 @@ use Rattle.std.proofs.Common.{◌≡◌, ℕ, suc, ◌-◌, ◌<◌, ◌^◌, Bo
 use Rattle.pgo_base.specs.Data.{Data, string}
 use Rattle.pgo_base.specs.Lookup.{Name, Names, Vars, same_name, find}
 use Rattle.pgo_base.specs.Tree.{name}
-use Rattle.pgo_model.specs.Names.{AreDifferent, same_name-self, same_name-is}
+use Rattle.pgo_model.specs.Names.{AreDifferent, same_name-self, same_name-is, is_among}
 use Rattle.pgo_model.specs.Operators.{apply, both}
 use Rattle.pgo_model.specs.Options.{on}
 use Rattle.pgo_model.specs.Outcome.{NoValue, Next, Stuck, Nowhere}
@@ -18,7 +18,6 @@ use Rattle.pgo_sections.specs.Context.{Context, value_before}
 use Rattle.pgo_sections.specs.SectionRun.{SectionRun, begun, Out, Go, Jump, Yielded, Stop}
 use Rattle.pgo_sections.specs.Section.{closed_value, closed, end_of, if_shallow, SectionReaches}
 use Rattle.pgo_model.specs.Choice.{word_at}
-use Rattle.pgo_sections.specs.Among.{is_among}
 use Rattle.pgo_sections.specs.BoundValues.{put_part, value_put, value_under}
 use Rattle.pgo_sections.specs.Expand.{Current, untouched, no_go, settled, to_end, no_yield, expansion}
 use Rattle.pgo_sections.specs.Nodes.{most_names}

@@ -13,7 +13,7 @@ use Rattle.pgo_base.specs.Tree.{Tree, name, primed, number, text, truth, at, wor
 use Rattle.pgo_model.specs.Options.{on}
 use Rattle.pgo_model.specs.Occurrences.{first_occurrences}
 use Rattle.pgo_model.specs.System.{Touched}
-use Rattle.pgo_sections.specs.Among.{is_among}
+use Rattle.pgo_model.specs.Names.{is_among}
 use Rattle.pgo_sections.specs.Bound.{names_of, names_bound, below}
 use Rattle.pgo_sections.specs.FreeNames.{free_names}
 use Rattle.pgo_sections.specs.Code.{Place, Whole, Own, Code, Let, Read, at_base}

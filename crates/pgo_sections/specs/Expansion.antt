@@ -8,7 +8,7 @@ use Rattle.pgo_model.specs.Machine.{nth}
 use Rattle.pgo_model.specs.Options.{on}
 use Rattle.pgo_model.specs.Val.{Val, Defined}
 use Rattle.pgo_model.specs.Written.{pc}
-use Rattle.pgo_sections.specs.Among.{is_among}
+use Rattle.pgo_model.specs.Names.{is_among}
 use Rattle.pgo_sections.specs.BoundValues.{bindable, put_part, value_put, value_under}
 
 -- Expressions are in written names: a global `g`, a local or value parameter `P_v[self]`, and the made names that are bound

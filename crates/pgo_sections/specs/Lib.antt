@@ -1,4 +1,3 @@
-pub mod Among
 pub mod Code
 pub mod Blocks
 pub mod Bound

@@ -2,11 +2,10 @@
 use Rattle.std.specs.Prelude.{◌≡◌, ℕ, Bool, true, false, not, ◌&&◌, ◌||◌, nat_eq, is_some, is_none, List, [], ◌∷◌, Option, Some, None}
 use Rattle.pgo_base.specs.Lookup.{Name, same_name, find}
 use Rattle.pgo_base.specs.Tree.{Tree, name, primed, number, text, truth, at, word, unary, binary, product, cond_of, case_of, case_other, let_in, quantified, choose, tuple, set_of, filter_of, image, fun_of, fun_set, record_of, record_set, except, index, field, call, unchanged, Trees, no_trees, more_trees, NamedTrees, no_named, more_named, TreePairs, no_arms, more_arms, BoundTrees, no_bound, more_bound, PathTrees, no_paths, more_paths}
-use Rattle.pgo_model.specs.Names.{AreDifferent}
+use Rattle.pgo_model.specs.Names.{AreDifferent, is_among}
 use Rattle.pgo_model.specs.ValueText.{all_digits}
 use Rattle.pgo_model.specs.Written.{self_name}
 use Rattle.pgo_sections.specs.Code.{Place, Whole, Own, Code, Empty, Skip, Let, Pick, Become, Set, Await, Assert, Print, If, Either, Seq, Goto, Yield, Read, Write, Codes, no_codes, more_codes, content_name, content_places, value_name}
-use Rattle.pgo_sections.specs.Among.{is_among}
 use Rattle.pgo_sections.specs.WellFormed.{NotMade, PlainCode}
 
 abbrev pub digits_behind : List ℕ → Bool

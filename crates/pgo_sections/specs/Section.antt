@@ -9,7 +9,7 @@ use Rattle.pgo_model.specs.Outcome.{NoValue, Outcome, Next, Stuck, Nowhere, Sect
 use Rattle.pgo_model.specs.State.{is_shallow}
 use Rattle.pgo_model.specs.System.{Words, Touched}
 use Rattle.pgo_model.specs.Written.{pc}
-use Rattle.pgo_sections.specs.Among.{is_among}
+use Rattle.pgo_model.specs.Names.{is_among}
 use Rattle.pgo_sections.specs.Code.{Code}
 use Rattle.pgo_sections.specs.Context.{Context}
 use Rattle.pgo_sections.specs.BoundValues.{put_part, value_put}

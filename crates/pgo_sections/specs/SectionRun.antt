@@ -6,9 +6,9 @@ use Rattle.pgo_model.specs.Choice.{pick}
 use Rattle.pgo_model.specs.Outcome.{Kind, Blocked, NoValue}
 use Rattle.pgo_model.specs.System.{Words, Touched}
 
--- a choice that was made: among how many ways, and the number of the one that was taken
+-- a choice that was made: of how many, and the number of the one that was taken
 pub record ChoiceMade : Type 0 where
-  pub ways : ℕ
+  pub count : ℕ
   pub taken : ℕ
 
 -- each variable that changed with its value, at the identifier where it is the instance's own, the newest first; the reads and
@@ -42,7 +42,7 @@ abbrev pub picked_number : Words → SectionRun → ℕ → ℕ
 picked_number d run n = pick (d (words_used run)) n
 
 abbrev pub chosen : ℕ → ℕ → SectionRun → SectionRun
-chosen n i run = record run { choices = record { ways = n; taken = i } ∷ run.choices }
+chosen n i run = record run { choices = record { count = n; taken = i } ∷ run.choices }
 
 -- ---- how code ends: each way with what went before
 pub data Out : Type 0 where

@@ -2,7 +2,7 @@
 use Rattle.std.specs.Prelude.{◌≡◌, ◌<◌, ◌^◌, true, false, List, [], ◌∷◌, map, ◌↔◌, Some}
 use Rattle.pgo_base.specs.Data.{Data}
 use Rattle.pgo_base.specs.Lookup.{Name, Vars, same_name, find}
-use Rattle.pgo_model.specs.Names.{AreDifferent}
+use Rattle.pgo_model.specs.Names.{AreDifferent, is_among}
 use Rattle.pgo_model.specs.State.{is_shallow}
 use Rattle.pgo_model.specs.Val.{meanings, call_def}
 use Rattle.pgo_model.specs.Written.{self_name}
@@ -10,7 +10,6 @@ use Rattle.pgo_sections.specs.Blocks.{HasBlocks}
 use Rattle.pgo_sections.specs.Code.{Place, Whole, Own, variable_of, Code}
 use Rattle.pgo_sections.specs.Context.{Context}
 use Rattle.pgo_sections.specs.Section.{SectionReaches}
-use Rattle.pgo_sections.specs.Among.{is_among}
 use Rattle.pgo_sections.specs.Expand.{expansion}
 use Rattle.pgo_sections.specs.Nodes.{most_names}
 use Rattle.pgo_sections.specs.Expansion.{PathContext, Path}

@@ -12,7 +12,7 @@ ghost use Rattle.pgo_model.specs.System.{Words};
 ghost use Rattle.pgo_model.specs.Val.{Defined, meanings, call_def};
 ghost use Rattle.pgo_model.specs.Variables.{IsFunctionOn};
 ghost use Rattle.pgo_sections.specs.SectionsAgree.{keys, SectionsAgree};
-ghost use Rattle.pgo_sections.specs.Among.{is_among};
+ghost use Rattle.pgo_model.specs.Names.{is_among};
 ghost use Rattle.pgo_sections.specs.Closed.{AreClosed};
 ghost use Rattle.pgo_sections.specs.Code.{Code, Place, Read, Write};
 ghost use Rattle.pgo_sections.specs.Context.{Context, part_at};

@@ -85,12 +85,12 @@ body_is tail h =
 -- the bytes begin with the algorithm's comment
 pub record Inside (bs body behind : List ℕ) : Type 0 where
   pub comment : List ℕ
-  pub lead : List ℕ
+  pub opening : List ℕ
   pub both : bs ≡ comment ++ behind
-  pub is : IsAlgorithmComment comment lead body
+  pub is : IsAlgorithmComment comment opening body
 
 -- the first `--mpcal` of a comment
-comment_body : (comment word : List ℕ) → IsComment comment → mpcal_from comment ≡ Some word → (lead : List ℕ) × IsAlgorithmComment comment lead (body word)
+comment_body : (comment word : List ℕ) → IsComment comment → mpcal_from comment ≡ Some word → (opening : List ℕ) × IsAlgorithmComment comment opening (body word)
 comment_body comment word is e =
     let f = found_first AtMpcal is_mpcal_at stays (λ _. true) tells_mpcal [] comment word e in
     let tail = f.has.behind in
@@ -140,7 +140,7 @@ inside_sound bs content rest e = by_behind (behind bs) refl e
         let pair : ◌≡◌ {A = List ℕ × List ℕ} (body word, r) (content, rest) = cc in
         let same : r ≡ rest = ap (λ p. p.1) pair in
         let content_is : body word ≡ content = ap (λ p. p.0) pair in
-        record { comment = comment; lead = b.0; both = split ∙ (λ i. comment ++ same i); is = subst (λ x. IsAlgorithmComment comment b.0 x) content_is b.1 }
+        record { comment = comment; opening = b.0; both = split ∙ (λ i. comment ++ same i); is = subst (λ x. IsAlgorithmComment comment b.0 x) content_is b.1 }
 
     by_behind : (o : Option (List ℕ)) → behind bs ≡ o → inside_by bs o ≡ Some (content, rest) → Inside bs content rest
     by_behind None got e = cc
@@ -150,10 +150,10 @@ inside_sound bs content rest e = by_behind (behind bs) refl e
 
 -- ---- a comment with an algorithm is found as one
 
-word_of : (comment lead content : List ℕ) → IsAlgorithmComment comment lead content → mpcal_from comment ≡ Some (mpcal ++ (content ++ (42 ∷ 41 ∷ [])))
-word_of comment lead content h =
+word_of : (comment opening content : List ℕ) → IsAlgorithmComment comment opening content → mpcal_from comment ≡ Some (mpcal ++ (content ++ (42 ∷ 41 ∷ [])))
+word_of comment opening content h =
     let word = mpcal ++ (content ++ (42 ∷ 41 ∷ [])) in
-    ap mpcal_from h.both ∙ first_found AtMpcal is_mpcal_at stays (λ _. true) tells_mpcal [] lead word h.first.here (λ l r e k. h.first.first l r e k)
+    ap mpcal_from h.both ∙ first_found AtMpcal is_mpcal_at stays (λ _. true) tells_mpcal [] opening word h.first.here (λ l r e k. h.first.first l r e k)
 
 behind_at : (comment rest : List ℕ) → IsComment comment → behind (comment ++ rest) ≡ Some rest
 unfolding behind
@@ -164,9 +164,9 @@ unfolding inside
 by_parts comment rest is =
     ap (inside_by (comment ++ rest)) (behind_at comment rest is) ∙ ap (λ x. body_by rest (mpcal_from x)) (front_of comment rest (comment ++ rest) refl)
 
-pub inside_found : (comment lead content rest : List ℕ) → IsAlgorithmComment comment lead content → inside (comment ++ rest) ≡ Some (content, rest)
-inside_found comment lead content rest h =
-    by_parts comment rest h.is_comment ∙ ap (body_by rest) (word_of comment lead content h)
+pub inside_found : (comment opening content rest : List ℕ) → IsAlgorithmComment comment opening content → inside (comment ++ rest) ≡ Some (content, rest)
+inside_found comment opening content rest h =
+    by_parts comment rest h.is_comment ∙ ap (body_by rest) (word_of comment opening content h)
     ∙ ap (λ x. Some (x, rest)) (body_is (content ++ (42 ∷ 41 ∷ [])) (record { front = content; both = refl }))
 
 -- ---- a comment without one is passed over
@@ -212,7 +212,7 @@ not_inside piece rest o is clean = go (inside (piece ++ rest)) refl
         let split : piece ++ rest ≡ (40 ∷ (42 ∷ text)) ++ behind = k.both ∙ (λ j. k.is.is_comment.both j ++ behind) in
         let q = one_piece is (c.comment {bs = text} {rest = behind} k.is.is_comment.closes) split in
         let opened : opens piece ≡ true = ap opens q.same in
-        let holds : Holds mpcal (40 ∷ (42 ∷ text)) = record { before = k.lead; rest = _; both = sym k.is.is_comment.both ∙ k.is.both; here = k.is.first.here } in
+        let holds : Holds mpcal (40 ∷ (42 ∷ text)) = record { before = k.opening; rest = _; both = sym k.is.is_comment.both ∙ k.is.both; here = k.is.first.here } in
         clean q.token opened (subst (λ x. Holds mpcal x) (sym q.same) holds)
 
     go : (i : Option (List ℕ × List ℕ)) → inside (piece ++ rest) ≡ i → is_some i ≡ false

@@ -126,9 +126,9 @@ algorithm_part text before content behind used header p e h =
     }))
 
 -- the place behind `--mpcal`
-pub body_behind : (text before head lead content behind : List ℕ) → text ≡ before ++ (head ++ ((lead ++ (mpcal ++ (content ++ (42 ∷ 41 ∷ [])))) ++ behind))
-    → text ≡ (before ++ (head ++ (lead ++ mpcal))) ++ (content ++ ((42 ∷ 41 ∷ []) ++ behind))
-body_behind text before head lead content behind e = e ∙ joined before head lead mpcal content (42 ∷ 41 ∷ []) behind
+pub body_behind : (text before head opening content behind : List ℕ) → text ≡ before ++ (head ++ ((opening ++ (mpcal ++ (content ++ (42 ∷ 41 ∷ [])))) ++ behind))
+    → text ≡ (before ++ (head ++ (opening ++ mpcal))) ++ (content ++ ((42 ∷ 41 ∷ []) ++ behind))
+body_behind text before head opening content behind e = e ∙ joined before head opening mpcal content (42 ∷ 41 ∷ []) behind
   where
     joined : (a b c d e f g : List ℕ) → a ++ (b ++ ((c ++ (d ++ (e ++ f))) ++ g)) ≡ (a ++ (b ++ (c ++ d))) ++ (e ++ (f ++ g))
     joined a b c d e f g = simp append_assoc
@@ -141,12 +141,12 @@ whole_by text before rest head header i p e line r is there h =
     let at_rest : drop head.at text ≡ r.rest = (λ j. drop (r.at j) text) ∙ rest_there text (before ++ r.part) r.rest split in
     let k = inside_sound r.rest i.0 i.1 (ap inside (sym at_rest) ∙ there) in
     let full : text ≡ before ++ (r.part ++ (k.comment ++ i.1)) = e ∙ (λ j. before ++ r.split j) ∙ (λ j. before ++ (r.part ++ k.both j)) in
-    let a = algorithm_part text (before ++ (r.part ++ (k.lead ++ mpcal))) i.0 i.1 (length head.tokens) header p
-    (body_behind text before r.part k.lead i.0 i.1 (full ∙ (λ j. before ++ (r.part ++ (k.is.both j ++ i.1))))) h in
+    let a = algorithm_part text (before ++ (r.part ++ (k.opening ++ mpcal))) i.0 i.1 (length head.tokens) header p
+    (body_behind text before r.part k.opening i.0 i.1 (full ∙ (λ j. before ++ (r.part ++ (k.is.both j ++ i.1))))) h in
     record {
       before = before;
       head = r.part;
-      lead = k.lead;
+      opening = k.opening;
       part = a.part;
       passed = a.passed;
       comment = k.comment;
@@ -160,7 +160,7 @@ whole_by text before rest head header i p e line r is there h =
         allowed = r.allowed;
         marks = subst (λ x. Marks r.more x) a.header_is (subst (λ x. Marks x header) r.tokens (marks_found head.tokens header is));
       };
-      is_comment = subst (λ x. IsAlgorithmComment k.comment k.lead x) {y = a.part ++ a.passed} a.split k.is;
+      is_comment = subst (λ x. IsAlgorithmComment k.comment k.opening x) {y = a.part ++ a.passed} a.split k.is;
       is_algorithm = a.is;
       closing = a.row;
       few = (let long = ap length r.tokens in omega (arith, long, a.few));
@@ -225,10 +225,10 @@ pub cut_complete : (text : List ℕ) (header algorithm : List Lexeme) → IsSpec
 cut_complete text header algorithm h =
     let rest = h.comment ++ h.behind in
     let content = h.part ++ h.passed in
-    let place = h.before ++ (h.head ++ (h.lead ++ mpcal)) in
-    let there : inside rest ≡ Some (content, h.behind) = inside_found h.comment h.lead content h.behind h.is_comment in
+    let place = h.before ++ (h.head ++ (h.opening ++ mpcal)) in
+    let there : inside rest ≡ Some (content, h.behind) = inside_found h.comment h.opening content h.behind h.is_comment in
     let split : text ≡ (h.before ++ h.head) ++ rest = h.both ∙ sym (append_assoc h.before h.head rest) in
-    let at_body = body_behind text h.before h.head h.lead content h.behind (h.both ∙ (λ j. h.before ++ (h.head ++ (h.is_comment.both j ++ h.behind)))) in
+    let at_body = body_behind text h.before h.head h.opening content h.behind (h.both ∙ (λ j. h.before ++ (h.head ++ (h.is_comment.both j ++ h.behind)))) in
     let shorter : length h.head < length text = (
     let a = ap length h.both in let b = length-append h.before (h.head ++ rest) in let c = length-append h.head rest in let d = length-append h.comment h.behind in
     let e = ap length h.is_comment.is_comment.both in omega (arith, a, b, c, d, e)) in

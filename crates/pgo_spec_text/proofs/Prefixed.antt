@@ -128,7 +128,7 @@ header_given text part rest start ls within split h =
     let some = ap length h.is_comment.is_comment.both in
     let end = length-append before part in
     let shorter : length part < length text = omega (arith, all, long, parts, behind, some) in
-    let there : is_some (inside rest) ≡ true = ap (λ x. is_some (inside x)) h.both ∙ ap is_some (inside_found h.comment h.lead h.body h.behind h.is_comment) in
+    let there : is_some (inside rest) ≡ true = ap (λ x. is_some (inside x)) h.both ∙ ap is_some (inside_found h.comment h.opening h.body h.behind h.is_comment) in
     let at : length (before ++ part) ≡ start + length part = omega (arith, end, long) in
     (λ i. header most_tokens (length text) (column_of before) (same i) [] (split i))
     ∙ header_complete h.cut most_tokens (length text) [] there h.allowed shorter (omega (arith, h.few))
@@ -190,7 +190,7 @@ both_by text body behind start fault h t a within e there less marked some inner
     let full : text ≡ before ++ (r.part ++ (k.comment ++ behind)) = sym (take-append-drop start text) ∙ (λ j. before ++ r.split j) ∙ (λ j. before ++ (r.part ++ k.both j)) in
     let at : h.at ≡ length before + length r.part = r.at ∙ length-append before r.part in
     let w : IsWholeHeader before r.part r.rest h.tokens = record {
-      lead = k.lead;
+      opening = k.opening;
       body = body;
       comment = k.comment;
       behind = behind;
@@ -201,7 +201,7 @@ both_by text body behind start fault h t a within e there less marked some inner
       is_comment = k.is;
     } in
     p.ArePartsBefore.whole r.part r.rest h.tokens r.split w (omega (arith, less, at)) (subst (λ n. IsMarkedTo n h.tokens t.header) at marked) a some
-    (inner (before ++ (r.part ++ (k.lead ++ mpcal))) (body_behind text before r.part k.lead body behind (full ∙ (λ j. before ++ (r.part ++ (k.is.both j ++ behind))))))
+    (inner (before ++ (r.part ++ (k.opening ++ mpcal))) (body_behind text before r.part k.opening body behind (full ∙ (λ j. before ++ (r.part ++ (k.is.both j ++ behind))))))
 
 -- ---- the whole
 

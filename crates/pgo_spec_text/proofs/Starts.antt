@@ -46,8 +46,8 @@ pub algorithm_starts : (text body behind : List ℕ) (at used : ℕ) (ls : List 
 algorithm_starts text body behind at used ls there got =
     let k = inside_sound (drop at text) body behind there in
     let full : text ≡ take at text ++ ([] ++ (k.comment ++ behind)) = sym (take-append-drop at text) ∙ (λ j. take at text ++ k.both j) in
-    body_starts text (take at text ++ ([] ++ (k.lead ++ mpcal))) body behind used ls
-    (body_behind text (take at text) [] k.lead body behind (full ∙ (λ j. take at text ++ ([] ++ (k.is.both j ++ behind))))) got
+    body_starts text (take at text ++ ([] ++ (k.opening ++ mpcal))) body behind used ls
+    (body_behind text (take at text) [] k.opening body behind (full ∙ (λ j. take at text ++ ([] ++ (k.is.both j ++ behind))))) got
 
 pub within_more : {A : Type 0} (r : Result A TextStop) (n m : ℕ) → n ≤ m → IfErr r (IsWithin n) → IfErr r (IsWithin m)
 within_more (Ok x) n m less h = tt

@@ -36,7 +36,7 @@ pub data IsAlgorithmBefore (before body : List ℕ) (room fault : ℕ) (b : Befo
 
 -- the header stands between `before` and `rest`, which begins with the comment with the algorithm, and has these tokens
 pub record IsWholeHeader (before part rest : List ℕ) (unmarked : List Lexeme) : Type 0 where
-  pub lead : List ℕ
+  pub opening : List ℕ
   pub body : List ℕ
   pub comment : List ℕ
   pub behind : List ℕ
@@ -44,14 +44,14 @@ pub record IsWholeHeader (before part rest : List ℕ) (unmarked : List Lexeme) 
   pub allowed : AllAllowed unmarked
   pub few : length unmarked ≤ most_tokens
   pub both : rest ≡ comment ++ behind
-  pub is_comment : IsAlgorithmComment comment lead body
+  pub is_comment : IsAlgorithmComment comment opening body
 
 -- the tokens before a fault behind all of `before`, where the line of MODULE begins: where the header is whole before the
 -- fault, all of its tokens and those of the algorithm before the fault; else the tokens up to the fault, all in one list
 pub data ArePartsBefore (before text : List ℕ) (fault : ℕ) (s : SpecBefore) : Type 0 where
   whole : (part rest : List ℕ) (unmarked : List Lexeme) → text ≡ part ++ rest → (h : IsWholeHeader before part rest unmarked) → length before + length part < fault
       → IsMarkedTo (length before + length part) unmarked s.header
-      → (a : Before) → s.algorithm ≡ Some a → IsAlgorithmBefore (before ++ (part ++ (h.lead ++ mpcal))) h.body (most_tokens - length unmarked) fault a → ArePartsBefore before text fault s
+      → (a : Before) → s.algorithm ≡ Some a → IsAlgorithmBefore (before ++ (part ++ (h.opening ++ mpcal))) h.body (most_tokens - length unmarked) fault a → ArePartsBefore before text fault s
   not_whole : ((part rest : List ℕ) (unmarked : List Lexeme) → text ≡ part ++ rest → IsWholeHeader before part rest unmarked → fault ≤ length before + length part)
       → IsPartBefore before text fault s.header → s.algorithm ≡ None → ArePartsBefore before text fault s
 

@@ -173,7 +173,7 @@ pub record IsAlgorithm (before part rest : List ℕ) (unmarked marked : List Lex
 pub record IsSpecText (text : List ℕ) (header algorithm : List Lexeme) : Type 0 where
   pub before : List ℕ
   pub head : List ℕ
-  pub lead : List ℕ
+  pub opening : List ℕ
   pub part : List ℕ
   pub passed : List ℕ
   pub comment : List ℕ
@@ -182,8 +182,8 @@ pub record IsSpecText (text : List ℕ) (header algorithm : List Lexeme) : Type 
   pub unmarked_algorithm : List Lexeme
   pub both : text ≡ before ++ (head ++ (comment ++ behind))
   pub is_header : IsHeader before head (comment ++ behind) unmarked_header header
-  pub is_comment : IsAlgorithmComment comment lead (part ++ passed)
-  pub is_algorithm : IsAlgorithm (before ++ (head ++ (lead ++ mpcal))) part passed unmarked_algorithm algorithm
+  pub is_comment : IsAlgorithmComment comment opening (part ++ passed)
+  pub is_algorithm : IsAlgorithm (before ++ (head ++ (opening ++ mpcal))) part passed unmarked_algorithm algorithm
   pub closing : ClosingRow behind
   pub few : length unmarked_header + length unmarked_algorithm + 1 ≤ most_tokens
 

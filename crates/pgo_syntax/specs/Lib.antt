@@ -4,9 +4,14 @@ pub mod StepCode
 pub mod AssignmentCode
 pub mod OriginCode
 pub mod WithCode
+pub mod Origins
+pub mod Lefts
+pub mod Defines
+pub mod PlacedNames
 pub mod Statement
 pub mod StatementCode
 pub mod StatementSize
 pub mod StatementView
 pub mod StatementFalls
 pub mod RecordView
+pub mod NameMaps

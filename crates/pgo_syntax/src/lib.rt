@@ -8,6 +8,7 @@ pub mod bound;
 pub mod declaration;
 pub mod macros;
 pub mod name;
+pub mod name_map;
 pub mod process;
 pub mod records;
 pub mod spec;

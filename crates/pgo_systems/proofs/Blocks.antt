@@ -9,7 +9,7 @@ use Rattle.pgo_model.specs.System.{Words}
 use Rattle.pgo_model.specs.Val.{Meaning}
 use Rattle.pgo_model.specs.Written.{pc}
 use Rattle.pgo_bound.specs.Among.{some_is}
-use Rattle.pgo_sections.specs.Among.{is_among}
+use Rattle.pgo_model.specs.Names.{is_among}
 use Rattle.pgo_sections.specs.Code.{Code, content_name, value_name}
 use Rattle.pgo_sections.specs.Context.{Context, block_context, content_state, is_assigned, new_content}
 use Rattle.pgo_sections.specs.Exec.{Gives, Stops, read_end, write_end}

@@ -9,7 +9,7 @@ use Rattle.pgo_model.specs.Choice.{Seeded, words_of}
 use Rattle.pgo_model.specs.Core.{Settings, Reaches, same_index, number_among, numbers_of, rules_of}
 use Rattle.pgo_model.specs.Log.{After, effect_between}
 use Rattle.pgo_model.specs.Machine.{nth}
-use Rattle.pgo_model.specs.Names.{same_name-is, same_name-self}
+use Rattle.pgo_model.specs.Names.{same_name-is, same_name-self, is_among}
 use Rattle.pgo_model.specs.Options.{on}
 use Rattle.pgo_model.specs.Outcome.{Next}
 use Rattle.pgo_model.specs.System.{System, Resource, Touched, Words}
@@ -26,7 +26,6 @@ use Rattle.pgo_bound.specs.State.{AreDifferent, IsStateOnDomains, kind_in, own_n
 use Rattle.pgo_model.specs.Written.{pc, written}
 use Rattle.pgo_bound.specs.Declares.{value_in}
 use Rattle.pgo_bound.specs.State.{id_of}
-use Rattle.pgo_sections.specs.Among.{is_among}
 use Rattle.pgo_sections.specs.Section.{section}
 use Rattle.pgo_meaning.specs.Ends.{KeepsElements}
 use Rattle.pgo_meaning.specs.Sect.{context_of, code_at, nothing, Sect}

@@ -181,7 +181,7 @@ module _ (P : Name → Type 0) (k : Context) (ids : List Data) (places : IsFunct
       let f = places.0 in
       let old = lookup_there k.id (graph f) (subst (IsAmong k.id) (sym places.2) among) in
       let put : find pc t ≡ except (function f) k.id (string l) = closed_at k l ch k.start t e pc ∙ ap (option_and_then (closed_value k l ch pc)) places.1
-      ∙ ap (λ b. if b then put_part k.id (Some (function f)) (Some (string l)) else on (Some (function f)) (find pc ch) (λ v. Rattle.pgo_sections.specs.BoundValues.value_put (Rattle.pgo_sections.specs.Among.is_among pc k.globals) k.id (Some (function f)) (Some v))) (same_name-self pc) in
+      ∙ ap (λ b. if b then put_part k.id (Some (function f)) (Some (string l)) else on (Some (function f)) (find pc ch) (λ v. Rattle.pgo_sections.specs.BoundValues.value_put (Rattle.pgo_model.specs.Names.is_among pc k.globals) k.id (Some (function f)) (Some v))) (same_name-self pc) in
       made old.0 old.1 (except (function f) k.id (string l)) refl put
     where
       no_end : find pc t ≡ None → (o : Option Data) → find pc t ≡ o → (keys_there : (v : Data) × (o ≡ Some v)) → ⊥

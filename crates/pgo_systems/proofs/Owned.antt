@@ -20,7 +20,7 @@ use Rattle.pgo_bound.specs.Instances.{instance_from}
 use Rattle.pgo_bound.specs.Runs.{Handed, Run, archetype_named, run_with, run_of, runs_of, speaking, mapping_by, target_of, binding_of, bindings_of}
 use Rattle.pgo_bound.specs.State.{AreDifferent, names_or_none, own_names, value_name, variables_of}
 use Rattle.pgo_bound.specs.Values.{defs_of}
-use Rattle.pgo_sections.specs.Among.{is_among}
+use Rattle.pgo_model.specs.Names.{is_among}
 use Rattle.pgo_sections.specs.Code.{Place, Whole, Own}
 use Rattle.pgo_meaning.specs.Parameters.{place_of, parameter_places, local_places, places_of}
 use Rattle.pgo_systems.specs.Premises.{OwnsApart}

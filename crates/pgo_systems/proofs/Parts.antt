@@ -5,13 +5,14 @@ use Rattle.pgo_base.specs.Data.{Data}
 use Rattle.pgo_base.specs.Lookup.{Name, Vars, find}
 use Rattle.pgo_model.specs.Log.{Component, Change, OfResource, OfInstance, content, differs, resource_components, parts_at, own_names, own_components, components_of, changes_between}
 use Rattle.pgo_model.specs.Machine.{nth}
+use Rattle.pgo_model.specs.Names.{is_among}
 use Rattle.pgo_model.specs.Operators.{same_data}
 use Rattle.pgo_model.specs.Options.{on}
 use Rattle.pgo_model.specs.System.{System, Member, Owned, Resource}
 use Rattle.pgo_model.specs.Written.{pc}
 use Rattle.pgo_bound.specs.Among.{IsAmong, among_append, among_left, among_right, some_is}
 use Rattle.pgo_bound.specs.Lookups.{same_of}
-use Rattle.pgo_workers.specs.Worlds.{Layout, layout_of, IsLayout, HasAll, is_own_name, names_at, same_component}
+use Rattle.pgo_workers.specs.Worlds.{Layout, layout_of, IsLayout, HasAll, names_at, same_component}
 use Rattle.pgo_workers.proofs.Applied.{Comparable, EachThere, given_by, or_that}
 use Rattle.pgo_workers.proofs.Components.{same_is, same_made}
 use Rattle.pgo_workers.proofs.LayoutChanges.{IsPart, OfShared, OfOne, own_name_here, own_name_behind, compared, part_in}
@@ -67,7 +68,7 @@ nth_ids [] n m h = absurd (cc)
 nth_ids (q ∷ ms) zero m h = ap (λ (z : Member). Some z.id) (some_is q m h)
 nth_ids (q ∷ ms) (suc n) m h = nth_ids ms n m h
 
-named : (x : Name) (xs : List Name) → IsAmong x xs → is_own_name x xs ≡ true
+named : (x : Name) (xs : List Name) → IsAmong x xs → is_among x xs ≡ true
 named x [] h = absurd h
 named x (y ∷ xs) (inl e) = own_name_here x y xs e
 named x (y ∷ xs) (inr h) = own_name_behind x y xs (named x xs h)
@@ -84,7 +85,7 @@ module _ (y : System) where
       own a =
           let r = from_own c y.own 0 y.members a in
           let at = nth_ids y.members r.0 r.1 r.2 in
-          OfOne r.0 r.1.id at (ap (λ o. is_own_name c.variable (names_at (layout_of y) o)) at ∙ named c.variable (pc ∷ own_names r.1.id y.own) r.3) r.4
+          OfOne r.0 r.1.id at (ap (λ o. is_among c.variable (names_at (layout_of y) o)) at ∙ named c.variable (pc ∷ own_names r.1.id y.own) r.3) r.4
 
 -- ---- the changes between two states
 

@@ -9,7 +9,7 @@ use Rattle.pgo_model.specs.State.{is_shallow}
 use Rattle.pgo_model.specs.System.{Words}
 use Rattle.pgo_model.specs.Written.{pc}
 use Rattle.pgo_bound.specs.Among.{some_is}
-use Rattle.pgo_sections.specs.Among.{is_among}
+use Rattle.pgo_model.specs.Names.{is_among}
 use Rattle.pgo_sections.specs.Code.{Place, variable_of, Code, Empty, Skip, Let, Pick, Become, Set, Await, Assert, Print, If, Either, Seq, Goto, Yield, Read, Write, Codes, no_codes, more_codes}
 use Rattle.pgo_sections.specs.Context.{Context, content, with_content, put_content, put_new, value_of, index_value}
 use Rattle.pgo_sections.specs.Domains.{Uses, AllUse}

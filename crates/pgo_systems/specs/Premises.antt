@@ -10,7 +10,7 @@ use Rattle.pgo_syntax.specs.declared.bound.Instance.{Instance}
 use Rattle.pgo_bound.specs.Sound.{Sound, IsLabel, IsAtLabel}
 use Rattle.pgo_bound.specs.State.{AreDifferent, IsStateOnDomains, variables_of}
 use Rattle.pgo_model.specs.SystemState.{IsSystemState}
-use Rattle.pgo_sections.specs.Among.{is_among}
+use Rattle.pgo_model.specs.Names.{is_among}
 use Rattle.pgo_meaning.specs.Ends.{KeepsElements}
 use Rattle.pgo_meaning.specs.Parameters.{places_of}
 use Rattle.pgo_meaning.specs.System.{system_of}

@@ -10,7 +10,7 @@ use Rattle.pgo_model.specs.Acts.{Acts}
 use Rattle.pgo_model.specs.Module.{actions_in, actions_of, defs_of, process_definitions, action_definition, process_body, proc_set_of, terminating_body, stands_at}
 use Rattle.pgo_model.specs.ModuleView.{defined_view}
 use Rattle.pgo_base.specs.declared.module.Defined.TheVariants as base_variants
-use Rattle.pgo_model.specs.Names.{same_name-is, same_name-not, same_name-self}
+use Rattle.pgo_model.specs.Names.{same_name-is, same_name-not, same_name-self, is_among}
 use Rattle.pgo_model.specs.Operators.{apply, members_of}
 use Rattle.pgo_model.specs.Val.{Meaning, Defined, Given, Means, Val, seen, meanings, meaning_of, call_def, default_meaning, body_meaning}
 use Rattle.pgo_model.specs.Written.{written, pc, self_name, proc_set, terminating, default_init_value}
@@ -27,7 +27,6 @@ use Rattle.pgo_bound.specs.Different.{all_from, different_apart, different_left}
 use Rattle.pgo_bound.specs.StartNames.{map-append}
 use Rattle.pgo_sections.specs.Expansion.{Expansion, With, In, Skip, Await, Assert, Print, If, Either, End, Expansions, no_expansions, more_expansions, PathContext, Path, SomePath}
 use Rattle.pgo_sections.specs.BoundValues.{bindable}
-use Rattle.pgo_sections.specs.Among.{is_among}
 use Rattle.pgo_translate.specs.Items.{action_body}
 use Rattle.pgo_translate.specs.ModuleOf.{module_of, constants_with, named_constant}
 use Rattle.pgo_translate.proofs.ByProcess.{module_is, global_names, own_module, label_actions, written_process}

@@ -7,7 +7,7 @@ use Rattle.pgo_base.specs.Data.{Data}
 use Rattle.pgo_base.specs.Lookup.{Name, Vars, same_name, find}
 use Rattle.pgo_base.specs.Tree.{Tree, name, no_trees, more_trees}
 use Rattle.pgo_model.specs.Module.{action_definition, process_body, process_definitions, self_call}
-use Rattle.pgo_model.specs.Names.{same_name-self}
+use Rattle.pgo_model.specs.Names.{same_name-self, is_among}
 use Rattle.pgo_model.specs.Operators.{both}
 use Rattle.pgo_model.specs.Sequences.{operators, assert_name}
 use Rattle.pgo_model.specs.Val.{Scope, Meaning, Defined, Means, meaning_of, call_def, val, or_else, asserted}
@@ -17,7 +17,6 @@ use Rattle.pgo_syntax.specs.declared.spec.Spec.{Spec}
 use Rattle.pgo_bound.specs.Among.{IsAmong}
 use Rattle.pgo_bound.specs.State.{AreDifferent}
 use Rattle.pgo_meaning.specs.Expansions.{process_expansions}
-use Rattle.pgo_sections.specs.Among.{is_among}
 use Rattle.pgo_translate.proofs.Actions.{apart_from_all, call_further, defined_name, first_apart}
 use Rattle.pgo_translate.proofs.ByProcess.{label_actions, written_process}
 

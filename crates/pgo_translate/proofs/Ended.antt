@@ -8,7 +8,7 @@ use Rattle.pgo_base.specs.Tree.{Tree, name, bound, quantified, unchanged}
 use Rattle.pgo_model.specs.Acts.{IsTrueOn}
 use Rattle.pgo_model.specs.Module.{Module, defs_of, proc_set_of, process_definitions, stands_at, terminating_body}
 use Rattle.pgo_model.specs.ModuleView.{defined_view}
-use Rattle.pgo_model.specs.Names.{same_name-is, same_name-self}
+use Rattle.pgo_model.specs.Names.{same_name-is, same_name-self, is_among}
 use Rattle.pgo_model.specs.Operators.{all3, both, from_truth, members_of, truth_of}
 use Rattle.pgo_model.specs.Val.{Scope, Meaning, Defined, Means, call_def, default_meaning, meaning_of, meanings, or_else, over_each, quantify, same_variables, seen, sem, val, with_name, with_names}
 use Rattle.pgo_model.specs.Written.{pc, self_name, done, proc_set, terminating}
@@ -22,7 +22,6 @@ use Rattle.pgo_bound.specs.Sound.{WellNamed}
 use Rattle.pgo_bound.specs.State.{IsState, id_of, variables_of}
 use Rattle.pgo_bound.specs.Values as values
 use Rattle.pgo_heads.specs.Refusals.{heads_refused}
-use Rattle.pgo_sections.specs.Among.{is_among}
 use Rattle.pgo_translate.specs.Agrees.{AllDone, IsUnchanged}
 use Rattle.pgo_translate.specs.ModuleOf.{constants_with}
 use Rattle.pgo_translate.specs.Premises.{ModuleNames, StartNames, is_further, process_names}

@@ -14,7 +14,7 @@ use Rattle.pgo_bound.specs.BoundOf.{bound_of}
 use Rattle.pgo_bound.specs.Declares.{value_in}
 use Rattle.pgo_bound.specs.Sound.{IsLabel, labels_among}
 use Rattle.pgo_bound.specs.State.{IsState, id_of, own_names, variables_of}
-use Rattle.pgo_sections.specs.Among.{is_among}
+use Rattle.pgo_model.specs.Names.{is_among}
 use Rattle.pgo_sections.specs.Code.{Place, Whole, Own, variable_of, Code}
 use Rattle.pgo_sections.specs.Expand.{expansion}
 use Rattle.pgo_sections.specs.Expansion.{Expansion}

@@ -4,14 +4,13 @@ use Rattle.std.proofs.Common.{◌≡◌, ℕ, suc, Bool, true, false, ◌||◌, 
 use Rattle.std.specs.List.{AllByRecursion, flat_map, cons_option}
 use Rattle.pgo_base.specs.Lookup.{Name, same_name, find}
 use Rattle.pgo_base.specs.Tree.{Tree, name}
-use Rattle.pgo_model.specs.Names.{same_name-self, same_name-is}
+use Rattle.pgo_model.specs.Names.{same_name-self, same_name-is, is_among}
 use Rattle.pgo_model.specs.Options.{on}
 use Rattle.pgo_model.specs.Written.{pc, made, self_name, written}
 use Rattle.pgo_sections.specs.Code.{Place, Whole, Own, variable_of, Code, Empty, Skip, Let, Pick, Become, Set, Await, Assert, Print, If, Either, Seq, Goto, Yield, Read, Write, Codes, no_codes, more_codes, content_name, content_places, value_name, old_base, val_base, new_base}
 use Rattle.pgo_sections.specs.Context.{is_assigned}
 use Rattle.pgo_sections.specs.Expand.{Renames, Current, untouched, current, placed, named, current_tree, made_name, content_tree, content_put, becoming, content_now, value_handed, OnGo, OnJump, OnYield, no_go, no_jump, no_yield, put_back, left_behind, expand, expand_arms, to_end, settled, expansion}
 use Rattle.pgo_sections.specs.Expansion.{With as EWith}
-use Rattle.pgo_sections.specs.Among.{is_among}
 use Rattle.pgo_translate.specs.Avoids.{Avoids}
 use Rattle.pgo_translate.specs.Premises.{IsNamed, ArmsNamed, IsFree, is_further, further_names, taken_names}
 use Rattle.pgo_translate.specs.ModuleOf.{declared}

@@ -6,7 +6,7 @@ use Rattle.pgo_base.specs.Lookup.{Name, Vars, same_name, find}
 use Rattle.pgo_base.specs.Tree.{Tree}
 use Rattle.pgo_model.specs.Module.{action_definition, process_body, process_definitions, proc_set_of, self_call, terminating_body}
 use Rattle.pgo_model.specs.ModuleView.{defined_view}
-use Rattle.pgo_model.specs.Names.{same_name-is}
+use Rattle.pgo_model.specs.Names.{same_name-is, is_among}
 use Rattle.pgo_model.specs.Operators.{apply}
 use Rattle.pgo_model.specs.Sequences.{assert_name}
 use Rattle.pgo_model.specs.Val.{Scope, Meaning, Defined, Means, meaning_of, meanings, call_def, default_meaning, val}
@@ -19,7 +19,6 @@ use Rattle.pgo_bound.specs.Different.{different_left}
 use Rattle.pgo_bound.specs.StartNames.{map-append}
 use Rattle.pgo_bound.specs.State.{AreDifferent, IsState, variables_of}
 use Rattle.pgo_bound.specs.Values as values
-use Rattle.pgo_sections.specs.Among.{is_among}
 use Rattle.pgo_sections.specs.Expansion.{Expansion, Path}
 use Rattle.pgo_meaning.specs.Expansions.{process_expansions}
 use Rattle.pgo_meaning.specs.TreeAllows.{path_context}

@@ -8,14 +8,13 @@ use Rattle.pgo_base.specs.Lookup.{Name, Names, Vars, same_name, find}
 use Rattle.pgo_base.specs.Tree.{Tree, name, primed, text, index, trees}
 use Rattle.pgo_model.specs.Machine.{nth}
 use Rattle.pgo_model.specs.Module.{all_of, stands_at}
-use Rattle.pgo_model.specs.Names.{same_name-is, same_name-self}
+use Rattle.pgo_model.specs.Names.{same_name-is, same_name-self, is_among}
 use Rattle.pgo_model.specs.Operators.{both, put_at, lookup, replace_at, function_of, apply, is_member, members_of}
 use Rattle.pgo_model.specs.Val.{Scope, Meaning, meanings, seen, val, same_variables, call_def, or_else, index_of}
 use Rattle.pgo_model.specs.Written.{pc, self_name}
 use Rattle.pgo_sections.specs.Expansion.{Expansion, With, In, Skip, Await, Assert, Print, If, Either, End, Expansions, no_expansions, more_expansions, PathContext, Path, SomePath, EndsIn, value_at_end}
 use Rattle.pgo_sections.specs.BoundValues.{bindable}
 use Rattle.pgo_sections.specs.BoundValues.{value_put, value_under, put_part}
-use Rattle.pgo_sections.specs.Among.{is_among}
 use Rattle.pgo_translate.specs.Items.{items, arm_trees, assignments, assigned, assigned_to, staying, stays, is_missing, unless_none, new_value, at_self, equals, action_body}
 use Rattle.pgo_translate.proofs.Truths.{from_truth-yes, equal-yes}
 use Rattle.pgo_translate.proofs.Kleene.{is_true, member-yes, iff_then, pair_iff, sum_iff, lone_iff, some_is, if-yes, some_in-yes, one-yes, assert-yes, print-yes, AllYes, SomeYes, all-yes, any-yes, all_append, AllSame, same-yes}

@@ -22,7 +22,7 @@ use Rattle.pgo_bound.specs.Values as values
 use Rattle.pgo_bound.specs.Values.{closed_value, value_at, value_with}
 use Rattle.pgo_bound.specs.Among.{IsAmong}
 use Rattle.pgo_translate.specs.Avoids.{Avoids}
-use Rattle.pgo_sections.specs.Among.{is_among}
+use Rattle.pgo_model.specs.Names.{is_among}
 use Rattle.pgo_translate.specs.Items.{equals}
 use Rattle.pgo_translate.specs.ModuleOf.{global_starts, own_starts, for_each_id, member}
 use Rattle.pgo_translate.specs.Premises.{ModuleNames, StartNames, OriginAvoids, is_taken}

@@ -8,7 +8,7 @@ use Rattle.pgo_base.specs.Lookup.{Name, Names, Vars, same_name, find}
 use Rattle.pgo_base.specs.Tree.{Tree, name}
 use Rattle.pgo_model.specs.Module.{defs_of, proc_set_of, process_definitions, terminating_body}
 use Rattle.pgo_model.specs.ModuleView.{defined_view}
-use Rattle.pgo_model.specs.Names.{same_name-self}
+use Rattle.pgo_model.specs.Names.{same_name-self, is_among}
 use Rattle.pgo_model.specs.Val.{Scope, Meaning, Defined, Given, Means, sem, val, seen, meanings, meaning_of, call_def, or_else, default_meaning, name_values}
 use Rattle.pgo_model.specs.Written.{proc_set, terminating, default_init_value}
 use Rattle.pgo_syntax.specs.declared.spec.Spec.{Spec}
@@ -17,7 +17,6 @@ use Rattle.pgo_bound.specs.Values as values
 use Rattle.pgo_bound.specs.Values.{closed_value, value_at, meant, define_of}
 use Rattle.pgo_syntax.specs.declared.declaration.Definition.{Definition}
 use Rattle.pgo_translate.specs.Avoids.{Avoids}
-use Rattle.pgo_sections.specs.Among.{is_among}
 use Rattle.pgo_translate.specs.ModuleOf.{constants_with}
 use Rattle.pgo_translate.proofs.ByProcess.{written_process, own_module}
 use Rattle.pgo_translate.specs.Premises.{ModuleNames, further_names, process_names, taken_names, is_taken, is_further, StartNames}

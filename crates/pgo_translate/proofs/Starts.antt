@@ -10,7 +10,7 @@ use Rattle.pgo_base.specs.Sets.{in_order, IsSorted, same_sorted, sorted-in_order
 use Rattle.pgo_base.specs.Size.{depth}
 use Rattle.pgo_base.specs.Tree.{Tree, name, binary, case_of, arms}
 use Rattle.pgo_model.specs.Module.{all_of, proc_set_of, union_of}
-use Rattle.pgo_model.specs.Names.{same_name-self}
+use Rattle.pgo_model.specs.Names.{same_name-self, is_among}
 use Rattle.pgo_model.specs.Operators.{both, contains, members_of, is_member, set_from, joined, from_truth}
 use Rattle.pgo_model.specs.State.{AllValues}
 use Rattle.pgo_model.specs.Value.{IsValue, ArePairs}
@@ -46,7 +46,6 @@ use Rattle.pgo_bound.specs.Once.{StandOnce}
 use Rattle.pgo_bind.proofs.Unrefused.{Unrefused, unrefused, global_begins, where_false}
 use Rattle.pgo_translate.specs.Agrees.{BeginsAgree}
 use Rattle.pgo_translate.specs.Avoids.{Avoids}
-use Rattle.pgo_sections.specs.Among.{is_among}
 use Rattle.pgo_translate.proofs.Kleene.{CanBeBound}
 use Rattle.pgo_translate.specs.Items.{only}
 use Rattle.pgo_translate.specs.ModuleOf.{module_of, constants_with, global_starts, own_starts}

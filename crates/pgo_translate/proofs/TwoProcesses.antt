@@ -7,7 +7,7 @@ use Rattle.pgo_base.specs.Tree.{Tree, name, text, binary, set_of, index, call, t
 use Rattle.pgo_base.specs.Lookup.{Name, same_name, find}
 use Rattle.pgo_model.specs.ModuleText.{Line, line, module_lines}
 use Rattle.pgo_model.specs.Written.{written, made, self_name, done}
-use Rattle.pgo_model.specs.Names.{same_name-is, same_name-self}
+use Rattle.pgo_model.specs.Names.{same_name-is, same_name-self, is_among}
 use Rattle.pgo_syntax.specs.Statement.{Statement, assign}
 use Rattle.pgo_syntax.specs.declared.archetype.Archetype.{Archetype}
 use Rattle.pgo_syntax.specs.declared.archetype.Extent.TheVariants as extent
@@ -31,7 +31,6 @@ use Rattle.pgo_translate.specs.Premises.{IsFree, ModuleNames, TreeNamed, StartNa
 use Rattle.pgo_translate.proofs.StartValues.{or_left, or_right}
 use Rattle.pgo_sections.proofs.PlainTest.{not_made}
 use Rattle.pgo_sections.specs.PlainTest.{looks_made}
-use Rattle.pgo_sections.specs.Among.{is_among}
 use Rattle.pgo_bound.specs.State.{variables_of}
 use Rattle.pgo_model.specs.Sequences.{operators}
 use Rattle.pgo_base.specs.Data.{Data}

@@ -11,7 +11,7 @@ use Rattle.pgo_syntax.specs.declared.bound.Instance.{Instance}
 use Rattle.pgo_bound.specs.Declares.{Declares, value_in}
 use Rattle.pgo_bound.specs.Sound.{IsLabel}
 use Rattle.pgo_bound.specs.State.{IsState, id_of, variables_of}
-use Rattle.pgo_sections.specs.Among.{is_among}
+use Rattle.pgo_model.specs.Names.{is_among}
 use Rattle.pgo_sections.specs.Expansion.{Expansion}
 use Rattle.pgo_meaning.specs.Sect.{Allows}
 use Rattle.pgo_meaning.specs.TreeAllows.{TreeAllows}

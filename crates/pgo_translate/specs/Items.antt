@@ -9,7 +9,7 @@ use Rattle.pgo_model.specs.Module.{all_of, any_of, stands_at}
 use Rattle.pgo_model.specs.Sequences.{assert_name}
 use Rattle.pgo_model.specs.Written.{pc, self_name}
 use Rattle.pgo_sections.specs.Expansion.{Expansion, With, In, Skip, Await, Assert, Print, If, Either, End, Expansions, no_expansions, more_expansions}
-use Rattle.pgo_sections.specs.Among.{is_among}
+use Rattle.pgo_model.specs.Names.{is_among}
 
 -- x = e and x' = e
 abbrev pub equals : Tree → Tree → Tree

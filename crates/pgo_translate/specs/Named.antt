@@ -3,7 +3,7 @@ use Rattle.std.specs.Prelude.{◌≡◌, true, List, [], Some}
 use Rattle.pgo_base.specs.Lookup.{Name, find}
 use Rattle.pgo_syntax.specs.declared.spec.Spec.{Spec}
 use Rattle.pgo_bound.specs.State.{variables_of}
-use Rattle.pgo_sections.specs.Among.{is_among}
+use Rattle.pgo_model.specs.Names.{is_among}
 use Rattle.pgo_sections.specs.Code.{Place, variable_of, Code}
 use Rattle.pgo_sections.specs.Expand.{expansion}
 use Rattle.pgo_sections.specs.WellFormed.{PlainCode}

@@ -21,7 +21,7 @@ use Rattle.pgo_syntax.specs.declared.spec.Spec.{Spec}
 use Rattle.pgo_bound.specs.Runs.{archetype_named}
 use Rattle.pgo_bound.specs.State.{AreDifferent, variables_of}
 use Rattle.pgo_bound.specs.Values.{defs_of, define_of}
-use Rattle.pgo_sections.specs.Among.{is_among}
+use Rattle.pgo_model.specs.Names.{is_among}
 use Rattle.pgo_sections.specs.Closed.{AreClosed}
 use Rattle.pgo_sections.specs.Code.{content_name}
 use Rattle.pgo_sections.specs.WellFormed.{NotMade}

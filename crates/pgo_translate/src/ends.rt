@@ -3,7 +3,7 @@ ghost use Rattle.std.specs.Prelude.{◌≡◌, ◌∷◌, ◌++◌, [], reverse,
 ghost use Rattle.pgo_base.specs.Lookup.{find, same_name};
 ghost use Rattle.pgo_base.specs.Tree.{Tree, name, primed, text};
 ghost use Rattle.pgo_model.specs.Written as written;
-ghost use Rattle.pgo_sections.specs.Among.{is_among};
+ghost use Rattle.pgo_model.specs.Names.{is_among};
 ghost use Rattle.pgo_sections.specs.Expansion.{End};
 ghost use Rattle.pgo_translate.specs.Items as spec;
 

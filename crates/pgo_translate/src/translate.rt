@@ -1,8 +1,9 @@
 // The module of an expanded specification.
 ghost use Rattle.std.specs.Prelude.{◌≡◌, ◌++◌, map, IfOk};
 ghost use Rattle.std.specs.List.{flat_map};
-ghost use Rattle.pgo_bound.specs.Values.{define_of, meant, parameter_names};
+ghost use Rattle.pgo_bound.specs.Values.{define_of, meant};
 ghost use Rattle.pgo_model.specs.ModuleView.{module_view, process_view};
+ghost use Rattle.pgo_syntax.specs.PlacedNames.{names_of};
 ghost use Rattle.pgo_translate.specs.ModuleOf as spec;
 
 use crate::init::init;
@@ -65,7 +66,7 @@ fn variables_in(alloc: Global, p: &PlusCal) -> Result<Vec<Text>, AllocError>
 
 /// The names without their places.
 fn bare_names(alloc: Global, placed: &[PlacedName]) -> Result<Names, AllocError>
-    ensures { IfOk result (λ list. list ≡ parameter_names placed.now) }
+    ensures { IfOk result (λ list. list ≡ names_of placed.now) }
 {
     let mut list = Names::new(alloc);
     for one in placed {

@@ -2,14 +2,15 @@
 use Rattle.std.proofs.Common.{◌≡◌, ℕ, zero, suc, Bool, true, false, ◌||◌, List, [], ◌∷◌, ◌++◌, take, refl, ap, sym, ◌∙◌, append_assoc, arith}
 use Rattle.std.specs.Prelude.{if◌then◌else◌, nat_lt, Option, Some, None, option_map, is_some}
 use Rattle.pgo_base.specs.Lookup.{Name, same_name, find}
-use Rattle.pgo_uses.specs.Names.{Rows, is_member, is_among, first_at, is_below, is_earlier}
+use Rattle.pgo_model.specs.Names.{is_among}
+use Rattle.pgo_uses.specs.Names.{Rows, has_row, first_at, is_below, is_earlier}
 use Rattle.pgo_uses.specs.Scopes.{row_names}
 
-pub among_is : (x : Name) (rows : Rows) → is_among x rows ≡ is_member x (row_names rows)
+pub among_is : (x : Name) (rows : Rows) → has_row x rows ≡ is_among x (row_names rows)
 among_is x [] = refl
 among_is x (r ∷ rs) = go (same_name x r.0) (among_is x rs)
   where
-    go : (b : Bool) → is_among x rs ≡ is_member x (row_names rs) → is_some (if b then Some r.1 else find x rs) ≡ (if b then true else is_member x (row_names rs))
+    go : (b : Bool) → has_row x rs ≡ is_among x (row_names rs) → is_some (if b then Some r.1 else find x rs) ≡ (b || is_among x (row_names rs))
     go true h = refl
     go false h = h
 
@@ -21,20 +22,20 @@ below_none : (o : Option ℕ) → is_below 0 o ≡ false
 below_none None = refl
 below_none (Some i) = grind arith
 
-pub earlier_is : (x : Name) (rows : Rows) (n : ℕ) → is_earlier n x rows ≡ is_member x (take n (row_names rows))
+pub earlier_is : (x : Name) (rows : Rows) (n : ℕ) → is_earlier n x rows ≡ is_among x (take n (row_names rows))
 earlier_is x rows zero = below_none (first_at x rows)
 earlier_is x [] (suc n) = refl
 earlier_is x (r ∷ rs) (suc n) = go (same_name x r.0) (earlier_is x rs n)
   where
-    go : (b : Bool) → is_earlier n x rs ≡ is_member x (take n (row_names rs)) → is_below (suc n) (if b then Some 0 else option_map suc (first_at x rs)) ≡ (if b then true else is_member x (take n (row_names rs)))
+    go : (b : Bool) → is_earlier n x rs ≡ is_among x (take n (row_names rs)) → is_below (suc n) (if b then Some 0 else option_map suc (first_at x rs)) ≡ (b || is_among x (take n (row_names rs)))
     go true h = grind arith
     go false h = below_suc n (first_at x rs) ∙ h
 
-member-append : (x : Name) (xs ys : List Name) → is_member x (xs ++ ys) ≡ is_member x xs || is_member x ys
+member-append : (x : Name) (xs ys : List Name) → is_among x (xs ++ ys) ≡ is_among x xs || is_among x ys
 member-append x [] ys = refl
 member-append x (z ∷ zs) ys = go (same_name x z) (member-append x zs ys)
   where
-    go : (b : Bool) → is_member x (zs ++ ys) ≡ is_member x zs || is_member x ys → (if b then true else is_member x (zs ++ ys)) ≡ (if b then true else is_member x zs) || is_member x ys
+    go : (b : Bool) → is_among x (zs ++ ys) ≡ is_among x zs || is_among x ys → (b || is_among x (zs ++ ys)) ≡ (b || is_among x zs) || is_among x ys
     go true h = refl
     go false h = h
 
@@ -44,9 +45,9 @@ or_swapped true false = refl
 or_swapped false true = refl
 or_swapped false false = refl
 
-pub within_has : (x : Name) (ns : List Name) (rows : Rows) (n : ℕ) → is_earlier n x rows || is_member x ns ≡ is_member x (ns ++ take n (row_names rows))
+pub within_has : (x : Name) (ns : List Name) (rows : Rows) (n : ℕ) → is_earlier n x rows || is_among x ns ≡ is_among x (ns ++ take n (row_names rows))
 within_has x ns rows n =
-    ap (λ b. b || is_member x ns) (earlier_is x rows n) ∙ or_swapped (is_member x (take n (row_names rows))) (is_member x ns)
+    ap (λ b. b || is_among x ns) (earlier_is x rows n) ∙ or_swapped (is_among x (take n (row_names rows))) (is_among x ns)
     ∙ sym (member-append x ns (take n (row_names rows)))
 
 pub three_joined : {A : Type 0} (before one two p q b x y z : List A) → one ≡ before ++ x → two ≡ one ++ y → x ≡ p → y ≡ q → z ≡ b → two ++ z ≡ before ++ (p ++ q ++ b)

@@ -3,6 +3,7 @@
 use Rattle.std.specs.Prelude.{ℕ, suc, false, List, [], ◌∷◌, ◌++◌, Some, None}
 use Rattle.pgo_base.specs.Lookup.{Name}
 use Rattle.pgo_syntax.specs.declared.name.PlacedName.{PlacedName}
+pub use Rattle.pgo_syntax.specs.PlacedNames.{names_of}
 use Rattle.pgo_syntax.specs.declared.binding.Origin.{Origin}
 use Rattle.pgo_syntax.specs.declared.binding.Origin.TheVariants.{Equals, In}
 use Rattle.pgo_syntax.specs.declared.declaration.Declaration.{Declaration}
@@ -15,6 +16,7 @@ use Rattle.pgo_syntax.specs.declared.process.Argument.{Argument}
 use Rattle.pgo_syntax.specs.declared.process.Argument.TheVariants.{Value, Ref}
 use Rattle.pgo_syntax.specs.declared.process.Process.{Process}
 use Rattle.pgo_syntax.specs.declared.spec.Spec.{Spec}
+use Rattle.pgo_syntax.specs.Origins.{origin_tree}
 use Rattle.pgo_syntax.specs.Statement.{labeled}
 use Rattle.pgo_uses.specs.declared.uses.Around.{Around}
 use Rattle.pgo_uses.specs.declared.uses.Home.{Home}
@@ -24,15 +26,11 @@ use Rattle.pgo_uses.specs.declared.uses.Form.TheVariants as forms
 use Rattle.pgo_uses.specs.declared.uses.Use.{Use}
 use Rattle.pgo_uses.specs.Tables.{all_definitions, variable_name, value_name}
 use Rattle.pgo_uses.specs.Uses.{uses}
-use Rattle.pgo_uses.specs.StatementUses.{placed, origin_tree, uses_of_block}
+use Rattle.pgo_uses.specs.StatementUses.{placed, uses_of_block}
 
 -- at the beginning of something of this home
 abbrev pub start : Home → ℕ → Around
 start h p = record { home = h; place = p; hidden = false; indexed = false; passed = false }
-
-abbrev pub names_of : List PlacedName → List Name
-names_of [] = []
-names_of (x ∷ xs) = x.name ∷ names_of xs
 
 abbrev pub parameter_names : List Parameter → List Name
 parameter_names [] = []

@@ -1,12 +1,8 @@
 -- An ordered map that says where each name stands first among rows.
 use Rattle.std.specs.Prelude.{◌≡◌, ℕ, List, Option, Some, None, option_map, slice_get, cond}
-use Rattle.std.specs.Map.{lookup}
 use Rattle.pgo_base.specs.Lookup.{Name, same_name}
+use Rattle.pgo_syntax.specs.NameMaps.{found_in}
 use Rattle.pgo_uses.specs.Names.{Rows, first_at}
-
--- what the entries have under a name
-abbrev pub found_in : {K : Type 0} → (K → Name) → List (K × ℕ) → Name → Option ℕ
-found_in f es x = lookup (λ q. same_name x (f q)) es
 
 -- the entries say of each name where it stands first
 abbrev pub IsIndexed : {K : Type 0} → (K → Name) → Rows → List (K × ℕ) → Type 0

@@ -1,16 +1,13 @@
--- Lists of names, and names with numbers.
+-- Names with numbers.
 use Rattle.std.specs.Prelude.{ℕ, suc, Bool, true, false, ◌||◌, if◌then◌else◌, nat_lt, slice_get, List, [], ◌∷◌, Option, Some, None, option_map, is_some}
 use Rattle.pgo_base.specs.Lookup.{Name, same_name, find}
-
-abbrev pub is_member : Name → List Name → Bool
-is_member x [] = false
-is_member x (y ∷ ys) = if same_name x y then true else is_member x ys
 
 abbrev pub Rows : Type 0
 Rows = List (Name × ℕ)
 
-abbrev pub is_among : Name → Rows → Bool
-is_among x rows = is_some (find x rows)
+-- one of these rows has the name
+abbrev pub has_row : Name → Rows → Bool
+has_row x rows = is_some (find x rows)
 
 -- b, or the name is among these
 abbrev pub among_all : Bool → Rows → Name → Bool

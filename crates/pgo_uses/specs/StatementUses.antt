@@ -6,9 +6,8 @@ use Rattle.pgo_syntax.specs.declared.name.PlacedName.{PlacedName}
 use Rattle.pgo_syntax.specs.declared.assignment.Step.{Step}
 use Rattle.pgo_syntax.specs.declared.assignment.Step.TheVariants.{Index, Field}
 use Rattle.pgo_syntax.specs.declared.assignment.Assignment.{Assignment}
-use Rattle.pgo_syntax.specs.declared.binding.Origin.{Origin}
-use Rattle.pgo_syntax.specs.declared.binding.Origin.TheVariants.{Equals, In}
 use Rattle.pgo_syntax.specs.declared.binding.WithName.{WithName}
+pub use Rattle.pgo_syntax.specs.Origins.{origin_tree}
 use Rattle.pgo_syntax.specs.Statement.{Statement, skip, assign, if_then, if_else, while_do, either_of, await_that, with_in, print_out, assert_that, go_to, call_macro, yield_as, block, Statements, no_statements, more_statements, LabeledStatements, no_labeled, more_labeled, GuardedStatements, no_guarded, more_guarded}
 use Rattle.pgo_uses.specs.declared.uses.Around.{Around}
 use Rattle.pgo_uses.specs.declared.uses.Shape.{Shape}
@@ -51,11 +50,6 @@ assignment_uses ns a (s ∷ ss) =
     ++ path_uses ns (at_place s.left.name.place a) s.left.path
     ++ uses ns (at_place s.left.name.place a) s.right
     ++ assignment_uses ns a ss
-
--- what stands behind a name: `= e` or `\in e`
-abbrev pub origin_tree : Origin → Tree
-origin_tree (Equals e) = e
-origin_tree (In e) = e
 
 -- the names of a `with`, each in the scope of those before it; its expression doesn't see it
 abbrev pub with_uses : List Name → Around → List WithName → List Use

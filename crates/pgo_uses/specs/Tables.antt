@@ -1,5 +1,5 @@
 -- The names that a specification declares, by kind, and the names that it has anyway.
-use Rattle.std.specs.Prelude.{List, [], ◌∷◌, ◌++◌, length, codes, Option, Some, None}
+use Rattle.std.specs.Prelude.{List, [], ◌∷◌, ◌++◌, length, codes}
 use Rattle.pgo_base.specs.Lookup.{Name}
 use Rattle.pgo_syntax.specs.declared.name.PlacedName.{PlacedName}
 use Rattle.pgo_syntax.specs.declared.declaration.Declaration.{Declaration}
@@ -8,17 +8,13 @@ use Rattle.pgo_syntax.specs.declared.macros.Macro.{Macro}
 use Rattle.pgo_syntax.specs.declared.macros.MappingMacro.{MappingMacro}
 use Rattle.pgo_syntax.specs.declared.archetype.Archetype.{Archetype}
 use Rattle.pgo_syntax.specs.declared.spec.Spec.{Spec}
+use Rattle.pgo_syntax.specs.Defines.{define_of}
 use Rattle.pgo_uses.specs.declared.tables.Tables.{Tables}
 use Rattle.pgo_uses.specs.Names.{Rows}
 
--- the definitions of `define`, if it stands there
-abbrev pub defined : Option (List Definition) → List Definition
-defined None = []
-defined (Some ds) = ds
-
 -- those before the algorithm and those of `define`, in the order of the text
 abbrev pub all_definitions : Spec → List Definition
-all_definitions s = s.definitions ++ defined s.define
+all_definitions s = s.definitions ++ define_of s.define
 
 abbrev pub name_rows : List PlacedName → Rows
 name_rows [] = []

@@ -2,15 +2,15 @@
 use Rattle.std.specs.Prelude.{ℕ, suc, true, false, List, [], ◌∷◌, ◌++◌}
 use Rattle.pgo_base.specs.Tree.{Tree, name, primed, number, text, truth, at, word, unary, binary, product, cond_of, case_of, case_other, let_in, quantified, choose, tuple, set_of, filter_of, image, fun_of, fun_set, record_of, record_set, except, index, field, call, unchanged, Trees, no_trees, more_trees, NamedTrees, no_named, more_named, TreePairs, no_arms, more_arms, BoundTrees, no_bound, more_bound, PathTrees, no_paths, more_paths}
 use Rattle.pgo_base.specs.Lookup.{Name}
+use Rattle.pgo_model.specs.Names.{is_among}
 use Rattle.pgo_uses.specs.declared.uses.Around.{Around}
 use Rattle.pgo_uses.specs.declared.uses.Form.{Form}
 use Rattle.pgo_uses.specs.declared.uses.Form.TheVariants.{Alone, Applied, Bound, Field}
 use Rattle.pgo_uses.specs.declared.uses.Use.{Use}
-use Rattle.pgo_uses.specs.Names.{is_member}
 
 -- one name, where these names are in scope
 abbrev pub one : List Name → Around → Name → Form → List Use
-one ns a x f = record { name = x; form = f; inner = is_member x ns; around = a } ∷ []
+one ns a x f = record { name = x; form = f; inner = is_among x ns; around = a } ∷ []
 
 -- in an operand
 abbrev pub inside : Around → Around

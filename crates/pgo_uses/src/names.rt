@@ -1,8 +1,9 @@
 // Names that are declared, each with a number.
 ghost use Rattle.std.specs.Prelude.{◌≡◌, ◌||◌, [], ◌∷◌, ◌++◌, length, IfOk, IfErr};
 ghost use Rattle.pgo_base.specs.Lookup.{Name, same_name, find};
-ghost use Rattle.pgo_uses.specs.Indexed.{found_in, after_note, number_at};
-ghost use Rattle.pgo_uses.specs.Names.{first_at, is_among, among_all, is_earlier, is_at};
+ghost use Rattle.pgo_syntax.specs.NameMaps.{found_in};
+ghost use Rattle.pgo_uses.specs.Indexed.{after_note, number_at};
+ghost use Rattle.pgo_uses.specs.Names.{first_at, has_row, among_all, is_earlier, is_at};
 
 use pgo_base::text::Text;
 use std::alloc::{AllocError, Global};
@@ -108,7 +109,7 @@ impl Names {
 
     /// Whether there is one of this name.
     pub fn has(&self, name: &Text) -> bool
-        ensures { result ≡ is_among name.now self.now }
+        ensures { result ≡ has_row name.now self.now }
     {
         self.find(name).is_some()
     }
@@ -116,7 +117,7 @@ impl Names {
     /// The name, where there is none of it yet, with the number 0.
     #[tactic(auto, using(crate::proofs::Among::among_push, crate::proofs::Among::among_there))]
     pub fn add(&mut self, alloc: Global, name: &Text) -> Result<(), AllocError>
-        ensures { IfOk result (λ _. (x : Name) → is_among x self.new ≡ same_name x name.now || is_among x self.old) }
+        ensures { IfOk result (λ _. (x : Name) → has_row x self.new ≡ same_name x name.now || has_row x self.old) }
     {
         if self.has(name) {
             return Ok(());
@@ -127,7 +128,7 @@ impl Names {
 
     /// The names of the other, where there are none of them yet.
     pub fn add_all(&mut self, alloc: Global, other: &Names) -> Result<(), AllocError>
-        ensures { IfOk result (λ _. (x : Name) → is_among x self.new ≡ among_all (is_among x self.old) other.now x) }
+        ensures { IfOk result (λ _. (x : Name) → has_row x self.new ≡ among_all (has_row x self.old) other.now x) }
     {
         for row in &other.list {
             self.add(alloc, &row.0)?;

@@ -1,6 +1,6 @@
 // The names in scope.
 ghost use Rattle.std.specs.Prelude.{◌≡◌, []};
-ghost use Rattle.pgo_uses.specs.Names.{is_member};
+ghost use Rattle.pgo_model.specs.Names.{is_among};
 ghost use Rattle.pgo_uses.specs.Pieces.{within};
 ghost use Rattle.pgo_uses.specs.Scopes.{in_scope, row_names};
 
@@ -76,7 +76,7 @@ impl<'a> Scope<'a> {
 impl<'a> Scope<'a> {
     /// Whether this is one of the names.
     pub fn has(&self, name: &Text) -> bool
-        ensures { result ≡ is_member name.now (in_scope self.now) }
+        ensures { result ≡ is_among name.now (in_scope self.now) }
     {
         match &self.link {
             Link::Empty => false,

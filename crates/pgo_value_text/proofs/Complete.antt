@@ -8,7 +8,7 @@ use Rattle.pgo_base.specs.Pairs.{pairs_in_order}
 use Rattle.pgo_base.specs.Sets.{in_order}
 use Rattle.pgo_model.specs.Operators.{fits_i64, sequence_at}
 use Rattle.pgo_model.specs.ValueText.{is_digit, is_word_byte, all_word_bytes, same_bytes, all_escaped}
-use Rattle.pgo_model.specs.IsBundle.{all_string_bytes}
+use Rattle.pgo_model.specs.BundleParts.{all_string_bytes}
 use Rattle.pgo_value_text.specs.declared.read.PairForm.TheVariants.{Fields, Mappings}
 use Rattle.pgo_value_text.specs.IsValueText.{most_depth, is_name, all_digits, are_digits, number_of, minus, Spaced, Joined, Parted, Listed, Field, field, AreDistinct, Form, truth, number, negative, string_in_quotes, name, set_text, tuple_text, record_text, function_text, Spells, is_small, IsValueText}
 use Rattle.pgo_value_text.specs.Parsers.{Outcome, Parser, give}

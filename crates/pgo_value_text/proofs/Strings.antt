@@ -3,7 +3,7 @@ use Rattle.std.proofs.Common.{◌≡◌, ℕ, Bool, true, false, ◌||◌, nat_e
 use Rattle.std.proofs.lemmas.Bool.{eqb-true, ne_eqb, leb-true, and_parts, and_from, or_right, cases_Bool}
 use Rattle.std.proofs.lemmas.List.{append-nil}
 use Rattle.pgo_model.specs.ValueText.{escaped, all_escaped, string_text}
-use Rattle.pgo_model.specs.IsBundle.{is_string_byte, all_string_bytes}
+use Rattle.pgo_model.specs.BundleParts.{is_string_byte, all_string_bytes}
 use Rattle.pgo_value_text.specs.Parsers.{Outcome}
 use Rattle.pgo_value_text.specs.Reading.{unescaped, is_printable, string_from}
 use Rattle.pgo_value_text.proofs.Steps.{if_some, cond_true, cond_false, some_pair}

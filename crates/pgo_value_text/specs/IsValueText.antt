@@ -6,7 +6,7 @@ use Rattle.pgo_base.specs.Sets.{in_order, IsIn}
 use Rattle.pgo_model.specs.Operators.{fits_i64, sequence_at, most_members}
 use Rattle.pgo_model.specs.ValueText.{is_identifier, string_text, truth_text}
 pub use Rattle.pgo_model.specs.ValueText.{all_digits}
-use Rattle.pgo_model.specs.IsBundle.{all_string_bytes}
+use Rattle.pgo_model.specs.BundleParts.{all_string_bytes}
 
 -- how deep a text may nest
 abbrev pub most_depth : ℕ

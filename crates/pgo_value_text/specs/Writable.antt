@@ -3,7 +3,7 @@ use Rattle.std.specs.Prelude.{◌≤◌, Bool, true, ◌&&◌, IsTrue}
 use Rattle.pgo_base.specs.Data.{Data, boolean, integer, string, model, set, function, Items, no_items, item, Pairs, no_pairs, pair}
 use Rattle.pgo_base.specs.Size.{depth}
 use Rattle.pgo_model.specs.Value.{IsValue}
-use Rattle.pgo_model.specs.IsBundle.{all_string_bytes}
+use Rattle.pgo_model.specs.BundleParts.{all_string_bytes}
 use Rattle.pgo_value_text.specs.IsValueText.{most_depth, is_name, is_small}
 
 abbrev mutual

@@ -5,7 +5,7 @@ use Rattle.pgo_base.specs.Lookup.{Name, find}
 use Rattle.pgo_base.specs.Tree.{Tree, name}
 use Rattle.pgo_model.specs.Options.{on}
 use Rattle.pgo_rewrite.specs.Rewritten.{standing}
-use Rattle.pgo_sections.specs.Among.{is_among}
+use Rattle.pgo_model.specs.Names.{is_among}
 use Rattle.pgo_sections.specs.Code.{Place}
 use Rattle.pgo_sections.specs.Expand.{Renames, Current, current, placed, named, current_name}
 

@@ -1,13 +1,13 @@
 -- The layout of a sound bound specification whose variables have names that differ, and the components of its states.
 use Rattle.std.proofs.Common.{◌≡◌, ℕ, zero, suc, Bool, true, false, List, [], ◌∷◌, ◌++◌, map, Option, Some, None, refl, sym, ap, ◌∙◌, subst, arith, ◌⊎◌, inl, inr}
-use Rattle.std.specs.Prelude.{if◌then◌else◌, option_and_then, is_some}
+use Rattle.std.specs.Prelude.{if◌then◌else◌, option_and_then, is_some, ◌||◌}
 use Rattle.std.specs.List.{AllByRecursion, flat_map}
 use Rattle.pgo_base.specs.Data.{Data, function, Pairs, graph, keys}
 use Rattle.pgo_base.specs.Lookup.{Name, Vars, same_name, find}
 use Rattle.pgo_base.specs.Sets.{IsIn, in_order, in_order-in}
 use Rattle.pgo_model.specs.Log.{OfResource, is_in, own_names}
 use Rattle.pgo_model.specs.Machine.{nth}
-use Rattle.pgo_model.specs.Names.{same_name-self, same_name-is}
+use Rattle.pgo_model.specs.Names.{same_name-self, same_name-is, is_among}
 use Rattle.pgo_model.specs.Operators.{apply, contains, lookup, same_data}
 use Rattle.pgo_model.specs.Options.{on}
 use Rattle.pgo_model.specs.System.{Resource, Owned, ids_of}
@@ -24,7 +24,7 @@ use Rattle.pgo_bound.specs.State.{AreDifferent, IsState, id_of, variables_of}
 use Rattle.pgo_bound.specs.State as bound
 use Rattle.pgo_meaning.specs.System.{member_of, owned, owned_by, resource_of, system_of}
 use Rattle.pgo_sections.proofs.Domains.{same_of}
-use Rattle.pgo_workers.specs.Worlds.{Layout, layout_of, are_different, are_other, IsLayout, HasAll, own_component, names_at, names_of, is_own_name}
+use Rattle.pgo_workers.specs.Worlds.{Layout, layout_of, are_different, are_other, IsLayout, HasAll, own_component, names_at, names_of}
 use Rattle.pgo_workers.proofs.Components.{not_true, same_self}
 use Rattle.pgo_workers.proofs.LayoutChanges.{Differ, are_differing, other_indices, component_there}
 
@@ -63,12 +63,12 @@ contains_in v (x ∷ xs) h = go (same_data v x) refl h (contains_in v xs)
 -- ---- names
 
 -- the variables of owners that differ, and none is x
-none_named : (x : Name) (id : Data) (os : List Owned) → AllByRecursion (λ z. same_name x z ≡ false) (map (λ o. o.variable) os) → is_own_name x (own_names id os) ≡ false
+none_named : (x : Name) (id : Data) (os : List Owned) → AllByRecursion (λ z. same_name x z ≡ false) (map (λ o. o.variable) os) → is_among x (own_names id os) ≡ false
 none_named x id [] h = refl
 none_named x id (o ∷ os) h = go (contains id o.ids) (none_named x id os h.1)
   where
-    go : (b : Bool) → is_own_name x (own_names id os) ≡ false → is_own_name x (if b then o.variable ∷ own_names id os else own_names id os) ≡ false
-    go true ih = ap (λ b. if b then true else is_own_name x (own_names id os)) h.0 ∙ ih
+    go : (b : Bool) → is_among x (own_names id os) ≡ false → is_among x (if b then o.variable ∷ own_names id os else own_names id os) ≡ false
+    go true ih = ap (λ b. b || is_among x (own_names id os)) h.0 ∙ ih
     go false ih = ih
 
 differ_named : (id : Data) (os : List Owned) → AreDifferent (map (λ o. o.variable) os) → Differ (own_names id os)
@@ -80,20 +80,20 @@ differ_named id (o ∷ os) h = go (contains id o.ids) (differ_named id os h.1)
     go false ih = ih
 
 -- an own name is of an owner with the identifier
-named_from : (x : Name) (id : Data) (os : List Owned) → is_own_name x (own_names id os) ≡ true → (o : Owned) × IsAmong o os × (x ≡ o.variable) × (contains id o.ids ≡ true)
+named_from : (x : Name) (id : Data) (os : List Owned) → is_among x (own_names id os) ≡ true → (o : Owned) × IsAmong o os × (x ≡ o.variable) × (contains id o.ids ≡ true)
 named_from x id [] h = absurd (grind (arith, h))
 named_from x id (o ∷ os) h = go (contains id o.ids) refl h (λ h. later (named_from x id os h))
   where
     later : (q : Owned) × IsAmong q os × (x ≡ q.variable) × (contains id q.ids ≡ true) → (q : Owned) × IsAmong q (o ∷ os) × (x ≡ q.variable) × (contains id q.ids ≡ true)
     later h = (h.0, inr h.1, h.2, h.3)
 
-    named : contains id o.ids ≡ true → (b : Bool) → same_name x o.variable ≡ b → (if b then true else is_own_name x (own_names id os)) ≡ true
-        → (is_own_name x (own_names id os) ≡ true → (q : Owned) × IsAmong q (o ∷ os) × (x ≡ q.variable) × (contains id q.ids ≡ true)) → (q : Owned) × IsAmong q (o ∷ os) × (x ≡ q.variable) × (contains id q.ids ≡ true)
+    named : contains id o.ids ≡ true → (b : Bool) → same_name x o.variable ≡ b → (b || is_among x (own_names id os)) ≡ true
+        → (is_among x (own_names id os) ≡ true → (q : Owned) × IsAmong q (o ∷ os) × (x ≡ q.variable) × (contains id q.ids ≡ true)) → (q : Owned) × IsAmong q (o ∷ os) × (x ≡ q.variable) × (contains id q.ids ≡ true)
     named c true e h ih = (o, inl refl, same_name-is x o.variable e, c)
     named c false e h ih = ih h
 
-    go : (b : Bool) → contains id o.ids ≡ b → is_own_name x (if b then o.variable ∷ own_names id os else own_names id os) ≡ true
-        → (is_own_name x (own_names id os) ≡ true → (q : Owned) × IsAmong q (o ∷ os) × (x ≡ q.variable) × (contains id q.ids ≡ true)) → (q : Owned) × IsAmong q (o ∷ os) × (x ≡ q.variable) × (contains id q.ids ≡ true)
+    go : (b : Bool) → contains id o.ids ≡ b → is_among x (if b then o.variable ∷ own_names id os else own_names id os) ≡ true
+        → (is_among x (own_names id os) ≡ true → (q : Owned) × IsAmong q (o ∷ os) × (x ≡ q.variable) × (contains id q.ids ≡ true)) → (q : Owned) × IsAmong q (o ∷ os) × (x ≡ q.variable) × (contains id q.ids ≡ true)
     go true e h ih = named e (same_name x o.variable) refl h ih
     go false e h ih = ih h
 
@@ -158,7 +158,7 @@ module _ (b : Bound) (sound : Sound b) where
     resources_differ = λ m n q r at_m at_n ne e.
         let a = nth_from resource_of b.resources m q at_m in let c = nth_from resource_of b.resources n r at_n in
         indices q r a.0 c.0 a.2 c.2 ne (sound.resources_differ m n a.0 c.0 a.1 c.1 (ap (λ r. r.global) a.2 ∙ e ∙ sym (ap (λ r. r.global) c.2)));
-    none_own = λ n k r at_n. let a = nth_from resource_of b.resources n r at_n in subst (λ g. is_own_name g (names_of y k) ≡ false) (ap (λ r. r.global) a.2) (not_own a.0.global (sound.resources_global n a.0 a.1) (nth y.ids k));
+    none_own = λ n k r at_n. let a = nth_from resource_of b.resources n r at_n in subst (λ g. is_among g (names_of y k) ≡ false) (ap (λ r. r.global) a.2) (not_own a.0.global (sound.resources_global n a.0 a.1) (nth y.ids k));
   }
     where
       differ : AreDifferent (pc ∷ map (λ o. o.variable) y.own)
@@ -172,11 +172,11 @@ module _ (b : Bound) (sound : Sound b) where
       indices q r a c e f ne (inl h) = absurd (ne h)
       indices q r a c e f ne (inr h) = (λ i. are_other ((sym (ap (λ r. r.index) e) ∙ h.2) i) ((sym (ap (λ r. r.index) f) ∙ h.3) i)) ∙ other_indices h.0 h.1 h.4
 
-      not_own : (g : Name) → IsGlobal b g → (o : Option Data) → is_own_name g (names_at y o) ≡ false
+      not_own : (g : Name) → IsGlobal b g → (o : Option Data) → is_among g (names_at y o) ≡ false
       not_own g global None = refl
-      not_own g global (Some id) = not_true (is_own_name g (pc ∷ own_names id y.own)) (λ h. go (same_name g pc) refl h)
+      not_own g global (Some id) = not_true (is_among g (pc ∷ own_names id y.own)) (λ h. go (same_name g pc) refl h)
         where
-          go : (t : Bool) → same_name g pc ≡ t → (if t then true else is_own_name g (own_names id y.own)) ≡ true → ⊥
+          go : (t : Bool) → same_name g pc ≡ t → (t || is_among g (own_names id y.own)) ≡ true → ⊥
           go true e h = global.1 (same_name-is g pc e)
           go false e h =
               let o = named_from g id y.own h in
@@ -212,10 +212,10 @@ module _ (b : Bound) (sound : Sound b) where
         go None e = found (find r.global s) there
         go (Some i) e = let f = indexed n r i at_n e in function_at f.0 (find r.global s) i f.1 f.2
 
-    has_own : (k : ℕ) (id : Data) (x : Name) → nth y.ids k ≡ Some id → is_own_name x (pc ∷ own_names id y.own) ≡ true → is_in (own_component k id x) s ≡ true
+    has_own : (k : ℕ) (id : Data) (x : Name) → nth y.ids k ≡ Some id → is_among x (pc ∷ own_names id y.own) ≡ true → is_in (own_component k id x) s ≡ true
     has_own k id x at_k n = go (same_name x pc) refl n
       where
-        go : (t : Bool) → same_name x pc ≡ t → (if t then true else is_own_name x (own_names id y.own)) ≡ true → is_some (option_and_then (λ v. apply v id) (find x s)) ≡ true
+        go : (t : Bool) → same_name x pc ≡ t → (t || is_among x (own_names id y.own)) ≡ true → is_some (option_and_then (λ v. apply v id) (find x s)) ≡ true
         go true e h = ap (λ x. is_some (option_and_then (λ v. apply v id) (find x s))) (same_name-is x pc e)
             ∙ function_at (in_order (ids_of (system_of b))) (find pc s) id places (in_order-in id (ids_of (system_of b)) (nth_in (ids_of (system_of b)) k id at_k))
         go false e h =
@@ -230,7 +230,7 @@ module _ (b : Bound) (sound : Sound b) where
           let a = nth_from resource_of b.resources n r at_n in
           ap (λ c. is_in c s) (component_there y.resources n r at_n)
           ∙ (λ i. is_in (record { variable = (sym a.2 i).global; index = (sym a.2 i).index; owner = OfResource n }) s) ∙ has_resource n a.0 a.1;
-      own = λ k id x at_k n. has_own k id x at_k (sym (ap (λ o. is_own_name x (names_at y o)) at_k) ∙ n);
+      own = λ k id x at_k n. has_own k id x at_k (sym (ap (λ o. is_among x (names_at y o)) at_k) ∙ n);
     }
 
   domain_has : (n : ℕ) (r : resource.Resource) (i : Data) → nth b.resources n ≡ Some r → index_in r ≡ Some i → (d : HasDomain b b.start r.global) × IsIn i (keys (graph d.0))

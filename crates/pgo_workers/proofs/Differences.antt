@@ -1,12 +1,12 @@
 -- The entry that a worker makes is what differs between the states before it and behind it.
 use Rattle.std.proofs.Common.{◌≡◌, ◌≤◌, ◌<◌, ◌+◌, ℕ, zero, suc, Bool, true, false, List, [], ◌∷◌, ◌++◌, length, map, Option, Some, None, refl, sym, ap, ◌∙◌, subst, arith}
-use Rattle.std.specs.Prelude.{if◌then◌else◌, nat_eq, nat_le, nat_lt, not, option_and_then}
+use Rattle.std.specs.Prelude.{if◌then◌else◌, nat_eq, nat_le, nat_lt, not, option_and_then, ◌||◌}
 use Rattle.pgo_base.specs.Data.{Data}
 use Rattle.pgo_base.specs.Lookup.{Name, Vars, same_name, find}
 use Rattle.pgo_model.specs.Log.{OfResource, Component, Change, Effect, content, differs, resource_components, parts_at, own_names, own_components, components_of, changes_between, label_in, label_of, effect_between}
 use Rattle.pgo_model.specs.Machine.{nth, among}
 use Rattle.pgo_model.specs.MachineAccounts.{equal_or}
-use Rattle.pgo_model.specs.Names.{same_name-self, same_name-is}
+use Rattle.pgo_model.specs.Names.{same_name-self, same_name-is, is_among}
 use Rattle.pgo_model.specs.Operators.{apply}
 use Rattle.pgo_model.specs.Options.{on}
 use Rattle.pgo_model.specs.System.{System, Member, Resource, ids_of}
@@ -16,7 +16,7 @@ use Rattle.pgo_workers.specs.Walk.{At, Own}
 use Rattle.pgo_workers.specs.View.{Hold, EachHold, Once, changed, places, resources_of}
 use Rattle.pgo_workers.specs.Worker.{changes_of}
 use Rattle.pgo_workers.specs.Sentences.{IsOwn}
-use Rattle.pgo_workers.specs.Worlds.{Layout, layout_of, IsLayout, HasAll, or_nothing, component_at, own_component, names_at, names_of, own_at, own_in, value_in, resource_change, put_in_order, changed_resources, changed_own, label_at, effect_of, is_own_name, world_of}
+use Rattle.pgo_workers.specs.Worlds.{Layout, layout_of, IsLayout, HasAll, or_nothing, component_at, own_component, names_at, names_of, own_at, own_in, value_in, resource_change, put_in_order, changed_resources, changed_own, label_at, effect_of, world_of}
 use Rattle.pgo_workers.proofs.Components.{same_self}
 use Rattle.pgo_workers.proofs.LayoutChanges.{component_there, own_name_here, own_name_behind}
 use Rattle.pgo_workers.proofs.Patched.{patched_has, patched_value, patched_else}
@@ -170,18 +170,18 @@ module _ (y : Layout) (s t : Vars) (has : HasAll y s) (still : HasAll y t) where
 
   -- ---- own components
 
-  found_own : (k : ℕ) (id : Data) (xs : List Name) (x : Name) → is_own_name x xs ≡ true → find x (own_at k id xs t) ≡ Some (or_nothing (content (own_component k id x) t))
+  found_own : (k : ℕ) (id : Data) (xs : List Name) (x : Name) → is_among x xs ≡ true → find x (own_at k id xs t) ≡ Some (or_nothing (content (own_component k id x) t))
   found_own k id [] x n = absurd (grind (arith, n))
   found_own k id (z ∷ xs) x n = go (same_name x z) refl n (λ n. found_own k id xs x n)
     where
-      go : (b : Bool) → same_name x z ≡ b → (if b then true else is_own_name x xs) ≡ true → (is_own_name x xs ≡ true → find x (own_at k id xs t) ≡ Some (or_nothing (content (own_component k id x) t)))
+      go : (b : Bool) → same_name x z ≡ b → (b || is_among x xs) ≡ true → (is_among x xs ≡ true → find x (own_at k id xs t) ≡ Some (or_nothing (content (own_component k id x) t)))
           → (if b then Some (or_nothing (content (own_component k id z) t)) else find x (own_at k id xs t)) ≡ Some (or_nothing (content (own_component k id x) t))
       go true e n ih = ap (λ z. Some (or_nothing (content (own_component k id z) t))) (sym (same_name-is x z e))
       go false e n ih = ih n
 
   -- the changes of instance k's own components are what differs
   own_differences : (k : ℕ) (id : Data) → nth y.ids k ≡ Some id → (next : Own) → (xs : List Name)
-      → ((x : Name) → is_own_name x xs ≡ true → is_own_name x (names_of y k) ≡ true) → ((x : Name) → is_own_name x xs ≡ true → find x next ≡ Some (or_nothing (content (own_component k id x) t)))
+      → ((x : Name) → is_among x xs ≡ true → is_among x (names_of y k) ≡ true) → ((x : Name) → is_among x xs ≡ true → find x next ≡ Some (or_nothing (content (own_component k id x) t)))
       → changes_between (parts_at k id xs) s t ≡ changed_own k id (own_at k id xs s) next
   own_differences k id at_k next [] named found = refl
   own_differences k id at_k next (x ∷ xs) named found =
@@ -196,7 +196,7 @@ module _ (y : Layout) (s t : Vars) (has : HasAll y s) (still : HasAll y t) where
       opened c e f r = λ i. on (r i) (f i) (λ v. if differs (e i) (f i) then record { component = c; value = v } ∷ r i else r i)
 
   -- where the own components of an instance are the same nothing differs
-  own_equal : (j : ℕ) (id : Data) → nth y.ids j ≡ Some id → (xs : List Name) → ((x : Name) → is_own_name x xs ≡ true → is_own_name x (names_of y j) ≡ true)
+  own_equal : (j : ℕ) (id : Data) → nth y.ids j ≡ Some id → (xs : List Name) → ((x : Name) → is_among x xs ≡ true → is_among x (names_of y j) ≡ true)
       → own_at j id xs t ≡ own_at j id xs s → changes_between (parts_at j id xs) s t ≡ []
   own_equal j id at_j [] named e = refl
   own_equal j id at_j (x ∷ xs) named e =
@@ -245,8 +245,8 @@ module _ (y : System) (k : ℕ) (s t : Vars) (has : HasAll (layout_of y) s) (sti
   own_at_id : (u : Vars) (j : ℕ) (id : Data) → nth (ids_of y) j ≡ Some id → own_in (layout_of y) u j ≡ own_at j id (pc ∷ own_names id y.own) u
   own_at_id u j id e = ap (λ o. on [] o (λ id. own_at j id (pc ∷ own_names id y.own) u)) e
 
-  all_named : (j : ℕ) (id : Data) → nth (ids_of y) j ≡ Some id → (x : Name) → is_own_name x (pc ∷ own_names id y.own) ≡ true → is_own_name x (names_of (layout_of y) j) ≡ true
-  all_named j id e x n = ap (λ o. is_own_name x (names_at (layout_of y) o)) e ∙ n
+  all_named : (j : ℕ) (id : Data) → nth (ids_of y) j ≡ Some id → (x : Name) → is_among x (pc ∷ own_names id y.own) ≡ true → is_among x (names_of (layout_of y) j) ≡ true
+  all_named j id e x n = ap (λ o. is_among x (names_at (layout_of y) o)) e ∙ n
 
   members_differ : (j : ℕ) (is : List Member) → ((n : ℕ) (i : Member) → nth is n ≡ Some i → nth (ids_of y) (j + n) ≡ Some i.id)
       → changes_between (own_components y.own j is) s t ≡ on [] (id_from k j is) (λ id. changed_own k id (own_in (layout_of y) s k) o')

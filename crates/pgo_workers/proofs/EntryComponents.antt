@@ -7,13 +7,14 @@ use Rattle.pgo_model.specs.Core.{same_index}
 use Rattle.pgo_model.specs.Log.{OfResource, Component, Change, differs}
 use Rattle.pgo_model.specs.Machine.{nth, among}
 use Rattle.pgo_model.specs.MachineAccounts.{equal_or}
+use Rattle.pgo_model.specs.Names.{is_among}
 use Rattle.pgo_model.specs.Options.{on}
 use Rattle.pgo_model.specs.System.{Resource}
 use Rattle.pgo_workers.specs.Walk.{At, Own}
 use Rattle.pgo_workers.specs.View.{Hold, EachHold, Once, places, resources_of}
 use Rattle.pgo_workers.specs.Worker.{changes_of}
 use Rattle.pgo_workers.specs.Sentences.{IsOwn}
-use Rattle.pgo_workers.specs.Worlds.{Layout, IsLayout, HasAll, component_at, own_component, names_of, resource_change, changed_resources, changed_own, effect_of, same_component, is_component_among, is_own_name, is_component_of, are_components_of, world_of}
+use Rattle.pgo_workers.specs.Worlds.{Layout, IsLayout, HasAll, component_at, own_component, names_of, resource_change, changed_resources, changed_own, effect_of, same_component, is_component_among, is_component_of, are_components_of, world_of}
 use Rattle.pgo_workers.proofs.Components.{index_self, same_made, apart_not_same, is_apart}
 use Rattle.pgo_workers.proofs.LayoutChanges.{Differ, they_differ, nth_there, component_there, own_name_here, own_name_behind, apart_names, shared_apart}
 use Rattle.pgo_workers.proofs.MadeEntries.{EachAt, changed_each, changed_once, owned}
@@ -38,7 +39,7 @@ module _ (y : Layout) (layout : IsLayout y) (k : ℕ) where
 
   -- ---- own components
   module _ (id : Data) (at_k : nth y.ids k ≡ Some id) (next : Own) where
-    own_each : (P : Component → Type 0) (o : Own) → ((x : Name) → is_own_name x (map (λ p. p.0) o) ≡ true → P (own_component k id x)) → EachComponent P (changed_own k id o next)
+    own_each : (P : Component → Type 0) (o : Own) → ((x : Name) → is_among x (map (λ p. p.0) o) ≡ true → P (own_component k id x)) → EachComponent P (changed_own k id o next)
     own_each P [] h = tt
     own_each P (p ∷ o) h = go (find p.0 next) (own_each P o (λ x n. h x (own_name_behind x p.0 (map (λ p. p.0) o) n)))
       where
@@ -51,17 +52,17 @@ module _ (y : Layout) (layout : IsLayout y) (k : ℕ) where
             by_case true = (h p.0 (own_name_here p.0 p.0 (map (λ p. p.0) o) refl), ih)
             by_case false = ih
 
-    other_name : (x z : Name) (xs : List Name) → is_own_name x xs ≡ false → is_own_name z xs ≡ true → same_component (own_component k id x) (own_component k id z) ≡ false
+    other_name : (x z : Name) (xs : List Name) → is_among x xs ≡ false → is_among z xs ≡ true → same_component (own_component k id x) (own_component k id z) ≡ false
     other_name x z xs m n = Rattle.pgo_workers.proofs.Components.not_true (same_component (own_component k id x) (own_component k id z)) (λ e.
         let same : x ≡ z = (Rattle.pgo_workers.proofs.Components.same_is (own_component k id x) (own_component k id z) e).0 in
-        Rattle.pgo_workers.proofs.Components.not_both (is_own_name x xs) (subst (λ x. is_own_name x xs ≡ true) (sym same) n) m)
+        Rattle.pgo_workers.proofs.Components.not_both (is_among x xs) (subst (λ x. is_among x xs ≡ true) (sym same) n) m)
 
-    own_is_of : (x : Name) → is_own_name x (names_of y k) ≡ true → is_component_of y k (own_component k id x) ≡ true
+    own_is_of : (x : Name) → is_among x (names_of y k) ≡ true → is_component_of y k (own_component k id x) ≡ true
     own_is_of x n =
         let self : nat_eq k k ≡ true = grind arith in
         (λ i. (self i && n i) && same_index (Some id) (at_k i)) ∙ index_self (Some id)
 
-    own_are : (o : Own) → Differ (map (λ p. p.0) o) → ((x : Name) → is_own_name x (map (λ p. p.0) o) ≡ true → is_own_name x (names_of y k) ≡ true) → are_components_of y k (changed_own k id o next) ≡ true
+    own_are : (o : Own) → Differ (map (λ p. p.0) o) → ((x : Name) → is_among x (map (λ p. p.0) o) ≡ true → is_among x (names_of y k) ≡ true) → are_components_of y k (changed_own k id o next) ≡ true
     own_are [] d h = refl
     own_are (p ∷ o) d h = go (find p.0 next) (own_are o d.1 (λ x n. h x (own_name_behind x p.0 (map (λ p. p.0) o) n)))
         (own_each (λ c. same_component (own_component k id p.0) c ≡ false) o (λ x n. other_name p.0 x (map (λ p. p.0) o) d.0 n))
@@ -128,8 +129,8 @@ module _ (y : Layout) (layout : IsLayout y) (k : ℕ) where
       mine (Some id) e = (
         own_each id e o' (λ d. (c : Component) (n : ℕ) (r : Resource) → nth y.resources n ≡ Some r → c.variable ≡ r.global → same_component c d ≡ false) o
             (λ x named c n r at_n vc.
-            apart_not_same c (own_component k id x) (apart_names y layout c (own_component k id x) k (subst (λ z. is_own_name z (names_of y k) ≡ false) (sym vc) (layout.none_own n k r at_n)) (subst (λ xs. is_own_name x xs ≡ true) own named))),
-        own_are id e o' o (subst Differ (sym own) (they_differ (names_of y k) (layout.names_differ k))) (λ x named. subst (λ xs. is_own_name x xs ≡ true) own named),
+            apart_not_same c (own_component k id x) (apart_names y layout c (own_component k id x) k (subst (λ z. is_among z (names_of y k) ≡ false) (sym vc) (layout.none_own n k r at_n)) (subst (λ xs. is_among x xs ≡ true) own named))),
+        own_are id e o' o (subst Differ (sym own) (they_differ (names_of y k) (layout.names_differ k))) (λ x named. subst (λ xs. is_among x xs ≡ true) own named),
       )
 
   -- the own components behind the entry

@@ -1,16 +1,16 @@
 -- The state after an entry that changes components of resources and of one instance.
 use Rattle.std.proofs.Common.{◌≡◌, ◌<◌, ℕ, zero, suc, Bool, true, false, List, [], ◌∷◌, length, map, Option, Some, None, refl, sym, ap, ◌∙◌, subst, arith, ◌⊎◌, inl, inr}
-use Rattle.std.specs.Prelude.{if◌then◌else◌, nat_eq, nat_lt, ◌&&◌, option_and_then, is_some, unwrap_or}
+use Rattle.std.specs.Prelude.{if◌then◌else◌, nat_eq, nat_lt, ◌&&◌, option_and_then, is_some, unwrap_or, ◌||◌}
 use Rattle.pgo_base.specs.Data.{Data}
 use Rattle.pgo_base.specs.Lookup.{Name, Vars, same_name}
 use Rattle.pgo_model.specs.Core.{same_index}
 use Rattle.pgo_model.specs.Log.{Owner, OfResource, OfInstance, Unowned, Component, Change, content, is_in}
 use Rattle.pgo_model.specs.Machine.{nth}
 use Rattle.pgo_model.specs.MachineAccounts.{equal_or}
-use Rattle.pgo_model.specs.Names.{same_name-self, same_name-is}
+use Rattle.pgo_model.specs.Names.{same_name-self, same_name-is, is_among}
 use Rattle.pgo_model.specs.Operators.{same_data}
 use Rattle.pgo_model.specs.System.{Resource}
-use Rattle.pgo_workers.specs.Worlds.{Layout, are_different, are_other, IsLayout, HasAll, component_of, component_at, own_component, names_at, names_of, same_component, is_component_among, is_own_name, is_component_of, are_components_of}
+use Rattle.pgo_workers.specs.Worlds.{Layout, are_different, are_other, IsLayout, HasAll, component_of, component_at, own_component, names_at, names_of, same_component, is_component_among, is_component_of, are_components_of}
 use Rattle.pgo_workers.proofs.Components.{and_parts, not_true, not_both, index_is, same_is, same_made, is_apart, apart_turned}
 use Rattle.pgo_workers.proofs.Applied.{Comparable, EachThere}
 
@@ -27,26 +27,26 @@ component_there rs n r h = ap (component_of n) h
 some_is : {A : Type 0} (a b : A) → Some a ≡ Some b → a ≡ b
 some_is a b h = cc
 
-pub own_name_here : (x z : Name) (xs : List Name) → x ≡ z → is_own_name x (z ∷ xs) ≡ true
-own_name_here x z xs e = ap (λ b. if b then true else is_own_name x xs) (subst (λ z. same_name x z ≡ true) e (same_name-self x))
+pub own_name_here : (x z : Name) (xs : List Name) → x ≡ z → is_among x (z ∷ xs) ≡ true
+own_name_here x z xs e = ap (λ b. b || is_among x xs) (subst (λ z. same_name x z ≡ true) e (same_name-self x))
 
-pub own_name_behind : (x z : Name) (xs : List Name) → is_own_name x xs ≡ true → is_own_name x (z ∷ xs) ≡ true
+pub own_name_behind : (x z : Name) (xs : List Name) → is_among x xs ≡ true → is_among x (z ∷ xs) ≡ true
 own_name_behind x z xs h = go (same_name x z)
   where
-    go : (b : Bool) → (if b then true else is_own_name x xs) ≡ true
+    go : (b : Bool) → (b || is_among x xs) ≡ true
     go true = refl
     go false = h
 
 -- no two of these names are one
 abbrev pub Differ : List Name → Type 0
 Differ [] = Unit {0}
-Differ (x ∷ xs) = (is_own_name x xs ≡ false) × Differ xs
+Differ (x ∷ xs) = (is_among x xs ≡ false) × Differ xs
 
 pub they_differ : (xs : List Name) → are_different xs ≡ true → Differ xs
 they_differ [] h = tt
-they_differ (x ∷ xs) h = go (is_own_name x xs) refl h (they_differ xs)
+they_differ (x ∷ xs) h = go (is_among x xs) refl h (they_differ xs)
   where
-    go : (b : Bool) → is_own_name x xs ≡ b → (if b then false else are_different xs) ≡ true → (are_different xs ≡ true → Differ xs) → (is_own_name x xs ≡ false) × Differ xs
+    go : (b : Bool) → is_among x xs ≡ b → (if b then false else are_different xs) ≡ true → (are_different xs ≡ true → Differ xs) → (is_among x xs ≡ false) × Differ xs
     go true e h ih = absurd (grind (arith, h))
     go false e h ih = (e, ih h)
 
@@ -59,7 +59,7 @@ are_differing (x ∷ xs) h = ap (λ b. if b then false else are_different xs) h.
 -- a variable with an index or without is the component of a resource, or of an instance
 pub data IsPart (y : Layout) (x : Name) (at : Option Data) : Type 0 where
   OfShared : (n : ℕ) → (r : Resource) → nth y.resources n ≡ Some r → x ≡ r.global → at ≡ r.index → IsPart y x at
-  OfOne : (k : ℕ) → (id : Data) → nth y.ids k ≡ Some id → is_own_name x (names_of y k) ≡ true → at ≡ Some id → IsPart y x at
+  OfOne : (k : ℕ) → (id : Data) → nth y.ids k ≡ Some id → is_among x (names_of y k) ≡ true → at ≡ Some id → IsPart y x at
 
 pub other_indices : (i j : Data) → (i ≡ j → ⊥) → are_other (Some i) (Some j) ≡ true
 other_indices i j n = ap Rattle.std.specs.Prelude.not (not_true (same_data i j) (λ e. n (Rattle.pgo_sections.proofs.Domains.same_of i j e)))
@@ -73,8 +73,8 @@ module _ (y : Layout) (layout : IsLayout y) where
       go true e = h e
       go false e = refl
 
-  pub apart_names : (c d : Component) (k : ℕ) → is_own_name c.variable (names_of y k) ≡ false → is_own_name d.variable (names_of y k) ≡ true → is_apart c d ≡ true
-  apart_names c d k m n = apart_by c d (λ e. absurd (not_both (is_own_name c.variable (names_of y k)) (subst (λ x. is_own_name x (names_of y k) ≡ true) (sym (same_name-is c.variable d.variable e)) n) m))
+  pub apart_names : (c d : Component) (k : ℕ) → is_among c.variable (names_of y k) ≡ false → is_among d.variable (names_of y k) ≡ true → is_apart c d ≡ true
+  apart_names c d k m n = apart_by c d (λ e. absurd (not_both (is_among c.variable (names_of y k)) (subst (λ x. is_among x (names_of y k) ≡ true) (sym (same_name-is c.variable d.variable e)) n) m))
 
   pub shared_apart : (c d : Component) (m n : ℕ) (q r : Resource) → nth y.resources m ≡ Some q → nth y.resources n ≡ Some r → c.variable ≡ q.global → c.index ≡ q.index → d.variable ≡ r.global → d.index ≡ r.index → (m ≡ n → ⊥) → is_apart c d ≡ true
   shared_apart c d m n q r at_m at_n vc ic vd id ne = apart_by c d (λ e. (λ i. are_other (ic i) (id i)) ∙ layout.resources_differ m n q r at_m at_n ne (sym vc ∙ same_name-is c.variable d.variable e ∙ vd))
@@ -92,9 +92,9 @@ module _ (y : Layout) (layout : IsLayout y) where
           inl (same_made c d (vc ∙ ap (λ r. r.global) same ∙ sym vd) (ic ∙ ap (λ r. r.index) same ∙ sym id))
       go false e = inr (shared_apart c d m n q r at_m at_n vc ic vd id ((equal_or m n false e).1 refl))
   compared c d (OfShared m q at_m vc ic) (OfOne k b at_k named id) =
-      inr (apart_names c d k (subst (λ x. is_own_name x (names_of y k) ≡ false) (sym vc) (layout.none_own m k q at_m)) named)
+      inr (apart_names c d k (subst (λ x. is_among x (names_of y k) ≡ false) (sym vc) (layout.none_own m k q at_m)) named)
   compared c d (OfOne k b at_k named ic) (OfShared n r at_n vd id) =
-      inr (apart_turned d c (apart_names d c k (subst (λ x. is_own_name x (names_of y k) ≡ false) (sym vd) (layout.none_own n k r at_n)) named))
+      inr (apart_turned d c (apart_names d c k (subst (λ x. is_among x (names_of y k) ≡ false) (sym vd) (layout.none_own n k r at_n)) named))
   compared c d (OfOne j a at_j named ic) (OfOne k b at_k named' id) = go (nat_eq j k) refl
     where
       by_name : a ≡ b → (t : Bool) → same_name c.variable d.variable ≡ t → (same_component c d ≡ true) ⊎ (is_apart c d ≡ true)
@@ -110,19 +110,19 @@ module _ (y : Layout) (layout : IsLayout y) where
   -- whose it is, with what it has
   pub data Whose (k : ℕ) (c : Component) : Type 0 where
     IsShared : (n : ℕ) → (r : Resource) → c.owner ≡ OfResource n → nth y.resources n ≡ Some r → c.variable ≡ r.global → c.index ≡ r.index → Whose k c
-    IsOne : (id : Data) → c.owner ≡ OfInstance k → nth y.ids k ≡ Some id → is_own_name c.variable (names_of y k) ≡ true → c.index ≡ Some id → Whose k c
+    IsOne : (id : Data) → c.owner ≡ OfInstance k → nth y.ids k ≡ Some id → is_among c.variable (names_of y k) ≡ true → c.index ≡ Some id → Whose k c
 
   pub whose : (k : ℕ) (c : Component) → is_component_of y k c ≡ true → Whose k c
   whose k c h = go c.owner refl h
     where
-      mine : (j : ℕ) (o : Option Data) → c.owner ≡ OfInstance j → nth y.ids k ≡ o → nat_eq j k ≡ true → is_own_name c.variable (names_of y k) ≡ true → same_index c.index o ≡ true → Whose k c
-      mine j None w e t n i = absurd (let z : is_own_name c.variable [] ≡ true = ap (λ o. is_own_name c.variable (names_at y o)) (sym e) ∙ n in grind (arith, z))
+      mine : (j : ℕ) (o : Option Data) → c.owner ≡ OfInstance j → nth y.ids k ≡ o → nat_eq j k ≡ true → is_among c.variable (names_of y k) ≡ true → same_index c.index o ≡ true → Whose k c
+      mine j None w e t n i = absurd (let z : is_among c.variable [] ≡ true = ap (λ o. is_among c.variable (names_at y o)) (sym e) ∙ n in grind (arith, z))
       mine j (Some id) w e t n i = IsOne id (w ∙ ap OfInstance ((equal_or j k true t).0 refl)) e n (index_is c.index (Some id) i)
 
       go : (o : Owner) → c.owner ≡ o
           → (elim o as (λ o. Bool) [
             | OfResource n ↦ nat_lt n (length y.resources) && same_component c (component_at y.resources n)
-            | OfInstance j ↦ nat_eq j k && is_own_name c.variable (names_of y k) && same_index c.index (nth y.ids k)
+            | OfInstance j ↦ nat_eq j k && is_among c.variable (names_of y k) && same_index c.index (nth y.ids k)
             | Unowned ↦ false
           ]) ≡ true → Whose k c
       go (OfResource n) w h =
@@ -131,8 +131,8 @@ module _ (y : Layout) (layout : IsLayout y) where
           let q = same_is c (component_at y.resources n) p.1 in
           IsShared n r.0 w r.1 (q.0 ∙ ap (λ d. d.variable) (component_there y.resources n r.0 r.1)) (q.1 ∙ ap (λ d. d.index) (component_there y.resources n r.0 r.1))
       go (OfInstance j) w h =
-          let p = and_parts (nat_eq j k && is_own_name c.variable (names_of y k)) (same_index c.index (nth y.ids k)) h in
-          let q = and_parts (nat_eq j k) (is_own_name c.variable (names_of y k)) p.0 in
+          let p = and_parts (nat_eq j k && is_among c.variable (names_of y k)) (same_index c.index (nth y.ids k)) h in
+          let q = and_parts (nat_eq j k) (is_among c.variable (names_of y k)) p.0 in
           mine j (nth y.ids k) w refl q.0 q.1 p.1
       go Unowned w h = absurd (grind (arith, h))
 

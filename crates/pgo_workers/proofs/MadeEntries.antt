@@ -1,11 +1,11 @@
 -- What the entry that a worker makes says: of the instance's own components, and of the resources that it holds.
 use Rattle.std.proofs.Common.{◌≡◌, ℕ, Bool, true, false, List, [], ◌∷◌, ◌++◌, map, Option, Some, None, refl, sym, ap, ◌∙◌, subst, arith}
-use Rattle.std.specs.Prelude.{if◌then◌else◌, nat_eq, nat_le, not}
+use Rattle.std.specs.Prelude.{if◌then◌else◌, nat_eq, nat_le, not, ◌||◌}
 use Rattle.pgo_base.specs.Data.{Data}
 use Rattle.pgo_base.specs.Lookup.{Name, Vars, same_name, find}
 use Rattle.pgo_model.specs.Log.{Owner, OfResource, OfInstance, Unowned, Change, Effect, differs}
 use Rattle.pgo_model.specs.Machine.{nth, among}
-use Rattle.pgo_model.specs.Names.{same_name-self}
+use Rattle.pgo_model.specs.Names.{same_name-self, is_among}
 use Rattle.pgo_model.specs.Operators.{same_data}
 use Rattle.pgo_model.specs.Options.{on}
 use Rattle.pgo_model.specs.System.{Resource}
@@ -15,7 +15,7 @@ use Rattle.pgo_workers.specs.Worker.{changes_of}
 use Rattle.pgo_workers.specs.Worker as worker
 use Rattle.pgo_workers.specs.Sentences.{IsOwn}
 use Rattle.pgo_workers.proofs.LayoutChanges.{Differ, they_differ}
-use Rattle.pgo_workers.specs.Worlds.{Layout, IsLayout, component_of, component_at, own_component, names_at, names_of, own_at, own_change, own_behind, resource_changes, resource_change, put_in_order, changed_resources, changed_own, effect_of, is_own_name, world_of}
+use Rattle.pgo_workers.specs.Worlds.{Layout, IsLayout, component_of, component_at, own_component, names_at, names_of, own_at, own_change, own_behind, resource_changes, resource_change, put_in_order, changed_resources, changed_own, effect_of, world_of}
 use Rattle.pgo_workers.proofs.Components.{name_turned}
 
 -- ---- holds, and the changes of resources
@@ -198,7 +198,7 @@ own_over x c cs n = go c.component.owner
 
 module _ (k : ℕ) (id : Data) (next : Own) where
   -- a name that isn't among the components
-  own_none : (x : Name) (o : Own) → is_own_name x (map (λ p. p.0) o) ≡ false → own_change x (changed_own k id o next) ≡ None
+  own_none : (x : Name) (o : Own) → is_among x (map (λ p. p.0) o) ≡ false → own_change x (changed_own k id o next) ≡ None
   own_none x [] h = refl
   own_none x (p ∷ o) h = go (same_name x p.0) refl h (λ h. own_none x o h)
     where
@@ -211,13 +211,13 @@ module _ (k : ℕ) (id : Data) (next : Own) where
           by_case true = own_over x (record { component = own_component k id p.0; value = v }) (changed_own k id o next) n ∙ ih
           by_case false = ih
 
-      go : (b : Bool) → same_name x p.0 ≡ b → (if b then true else is_own_name x (map (λ p. p.0) o)) ≡ false → (is_own_name x (map (λ p. p.0) o) ≡ false → own_change x (changed_own k id o next) ≡ None)
+      go : (b : Bool) → same_name x p.0 ≡ b → (b || is_among x (map (λ p. p.0) o)) ≡ false → (is_among x (map (λ p. p.0) o) ≡ false → own_change x (changed_own k id o next) ≡ None)
           → own_change x (changed_own k id (p ∷ o) next) ≡ None
       go true e h ih = absurd (grind (arith, h))
       go false e h ih = made e (ih h) (find p.0 next)
 
   -- the first component
-  own_first : (p : Name × Data) (o : Own) → is_own_name p.0 (map (λ p. p.0) o) ≡ false → on p.1 (own_change p.0 (changed_own k id (p ∷ o) next)) (λ v. v) ≡ on p.1 (find p.0 next) (λ v. v)
+  own_first : (p : Name × Data) (o : Own) → is_among p.0 (map (λ p. p.0) o) ≡ false → on p.1 (own_change p.0 (changed_own k id (p ∷ o) next)) (λ v. v) ≡ on p.1 (find p.0 next) (λ v. v)
   own_first p o h = go (find p.0 next) (own_none p.0 o h)
     where
       go : (found : Option Data) → own_change p.0 (changed_own k id o next) ≡ None
@@ -232,7 +232,7 @@ module _ (k : ℕ) (id : Data) (next : Own) where
           by_case false e = ap (λ o. on p.1 o (λ v. v)) n ∙ same_where p.1 v e
 
   -- the components behind it aren't the first
-  own_behind_first : (p : Name × Data) (all qs : Own) → is_own_name p.0 (map (λ p. p.0) qs) ≡ false
+  own_behind_first : (p : Name × Data) (all qs : Own) → is_among p.0 (map (λ p. p.0) qs) ≡ false
       → map {B = Name × Data} (λ q. (q.0, on q.1 (own_change q.0 (changed_own k id (p ∷ all) next)) (λ v. v))) qs ≡ map {B = Name × Data} (λ q. (q.0, on q.1 (own_change q.0 (changed_own k id all next)) (λ v. v))) qs
   own_behind_first p all [] h = refl
   own_behind_first p all (q ∷ qs) h = go (same_name p.0 q.0) refl h (λ h. own_behind_first p all qs h)
@@ -246,8 +246,8 @@ module _ (k : ℕ) (id : Data) (next : Own) where
           by_case true = own_over q.0 (record { component = own_component k id p.0; value = v }) (changed_own k id all next) n
           by_case false = refl
 
-      go : (b : Bool) → same_name p.0 q.0 ≡ b → (if b then true else is_own_name p.0 (map (λ p. p.0) qs)) ≡ false
-          → (is_own_name p.0 (map (λ p. p.0) qs) ≡ false → map {B = Name × Data} (λ q. (q.0, on q.1 (own_change q.0 (changed_own k id (p ∷ all) next)) (λ v. v))) qs ≡ map {B = Name × Data} (λ q. (q.0, on q.1 (own_change q.0 (changed_own k id all next)) (λ v. v))) qs)
+      go : (b : Bool) → same_name p.0 q.0 ≡ b → (b || is_among p.0 (map (λ p. p.0) qs)) ≡ false
+          → (is_among p.0 (map (λ p. p.0) qs) ≡ false → map {B = Name × Data} (λ q. (q.0, on q.1 (own_change q.0 (changed_own k id (p ∷ all) next)) (λ v. v))) qs ≡ map {B = Name × Data} (λ q. (q.0, on q.1 (own_change q.0 (changed_own k id all next)) (λ v. v))) qs)
           → map {B = Name × Data} (λ q. (q.0, on q.1 (own_change q.0 (changed_own k id (p ∷ all) next)) (λ v. v))) (q ∷ qs) ≡ map {B = Name × Data} (λ q. (q.0, on q.1 (own_change q.0 (changed_own k id all next)) (λ v. v))) (q ∷ qs)
       go true e h ih = absurd (grind (arith, h))
       go false e h ih = let m = made (name_turned p.0 q.0 e) (find p.0 next) in λ i. (q.0, on q.1 (m i) (λ v. v)) ∷ ih h i
@@ -257,12 +257,12 @@ module _ (k : ℕ) (id : Data) (next : Own) where
   own_found (p ∷ o) d = λ i. (p.0, own_first p o d.0 i) ∷ (own_behind_first p o o d.0 ∙ own_found o d.1) i
 
 -- lists of one row of names, which differ, are what is found in them
-found_behind : (q : Name × Data) (next o : Own) → is_own_name q.0 (map (λ p. p.0) o) ≡ false → map {B = Name × Data} (λ p. (p.0, on p.1 (find p.0 (q ∷ next)) (λ v. v))) o ≡ map {B = Name × Data} (λ p. (p.0, on p.1 (find p.0 next) (λ v. v))) o
+found_behind : (q : Name × Data) (next o : Own) → is_among q.0 (map (λ p. p.0) o) ≡ false → map {B = Name × Data} (λ p. (p.0, on p.1 (find p.0 (q ∷ next)) (λ v. v))) o ≡ map {B = Name × Data} (λ p. (p.0, on p.1 (find p.0 next) (λ v. v))) o
 found_behind q next [] h = refl
 found_behind q next (p ∷ o) h = go (same_name q.0 p.0) refl h (λ h. found_behind q next o h)
   where
-    go : (b : Bool) → same_name q.0 p.0 ≡ b → (if b then true else is_own_name q.0 (map (λ p. p.0) o)) ≡ false
-        → (is_own_name q.0 (map (λ p. p.0) o) ≡ false → map {B = Name × Data} (λ p. (p.0, on p.1 (find p.0 (q ∷ next)) (λ v. v))) o ≡ map {B = Name × Data} (λ p. (p.0, on p.1 (find p.0 next) (λ v. v))) o)
+    go : (b : Bool) → same_name q.0 p.0 ≡ b → (b || is_among q.0 (map (λ p. p.0) o)) ≡ false
+        → (is_among q.0 (map (λ p. p.0) o) ≡ false → map {B = Name × Data} (λ p. (p.0, on p.1 (find p.0 (q ∷ next)) (λ v. v))) o ≡ map {B = Name × Data} (λ p. (p.0, on p.1 (find p.0 next) (λ v. v))) o)
         → map {B = Name × Data} (λ p. (p.0, on p.1 (find p.0 (q ∷ next)) (λ v. v))) (p ∷ o) ≡ map {B = Name × Data} (λ p. (p.0, on p.1 (find p.0 next) (λ v. v))) (p ∷ o)
     go true e h ih = absurd (grind (arith, h))
     go false e h ih = let n = name_turned q.0 p.0 e in λ i. (p.0, on p.1 (if n i then Some q.1 else find p.0 next) (λ v. v)) ∷ ih h i
@@ -275,7 +275,7 @@ found_all (p ∷ o) (q ∷ next) d e =
     let at : p.0 ≡ q.0 = cc in
     let behind : map (λ p. p.0) o ≡ map (λ p. p.0) next = cc in
     let there : same_name p.0 q.0 ≡ true = subst (λ z. same_name p.0 z ≡ true) at (same_name-self p.0) in
-    λ i. (at i, on p.1 (if there i then Some q.1 else find p.0 next) (λ v. v)) ∷ (found_behind q next o (subst (λ z. is_own_name z (map (λ p. p.0) o) ≡ false) at d.0) ∙ found_all o next d.1 behind) i
+    λ i. (at i, on p.1 (if there i then Some q.1 else find p.0 next) (λ v. v)) ∷ (found_behind q next o (subst (λ z. is_among z (map (λ p. p.0) o) ≡ false) at d.0) ∙ found_all o next d.1 behind) i
 
 module _ (y : Layout) where
   owner_is : (n : ℕ) (o : Option Resource) → (component_of n o).owner ≡ OfResource n

@@ -7,11 +7,12 @@ use Rattle.pgo_model.specs.Core.{same_index}
 use Rattle.pgo_model.specs.Log.{OfResource, OfInstance, Unowned, Component, Change, Effect, After, content, is_in, after_changes}
 use Rattle.pgo_model.specs.Machine.{nth}
 use Rattle.pgo_model.specs.MachineAccounts.{equal_or}
+use Rattle.pgo_model.specs.Names.{is_among}
 use Rattle.pgo_model.specs.Options.{on}
 use Rattle.pgo_model.specs.System.{Resource}
 use Rattle.pgo_workers.specs.View.{changed}
 use Rattle.pgo_workers.specs.Walk.{Own}
-use Rattle.pgo_workers.specs.Worlds.{Layout, IsLayout, HasAll, or_nothing, own_component, names_at, names_of, own_at, own_change, own_behind, resource_changes, same_component, is_component_among, is_own_name, are_components_of, world_of}
+use Rattle.pgo_workers.specs.Worlds.{Layout, IsLayout, HasAll, or_nothing, own_component, names_at, names_of, own_at, own_change, own_behind, resource_changes, same_component, is_component_among, are_components_of, world_of}
 use Rattle.pgo_workers.proofs.Components.{index_self, same_made, apart_turned, apart_not_same}
 use Rattle.pgo_workers.proofs.Applied.{given_by, or_that, Applied, applied}
 use Rattle.pgo_workers.proofs.LayoutChanges.{nth_there, component_there, own_name_here, own_name_behind, IsPart, OfShared, OfOne, Whose, IsShared, IsOne, whose, First, first, comparable, part_in, each_there, apart_names, shared_apart, ones_apart}
@@ -48,7 +49,7 @@ abbrev EachName : (Name → Type 0) → List Name → Type 0
 EachName P [] = Unit {0}
 EachName P (x ∷ xs) = P x × EachName P xs
 
-each_name : (P : Name → Type 0) (xs : List Name) → ((x : Name) → is_own_name x xs ≡ true → P x) → EachName P xs
+each_name : (P : Name → Type 0) (xs : List Name) → ((x : Name) → is_among x xs ≡ true → P x) → EachName P xs
 each_name P [] h = tt
 each_name P (x ∷ xs) h = (h x (own_name_here x x xs refl), each_name P xs (λ z e. h z (own_name_behind z x xs e)))
 
@@ -100,7 +101,7 @@ module _ (y : Layout) (layout : IsLayout y) (k : ℕ) where
               over (apart_not_same d c.component (shared_apart y layout d c.component n m r q at_n at_m refl refl vc ic (λ z. (equal_or m n false e).1 refl (sym z))))
               (opened ∙ ap (λ b. if b then c.value else changed (resource_changes cs) n x) e) ih
 
-  given_own : (id : Data) (x : Name) → nth y.ids k ≡ Some id → is_own_name x (names_of y k) ≡ true → (cs : List Change) → are_components_of y k cs ≡ true → given_by (own_component k id x) cs ≡ own_change x cs
+  given_own : (id : Data) (x : Name) → nth y.ids k ≡ Some id → is_among x (names_of y k) ≡ true → (cs : List Change) → are_components_of y k cs ≡ true → given_by (own_component k id x) cs ≡ own_change x cs
   given_own id x at_k named [] h = refl
   given_own id x at_k named (c ∷ cs) h = let f = first y layout k c cs h in go (whose y layout k c.component f.is_of) (given_own id x at_k named cs f.behind)
     where
@@ -113,7 +114,7 @@ module _ (y : Layout) (layout : IsLayout y) (k : ℕ) where
 
       go : Whose y layout k c.component → given_by d cs ≡ own_change x cs → given_by d (c ∷ cs) ≡ own_change x (c ∷ cs)
       go (IsShared n r w at_n v i) ih =
-          let q = apart_not_same d c.component (apart_turned c.component d (apart_names y layout c.component d k (subst (λ z. is_own_name z (names_of y k) ≡ false) (sym v) (layout.none_own n k r at_n)) named)) in
+          let q = apart_not_same d c.component (apart_turned c.component d (apart_names y layout c.component d k (subst (λ z. is_among z (names_of y k) ≡ false) (sym v) (layout.none_own n k r at_n)) named)) in
           (λ j. on (if q j then Some c.value else None) (ih j) (λ v. Some v))
           ∙ sym (ap (λ o. on (elim o as (λ o. Option Data) [ OfResource n ↦ None | OfInstance n ↦ if same_name x c.component.variable then Some c.value else None | Unowned ↦ None ]) (own_change x cs) (λ v. Some v)) w)
       go (IsOne a w at_k' named' i) ih =
@@ -122,7 +123,7 @@ module _ (y : Layout) (layout : IsLayout y) (k : ℕ) where
           (λ j. on (if q j then Some c.value else None) (ih j) (λ v. Some v))
           ∙ sym (ap (λ o. on (elim o as (λ o. Option Data) [ OfResource n ↦ None | OfInstance n ↦ if same_name x c.component.variable then Some c.value else None | Unowned ↦ None ]) (own_change x cs) (λ v. Some v)) w)
 
-  given_not : (j : ℕ) (id : Data) (x : Name) → nth y.ids j ≡ Some id → is_own_name x (names_of y j) ≡ true → (j ≡ k → ⊥) → (cs : List Change) → are_components_of y k cs ≡ true → given_by (own_component j id x) cs ≡ None
+  given_not : (j : ℕ) (id : Data) (x : Name) → nth y.ids j ≡ Some id → is_among x (names_of y j) ≡ true → (j ≡ k → ⊥) → (cs : List Change) → are_components_of y k cs ≡ true → given_by (own_component j id x) cs ≡ None
   given_not j id x at_j named ne [] h = refl
   given_not j id x at_j named ne (c ∷ cs) h =
       let f = first y layout k c cs h in let q = apart (whose y layout k c.component f.is_of) in
@@ -130,7 +131,7 @@ module _ (y : Layout) (layout : IsLayout y) (k : ℕ) where
     where
       apart : Whose y layout k c.component → same_component (own_component j id x) c.component ≡ false
       apart (IsShared n r w at_n v i) =
-          apart_not_same (own_component j id x) c.component (apart_turned c.component (own_component j id x) (apart_names y layout c.component (own_component j id x) j (subst (λ z. is_own_name z (names_of y j) ≡ false) (sym v) (layout.none_own n j r at_n)) named))
+          apart_not_same (own_component j id x) c.component (apart_turned c.component (own_component j id x) (apart_names y layout c.component (own_component j id x) j (subst (λ z. is_among z (names_of y j) ≡ false) (sym v) (layout.none_own n j r at_n)) named))
       apart (IsOne a w at_k named' i) = apart_not_same (own_component j id x) c.component (ones_apart y layout (own_component j id x) c.component j k id a at_j at_k refl i ne)
 
   module _ (s : Vars) (has : HasAll y s) (d : Effect) (mine : (world_of y).is_of k d ≡ true) where
@@ -186,7 +187,7 @@ module _ (y : Layout) (layout : IsLayout y) (k : ℕ) where
         go (Some id) e =
             own_behind_is k id s ((world_of y).patched s d) d (names_at y (Some id))
             (each_name (λ x. or_nothing (content (own_component k id x) ((world_of y).patched s d)) ≡ on (or_nothing (content (own_component k id x) s)) (own_change x d.changes) (λ v. v)) (names_at y (Some id)) (λ x named.
-            let there : is_own_name x (names_of y k) ≡ true = ap (λ o. is_own_name x (names_at y o)) e ∙ named in
+            let there : is_among x (names_of y k) ≡ true = ap (λ o. is_among x (names_at y o)) e ∙ named in
             let p : IsPart y x (Some id) = OfOne k id e there refl in
             let w = part_in y layout (own_component k id x) s has p in
             ap or_nothing (content_behind (own_component k id x) p)
@@ -203,5 +204,5 @@ module _ (y : Layout) (layout : IsLayout y) (k : ℕ) where
         go (Some id) e =
             own_same j id s ((world_of y).patched s d) (names_at y (Some id))
             (each_name (λ x. content (own_component j id x) ((world_of y).patched s d) ≡ content (own_component j id x) s) (names_at y (Some id)) (λ x named.
-            let there : is_own_name x (names_of y j) ≡ true = ap (λ o. is_own_name x (names_at y o)) e ∙ named in
+            let there : is_among x (names_of y j) ≡ true = ap (λ o. is_among x (names_at y o)) e ∙ named in
             content_behind (own_component j id x) (OfOne j id e there refl) ∙ ap (or_that (content (own_component j id x) s)) (given_not j id x e there ne d.changes mine)))

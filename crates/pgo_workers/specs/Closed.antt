@@ -2,6 +2,7 @@
 -- says of it, and from what the boards say together. It is the same for the core and for threads.
 use Rattle.std.proofs.Common.{◌≡◌, ◌≤◌, ◌<◌, ℕ, zero, suc, Bool, true, false, List, [], ◌∷◌, ◌++◌, length, Option, Some, None, refl, sym, ap, ◌∙◌, subst, arith, ◌⊎◌, inl, inr, lt-ltb}
 use Rattle.std.proofs.lemmas.Bool.{ltb-true}
+use Rattle.std.proofs.lemmas.Option.{same_Some}
 use Rattle.std.specs.Prelude.{if◌then◌else◌, nat_eq, nat_lt}
 use Rattle.pgo_base.specs.Data.{Data}
 use Rattle.pgo_model.specs.Outcome.{Next}
@@ -14,9 +15,6 @@ use Rattle.pgo_workers.specs.View.{Refusal, IsHeld, IsFull, Taking, Told, World,
 use Rattle.pgo_workers.specs.Worker.{Program, rules_of}
 use Rattle.pgo_workers.specs.Sentences.{refusals, downs, Sub, SNone, SHere, SOver, flat, last_of, granted, Shows, EachTaking, Ends, held_last, Closes, Tells, AccountsOfOne, Past, History, Runs, IsOwn}
 use Rattle.pgo_workers.specs.Holds as holds
-
-some_same : {A : Type 0} (x y : A) → Some x ≡ Some y → x ≡ y
-some_same x y h = grind arith
 
 -- a member of a list
 abbrev pub Has : {A : Type 0} → List A → A → Type 0
@@ -81,12 +79,12 @@ has_flat {A} (a ∷ l) x h = go (has_append a (flat l) x h) (λ h. has_flat l x 
 
 flat_has : {A : Type 0} (l : List (List A)) (i : ℕ) (ms : List A) (x : A) → nth l i ≡ Some ms → Has ms x → Has (flat l) x
 flat_has [] i ms x e h = absurd (grind (arith, e))
-flat_has {A} (a ∷ l) zero ms x e h = has_left a (flat l) x (subst (λ (ms : List A). Has ms x) (sym (some_same a ms e)) h)
+flat_has {A} (a ∷ l) zero ms x e h = has_left a (flat l) x (subst (λ (ms : List A). Has ms x) (sym (same_Some a ms e)) h)
 flat_has (a ∷ l) (suc i) ms x e h = has_right a (flat l) x (flat_has l i ms x e h)
 
 last_has : (ms : List Taking) (m : Taking) → last_of ms ≡ Some m → Has ms m
 last_has [] m e = absurd (grind (arith, e))
-last_has (x ∷ []) m e = inl (some_same x m e)
+last_has (x ∷ []) m e = inl (same_Some x m e)
 last_has (x ∷ (y ∷ ms)) m e = inr (last_has (y ∷ ms) m e)
 
 each_has : (Q : Taking → Type 0) (ms : List Taking) (m : Taking) → EachTaking Q ms → Has ms m → Q m
@@ -133,7 +131,7 @@ among_at r (x ∷ l) h = go (nat_eq r x) refl h (λ h. among_at r l h)
 -- the refusals of records, and the records of refusals
 refusal_has : (xs : List Record) (i r h : ℕ) → nth xs i ≡ Some (Held r h) → Has (refusals xs) (IsHeld r h)
 refusal_has [] i r h e = absurd (grind (arith, e))
-refusal_has (x ∷ xs) zero r h e = subst (λ x. Has (refusals (x ∷ xs)) (IsHeld r h)) (sym (some_same x (Held r h) e)) (inl refl)
+refusal_has (x ∷ xs) zero r h e = subst (λ x. Has (refusals (x ∷ xs)) (IsHeld r h)) (sym (same_Some x (Held r h) e)) (inl refl)
 refusal_has (Step n ∷ xs) (suc i) r h e = refusal_has xs i r h e
 refusal_has (Noted kind p ∷ xs) (suc i) r h e = refusal_has xs i r h e
 refusal_has (Held q g ∷ xs) (suc i) r h e = inr (refusal_has xs i r h e)
@@ -173,7 +171,7 @@ sub_two xs ys i j x (SOver z {xs = a} {ys = b} s) h g l = let q = sub_two a b i 
 
 down_at : (xs : List Record) (i r o : ℕ) → nth xs i ≡ Some (Down r o) → (a : ℕ) × (nth (downs xs) a ≡ Some (r, o))
 down_at [] i r o e = absurd (grind (arith, e))
-down_at (x ∷ xs) zero r o e = subst (λ x. (a : ℕ) × (nth (downs (x ∷ xs)) a ≡ Some (r, o))) (sym (some_same x (Down r o) e)) (0, refl)
+down_at (x ∷ xs) zero r o e = subst (λ x. (a : ℕ) × (nth (downs (x ∷ xs)) a ≡ Some (r, o))) (sym (same_Some x (Down r o) e)) (0, refl)
 down_at (Step n ∷ xs) (suc i) r o e = down_at xs i r o e
 down_at (Noted kind p ∷ xs) (suc i) r o e = down_at xs i r o e
 down_at (Held q g ∷ xs) (suc i) r o e = down_at xs i r o e
@@ -184,7 +182,7 @@ down_two : (xs : List Record) (i j r o : ℕ) → nth xs i ≡ Some (Down r o) �
 down_two [] i j r o e f l = absurd (grind (arith, e))
 down_two (x ∷ xs) i zero r o e f l = absurd (omega (arith, l))
 down_two (x ∷ xs) zero (suc j) r o e f l =
-    subst (λ x. (a b : ℕ) × (a < b) × (nth (downs (x ∷ xs)) a ≡ Some (r, o)) × (nth (downs (x ∷ xs)) b ≡ Some (r, o))) (sym (some_same x (Down r o) e)) (let z = down_at xs j r o f in (0, suc z.0, omega arith, refl, z.1))
+    subst (λ x. (a b : ℕ) × (a < b) × (nth (downs (x ∷ xs)) a ≡ Some (r, o)) × (nth (downs (x ∷ xs)) b ≡ Some (r, o))) (sym (same_Some x (Down r o) e)) (let z = down_at xs j r o f in (0, suc z.0, omega arith, refl, z.1))
 down_two (Step n ∷ xs) (suc i) (suc j) r o e f l = down_two xs i j r o e f (omega (arith, l))
 down_two (Noted kind p ∷ xs) (suc i) (suc j) r o e f l = down_two xs i j r o e f (omega (arith, l))
 down_two (Held q g ∷ xs) (suc i) (suc j) r o e f l = down_two xs i j r o e f (omega (arith, l))
@@ -214,7 +212,7 @@ not_below k n l e = let t : nat_lt k n ≡ true = lt-ltb k n l in let y : true �
 
 within_at : (Q : ℕ → Type 0) (T : Own → Type 0) (w : Walk) (f : ℕ → Data) (n r : ℕ) → Within Q T w → nth (visits w f) n ≡ Some r → Q r
 within_at Q T (Stop e) f n r w h = absurd (grind (arith, h))
-within_at Q T (Touch q leave rest) f zero r w h = subst Q (some_same q r h) w.0
+within_at Q T (Touch q leave rest) f zero r w h = subst Q (same_Some q r h) w.0
 within_at Q T (Touch q leave rest) f (suc n) r w h = within_at Q T (rest (f q)) (put q (leave (f q)) f) n r (w.1 (f q)) h
 
 reached_among : (y : Record) (r : ℕ) (trace : List ℕ) → ReachedBefore y r trace → IsAmong r trace

@@ -1,5 +1,6 @@
 -- The ends of an attempt, and its gives, keep what worker and board meet in.
 use Rattle.std.proofs.Common.{◌≡◌, ◌≤◌, ◌<◌, ℕ, suc, ◌+◌, Bool, true, false, List, [], ◌∷◌, ◌++◌, length, map, Option, Some, None, refl, sym, ap, ◌∙◌, subst, arith, inl, inr, length-append}
+use Rattle.std.proofs.lemmas.Option.{same_Some}
 use Rattle.std.specs.Prelude.{if◌then◌else◌}
 use Rattle.pgo_base.specs.Data.{Data}
 use Rattle.pgo_model.specs.Machine.{Entry, Record, Held, Down, Full, among, last_ends, is_empty}
@@ -12,9 +13,6 @@ use Rattle.pgo_workers.specs.Sentences.{refusals, downs, Sub, SNone, flat, grant
 use Rattle.pgo_workers.specs.OneAccounts.{accounts_add, other_at, other_note_at, no_notes_of}
 use Rattle.pgo_workers.specs.Holds as holds
 use Rattle.pgo_workers.specs.Kept.{Running, under, running, shows, ends_so, reached, reached_by, own_grows, own_then_seen, history_grows, history_takes, history_ends, nil_append}
-
-some_same : {A : Type 0} (x y : A) → Some x ≡ Some y → x ≡ y
-some_same x y h = grind arith
 
 one_more : (a b : List Record) → length (a ++ b) ≡ length a + length b
 one_more a b = length-append a b
@@ -142,7 +140,7 @@ module _ {S D : Type 0} (W : World S D) (P : Program S D) (Reaches : ℕ → ℕ
       go None e h = absurd (grind (arith, h))
       go (Some t) e h =
           let q = running W P Reaches Good runs w b t m on e in let p = parts t in
-          subst (Ended w.dropped w.number d.entries (w.records ++ (x ∷ [])) hs) (some_same (f t) u h)
+          subst (Ended w.dropped w.number d.entries (w.records ++ (x ∷ [])) hs) (same_Some (f t) u h)
           (ended w b d x hs t (f t) extra g.entries_more m q g.entries p.0 p.1 p.2 down members (closes t q) (adds t q))
 
   -- no take is added

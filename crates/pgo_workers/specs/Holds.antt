@@ -1,5 +1,6 @@
 -- Lists of held resources, and of accesses.
 use Rattle.std.proofs.Common.{◌≡◌, ◌≤◌, ◌<◌, ℕ, zero, suc, ◌+◌, ◌-◌, Bool, true, false, List, [], ◌∷◌, ◌++◌, map, Option, Some, None, refl, sym, ap, ◌∙◌, subst, arith, ◌⊎◌, inl, inr}
+use Rattle.std.proofs.lemmas.Option.{same_Some}
 use Rattle.std.specs.Prelude.{if◌then◌else◌, nat_eq, nat_lt}
 use Rattle.pgo_base.specs.Data.{Data}
 use Rattle.pgo_model.specs.Machine.{Entry, Record, Step, Noted, Held, Down, Full, among, nth}
@@ -8,9 +9,6 @@ use Rattle.pgo_workers.specs.Walk.{Own, At, Agrees, replaced, taken_after, among
 use Rattle.pgo_workers.specs.View.{Shown, raised, Hold, Taking, IsHeld, IsFull, World, hold_at, resources_of, values_of, nows_of, with_content, aborted, committed, EachHold, IsSteady, stretch, passing, Others, Once, changed, places, renewed, own_left}
 use Rattle.pgo_workers.specs.Worker.{changes_of}
 use Rattle.pgo_workers.specs.Sentences.{refusals, downs, Sub, SNone, SHere, SOver, flat, last_of, granted, held_last, EachTaking, changes_at, IsOwn}
-
-some_same : {A : Type 0} (x y : A) → Some x ≡ Some y → x ≡ y
-some_same x y h = grind arith
 
 -- appended
 pub resources_append : (a b : List Hold) → resources_of (a ++ b) ≡ resources_of a ++ resources_of b
@@ -81,7 +79,7 @@ each_with Q r c [] h e q a = tt
 each_with Q r c (x ∷ hs) h e q a = go (nat_eq x.resource r) e (λ e. each_with Q r c hs h e q a.1)
   where
     go : (b : Bool) → (if b then Some x else hold_at hs r) ≡ Some h → (hold_at hs r ≡ Some h → EachHold Q (with_content r c hs)) → EachHold Q (if b then record x { content = c } ∷ hs else x ∷ with_content r c hs)
-    go true e ih = (subst (λ (x : Hold). Q (record x { content = c })) (sym (some_same x h e)) q, a.1)
+    go true e ih = (subst (λ (x : Hold). Q (record x { content = c })) (sym (same_Some x h e)) q, a.1)
     go false e ih = (a.0, ih e)
 
 pub hold_is : (Q : Hold → Type 0) (hs : List Hold) (r : ℕ) (h : Hold) → hold_at hs r ≡ Some h → EachHold Q hs → Q h
@@ -89,7 +87,7 @@ hold_is Q [] r h e a = absurd (grind (arith, e))
 hold_is Q (x ∷ hs) r h e a = go (nat_eq x.resource r) e (λ e. hold_is Q hs r h e a.1)
   where
     go : (b : Bool) → (if b then Some x else hold_at hs r) ≡ Some h → (hold_at hs r ≡ Some h → Q h) → Q h
-    go true e ih = subst Q (some_same x h e) a.0
+    go true e ih = subst Q (same_Some x h e) a.0
     go false e ih = ih e
 
 pub hold_named : (hs : List Hold) (r : ℕ) (h : Hold) → hold_at hs r ≡ Some h → h.resource ≡ r
@@ -97,7 +95,7 @@ hold_named [] r h e = absurd (grind (arith, e))
 hold_named (x ∷ hs) r h e = go (nat_eq x.resource r) refl e (λ e. hold_named hs r h e)
   where
     go : (b : Bool) → nat_eq x.resource r ≡ b → (if b then Some x else hold_at hs r) ≡ Some h → (hold_at hs r ≡ Some h → h.resource ≡ r) → h.resource ≡ r
-    go true q e ih = subst (λ (x : Hold). x.resource ≡ r) (some_same x h e) ((equal_or x.resource r true q).0 refl)
+    go true q e ih = subst (λ (x : Hold). x.resource ≡ r) (same_Some x h e) ((equal_or x.resource r true q).0 refl)
     go false q e ih = ih e
 
 pub hold_among : (hs : List Hold) (r : ℕ) (h : Hold) → hold_at hs r ≡ Some h → among r (resources_of hs) ≡ true
@@ -122,7 +120,7 @@ now_at [] g r h e a = absurd (grind (arith, e))
 now_at (x ∷ hs) g r h e a = go (nat_eq x.resource r) refl e (λ e. now_at hs g r h e a.1)
   where
     go : (b : Bool) → nat_eq x.resource r ≡ b → (if b then Some x else hold_at hs r) ≡ Some h → (hold_at hs r ≡ Some h → g r ≡ h.content.current) → g r ≡ h.content.current
-    go true q e ih = ap g (sym ((equal_or x.resource r true q).0 refl)) ∙ a.0 ∙ ap (λ (h : Hold). h.content.current) (some_same x h e)
+    go true q e ih = ap g (sym ((equal_or x.resource r true q).0 refl)) ∙ a.0 ∙ ap (λ (h : Hold). h.content.current) (same_Some x h e)
     go false q e ih = ih e
 
 -- aborted, committed, renewed
@@ -197,7 +195,7 @@ to_pass r o c (x ∷ hs) h e l = go (nat_eq x.resource r) refl e (λ e. to_pass 
     go : (b : Bool) → nat_eq x.resource r ≡ b → (if b then Some x else hold_at hs r) ≡ Some h → (hold_at hs r ≡ Some h → Sub ((r, c.count) ∷ []) (flat (map passing (aborted (with_content r c hs)))))
         → Sub ((r, c.count) ∷ []) (flat (map passing (aborted (if b then record x { content = c } ∷ hs else x ∷ with_content r c hs))))
     go true q e ih =
-        let n : x.resource ≡ r = (equal_or x.resource r true q).0 refl in let d : x.count < c.count = subst (λ (h : Hold). h.count < c.count) (sym (some_same x h e)) l in
+        let n : x.resource ≡ r = (equal_or x.resource r true q).0 refl in let d : x.count < c.count = subst (λ (h : Hold). h.count < c.count) (sym (same_Some x h e)) l in
         sub_one (r, c.count) (stretch x.resource x.count (c.count - x.count)) (flat (map passing (aborted hs))) (subst (λ r. Sub {A = ℕ × ℕ} ((r, c.count) ∷ []) (stretch x.resource x.count (c.count - x.count))) n (stretch_has x.resource x.count c.count d))
     go false q e ih = sub_over ((r, c.count) ∷ []) (stretch x.resource x.count (x.content.count - x.count)) (flat (map passing (aborted (with_content r c hs)))) (ih e)
 
@@ -356,7 +354,7 @@ nows_counted r h (x ∷ hs) e = go (nat_eq x.resource r) e (λ e. nows_counted r
   where
     go : (b : Bool) → (if b then Some x else hold_at hs r) ≡ Some h → (hold_at hs r ≡ Some h → nows_of (with_content r (record h.content { count = raised h.content.count }) hs) ≡ nows_of hs)
         → nows_of (if b then record x { content = record h.content { count = raised h.content.count } } ∷ hs else x ∷ with_content r (record h.content { count = raised h.content.count }) hs) ≡ ((x.resource, x.content.current) ∷ nows_of hs)
-    go true e ih = ap (λ (h : Hold). (x.resource, h.content.current) ∷ nows_of hs) (sym (some_same x h e))
+    go true e ih = ap (λ (h : Hold). (x.resource, h.content.current) ∷ nows_of hs) (sym (same_Some x h e))
     go false e ih = ap (λ l. (x.resource, x.content.current) ∷ l) (ih e)
 
 -- what is taken was accessed

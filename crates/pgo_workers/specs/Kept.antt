@@ -1,5 +1,6 @@
 -- Each turn keeps what worker and board meet in.
 use Rattle.std.proofs.Common.{◌≡◌, ◌≤◌, ℕ, Bool, true, false, List, [], ◌∷◌, ◌++◌, length, Option, Some, None, refl, sym, ap, ◌∙◌, subst, arith, ◌⊎◌, inl, inr, length-append}
+use Rattle.std.proofs.lemmas.Option.{same_Some}
 use Rattle.std.specs.Prelude.{if◌then◌else◌, nat_eq}
 use Rattle.pgo_base.specs.Data.{Data}
 use Rattle.pgo_model.specs.Machine.{Entry, Record, among, put, last_ends, nth}
@@ -11,9 +12,6 @@ use Rattle.pgo_workers.specs.Worker.{Program, Phase, is_resting, Resting, Walkin
 use Rattle.pgo_workers.specs.Sentences.{refusals, downs, Sub, flat, OthersAt, Shows, Ends, AccountsOfOne, OwnThen, Past, History, Under, Taken, PassedBy, Place, TakenNow, Lists, Sound, Meets, Runs, IsOwn}
 use Rattle.pgo_workers.specs.OneAccounts.{own_then_grows, accounts_grow}
 use Rattle.pgo_workers.specs.Holds as holds
-
-some_same : {A : Type 0} (x y : A) → Some x ≡ Some y → x ≡ y
-some_same x y h = grind arith
 
 pub touch_same : (r q : ℕ) (l m : Data → Data) (s t : Data → Walk) → Touch r l s ≡ Touch q m t → r ≡ q
 touch_same r q l m s t e = ap (λ w. touched w) e
@@ -357,7 +355,7 @@ module _ {S D : Type 0} (W : World S D) (P : Program S D) (Reaches : ℕ → ℕ
           go None told e = absurd (grind (arith, e))
           go (Some l) told e =
               let q = running w b l m on told in
-              subst (Lists W P Reaches Good (record w { phase = Walking (Touch r leave rest) 0; taken = w.taken ++ (r ∷ []) }) c) (some_same (answers take l) s e) (record {
+              subst (Lists W P Reaches Good (record w { phase = Walking (Touch r leave rest) 0; taken = w.taken ++ (r ∷ []) }) c) (same_Some (answers take l) s e) (record {
                 refused = q.refused;
                 passed = q.passed;
                 now = q.now ++ (take ∷ []);

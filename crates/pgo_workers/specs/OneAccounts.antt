@@ -1,5 +1,6 @@
 -- What a longer journal, and a further record, do to what one instance's records say.
 use Rattle.std.proofs.Common.{◌≡◌, ◌≤◌, ◌<◌, ℕ, zero, suc, ◌+◌, Bool, true, false, List, [], ◌∷◌, ◌++◌, length, Some, refl, sym, ap, ◌∙◌, subst, arith, ◌⊎◌, inl, inr, length-append}
+use Rattle.std.proofs.lemmas.Option.{same_Some}
 use Rattle.std.specs.Prelude.{if◌then◌else◌, nat_eq}
 use Rattle.pgo_model.specs.Outcome.{Next}
 use Rattle.pgo_model.specs.Machine.{Entry, Note, Record, Step, Noted, Held, Down, Full, last_ends, nth}
@@ -10,9 +11,6 @@ use Rattle.pgo_workers.specs.Walk.{Own}
 use Rattle.pgo_workers.specs.View.{World, along, Others, OtherNotes, notes_of, state}
 use Rattle.pgo_workers.specs.Worker.{Program}
 use Rattle.pgo_workers.specs.Sentences.{Tells, AccountsOfOne, AllGood, OwnThen}
-
-some_same : {A : Type 0} (x y : A) → Some x ≡ Some y → x ≡ y
-some_same x y h = grind arith
 
 -- a longer journal has the same states along the former entries
 pub along_below : {S D : Type 0} (f : S → D → S) (s : S) (l k : List (Entry D)) (n : ℕ) → n ≤ length l → along f s (l ++ k) n ≡ along f s l n
@@ -37,12 +35,12 @@ nth_either (y ∷ l) k (suc n) x h = go (nth_either l k n x h)
 
 pub other_at : {D : Type 0} (k : ℕ) (es : List (Entry D)) (j : ℕ) (e : Entry D) → Others k es → nth es j ≡ Some e → e.instance ≡ k → ⊥
 other_at k [] j e o h i = grind (arith, h)
-other_at {D} k (x ∷ es) zero e o h i = o.0 (ap (λ (e : Entry D). e.instance) (some_same x e h) ∙ i)
+other_at {D} k (x ∷ es) zero e o h i = o.0 (ap (λ (e : Entry D). e.instance) (same_Some x e h) ∙ i)
 other_at k (x ∷ es) (suc j) e o h i = other_at k es j e o.1 h i
 
 pub other_note_at : (k : ℕ) (ns : List Note) (j : ℕ) (n : Note) → OtherNotes k ns → nth ns j ≡ Some n → n.instance ≡ k → ⊥
 other_note_at k [] j e o h i = grind (arith, h)
-other_note_at k (x ∷ ns) zero e o h i = o.0 (ap (λ (e : Note). e.instance) (some_same x e h) ∙ i)
+other_note_at k (x ∷ ns) zero e o h i = o.0 (ap (λ (e : Note). e.instance) (same_Some x e h) ∙ i)
 other_note_at k (x ∷ ns) (suc j) e o h i = other_note_at k ns j e o.1 h i
 
 pub notes_of_append : (k : ℕ) (a b : List Note) → notes_of k (a ++ b) ≡ notes_of k a + notes_of k b

@@ -1,5 +1,6 @@
 -- A commit, a note and a give keep what worker and board meet in; so does each turn.
 use Rattle.std.proofs.Common.{◌≡◌, ◌≤◌, ◌<◌, ℕ, zero, suc, Bool, true, false, List, [], ◌∷◌, ◌++◌, length, map, Option, Some, None, refl, sym, ap, ◌∙◌, subst, arith, ◌⊎◌, inl, inr, length-append}
+use Rattle.std.proofs.lemmas.Option.{same_Some}
 use Rattle.std.specs.Prelude.{if◌then◌else◌, nat_eq}
 use Rattle.pgo_base.specs.Data.{Data}
 use Rattle.pgo_model.specs.Outcome.{Kind, Next, Stuck}
@@ -14,9 +15,6 @@ use Rattle.pgo_workers.specs.OneAccounts.{along_next, state_kept, own_then_grows
 use Rattle.pgo_workers.specs.Holds as holds
 use Rattle.pgo_workers.specs.Kept.{own_is, left_is, accounts_seen, under, running, all_taken, under_operated, under_readied, own_grows, own_then_seen, history_grows, history_ends, took, nil_append}
 use Rattle.pgo_workers.specs.Ends.{ends, changes_on, was_held, journal_held, was_full, was_down}
-
-some_same : {A : Type 0} (x y : A) → Some x ≡ Some y → x ≡ y
-some_same x y h = grind arith
 
 eq_true : (a b : ℕ) → a ≡ b → nat_eq a b ≡ true
 eq_true a b e = grind (arith, e)
@@ -330,7 +328,7 @@ module _ {S D : Type 0} (W : World S D) (P : Program S D) (Reaches : ℕ → ℕ
           go (Some l) q d =
               let old = m.lists l q in
               let sub : Sub (downs w.records) ((l.passed ++ passing h) ++ flat (map passing hs)) = subst (Sub (downs w.records)) (ap (λ hs. l.passed ++ flat (map passing hs)) e ∙ sym (append_assoc l.passed (passing h) (flat (map passing hs)))) (passed_by w.phase giving l.passed old.passed) in
-              subst (Lists W P Reaches Good (record w { phase = if is_empty rs then Resting else Giving; taken = rs }) c) (some_same (record l { passed = l.passed ++ passing h }) s d) (record {
+              subst (Lists W P Reaches Good (record w { phase = if is_empty rs then Resting else Giving; taken = rs }) c) (same_Some (record l { passed = l.passed ++ passing h }) s d) (record {
                 refused = old.refused;
                 passed = subst (λ hs. PassedBy W P Reaches Good (if is_empty rs then Resting else Giving) w.records hs (l.passed ++ passing h)) (sym held) (passed rs hs (l.passed ++ passing h) rest sub);
                 now = [];

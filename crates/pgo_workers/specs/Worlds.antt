@@ -6,6 +6,7 @@ use Rattle.pgo_base.specs.Lookup.{Name, Vars, same_name, find}
 use Rattle.pgo_model.specs.Core.{same_index}
 use Rattle.pgo_model.specs.Log.{OfResource, OfInstance, Unowned, Component, Change, Effect, After, content, differs, is_in, label_in, own_names}
 use Rattle.pgo_model.specs.Machine.{nth}
+use Rattle.pgo_model.specs.Names.{is_among}
 use Rattle.pgo_model.specs.Operators.{same_data}
 use Rattle.pgo_model.specs.Options.{on}
 use Rattle.pgo_model.specs.System.{System, Resource, Owned, ids_of}
@@ -86,16 +87,12 @@ abbrev pub is_component_among : Component → List Component → Bool
 is_component_among c [] = false
 is_component_among c (d ∷ ds) = if same_component c d then true else is_component_among c ds
 
-abbrev pub is_own_name : Name → List Name → Bool
-is_own_name x [] = false
-is_own_name x (y ∷ ys) = if same_name x y then true else is_own_name x ys
-
 -- the component is the resource's that it says, or one of instance k's own
 abbrev pub is_component_of : Layout → ℕ → Component → Bool
 is_component_of y k c =
     elim c.owner as (λ o. Bool) [
       | OfResource n ↦ nat_lt n (length y.resources) && same_component c (component_at y.resources n)
-      | OfInstance j ↦ nat_eq j k && is_own_name c.variable (names_of y k) && same_index c.index (nth y.ids k)
+      | OfInstance j ↦ nat_eq j k && is_among c.variable (names_of y k) && same_index c.index (nth y.ids k)
       | Unowned ↦ false
     ]
 
@@ -123,7 +120,7 @@ world_of y = record {
 -- no two of these names are one
 abbrev pub are_different : List Name → Bool
 are_different [] = true
-are_different (x ∷ xs) = if is_own_name x xs then false else are_different xs
+are_different (x ∷ xs) = if is_among x xs then false else are_different xs
 
 -- there are two indices, and they differ
 abbrev pub are_other : Option Data → Option Data → Bool
@@ -138,12 +135,12 @@ pub record IsLayout (y : Layout) : Type 0 where
   pub identifiers_differ : (j k : ℕ) (v : Data) → nth y.ids j ≡ Some v → nth y.ids k ≡ Some v → j ≡ k
   pub names_differ : (k : ℕ) → are_different (names_of y k) ≡ true
   pub resources_differ : (m n : ℕ) (q r : Resource) → nth y.resources m ≡ Some q → nth y.resources n ≡ Some r → (m ≡ n → ⊥) → q.global ≡ r.global → are_other q.index r.index ≡ true
-  pub none_own : (n k : ℕ) (r : Resource) → nth y.resources n ≡ Some r → is_own_name r.global (names_of y k) ≡ false
+  pub none_own : (n k : ℕ) (r : Resource) → nth y.resources n ≡ Some r → is_among r.global (names_of y k) ≡ false
 
 -- each component of a resource or of an instance is in the state
 pub record HasAll (y : Layout) (s : Vars) : Type 0 where
   pub resources : (n : ℕ) (r : Resource) → nth y.resources n ≡ Some r → is_in (component_at y.resources n) s ≡ true
-  pub own : (k : ℕ) (id : Data) (x : Name) → nth y.ids k ≡ Some id → is_own_name x (names_of y k) ≡ true → is_in (own_component k id x) s ≡ true
+  pub own : (k : ℕ) (id : Data) (x : Name) → nth y.ids k ≡ Some id → is_among x (names_of y k) ≡ true → is_in (own_component k id x) s ≡ true
 
 -- ---- the entry that a worker makes
 

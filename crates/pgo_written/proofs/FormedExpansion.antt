@@ -6,7 +6,7 @@ use Rattle.pgo_base.specs.Tree.{Tree, name}
 use Rattle.pgo_model.specs.Options.{on}
 use Rattle.pgo_model.specs.Written.{made}
 use Rattle.pgo_expr_write.specs.WellFormed.{IsWellFormed, IsName, AreNames}
-use Rattle.pgo_sections.specs.Among.{is_among}
+use Rattle.pgo_model.specs.Names.{is_among}
 use Rattle.pgo_sections.specs.Code.{Place, Whole, Own, variable_of, Code, Empty, Skip, Let, Pick, Become, Set, Await, Assert, Print, If, Either, Seq, Goto, Yield, Read, Write, Codes, no_codes, more_codes, content_name, content_places, value_name, old_base, val_base, new_base}
 use Rattle.pgo_sections.specs.Context.{is_assigned}
 use Rattle.pgo_sections.specs.Expand.{Renames, Current, untouched, current, placed, named, current_name, current_tree, made_name, content_tree, content_put, becoming, content_now, value_handed, OnGo, OnJump, OnYield, no_go, no_jump, no_yield, put_back, left_behind, expand, expand_arms, to_end, settled, expansion}

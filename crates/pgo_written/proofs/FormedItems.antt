@@ -9,7 +9,7 @@ use Rattle.pgo_model.specs.Module.{joined_by, all_of, any_of, union_of, stands_a
 use Rattle.pgo_model.specs.Sequences.{assert_name}
 use Rattle.pgo_model.specs.Written.{pc}
 use Rattle.pgo_expr_write.specs.WellFormed.{IsWellFormed, IsName, AreNames}
-use Rattle.pgo_sections.specs.Among.{is_among}
+use Rattle.pgo_model.specs.Names.{is_among}
 use Rattle.pgo_sections.specs.Expansion.{Expansion, With, In, Skip, Await, Assert, Print, If, Either, End, Expansions, no_expansions, more_expansions}
 use Rattle.pgo_translate.specs.Items.{equals, at_self, items, arm_trees, assigned_to, assigned, assignments, stays, staying, unless_none, action_body}
 use Rattle.pgo_written.specs.FormedCode.{IsText, ExpansionFormed, ExpansionsFormed}

@@ -17,7 +17,7 @@ use Rattle.pgo_syntax.specs.declared.name.PlacedName.{PlacedName}
 use Rattle.pgo_bound.specs.Among.{none_left, none_right}
 use Rattle.pgo_bound.specs.Sound.{labels_in, labels_each, labels_among, labels_guarded}
 use Rattle.pgo_expr_write.specs.WellFormed.{AreNames}
-use Rattle.pgo_sections.specs.Among.{is_among}
+use Rattle.pgo_model.specs.Names.{is_among}
 use Rattle.pgo_meaning.specs.LabelSections.{AreUnlabelled}
 use Rattle.pgo_meaning.specs.MacrosPlaced.{marked, unmarked, Arguments, argument, put_tree, put_step, only, with_step, left_of, put_left, put_assignment, put_origin, with_marked, put_names, under_names, put, put_each, put_among, put_guarded, Body, Bodies, handed, walked, placed, placed_each, placed_among, placed_guarded, bodies_with, bodies}
 use Rattle.pgo_written.specs.Formed.{Formed, SomeFormed, RangeFormed}

@@ -23,7 +23,7 @@ use Rattle.pgo_bound.specs.Runs.{Handed, handed_from, archetype_named, mapping_n
 use Rattle.pgo_bound.specs.State.{variables_of}
 use Rattle.pgo_labels.specs.YieldRule.{keeps_yield_rule}
 use Rattle.pgo_sections.specs.Access.{MappedNames}
-use Rattle.pgo_sections.specs.Among.{is_among}
+use Rattle.pgo_model.specs.Names.{is_among}
 use Rattle.pgo_sections.specs.Code.{Place, Whole, variable_of, Code, content_name, content_places, value_name}
 use Rattle.pgo_sections.specs.Expand.{expansion}
 use Rattle.pgo_sections.specs.Expansion.{Expansion}

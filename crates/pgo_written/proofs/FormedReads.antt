@@ -8,7 +8,7 @@ use Rattle.pgo_base.specs.Tree.{Tree, name, primed, number, text, truth, at, wor
 use Rattle.pgo_model.specs.Options.{on}
 use Rattle.pgo_expr_write.specs.WellFormed.{is_word, is_member_of_word}
 use Rattle.pgo_sections.specs.Access.{Mapped, MappedNames, place, MappedRead, Hoisted, pure, read_whole, read_element, index_tree, name_alone, if_element, if_whole, mapped_under, element_of, hoisted, hoisted_all, hoisted_arms, hoisted_fields, hoisted_let, hoisted_bound, hoisted_paths}
-use Rattle.pgo_sections.specs.Among.{is_among}
+use Rattle.pgo_model.specs.Names.{is_among}
 use Rattle.pgo_sections.specs.Bound.{names_of, names_bound, below}
 use Rattle.pgo_sections.specs.Code.{Place, content_places, value_name}
 use Rattle.pgo_written.specs.Formed.{Formed, AllFormed, SomeFormed, TwoFormed, NamedFormed, SomeNamedFormed, ArmsFormed, SomeArmsFormed, BoundFormed, SomeBoundFormed, PathsFormed, SomePathsFormed, RangeFormed}

@@ -17,7 +17,7 @@ use Rattle.pgo_mpcal_read.specs.Statements.{IsStep, IsLeft, IsAssignment, IsOrig
 use Rattle.pgo_mpcal_read.specs.Statements as m
 use Rattle.pgo_expr_write.specs.WellFormed.{IsName}
 use Rattle.pgo_expr_write.proofs.Formed.{Told}
-use Rattle.pgo_sections.specs.Among.{is_among}
+use Rattle.pgo_model.specs.Names.{is_among}
 use Rattle.pgo_sections.specs.Code.{content_name, value_name}
 use Rattle.pgo_syntax.specs.Statement.{Statement, statements, labeled, guarded}
 use Rattle.pgo_syntax.specs.declared.assignment.Assignment.{Assignment}

@@ -1,6 +1,7 @@
 -- Tokens of a specification's text are such as its expressions and statements ask for.
-use Rattle.std.proofs.Common.{◌≡◌, ℕ, Bool, true, false, ◌&&◌, ◌||◌, not, List, [], ◌∷◌, ◌++◌, length, Option, Some, None, refl, ap, sym, subst, cond, nat_eq}
+use Rattle.std.proofs.Common.{◌≡◌, ℕ, Bool, true, false, ◌&&◌, ◌||◌, not, List, [], ◌∷◌, ◌++◌, length, Option, Some, None, refl, ap, sym, subst, cond, nat_eq, arith}
 use Rattle.std.proofs.lemmas.Bool.{and_parts, eqb-true, leb-true}
+use Rattle.std.proofs.lemmas.Bool.Decides.{nat_tests}
 use Rattle.pgo_lexer.specs.Layout.{Marked, Bullets, Marks, list_close}
 use Rattle.pgo_lexer.specs.Layout as mark
 use Rattle.pgo_lexer.specs.Lexemes.{IsPiece, Quoted, all_are, is_printed, is_plain}
@@ -19,7 +20,7 @@ use Rattle.pgo_written.proofs.FormedText.{Quiet}
 -- ---- strings
 
 plain_told : (b : ℕ) → is_plain b ≡ true → is_string_byte b ≡ true
-plain_told b h = ap (λ z. z || (nat_eq b 9 || nat_eq b 10)) (and_parts (is_printed b) (not (nat_eq b 34) && not (nat_eq b 92)) h).0
+plain_told b h = let p = and_parts (is_printed b) (not (nat_eq b 34) && not (nat_eq b 92)) h in grind (arith, nat_tests, p)
 
 IsTold : ℕ → Type 0
 IsTold b = is_string_byte b ≡ true

@@ -9,7 +9,7 @@ use Rattle.pgo_base.specs.Tree.{Tree, name, primed, number, text, truth, at, wor
 use Rattle.pgo_model.specs.Module.{joined_by, all_of, any_of, stands_at}
 use Rattle.pgo_model.specs.Options.{on}
 use Rattle.pgo_model.specs.Written.{pc}
-use Rattle.pgo_sections.specs.Among.{is_among}
+use Rattle.pgo_model.specs.Names.{is_among}
 use Rattle.pgo_sections.specs.Expansion.{Expansion, With, In, Skip, Await, Assert, Print, If, Either, End, Expansions, no_expansions, more_expansions}
 use Rattle.pgo_expr_read.specs.Heights.{height}
 use Rattle.pgo_measure.specs.Heights.{all_joined, action_height, either_height, label_height, items_of}

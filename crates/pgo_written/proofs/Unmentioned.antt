@@ -15,9 +15,10 @@ use Rattle.pgo_syntax.specs.declared.binding.WithName.{WithName}
 use Rattle.pgo_syntax.specs.declared.macros.MappingMacro.{MappingMacro}
 use Rattle.pgo_operands.specs.Mentions.{mentions}
 use Rattle.pgo_labels.specs.Inside.{Item, inside, inside_all, inside_labeled, inside_guarded, with_inside}
-use Rattle.pgo_labels.specs.YieldRule.{indices, of_origin, conditions, expressions, statements_mention, is_well_formed, keeps_yield_rule}
+use Rattle.pgo_syntax.specs.Origins.{origin_tree}
+use Rattle.pgo_labels.specs.YieldRule.{indices, conditions, expressions, statements_mention, is_well_formed, keeps_yield_rule}
 use Rattle.pgo_bound.specs.Among.{IsAmong, among_left, among_right, among_append, none_any, turned}
-use Rattle.pgo_sections.specs.Among.{is_among}
+use Rattle.pgo_model.specs.Names.{is_among}
 use Rattle.pgo_sections.specs.Code.{content_name, value_name}
 use Rattle.pgo_expr_write.specs.WellFormed.{IsName}
 use Rattle.pgo_written.specs.Formed.{Formed, AllFormed, SomeFormed, TwoFormed, NamedFormed, SomeNamedFormed, ArmsFormed, SomeArmsFormed, BoundFormed, SomeBoundFormed, PathsFormed, SomePathsFormed, RangeFormed}
@@ -192,14 +193,14 @@ assignments_less ns ms f (a ∷ as') g h =
     let own = about_left (indices a.left.path ++ a.right ∷ []) further g in
     (path_less ns ms f a.left.path (about_left (indices a.left.path) (a.right ∷ []) own) h.0, expression_less ns ms f a.right (about_right (indices a.left.path) (a.right ∷ []) own a.right (inl refl)) h.1, assignments_less ns ms f as' (about_right (indices a.left.path ++ a.right ∷ []) further g) h.2)
 
-origin_less : (ns ms : List Name) → Fewer ns ms → (o : Origin) → mentions value_name (of_origin o) ≡ false → OriginFormed ns o → OriginFormed ms o
+origin_less : (ns ms : List Name) → Fewer ns ms → (o : Origin) → mentions value_name (origin_tree o) ≡ false → OriginFormed ns o → OriginFormed ms o
 origin_less ns ms f (Equals e) g h = expression_less ns ms f e g h
 origin_less ns ms f (In e) g h = range_less ns ms f e g h
 
-withs_less : (ns ms : List Name) → Fewer ns ms → (ws : List WithName) → NoneAbout (map (λ w. of_origin w.origin) ws) → WithsFormed ns ws → WithsFormed ms ws
+withs_less : (ns ms : List Name) → Fewer ns ms → (ws : List WithName) → NoneAbout (map (λ w. origin_tree w.origin) ws) → WithsFormed ns ws → WithsFormed ms ws
 withs_less ns ms f [] g h = tt
 withs_less ns ms f (w ∷ ws) g h =
-    (h.0, origin_less ns ms f w.origin (g (of_origin w.origin) (inl refl)) h.1, withs_less (w.name.name ∷ ns) (w.name.name ∷ ms) (fewer_more w.name.name ns ms f) ws (λ e m. g e (inr m)) h.2)
+    (h.0, origin_less ns ms f w.origin (g (origin_tree w.origin) (inl refl)) h.1, withs_less (w.name.name ∷ ns) (w.name.name ∷ ms) (fewer_more w.name.name ns ms f) ws (λ e m. g e (inr m)) h.2)
 
 fewer_with : (ns ms : List Name) (ws : List WithName) → Fewer ns ms → Fewer (in_with ns ws) (in_with ms ws)
 fewer_with ns ms [] f = f

@@ -2,6 +2,7 @@
 use Rattle.std.proofs.Common.{◌≡◌, ◌≤◌, ◌<◌, ◌+◌, ◌/◌, ◌%◌, ◌==◌, ℕ, zero, suc, Bool, true, false, ◌&&◌, ◌||◌, if◌then◌else◌, nat_eq, nat_lt, List, [], ◌∷◌, ◌++◌, length, decimal, refl, ap, sym, ◌∙◌, subst, arith, length-append, append_assoc, mod-lt, cond}
 use Rattle.std.specs.Fmt.{digits, digits_onto, digit_glyph}
 use Rattle.std.proofs.lemmas.Bool.{and_parts}
+use Rattle.std.proofs.lemmas.Bool.Decides.{nat_tests}
 use Rattle.std.proofs.lemmas.Fmt.{length-decimal-le}
 use Rattle.pgo_base.specs.Lookup.{Name}
 use Rattle.pgo_lexer.specs.Lexemes.{all_are}
@@ -126,7 +127,7 @@ self_is_name = (refl, omega arith)
 -- ---- texts
 
 word_text : (b : ℕ) → is_word_byte b ≡ true → is_string_byte b ≡ true
-word_text b h = grind arith
+word_text b h = grind (arith, nat_tests)
 
 words_text : (x : Name) → all_word_bytes x ≡ true → IsText x
 words_text [] h = refl

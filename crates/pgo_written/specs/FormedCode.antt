@@ -5,7 +5,7 @@ use Rattle.pgo_base.specs.Lookup.{Name, find}
 use Rattle.pgo_model.specs.ValueText.{is_identifier}
 use Rattle.pgo_lexer.specs.Lexemes.{all_are}
 use Rattle.pgo_expr_write.specs.WellFormed.{IsWellFormed, IsName, is_string_byte, is_word}
-use Rattle.pgo_sections.specs.Among.{is_among}
+use Rattle.pgo_model.specs.Names.{is_among}
 use Rattle.pgo_sections.specs.Code.{Place, Code, Empty, Skip, Let, Pick, Become, Set, Await, Assert, Print, If, Either, Seq, Goto, Yield, Read, Write, Codes, no_codes, more_codes, content_places, value_name}
 use Rattle.pgo_sections.specs.Expansion.{Expansion, With, In, Skip as ESkip, Await as EAwait, Assert as EAssert, Print as EPrint, If as EIf, Either as EEither, End, Expansions, no_expansions, more_expansions}
 use Rattle.pgo_sections.specs.WellFormed.{KnownIndex}

@@ -9,7 +9,7 @@ use Rattle.pgo_base.specs.Size.{depth}
 use Rattle.pgo_model.specs.Accounts.{Accounts, EntriesMade, EntryMade, JointAccounts, Told, journal}
 use Rattle.pgo_model.specs.Choice.{Seeded, words_of}
 use Rattle.pgo_model.specs.Core.{Core, Reaches, Settings, are_at_done, has_full, has_stopped, is_listed, last_ends_from, rules_of, status_of}
-use Rattle.pgo_model.specs.IsBundle.{is_read_name, is_run_status}
+use Rattle.pgo_model.specs.BundleParts.{is_read_name, is_run_status}
 use Rattle.pgo_model.specs.Log as log
 use Rattle.pgo_model.specs.Log.{Change, Component, Effect, changes_between, components_of, label_in, label_of, own_components, resource_components}
 use Rattle.pgo_model.specs.Machine.{Entry, Finished, Record, Step, Noted, Held, Down, Full, Rules, finished_of, nth, state_at}

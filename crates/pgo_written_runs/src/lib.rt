@@ -6,7 +6,7 @@ ghost use Rattle.pgo_base.specs.Data.{Data};
 ghost use Rattle.pgo_base.specs.Lookup.{Name};
 ghost use Rattle.pgo_model.specs.Bundle.{Bundle};
 ghost use Rattle.pgo_model.specs.Core.{Core, Settings, status_of};
-ghost use Rattle.pgo_model.specs.IsBundle.{is_run_status};
+ghost use Rattle.pgo_model.specs.BundleParts.{is_run_status};
 ghost use Rattle.pgo_model.specs.Log.{Effect};
 ghost use Rattle.pgo_model.specs.Machine.{Finished, finished_of};
 ghost use Rattle.pgo_model.specs.ModuleText.{Text};

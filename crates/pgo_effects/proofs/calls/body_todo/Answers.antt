@@ -10,4 +10,4 @@ pub returns : goal.returns
 returns c =
     let e = ap (λ v. v.items) c.in_ok-layers.ensures.ok ∙ c.in_ok-within.ensures ∙ ap (λ l. c.args.arguments ∷ l) (c.deref-2.ensures.value ∙ ap (λ v. v.items) c.deref.ensures) in
     λ s. let l = written_label s (around_view c.args.around.now).label in
-    (λ i. in_order s l (puts_among (e i) (placed_among (bodies c.args.called.before.now) (labeled (c.as_slice.ensures i)))))
+    (λ i. in_order s l (puts_among (e i) (placed_among (bodies (c.in_ok-macros.ensures i)) (labeled (c.as_slice.ensures i)))))

@@ -19,7 +19,7 @@ returns-in-None c =
 
 pub returns-in-Some : goal.returns-in-Some
 returns-in-Some c =
-    let a = around_view c.args.around.now in let ts = map tree c.args.list.now in let b = called_body c.in-Some.called in
+    let a = around_view c.args.around.now in let ts = map tree c.args.list.now in let b = called_body c.args.around.now.macros c.in-Some.called in
     IfOk-weaker c.body_piece.result (λ p. (s : Setting) (n : ℕ) → piece_code s p ≡ code s (above s a) (puts a.layers (walked n (put (handed b.parameters ts) b.statement))))
     (λ p. (s : Setting) (n : ℕ) → piece_code s p ≡ code s (above s a) (stands a (call_macro n c.args.m.now ts)))
     (λ p h. λ s n. h s n ∙ macro_here s a n c.args.m.now ts (Some b) b refl c.in-Some.ensures) c.body_piece.ensures

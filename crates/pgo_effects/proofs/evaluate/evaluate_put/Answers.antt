@@ -12,4 +12,4 @@ returns c =
     let a = IfOk-at_ok _ t.ensures.second c.add_reads-added.ensures in
     let r : h.rest ≡ t.rest = cc (t.ensures.first) in
     λ f. ap (λ e. code_with es (f (tree e) h.used)) (sym r)
-    ∙ evaluated_by c.args.effects.now.items es _ _ (tree c.args.e.now) c.args.used (hoisted_view h) c.bindings.ensures c.in_ok-hoisted.ensures a f
+    ∙ evaluated_by c.args.effects.now.items es _ (tree c.args.e.now) c.args.used (hoisted_view h) c.in_ok-hoisted.ensures a f

@@ -10,7 +10,7 @@ use Rattle.pgo_meaning.specs.System.{system_of}
 use Rattle.pgo_translate.specs.ModuleOf.{constants_with, module_of, module_with}
 use Rattle.pgo_model.specs.Accounts.{Contended}
 use Rattle.pgo_model.specs.Core.{Core, rules_of}
-use Rattle.pgo_model.specs.IsBundle.{is_run_status}
+use Rattle.pgo_model.specs.BundleParts.{is_run_status}
 use Rattle.pgo_model.specs.Module.{Module}
 use Rattle.pgo_model.specs.ModuleText.{Text}
 use Rattle.pgo_log_text.specs.LogOf.{log_of}

@@ -15,7 +15,7 @@ returns-then-least-gt1048576 c =
     (subst (λ l. c.loop-process.least + nodes_in (flat_map (process_expansions s) l) ≤ nodes_in (trees_of s))
     (drop_at c.as_slice-process-items.result.now c.loop-process.process-index c.process-item.result c.loop-process-test.true ∙ ap (λ p. p ∷ rest) (sym c.process-item.is))
     c.loop-process.invariant)
-    c.in_ok-more.ensures c.saturating_add-least.ensures)
+    (subst (λ d. c.in_ok-more.more ≤ nodes_in (process_expansions d c.process-item.result)) c.in_ok-indexed.ensures c.in_ok-more.ensures) c.saturating_add-least.ensures)
 
 pub loop-process-preserved : goal.loop-process-preserved
 loop-process-preserved c =
@@ -25,4 +25,4 @@ loop-process-preserved c =
     (subst (λ l. c.loop-process.least + nodes_in (flat_map (process_expansions s) l) ≤ nodes_in (trees_of s))
     (drop_at c.as_slice-process-items.result.now c.loop-process.process-index c.process-item.result c.loop-process-test.true ∙ ap (λ p. p ∷ rest) (sym c.process-item.is))
     c.loop-process.invariant)
-    c.in_ok-more.ensures c.saturating_add-least.ensures
+    (subst (λ d. c.in_ok-more.more ≤ nodes_in (process_expansions d c.process-item.result)) c.in_ok-indexed.ensures c.in_ok-more.ensures) c.saturating_add-least.ensures

@@ -15,7 +15,7 @@ returns-in-None c =
     ∙ c.loop-process.invariant
     ∙ ap (measured_processes s c.loop-process.now.nodes c.loop-process.now.height) (drop_at c.as_slice-process-items.result.now c.loop-process.process-index c.process-item.result c.loop-process-test.true ∙ ap (λ p. p ∷ rest) (sym c.process-item.is))
     ∙ processes_step s c.loop-process.now.nodes c.loop-process.now.height c.process-item.result rest
-    ∙ ap (λ o. on None o (λ r. measured_processes s r.0 r.1 rest)) (sym c.in_ok-behind_process.ensures ∙ ap (option_map left_view) c.in-None.is))
+    ∙ ap (λ o. on None o (λ r. measured_processes s r.0 r.1 rest)) (sym (rw c.in_ok-indexed.ensures at c.in_ok-behind_process.ensures) ∙ ap (option_map left_view) c.in-None.is))
 
 pub loop-process-preserved : goal.loop-process-preserved
 loop-process-preserved c =
@@ -24,7 +24,7 @@ loop-process-preserved c =
     c.loop-process.invariant
     ∙ ap (measured_processes s c.loop-process.now.nodes c.loop-process.now.height) (drop_at c.as_slice-process-items.result.now c.loop-process.process-index c.process-item.result c.loop-process-test.true ∙ ap (λ p. p ∷ rest) (sym c.process-item.is))
     ∙ processes_step s c.loop-process.now.nodes c.loop-process.now.height c.process-item.result rest
-    ∙ ap (λ o. on None o (λ r. measured_processes s r.0 r.1 rest)) (sym c.in_ok-behind_process.ensures ∙ ap (option_map left_view) c.in-Some.is)
+    ∙ ap (λ o. on None o (λ r. measured_processes s r.0 r.1 rest)) (sym (rw c.in_ok-indexed.ensures at c.in_ok-behind_process.ensures) ∙ ap (option_map left_view) c.in-Some.is)
 
 pub returns : goal.returns
 returns c =

@@ -13,15 +13,15 @@ returns c =
     let vs = c.args.names.now.variables.items in
     let a = c.args.archetype.now in
     let bs = process_bindings c.args.spec.now c.args.process.now a in
-    let one : c.as_slice.result.now ≡ bs = c.as_slice.ensures.value ∙ c.in_ok-bindings.ensures in
+    let bound : c.in_ok-bindings.bindings ≡ bs = c.in_ok-bindings.ensures ∙ c.as_slice.ensures.value ∙ c.in_ok-list.ensures in
     let same : c.in_ok-indexed.indexed ≡ a = c.in_ok-indexed.ensures in
-    let three : c.as_slice-3.result.now ≡ bs = c.as_slice-3.ensures.value ∙ c.in_ok-bindings.ensures in
+    let macros = c.in_ok-macros.ensures ∙ c.requires.macros in
     let found =
-    sym (λ i. map (section_view (setting_of c.args.process.now.name.name (same i) (three i))) c.in_ok-found.found.items)
+    sym (λ i. map (section_view (setting_of c.args.process.now.name.name (same i) (bound i))) c.in_ok-found.found.items)
     ∙ c.in_ok-found.ensures
-    ∙ (λ i. sections_of (c.as_slice-2.ensures i) c.args.process.now.name.name (same i) (three i)) in
+    ∙ (λ i. sections_of (macros i) c.args.process.now.name.name (same i) (bound i)) in
     subst (λ x. IfOk c.behind_labels.result (λ o. option_map left_view o ≡ x))
     (ap (measured_labels vs c.args.names.now.globals.items c.args.left.nodes c.args.left.height)
-    ((λ i. map (λ s. (s.0, expansion vs (places_of c.args.process.now.name.name (same i) (one i)) s.1)) (map (section_view (setting_of c.args.process.now.name.name (same i) (one i))) (c.as_slice-4.ensures.value i)))
+    ((λ i. map (λ s. (s.0, expansion vs (places_of c.args.process.now.name.name (same i) (bound i)) s.1)) (map (section_view (setting_of c.args.process.now.name.name (same i) (bound i))) (c.as_slice-2.ensures.value i)))
     ∙ ap (map (λ s. (s.0, expansion vs (places_of c.args.process.now.name.name a bs) s.1))) found))
     c.behind_labels.ensures

@@ -9,4 +9,4 @@ use Rattle.pgo_heads.specs.Views.{run_view}
 use Rattle.pgo_heads.proofs.archetypes_run.names_run.Given as goal
 
 abbrev pub invariant-loop-r : goal.invariant-loop-r
-invariant-loop-r l = (n : Name) → has_name l.names.map n || list_any (λ (r : Run). same_name n r.archetype.name.name) (map run_view (drop l.r-index l.runs)) ≡ list_any (λ (r : Run). same_name n r.archetype.name.name) (map run_view l.runs)
+invariant-loop-r l = (n : Name) → has_name l.names n || list_any (λ (r : Run). same_name n r.archetype.name.name) (map run_view (drop l.r-index l.runs)) ≡ list_any (λ (r : Run). same_name n r.archetype.name.name) (map run_view l.runs)

@@ -7,4 +7,4 @@ use Rattle.pgo_heads.specs.NameMaps.{value_in}
 use Rattle.pgo_heads.proofs.given_values.last_values.Given as goal
 
 abbrev pub invariant-loop-c : goal.invariant-loop-c
-invariant-loop-c l = (n : Name) → latest n (value_in l.last.map n) (map named_data (drop l.c-index l.list)) ≡ given_value (map named_data l.list) n
+invariant-loop-c l = (n : Name) → latest n (value_in l.last n) (map named_data (drop l.c-index l.list)) ≡ given_value (map named_data l.list) n

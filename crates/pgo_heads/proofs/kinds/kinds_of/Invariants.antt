@@ -8,4 +8,4 @@ use Rattle.pgo_heads.specs.Views.{run_view}
 use Rattle.pgo_heads.proofs.kinds.kinds_of.Given as goal
 
 abbrev pub invariant-loop-r : goal.invariant-loop-r
-invariant-loop-r l = (n : Name) → all_extents Unbound (extents_of n (map run_view l.runs)) ≡ all_extents (kind_in l.kinds.map n) (extents_of n (map run_view (drop l.r-index l.runs)))
+invariant-loop-r l = (n : Name) → all_extents Unbound (extents_of n (map run_view l.runs)) ≡ all_extents (kind_in l.kinds n) (extents_of n (map run_view (drop l.r-index l.runs)))

@@ -9,7 +9,7 @@ use Rattle.pgo_heads.proofs.mapping_clauses.by_name.Given as goal
 
 abbrev pub invariant-loop-i : goal.invariant-loop-i
 invariant-loop-i l =
-    ((x : Name) → clauses_under l.known.map x ≡ first_of (filter (λ (c : MappingClause). is_of_name x c.target) (drop l.i l.list))) × (l.i ≤ length l.list)
+    ((x : Name) → clauses_under l.known x ≡ first_of (filter (λ (c : MappingClause). is_of_name x c.target) (drop l.i l.list))) × (l.i ≤ length l.list)
 
 abbrev pub decreases-loop-i : goal.decreases-loop-i
 decreases-loop-i l = l.i

@@ -7,7 +7,7 @@ use Rattle.pgo_heads.proofs.named_archetypes.first_archetypes.Given as goal
 
 abbrev pub invariant-loop-i : goal.invariant-loop-i
 invariant-loop-i l =
-    ((n : Name) → archetype_in l.first.map n ≡ archetype_named n (drop l.i l.list)) × (l.i ≤ length l.list)
+    ((n : Name) → archetype_in l.first n ≡ archetype_named n (drop l.i l.list)) × (l.i ≤ length l.list)
 
 abbrev pub decreases-loop-i : goal.decreases-loop-i
 decreases-loop-i l = l.i

@@ -12,7 +12,7 @@ loop-i-init c =
 
 pub loop-i-preserved : goal.loop-i-preserved
 loop-i-preserved c = (
-  λ n. one_more c.args.list.now (c.loop-i.i - 1) c.loop-i.i c.index-list-i.result n (found c.loop-i.known.map n) (found c.put_first.new.known.map n)
+  λ n. one_more c.args.list.now (c.loop-i.i - 1) c.loop-i.i c.index-list-i.result n (found c.loop-i.known n) (found c.put_first.new.known n)
       (omega (arith, c.loop-i.invariant.1)) (omega arith) c.index-list-i.is (c.in_ok-put_first.ensures n) (c.loop-i.invariant.0 n),
   omega (arith, c.loop-i.invariant.1),
 )

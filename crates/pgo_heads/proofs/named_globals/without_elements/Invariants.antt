@@ -8,7 +8,7 @@ use Rattle.pgo_heads.proofs.named_globals.without_elements.Given as goal
 
 abbrev pub invariant-loop-i : goal.invariant-loop-i
 invariant-loop-i l =
-    ((n : Name) → is_true_in l.known.map n ≡ names_no_elements (map global_view (drop l.i l.list)) n) × (l.i ≤ length l.list)
+    ((n : Name) → is_true_in l.known n ≡ names_no_elements (map global_view (drop l.i l.list)) n) × (l.i ≤ length l.list)
 
 abbrev pub decreases-loop-i : goal.decreases-loop-i
 decreases-loop-i l = l.i

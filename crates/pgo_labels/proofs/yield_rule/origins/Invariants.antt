@@ -2,11 +2,11 @@
 use Rattle.std.proofs.Common.{◌≡◌, ◌++◌, map, drop}
 use Rattle.pgo_base.specs.Tree.{Tree}
 use Rattle.pgo_syntax.specs.declared.binding.WithName.{WithName}
+use Rattle.pgo_syntax.specs.Origins.{origin_tree}
 use Rattle.pgo_operands.specs.Operands.{lent_trees}
-use Rattle.pgo_labels.specs.YieldRule as spec
 use Rattle.pgo_labels.proofs.yield_rule.origins.Given as goal
 
 abbrev pub invariant-loop-one : goal.invariant-loop-one
 invariant-loop-one l =
-    let f : WithName → Tree = λ w. spec.of_origin w.origin in
+    let f : WithName → Tree = λ w. origin_tree w.origin in
     lent_trees l.parts.items ++ map f (drop l.one-index l.list) ≡ map f l.names

@@ -19,20 +19,20 @@ abbrev pub decreases-row_counts : goal.decreases-row_counts
 decreases-row_counts l = 2 * labeled_height (labeled (map labeled_pair l.list.now)) + 1
 
 abbrev pub invariant-arms_counts-loop-at : goal.invariant-arms_counts-loop-at
-invariant-arms_counts-loop-at l = (l.all ≡ spec.arms_counts (spec.table l.macros) (statements (map statement (drop l.at l.list)))) × (l.at ≤ length l.list)
+invariant-arms_counts-loop-at l = (l.all ≡ spec.arms_counts l.macros (statements (map statement (drop l.at l.list)))) × (l.at ≤ length l.list)
 
 abbrev pub decreases-arms_counts-loop-at : goal.decreases-arms_counts-loop-at
 decreases-arms_counts-loop-at l = l.at
 
 abbrev pub invariant-branches_counts-loop-at : goal.invariant-branches_counts-loop-at
 invariant-branches_counts-loop-at l =
-    (l.all ≡ spec.branches_counts (spec.table l.macros) l.fn.other (guarded (map branch_parts (drop l.at l.list)))) × (l.at ≤ length l.list)
+    (l.all ≡ spec.branches_counts l.macros l.fn.other (guarded (map branch_parts (drop l.at l.list)))) × (l.at ≤ length l.list)
 
 abbrev pub decreases-branches_counts-loop-at : goal.decreases-branches_counts-loop-at
 decreases-branches_counts-loop-at l = l.at
 
 abbrev pub invariant-row_counts-loop-at : goal.invariant-row_counts-loop-at
-invariant-row_counts-loop-at l = (l.all ≡ spec.row_counts (spec.table l.macros) (labeled (map labeled_pair (drop l.at l.list)))) × (l.at ≤ length l.list)
+invariant-row_counts-loop-at l = (l.all ≡ spec.row_counts l.macros (labeled (map labeled_pair (drop l.at l.list)))) × (l.at ≤ length l.list)
 
 abbrev pub decreases-row_counts-loop-at : goal.decreases-row_counts-loop-at
 decreases-row_counts-loop-at l = l.at

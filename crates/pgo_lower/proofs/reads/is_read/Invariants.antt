@@ -1,6 +1,6 @@
 use Rattle.std.proofs.Common.{◌≡◌, drop, map}
 use Rattle.pgo_code.specs.See.{unmapped_view}
-use Rattle.pgo_sections.specs.Among.{is_among}
+use Rattle.pgo_model.specs.Names.{is_among}
 use Rattle.pgo_lower.proofs.reads.is_read.Given as goal
 
 abbrev pub invariant-loop-u : goal.invariant-loop-u

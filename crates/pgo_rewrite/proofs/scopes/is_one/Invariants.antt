@@ -1,6 +1,6 @@
 -- What is left decides.
 use Rattle.std.proofs.Common.{◌≡◌, drop}
-use Rattle.pgo_sections.specs.Among.{is_among}
+use Rattle.pgo_model.specs.Names.{is_among}
 use Rattle.pgo_rewrite.proofs.scopes.is_one.Given as goal
 
 abbrev pub invariant-loop-one : goal.invariant-loop-one

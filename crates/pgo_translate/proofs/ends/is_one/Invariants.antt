@@ -1,5 +1,5 @@
 use Rattle.std.proofs.Common.{◌≡◌, drop}
-use Rattle.pgo_sections.specs.Among.{is_among}
+use Rattle.pgo_model.specs.Names.{is_among}
 use Rattle.pgo_translate.proofs.ends.is_one.Given as goal
 
 abbrev pub invariant-loop-one : goal.invariant-loop-one

@@ -1,6 +1,6 @@
 use Rattle.std.proofs.Common.{◌∙◌, ap, cond, Some}
 use Rattle.pgo_heads.specs.NameMaps.{numbered}
-use Rattle.pgo_heads.proofs.SameNames.{same_number_back}
+use Rattle.pgo_heads.proofs.SameNumbers.{same_number_back}
 use Rattle.pgo_heads.proofs.number_map.NumberMap.set.Goals as goal
 
 pub returns : goal.returns

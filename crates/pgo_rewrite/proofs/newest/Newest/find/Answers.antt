@@ -2,7 +2,7 @@ use Rattle.std.proofs.Common.{◌≡◌, ℕ, Vec, Global, Some, None, ap, sym, 
 use Rattle.std.proofs.lemmas.Option.{slice_get_past, slice_get-get_or}
 use Rattle.std.specs.Prelude.{option_map, slice_get}
 use Rattle.pgo_base.specs.Lookup.{Name, find}
-use Rattle.pgo_rewrite.specs.Newest.{found_in}
+use Rattle.pgo_syntax.specs.NameMaps.{found_in}
 use Rattle.pgo_rewrite.proofs.NewestLaws.{placed_value}
 use Rattle.pgo_rewrite.proofs.newest.Newest.find.Goals as goal
 

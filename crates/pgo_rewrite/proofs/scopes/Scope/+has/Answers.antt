@@ -1,5 +1,5 @@
 use Rattle.std.proofs.Common.{◌||◌, sym, ap, ◌∙◌}
-use Rattle.pgo_sections.specs.Among.{is_among}
+use Rattle.pgo_model.specs.Names.{is_among}
 use Rattle.pgo_rewrite.specs.Scopes.{in_scope}
 use Rattle.pgo_rewrite.specs.ScopeView.{groups_of}
 use Rattle.pgo_rewrite.proofs.Among.{group_has}

@@ -1,0 +1,80 @@
+// A specification whose mapping macros are found by name.
+ghost use Rattle.std.specs.Prelude.{◌≡◌, option_map, IfOk};
+ghost use Rattle.pgo_base.specs.Lookup.{Name};
+ghost use Rattle.pgo_bound.specs.Runs as specs;
+ghost use Rattle.pgo_heads.specs.NameMaps.{mapping_in};
+
+use pgo_base::text::Text;
+use pgo_syntax::macros::MappingMacro;
+use pgo_syntax::name_map::NameMap;
+use pgo_syntax::spec::Spec;
+use std::alloc::{AllocError, Global};
+use std::marker::Model;
+
+/// A specification. A mapping macro is found without going over all of them; of several of one name the first counts.
+#[derive(Drop)]
+pub struct IndexedSpec<'a> {
+    spec: &'a Spec,
+    mappings: NameMap<&'a MappingMacro>,
+}
+
+impl<'a> Model for IndexedSpec<'a> {
+    ghost use Rattle.std.specs.Prelude.{◌≡◌};
+    ghost use Rattle.std.specs.Coded.{codes};
+    ghost use Rattle.pgo_base.specs.Code.{coded_data};
+    ghost use Rattle.pgo_base.specs.TreeCode.{coded_tree};
+    ghost use Rattle.pgo_base.specs.Lookup.{Name};
+    ghost use Rattle.pgo_syntax.specs.StatementCode.{coded_statement};
+    ghost use Rattle.pgo_syntax.specs.declared.spec.Spec.{Spec};
+    ghost use Rattle.pgo_bound.specs.Runs.{mapping_named};
+    ghost use Rattle.pgo_heads.specs.NameMaps.{mapping_in};
+
+    ghost Value = { Spec };
+
+    ghost coded = { Prim.hlevel (codes, coded_data, coded_tree, coded_statement) };
+
+    ghost view = { λ s. s.spec.now };
+
+    ghost invariant = { λ s. (n : Name) → mapping_in s.mappings n ≡ mapping_named n s.spec.now.mappings };
+}
+
+impl<'a> IndexedSpec<'a> {
+    /// This specification.
+    pub fn new(alloc: Global, spec: &'a Spec) -> Result<IndexedSpec<'a>, AllocError>
+        ensures { IfOk result (λ s. s ≡ spec.now) }
+    {
+        let mappings = first_mappings(alloc, spec.mappings.as_slice())?;
+        Ok(IndexedSpec { spec, mappings })
+    }
+
+    /// The specification.
+    pub fn spec(&self) -> &'a Spec
+        ensures { result.now ≡ self.now }
+    {
+        self.spec
+    }
+
+    /// The first mapping macro of the name.
+    pub fn mapping_named(&self, name: &Text) -> Option<&'a MappingMacro>
+        ensures { option_map (λ r. r.now) result ≡ specs.mapping_named name.now self.now.mappings }
+    {
+        self.mappings.get(name).copied()
+    }
+}
+
+/// The first mapping macro of each name.
+fn first_mappings<'a>(
+    alloc: Global,
+    list: &'a [MappingMacro],
+) -> Result<NameMap<&'a MappingMacro>, AllocError>
+    ensures { IfOk result (λ m. (n : Name) → mapping_in m n ≡ specs.mapping_named n list.now) }
+{
+    let mut first = NameMap::new(alloc);
+    let mut i = list.len();
+    while i > 0 {
+        i -= 1;
+        let m = &list[i];
+        first.set(alloc, &m.name.name, m)?;
+    }
+    Ok(first)
+}

@@ -1,7 +1,0 @@
--- What the loop keeps: what is made and what is left are the whole.
-use Rattle.std.proofs.Common.{◌≡◌, ◌++◌, map, drop}
-use Rattle.pgo_scope.specs.UnitRows.{see_kinds, kinds_of}
-use Rattle.pgo_scope.proofs.units.all_mapped.Given as goal
-
-abbrev pub invariant-loop-r : goal.invariant-loop-r
-invariant-loop-r l = map see_kinds l.all.items ++ map (kinds_of l.processes) (drop l.r-index l.list) ≡ map (kinds_of l.processes) l.list

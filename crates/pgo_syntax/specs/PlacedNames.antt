@@ -1,0 +1,8 @@
+-- Names with their places.
+use Rattle.std.specs.Prelude.{List, map}
+use Rattle.pgo_base.specs.Lookup.{Name}
+use Rattle.pgo_syntax.specs.declared.name.PlacedName.{PlacedName}
+
+-- the names without their places
+abbrev pub names_of : List PlacedName → List Name
+names_of xs = map (λ x. x.name) xs
