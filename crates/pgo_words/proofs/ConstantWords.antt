@@ -1,10 +1,11 @@
 -- Words give constants in one way: a name is parted from its value at the first `=`.
-use Rattle.std.proofs.Common.{◌≡◌, ◌+◌, ◌<◌, ℕ, zero, suc, Bool, true, false, not, ◌&&◌, ◌||◌, IsTrue, List, [], ◌∷◌, ◌++◌, length, drop, get_or, Some, None, refl, sym, ◌∙◌, ap, subst, arith, append_assoc, append-nil}
+use Rattle.std.proofs.Common.{◌≡◌, ◌+◌, ◌<◌, ℕ, zero, suc, Bool, true, false, not, ◌&&◌, ◌||◌, IsTrue, List, [], ◌∷◌, ◌++◌, length, drop, get_or, Some, None, refl, sym, ◌∙◌, ap, subst, cond, arith, append_assoc, append-nil}
 use Rattle.std.proofs.lemmas.List.{drop_more}
 use Rattle.std.specs.Borrow.{Bor}
+use Rattle.std.specs.Prelude.{Option, is_some}
 use Rattle.pgo_base.specs.Data.{Data}
-use Rattle.pgo_base.specs.Lookup.{Name}
-use Rattle.pgo_model.specs.Names.{same_bytes-self, same_bytes-is}
+use Rattle.pgo_base.specs.Lookup.{Name, same_name}
+use Rattle.pgo_model.specs.Names.{same_bytes-self, same_bytes-is, same_name-self, same_name-is}
 use Rattle.pgo_model.specs.ValueText.{same_bytes, is_word_byte, all_word_bytes}
 use Rattle.pgo_value_text.specs.IsValueText.{is_name, IsValueText}
 use Rattle.pgo_value_text.proofs.WordBytes.{name_words}
@@ -182,3 +183,34 @@ rest_end words read r = (
     go : (ds cs : List (Name × Data)) → AreConstants [] cs → ds ≡ read ++ cs → ds ≡ read
     go ds [] k e = e ∙ append-nil read
     go ds (c ∷ cs) k e = absurd k
+
+-- ---- names that are noted
+
+-- two names are one by their order where they are one by their bytes
+pub same_either : (x y : Name) → same_name x y ≡ same_bytes x y
+same_either x y = go (same_name x y) (same_bytes x y) refl refl
+  where
+    go : (b c : Bool) → same_name x y ≡ b → same_bytes x y ≡ c → b ≡ c
+    go true true h k = refl
+    go false false h k = refl
+    go true false h k = absurd (let s : true ≡ false = sym (subst (λ z. same_bytes x z ≡ true) (same_name-is x y h) (same_bytes-self x)) ∙ k in grind (arith, s))
+    go false true h k = absurd (let s : true ≡ false = sym (subst (λ z. same_name x z ≡ true) (same_bytes-is x y k) (same_name-self x)) ∙ h in grind (arith, s))
+
+-- one name more
+pub one_noted : {T : Type 0} (b c : Bool) (v : T) (o : Option T) → b ≡ c → is_some (cond b (Some v) o) ≡ c || is_some o
+one_noted b c v o e = ap (λ d. is_some (cond d (Some v) o)) e ∙ go c
+  where
+    go : (d : Bool) → is_some (cond d (Some v) o) ≡ d || is_some o
+    go true = refl
+    go false = refl
+
+-- one constant more, at the end
+pub has_one_more : (x : Name) (cs : List (Name × Data)) (c : Name × Data) → same_bytes x c.0 || has_name x cs ≡ has_name x (cs ++ c ∷ [])
+has_one_more x [] c = refl
+has_one_more x (d ∷ cs) c = go (same_bytes x c.0) (same_bytes x d.0) (has_name x cs) (has_one_more x cs c)
+  where
+    go : (a b r : Bool) → a || r ≡ has_name x (cs ++ c ∷ []) → a || (b || r) ≡ b || has_name x (cs ++ c ∷ [])
+    go true true r h = refl
+    go false true r h = refl
+    go true false r h = h
+    go false false r h = h

@@ -1,7 +1,9 @@
 // The constants among the words of a command.
-ghost use Rattle.std.specs.Prelude.{◌≡◌, map, option_map, IfOk};
+ghost use Rattle.std.specs.Prelude.{◌≡◌, ◌||◌, option_map, IfOk};
+ghost use Rattle.pgo_base.specs.Lookup.{Name};
 ghost use Rattle.pgo_base.specs.View.{named_data};
-ghost use Rattle.pgo_words.specs.Constants as spec;
+ghost use Rattle.pgo_model.specs.ValueText.{same_bytes};
+ghost use Rattle.pgo_syntax.specs.NameMaps.{has_name};
 ghost use Rattle.pgo_words.specs.Constants.{ReadsConstant, ConstantsOnly};
 ghost use Rattle.pgo_words.specs.Parts.{texts};
 
@@ -9,7 +11,8 @@ use crate::cuts::cut;
 use pgo_base::consts::Consts;
 use pgo_base::text::Text;
 use pgo_base::value::Value;
-use pgo_text::names::{is_name, same_bytes};
+use pgo_syntax::name_map::NameMap;
+use pgo_text::names::is_name;
 use pgo_value_text::errors::ValueStop;
 use pgo_value_text::read::read_value;
 use std::alloc::{AllocError, Global};
@@ -19,12 +22,14 @@ pub fn read_constants(alloc: Global, words: &[&str]) -> Result<Option<Consts>, A
     ensures { IfOk result (λ o. ConstantsOnly (texts words.now) o) }
 {
     let mut list = Vec::new(alloc);
+    let mut names = NameMap::new(alloc);
     for word in words {
         match read_constant(alloc, *word)? {
             Some(constant) => {
-                if has_name(list.as_slice(), constant.0.as_bytes()) {
+                if is_noted(&names, &constant.0) {
                     return Ok(None);
                 }
+                note(alloc, &mut names, &constant.0)?;
                 list.push(constant)?;
             }
             None => return Ok(None),
@@ -52,14 +57,17 @@ fn read_constant(alloc: Global, word: &str) -> Result<Option<(Text, Value)>, All
     }
 }
 
-/// Whether one of the constants has this name.
-fn has_name(constants: &[(Text, Value)], name: &[u8]) -> bool
-    ensures { result ≡ spec.has_name name.now (map named_data constants.now) }
+/// Whether the name is one of these.
+fn is_noted(names: &NameMap<()>, name: &Text) -> bool
+    ensures { result ≡ has_name names.now name.now }
 {
-    for constant in constants {
-        if same_bytes(name, constant.0.as_bytes()) {
-            return true;
-        }
-    }
-    false
+    names.get(name).is_some()
+}
+
+/// The name is one of these from now on.
+fn note(alloc: Global, names: &mut NameMap<()>, name: &Text) -> Result<(), AllocError>
+    ensures { IfOk result (λ _. (x : Name) → has_name names.new x ≡ same_bytes x name.now || has_name names.old x) }
+{
+    names.set(alloc, name, ())?;
+    Ok(())
 }
