@@ -18,6 +18,7 @@ use Rattle.pgo_bound.specs.BoundOf.{GlobalStart, globals_of}
 use Rattle.pgo_bound.specs.Among.{none_left, none_right, empty_map}
 use Rattle.pgo_heads.specs.declared.errors.BindError.{BindError}
 use Rattle.pgo_heads.specs.declared.errors.BindError.TheVariants as errors
+use Rattle.pgo_bind.proofs.Passing.{none_first, none_next}
 use Rattle.pgo_heads.specs.Refusals.{or_next, first, is_bad_argument, is_bad_handed, bad_arguments, bad_clauses, bad_places, bad_mappings, constants_refused, ids_refused, starts_refused, heads_refused, bind_refusal}
 
 -- a `ref` parameter that is handed a value
@@ -32,14 +33,6 @@ Fits h = is_stray h.parameter.kind h.argument ≡ false
 -- the arguments of a process fit the archetype's parameters, if the archetype is there
 abbrev pub ArgumentsFit : List Archetype → Process → Type 0
 ArgumentsFit as' p = (a : Archetype) → archetype_named p.archetype.name as' ≡ Some a → AllByRecursion Fits (handed_from 1 a.params p.arguments)
-
-first_none : (o p : Option BindError) → or_next o p ≡ None → o ≡ None
-first_none None p h = refl
-first_none (Some e) p h = absurd (cc)
-
-next_none : (o p : Option BindError) → or_next o p ≡ None → p ≡ None
-next_none None p h = h
-next_none (Some e) p h = absurd (cc)
 
 none_mapped : {A : Type 0} (f : A → BindError) (xs : List A) → option_map f (first xs) ≡ None → xs ≡ []
 none_mapped f [] h = refl
@@ -84,12 +77,18 @@ module _ (s : Spec) (ds : List Defined) (gs : List GlobalStart) where
       let r = with_run p (filter_map (run_of s ds) ps) (archetype_named p.archetype.name s.archetypes) h in
       (r.0, all_fit ps r.1)
 
-pub arguments_fit : (s : Spec) (consts : List (Name × Data)) → bind_refusal s consts ≡ None → AllByRecursion (ArgumentsFit s.archetypes) s.processes
-arguments_fit s consts h =
+-- no argument and no clause of a run is refused
+pub no_bad_mappings : (s : Spec) (consts : List (Name × Data)) → bind_refusal s consts ≡ None → bad_mappings (globals_of s (defs_of s consts) (runs_of s (defs_of s consts))) (runs_of s (defs_of s consts)) ≡ []
+no_bad_mappings s consts h =
     let ds = defs_of s consts in
     let rs = runs_of s ds in
     let gs = globals_of s ds rs in
-    let heads = next_none (constants_refused s consts) (heads_refused s.archetypes ds rs gs) h in
+    let heads = none_next (constants_refused s consts) (heads_refused s.archetypes ds rs gs) h in
     let bad = option_map (λ (p : Name × ℕ). errors.BadMapping p.0 p.1) (first (bad_mappings gs rs)) in
-    let none = first_none bad (or_next (ids_refused rs) (starts_refused s.archetypes ds rs gs)) heads in
-    all_fit s ds gs s.processes (none_mapped (λ (p : Name × ℕ). errors.BadMapping p.0 p.1) (bad_mappings gs rs) none)
+    let none = none_first bad (or_next (ids_refused rs) (starts_refused s.archetypes ds rs gs)) heads in
+    none_mapped (λ (p : Name × ℕ). errors.BadMapping p.0 p.1) (bad_mappings gs rs) none
+
+pub arguments_fit : (s : Spec) (consts : List (Name × Data)) → bind_refusal s consts ≡ None → AllByRecursion (ArgumentsFit s.archetypes) s.processes
+arguments_fit s consts h =
+    let ds = defs_of s consts in
+    all_fit s ds (globals_of s ds (runs_of s ds)) s.processes (no_bad_mappings s consts h)

@@ -1,5 +1,6 @@
 -- What no finding about the heads of processes says: each has its archetype, and as many arguments as it has parameters.
-use Rattle.std.proofs.Common.{◌≡◌, ℕ, zero, suc, Bool, true, false, not, if◌then◌else◌, List, [], ◌∷◌, ◌++◌, length, Option, Some, None, option_map, refl, ap, ◌∙◌, subst, arith}
+use Rattle.std.proofs.Common.{◌≡◌, ℕ, zero, suc, Bool, true, false, not, if◌then◌else◌, List, [], ◌∷◌, ◌++◌, length, Option, Some, None, option_map, refl, ap, ◌∙◌, subst}
+use Rattle.std.proofs.lemmas.Bool.{not-false, eqb-true}
 use Rattle.std.specs.Prelude.{nat_eq, is_some}
 use Rattle.pgo_base.specs.Lookup.{Name, same_name, find}
 use Rattle.pgo_model.specs.Machine.{nth}
@@ -18,21 +19,17 @@ use Rattle.pgo_scope.specs.Arity.{or_number, wrong_number, arity_heads}
 use Rattle.pgo_bound.specs.Runs.{archetype_named}
 use Rattle.pgo_bound.specs.Among.{none_left, none_right}
 
-nothing_if : (b : Bool) (p : ℕ) (e : ScopeError) → found_if b p e ≡ [] → b ≡ false
+pub nothing_if : (b : Bool) (p : ℕ) (e : ScopeError) → found_if b p e ≡ [] → b ≡ false
 nothing_if true p e h = absurd (cc)
 nothing_if false p e h = refl
 
-not_false : (b : Bool) → not b ≡ false → b ≡ true
-not_false true h = refl
-not_false false h = absurd (cc)
-
-known_name : (rows : Rows) (x : PlacedName) → unknown_in rows x ≡ [] → has_row x.name rows ≡ true
-known_name rows x h = not_false (has_row x.name rows) (nothing_if (not (has_row x.name rows)) x.place (errors.Unknown x.name) h)
+pub known_name : (rows : Rows) (x : PlacedName) → unknown_in rows x ≡ [] → has_row x.name rows ≡ true
+known_name rows x h = not-false (has_row x.name rows) (nothing_if (not (has_row x.name rows)) x.place (errors.Unknown x.name) h)
 
 same_number : (rows : Rows) (x : Name) (n p : ℕ) → wrong_number rows x n p ≡ [] → nat_eq (or_number (find x rows) n) n ≡ true
 same_number rows x n p h =
     let b = nat_eq (or_number (find x rows) n) n in
-    not_false b (nothing_if (not b) p (errors.Arity x n) h)
+    not-false b (nothing_if (not b) p (errors.Arity x n) h)
 
 -- ---- each process
 
@@ -71,15 +68,12 @@ found_row x (a ∷ as') = go (same_name x a.name.name) (found_row x as')
     go true h = refl
     go false h = h
 
-number_is : (m n : ℕ) → nat_eq m n ≡ true → m ≡ n
-number_is m n h = grind (arith, h)
-
 abbrev pub HasArchetype : List Archetype → Process → Type 0
 HasArchetype as' p = (a : Archetype) × (archetype_named p.archetype.name as' ≡ Some a) × (length a.params ≡ length p.arguments)
 
 by_rows : (o : Option Archetype) (n : ℕ) → is_some (option_map size_of o) ≡ true → nat_eq (or_number (option_map size_of o) n) n ≡ true → (a : Archetype) × (o ≡ Some a) × (length a.params ≡ n)
 by_rows None n h g = absurd (cc)
-by_rows (Some a) n h g = (a, refl, number_is (length a.params) n g)
+by_rows (Some a) n h g = (a, refl, eqb-true (length a.params) n g)
 
 pub has_archetype : (ts : Tables) (as' : List Archetype) (ps : List Process) → ts.archetypes ≡ archetype_rows as' → unknown_heads ts ps ≡ [] → arity_heads ts ps ≡ []
     → (n : ℕ) (p : Process) → nth ps n ≡ Some p → HasArchetype as' p

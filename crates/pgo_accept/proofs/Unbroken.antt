@@ -1,9 +1,9 @@
 -- Where nothing is refused, no rule finds anything.
-use Rattle.std.proofs.Common.{◌≡◌, ℕ, Bool, true, false, if◌then◌else◌, nat_lt, List, [], ◌∷◌, Option, Some, None, option_map, refl}
+use Rattle.std.proofs.Common.{◌≡◌, ℕ, List, [], ◌∷◌, Option, Some, None, option_map, refl}
 use Rattle.pgo_syntax.specs.declared.spec.Spec.{Spec}
 use Rattle.pgo_scope.specs.declared.errors.ScopeError.{ScopeError}
 use Rattle.pgo_scope.specs.declared.finding.Finding.{Finding}
-use Rattle.pgo_scope.specs.Findings.{first_of_all, earliest}
+use Rattle.pgo_scope.specs.Findings.{earliest}
 use Rattle.pgo_scope.specs.Refusal.{or_next, first_broken, scope_refusal}
 use Rattle.pgo_scope.specs.Unknown.{unknown_names}
 use Rattle.pgo_scope.specs.Arity.{wrong_arities}
@@ -16,24 +16,21 @@ use Rattle.pgo_scope.specs.Underscores.{double_underscores}
 use Rattle.pgo_scope.specs.Modules.{unknown_modules}
 use Rattle.pgo_labels.specs.declared.errors.LabelError.{LabelError}
 use Rattle.pgo_labels.specs.declared.finding.Finding as labels
-use Rattle.pgo_labels.specs.Least.{sooner_of, least}
+use Rattle.pgo_syntax.specs.Least.{least}
+use Rattle.pgo_syntax.proofs.Leasts.{least_empty}
 use Rattle.pgo_labels.specs.Refusal.{first_refusal}
 
 -- ---- names
 
--- what was found stays, or something sooner comes
-still_found : (f : Finding) (fs : List Finding) → option_map (λ g. g.error) (first_of_all (Some f) fs) ≡ None → ⊥
-still_found f [] h = cc
-still_found f (g ∷ gs) h = go (nat_lt g.place f.place) h (still_found g gs) (still_found f gs)
-  where
-    go : (b : Bool) → option_map (λ e. e.error) (first_of_all (if b then Some g else Some f) gs) ≡ None
-        → (option_map (λ e. e.error) (first_of_all (Some g) gs) ≡ None → ⊥) → (option_map (λ e. e.error) (first_of_all (Some f) gs) ≡ None → ⊥) → ⊥
-    go true e new old = new e
-    go false e new old = old e
+abbrev place : Finding → ℕ
+place f = f.place
 
 none_earliest : (fs : List Finding) → earliest fs ≡ None → fs ≡ []
-none_earliest [] h = refl
-none_earliest (f ∷ fs) h = absurd (still_found f fs h)
+none_earliest fs h = go (least place fs) refl h
+  where
+    go : (o : Option Finding) → least place fs ≡ o → option_map (λ f. f.error) o ≡ None → fs ≡ []
+    go None e k = least_empty place fs e
+    go (Some f) e k = absurd (cc)
 
 first_none : (o p : Option ScopeError) → or_next o p ≡ None → o ≡ None
 first_none None p h = refl
@@ -43,10 +40,10 @@ next_none : (o p : Option ScopeError) → or_next o p ≡ None → p ≡ None
 next_none None p h = h
 next_none (Some e) p h = absurd (cc)
 
-first_rule : (fs : List Finding) (rules : List (List Finding)) → first_broken (fs ∷ rules) ≡ None → fs ≡ []
+pub first_rule : (fs : List Finding) (rules : List (List Finding)) → first_broken (fs ∷ rules) ≡ None → fs ≡ []
 first_rule fs rules h = none_earliest fs (first_none (earliest fs) (first_broken rules) h)
 
-next_rules : (fs : List Finding) (rules : List (List Finding)) → first_broken (fs ∷ rules) ≡ None → first_broken rules ≡ None
+pub next_rules : (fs : List Finding) (rules : List (List Finding)) → first_broken (fs ∷ rules) ≡ None → first_broken rules ≡ None
 next_rules fs rules h = next_none (earliest fs) (first_broken rules) h
 
 -- rules 1, 3 and 7 of names
@@ -77,12 +74,11 @@ abbrev label_place : labels.Finding → ℕ
 label_place f = f.place
 
 pub first_label_rule : (fs : List labels.Finding) (rules : List (List labels.Finding)) → first_refusal (fs ∷ rules) ≡ None → fs ≡ []
-first_label_rule [] rules h = refl
-first_label_rule (f ∷ fs) rules h = absurd (go (least label_place fs) h)
+first_label_rule fs rules h = go (least label_place fs) refl h
   where
-    go : (o : Option labels.Finding) → elim (sooner_of label_place (Some f) o) as (λ o. Option LabelError) [ None ↦ first_refusal rules | Some g ↦ Some g.error ] ≡ None → ⊥
-    go None e = cc
-    go (Some g) e = cc
+    go : (o : Option labels.Finding) → least label_place fs ≡ o → elim o as (λ o. Option LabelError) [ None ↦ first_refusal rules | Some g ↦ Some g.error ] ≡ None → fs ≡ []
+    go None e k = least_empty label_place fs e
+    go (Some g) e k = absurd (cc)
 
 pub next_label_rules : (fs : List labels.Finding) (rules : List (List labels.Finding)) → first_refusal (fs ∷ rules) ≡ None → first_refusal rules ≡ None
 next_label_rules fs rules h = go (least label_place fs) h

@@ -18,7 +18,7 @@ use Rattle.pgo_accept.proofs.Accepted.{rules_behind, later_rules}
 use Rattle.pgo_accept.proofs.Unbroken.{first_label_rule, next_label_rules}
 
 -- the names of the labels of these statements
-abbrev names : List Item → List Name
+abbrev pub names : List Item → List Name
 names is = map (λ (l : PlacedName). l.name) (labels_of is)
 
 names_joined : (is js : List Item) → names (is ++ js) ≡ names is ++ names js
@@ -26,8 +26,8 @@ names_joined [] js = refl
 names_joined ((None, s) ∷ is) js = names_joined is js
 names_joined ((Some l, s) ∷ is) js = ap (λ ns. l.name ∷ ns) (names_joined is js)
 
-abbrev mutual
-  names_in : (s : Statement) → names (inside s) ≡ labels_in s
+mutual
+  pub names_in : (s : Statement) → names (inside s) ≡ labels_in s
   names_in (skip p) = refl
   names_in (assign p x) = refl
   names_in (if_then p bs) = names_guarded bs
@@ -57,7 +57,7 @@ abbrev mutual
   names_guarded no_guarded = refl
   names_guarded (more_guarded p e s bs) = names_joined (inside s) (inside_guarded bs) ∙ (λ i. names_in s i ++ names_guarded bs i)
 
-names_of_body : (is : List Item) → names (with_inside is) ≡ labels_among (labeled is)
+pub names_of_body : (is : List Item) → names (with_inside is) ≡ labels_among (labeled is)
 names_of_body [] = refl
 names_of_body ((None, s) ∷ is) = names_joined (inside s) (with_inside is) ∙ (λ i. names_in s i ++ names_of_body is i)
 names_of_body ((Some l, s) ∷ is) = ap (λ ns. l.name ∷ ns) (names_joined (inside s) (with_inside is) ∙ (λ i. names_in s i ++ names_of_body is i))
@@ -67,7 +67,7 @@ macro_unlabelled m h =
     sym (names_of_body m.body)
     ∙ ap (map (λ (l : PlacedName). l.name)) (empty_map (λ (l : PlacedName). found_at l.place (LabelHere m.name.name l.name)) (labels_of (with_inside m.body)) h)
 
-macros_unlabelled : (ms : List Macro) → flat_map label_in_macro ms ≡ [] → AreUnlabelled ms
+pub macros_unlabelled : (ms : List Macro) → flat_map label_in_macro ms ≡ [] → AreUnlabelled ms
 macros_unlabelled [] h = tt
 macros_unlabelled (m ∷ ms) h = (
   macro_unlabelled m (none_left (label_in_macro m) (flat_map label_in_macro ms) h),

@@ -34,7 +34,7 @@ fixed_written x (n ∷ ns) = ap (λ k. one_if (same_name x n) + k) (fixed_writte
 pc_written : (x : Name) → times x (pc ∷ []) ≤ writes x (fixed_module_names fixed_names)
 pc_written x = omega (arith, fixed_written x fixed_names)
 
-shared-append : (x : Name) (ms ns : List PlacedName) → writes x (shared_module_names (ms ++ ns)) ≡ writes x (shared_module_names ms) + writes x (shared_module_names ns)
+pub shared-append : (x : Name) (ms ns : List PlacedName) → writes x (shared_module_names (ms ++ ns)) ≡ writes x (shared_module_names ms) + writes x (shared_module_names ns)
 shared-append x [] ns = omega arith
 shared-append x (m ∷ ms) ns = omega (arith, shared-append x ms ns)
 
@@ -48,15 +48,15 @@ globals_written x s =
 
 -- ---- the names of one process
 
-variables_are : (ds : List Declaration) → variable_names ds ≡ map (λ d. d.name.name) ds
+pub variables_are : (ds : List Declaration) → variable_names ds ≡ map (λ d. d.name.name) ds
 variables_are [] = refl
 variables_are (d ∷ ds) = ap (λ ns. d.name.name ∷ ns) (variables_are ds)
 
-abbrev handed_value : Handed → Option Name
+abbrev pub handed_value : Handed → Option Name
 handed_value h = bind.value_name h.parameter.name.name h.argument
 
 -- a parameter that is handed a value is a value parameter
-values_counted : (f : Name → Name) (x : Name) (n : ℕ) (ps : List Parameter) (es : List Argument) → AllByRecursion Fits (handed_from n ps es)
+pub values_counted : (f : Name → Name) (x : Name) (n : ℕ) (ps : List Parameter) (es : List Argument) → AllByRecursion Fits (handed_from n ps es)
     → times x (map f (filter_map handed_value (handed_from n ps es))) ≤ times x (map f (value_names ps))
 values_counted f x n [] es h = omega arith
 values_counted f x n (p ∷ ps) [] h = omega arith
@@ -84,7 +84,7 @@ names_counted f x p j a h =
     let w : times x (map f (variable_names a.locals)) ≡ times x (map f locals) = ap (λ ns. times x (map f ns)) (variables_are a.locals) in
     omega (arith, l1, r1, r2, v, w)
 
-found_own : (x : Name) (j : ℕ) (as' : List Archetype) (a : Archetype) → archetype_named x as' ≡ Some a → (k : ℕ) × (find x (own_rows j as') ≡ Some (own_names k a))
+pub found_own : (x : Name) (j : ℕ) (as' : List Archetype) (a : Archetype) → archetype_named x as' ≡ Some a → (k : ℕ) × (find x (own_rows j as') ≡ Some (own_names k a))
 found_own x j [] a h = absurd (cc)
 found_own x j (b ∷ bs) a h = go (same_name x b.name.name) h (found_own x (suc j) bs a)
   where
@@ -93,7 +93,7 @@ found_own x j (b ∷ bs) a h = go (same_name x b.name.name) h (found_own x (suc 
     go true e r = let same : b ≡ a = cc in (j, ap (λ d. Some (own_names j d)) same)
     go false e r = r e
 
-own_written : (x : Name) (p : Process) (ns : List Name) → writes x (own_module_names p ns) ≡ times x (map (written p.name.name) ns)
+pub own_written : (x : Name) (p : Process) (ns : List Name) → writes x (own_module_names p ns) ≡ times x (map (written p.name.name) ns)
 own_written x p [] = refl
 own_written x p (n ∷ ns) = ap (λ k. one_if (same_name x (written p.name.name n)) + k) (own_written x p ns)
 
@@ -134,14 +134,14 @@ process_names_written x as' (p ∷ ps) =
 
 -- ---- the whole
 
-abbrev all_module_names : Spec → List ModuleName
+abbrev pub all_module_names : Spec → List ModuleName
 all_module_names s = module_names_with s (all_uses s)
 
-once : (x : Name) (s : Spec) → name_clashes s ≡ [] → writes x (all_module_names s) ≤ 1
+pub once : (x : Name) (s : Spec) → name_clashes s ≡ [] → writes x (all_module_names s) ≤ 1
 once x s h = let r = written_once x [] (all_module_names s) h (omega arith) in omega (arith, r)
 
 -- what the parts of it write
-parts_written : (x : Name) (s : Spec) → writes x (all_module_names s)
+pub parts_written : (x : Name) (s : Spec) → writes x (all_module_names s)
     ≡ writes x (fixed_module_names fixed_names) + (writes x (shared_module_names (shared_names s)) + writes x (bound_module_names (all_uses s)) + writes x (process_module_names (own_rows 0 s.archetypes) s.processes))
 parts_written x s =
     let shared = shared_module_names (shared_names s) in

@@ -1,5 +1,6 @@
 -- Where no two names clash, each name is written at most once by what isn't bound.
 use Rattle.std.proofs.Common.{◌≡◌, ◌≤◌, ℕ, ◌+◌, Bool, true, false, not, ◌&&◌, if◌then◌else◌, List, [], ◌∷◌, ◌++◌, refl, ap, sym, ◌∙◌, arith}
+use Rattle.std.proofs.lemmas.Bool.{and_parts, not-true}
 use Rattle.std.specs.Prelude.{nat_le}
 use Rattle.pgo_base.specs.Lookup.{Name, same_name}
 use Rattle.pgo_model.specs.Names.{same_name-self, same_name-is}
@@ -37,24 +38,16 @@ writes_in_order x place (t ∷ ts) = omega (arith, writes_in_place x place t (in
 
 -- ---- no clash
 
-both_true : (a b : Bool) → a && b ≡ true → (a ≡ true) × (b ≡ true)
-both_true true b h = (refl, h)
-both_true false b h = absurd (cc)
-
-not_true : (b : Bool) → not b ≡ true → b ≡ false
-not_true true h = absurd (cc)
-not_true false h = refl
-
 -- two that are written so clash
 written_clash : (x : Name) (t u : ModuleName) → is_written x t ≡ true → is_written x u ≡ true → clash t u ≡ true
 written_clash x t u h g =
-    let p = both_true (not t.bound) (same_name x t.written) h in
-    let q = both_true (not u.bound) (same_name x u.written) g in
+    let p = and_parts (not t.bound) (same_name x t.written) h in
+    let q = and_parts (not u.bound) (same_name x u.written) g in
     let e : t.written ≡ u.written = sym (same_name-is x t.written p.1) ∙ same_name-is x u.written q.1 in
     let s : same_name t.written u.written ≡ true = ap (same_name t.written) (sym e) ∙ same_name-self t.written in
-    (λ i. s i && not (not_true t.bound p.0 i && u.bound))
+    (λ i. s i && not (not-true t.bound p.0 i && u.bound))
 
-found_none : (b : Bool) (f : Finding) (rest : List Finding) → (if b then f ∷ [] else rest) ≡ [] → (b ≡ false) × (rest ≡ [])
+pub found_none : (b : Bool) (f : Finding) (rest : List Finding) → (if b then f ∷ [] else rest) ≡ [] → (b ≡ false) × (rest ≡ [])
 found_none true f rest h = absurd (cc)
 found_none false f rest h = (refl, h)
 

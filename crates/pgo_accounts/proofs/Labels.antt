@@ -20,9 +20,10 @@ use Rattle.pgo_labels.specs.declared.finding.Finding.{Finding}
 use Rattle.pgo_bound.specs.Among.{IsAmong, among_left, among_right, among_filter, among_flat_map, empty_map, empty_none, from_map}
 use Rattle.pgo_bound.specs.Sound.{labels_among}
 use Rattle.pgo_systems.specs.Gotos.{gotos_in, gotos_each, gotos_among, gotos_guarded, NoBareWhile, NoneEach, NoneAmong, NoneGuarded}
+use Rattle.pgo_accept.proofs.Unlabelled.{names_of_body}
 use Rattle.pgo_accept.proofs.Accepted.{rules_behind, later_rules}
 use Rattle.pgo_accept.proofs.Unbroken.{first_label_rule, next_label_rules}
-use Rattle.pgo_agrees.proofs.Unlabelled.{placed_name, body_names, with_inside_is}
+use Rattle.pgo_agrees.proofs.Unlabelled.{placed_name, with_inside_is}
 use Rattle.pgo_agrees.proofs.Variables.{among_is}
 
 -- ---- targets
@@ -103,7 +104,7 @@ known a h x among = go (is_unknown a from.0) refl
     none = empty_map (λ t. found_at t.place (UnknownLabel a.name.name t.name)) (filter (is_unknown a) ts) h
 
     by : (is_among from.0.name (map placed_name (rules.labels a)) ≡ true) ⊎ (same_name from.0.name rules.done ≡ true) → (x ≡ done) ⊎ IsAmong x (labels_among (labeled a.body))
-    by (inl e) = inr (subst (IsAmong x) (body_names a.body) (subst (λ y. IsAmong y (map placed_name (rules.labels a))) (sym from.2) (among_is from.0.name (map placed_name (rules.labels a)) e)))
+    by (inl e) = inr (subst (IsAmong x) (names_of_body a.body) (subst (λ y. IsAmong y (map placed_name (rules.labels a))) (sym from.2) (among_is from.0.name (map placed_name (rules.labels a)) e)))
     by (inr e) = inl (from.2 ∙ same_name-is from.0.name rules.done e)
 
     go : (b : Bool) → is_unknown a from.0 ≡ b → (x ≡ done) ⊎ IsAmong x (labels_among (labeled a.body))

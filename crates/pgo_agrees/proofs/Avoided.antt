@@ -38,6 +38,7 @@ use Rattle.pgo_agrees.proofs.Closed.{all_among}
 use Rattle.pgo_agrees.proofs.FromUses.{IsAt, Tells, stands}
 use Rattle.pgo_agrees.proofs.Further.{IsTaken, bound_not_taken}
 use Rattle.pgo_agrees.proofs.FurtherNames.{name_of, named_further}
+use Rattle.pgo_agrees.proofs.Hoist.{never}
 use Rattle.pgo_agrees.proofs.Kept.{NoFindings, NoLabelFindings}
 use Rattle.pgo_agrees.proofs.Meanings.{IsCommon, IsApplicable, named_row, row_test, operators_not_self, common_apart, applicable_apart, applicable_not_self, alone_means, alone_no_global, applied_is, common_here}
 use Rattle.pgo_agrees.proofs.Names.{and_right, false_or}
@@ -46,9 +47,6 @@ use Rattle.pgo_agrees.proofs.WrittenNames.{writes_some, counted, shared_among, b
 use Rattle.pgo_agrees.proofs.Uses.{FineUse, fine_use, of_global, of_archetype, of_process}
 use Rattle.pgo_agrees.proofs.Variables.{not_among, variable_is}
 use Rattle.pgo_agrees.proofs.Weaker.{plain}
-
-no_case : {X : Type 0} → false ≡ true → X
-no_case h = absurd (cc)
 
 -- ---- an expression at a home where names that stand alone are good, and so are those that are applied or bound
 module _ (s : Spec) (k : NoFindings s) (fit : AllByRecursion (ArgumentsFit s.archetypes) s.processes) (of_text : IsOfText s) (bad : Name → Bool) (applied : (x : Name) → IsApplicable s x → bad x ≡ false) (bound : (u : Use) → FineUse s u → u.form ≡ forms.Bound → bad u.name ≡ false) where
@@ -69,8 +67,8 @@ module _ (s : Spec) (k : NoFindings s) (fit : AllByRecursion (ArgumentsFit s.arc
   pub avoids : (home : Home) → Meaning home → (p : ℕ) (t : Tree) → Spoken t → ((u : Use) → IsAmong u (uses [] (start home p) t) → FineUse s u) → Avoids bad t
   avoids home meaning p t spoken f =
       let at' = start home p in
-      let st = stands (FineUse s) home false (λ h i x. Good bad x) (Good bad) (Good bad) (Good bad) (tells home meaning) [] [] at' t (refl, refl) (λ x h. no_case h) spoken (all_among (FineUse s) (uses [] at' t) f) in
-      plain (λ h i x. Good bad x) (Good bad) (Good bad) (Good bad) (Good bad) Free (λ h i x g. g) (λ x g. g) (λ x g. tt) (λ x g. g) [] false false t (λ x h. no_case h) st
+      let st = stands (FineUse s) home false (λ h i x. Good bad x) (Good bad) (Good bad) (Good bad) (tells home meaning) [] [] at' t (refl, refl) (λ x h. never h) spoken (all_among (FineUse s) (uses [] at' t) f) in
+      plain (λ h i x. Good bad x) (Good bad) (Good bad) (Good bad) (Good bad) Free (λ h i x g. g) (λ x g. g) (λ x g. tt) (λ x g. g) [] false false t (λ x h. never h) st
 
 module _ (s : Spec) (k : NoFindings s) (labels : NoLabelFindings s) (fit : AllByRecursion (ArgumentsFit s.archetypes) s.processes) (of_text : IsOfText s) where
   pub taken_apart : (x : Name) → (IsTaken s x → ⊥) → is_taken s x ≡ false

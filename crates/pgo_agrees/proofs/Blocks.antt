@@ -23,6 +23,7 @@ use Rattle.pgo_labels.specs.Rules.{found_at, labels_here, label_in_mapping}
 use Rattle.pgo_labels.specs.declared.errors.LabelError.TheVariants.{LabelHere}
 use Rattle.pgo_bound.specs.Among.{IsAmong, among_left, among_right, all_at, empty_map, none_left, none_right, none_flat_map}
 use Rattle.pgo_bound.specs.Sound.{labels_among}
+use Rattle.pgo_accept.proofs.Unlabelled.{names_of_body}
 use Rattle.pgo_accept.proofs.Fitting.{ArgumentsFit}
 use Rattle.pgo_sections.specs.Code.{Place, Whole, content_name, content_places}
 use Rattle.pgo_sections.specs.WellFormed.{NotMade, PlainCode}
@@ -38,7 +39,7 @@ use Rattle.pgo_agrees.proofs.Hoist.{InScope, Hoistable, never}
 use Rattle.pgo_agrees.proofs.Kept.{NoFindings}
 use Rattle.pgo_agrees.proofs.Meanings.{common_apart, common_single, applicable_apart, applicable_single, applicable_not_self, defined_row, row_test}
 use Rattle.pgo_agrees.proofs.Names.{and_left, single, written_marked, has_mark, identifier_bytes}
-use Rattle.pgo_agrees.proofs.Unlabelled.{body_names, placed_name}
+use Rattle.pgo_agrees.proofs.Unlabelled.{placed_name}
 use Rattle.pgo_agrees.proofs.Uses.{FineUse, fine_use, of_mapping}
 use Rattle.pgo_agrees.proofs.Further.{IsTaken, names_written, is_proc_set, is_terminating, is_process, is_written}
 use Rattle.pgo_agrees.proofs.Variables.{is_global, is_place, is_own}
@@ -197,7 +198,7 @@ module _ (s : Spec) (k : NoFindings s) (fit : AllByRecursion (ArgumentsFit s.arc
 
   no_label : (owner : Name) (b : List Item) → labels_here owner (labels_of (with_inside b)) ≡ [] → labels_among (labeled b) ≡ []
   no_label owner b h =
-      sym (body_names b) ∙ ap (map placed_name) (empty_map (λ l. found_at l.place (LabelHere owner l.name)) (labels_of (with_inside b)) h)
+      sym (names_of_body b) ∙ ap (map placed_name) (empty_map (λ l. found_at l.place (LabelHere owner l.name)) (labels_of (with_inside b)) h)
 
   pub blocks_plain : flat_map label_in_mapping s.mappings ≡ [] → (m : MappingMacro) → IsAmong m s.mappings → PlainCode vs (content_name ∷ []) content_places [] (reads_by (Macro m)) × PlainCode vs (content_name ∷ []) content_places (value_name ∷ []) (writes_by (Macro m))
   blocks_plain labels m a =

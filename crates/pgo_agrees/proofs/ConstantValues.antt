@@ -1,10 +1,9 @@
 -- Where the constants' values are values, so are those that the definitions are given.
-use Rattle.std.proofs.Common.{◌≡◌, Bool, true, false, if◌then◌else◌, List, [], ◌∷◌, ◌++◌, map, Option, Some, None, option_map, refl, ap, sym, subst}
+use Rattle.std.proofs.Common.{◌≡◌, Bool, true, false, if◌then◌else◌, List, [], ◌∷◌, ◌++◌, map, Option, Some, None, option_map, refl, sym, subst}
 use Rattle.std.specs.List.{AllByRecursion, filter_map, cons_option}
-use Rattle.pgo_base.specs.Data.{Data, boolean, integer, string, model, set, function, Items, no_items, item, Pairs, no_pairs, pair, items, members, pairs, graph}
+use Rattle.pgo_base.specs.Data.{Data}
 use Rattle.pgo_base.specs.Lookup.{Name, same_name}
 use Rattle.pgo_base.specs.ValueCode.{value_from}
-use Rattle.pgo_base.specs.View.{data_of}
 use Rattle.pgo_base.specs.declared.module.Defined.{Defined}
 use Rattle.pgo_base.specs.declared.module.Defined.TheVariants.{Given}
 use Rattle.pgo_model.specs.ModuleView.{defined_view}
@@ -14,24 +13,9 @@ use Rattle.pgo_syntax.specs.declared.name.PlacedName.{PlacedName}
 use Rattle.pgo_syntax.specs.declared.declaration.Definition.{Definition}
 use Rattle.pgo_syntax.specs.declared.spec.Spec.{Spec}
 use Rattle.pgo_bound.specs.Among.{some_is}
+use Rattle.pgo_bound.specs.Lookups.{data_from}
 use Rattle.pgo_bound.specs.Values.{latest, given_value, given_constant, meant, default_definition, define_of}
 use Rattle.pgo_translate.specs.Premises.{GivenValue, ConstantsAreValues}
-
-items_same : (xs : Items) → items (members xs) ≡ xs
-items_same no_items = refl
-items_same (item x xs) = ap (item x) (items_same xs)
-
-pairs_same : (ps : Pairs) → pairs (graph ps) ≡ ps
-pairs_same no_pairs = refl
-pairs_same (pair k v ps) = ap (pair k v) (pairs_same ps)
-
-same_data : (v : Data) → data_of (value_from v) ≡ v
-same_data (boolean b) = refl
-same_data (integer z) = refl
-same_data (string t) = refl
-same_data (model t) = refl
-same_data (set xs) = ap set (items_same xs)
-same_data (function ps) = ap function (pairs_same ps)
 
 latest_value : (x : Name) (o : Option Data) (cs : List (Name × Data)) → AllValues cs → ((v : Data) → o ≡ Some v → IsValue v) → (v : Data) → latest x o cs ≡ Some v → IsValue v
 latest_value x o [] h f v e = f v e
@@ -58,7 +42,7 @@ given consts h (c ∷ cs) = go (given_value consts c.name) refl (given consts h 
     go : (o : Option Data) → given_value consts c.name ≡ o → AreGiven (filter_map (given_constant consts) cs)
         → AreGiven (cons_option (option_map (λ v. Given c.name (value_from v)) o) (filter_map (given_constant consts) cs))
     go None e r = r
-    go (Some v) e r = (subst IsValue (sym (same_data v)) (latest_value c.name None consts h none v e), r)
+    go (Some v) e r = (subst IsValue (sym (data_from v)) (latest_value c.name None consts h none v e), r)
 
 means : (ds : List Definition) → AreGiven (map meant ds)
 means [] = tt

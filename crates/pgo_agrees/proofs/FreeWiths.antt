@@ -8,8 +8,9 @@ use Rattle.pgo_labels.specs.Inside.{Item, inside, inside_all, inside_labeled, in
 use Rattle.pgo_labels.specs.Rules.{found_at, labels_in_with, label_in_with}
 use Rattle.pgo_labels.specs.declared.errors.LabelError.TheVariants.{LabelHere}
 use Rattle.pgo_bound.specs.Among.{none_left, none_right, empty_map}
+use Rattle.pgo_accept.proofs.Unlabelled.{names_in}
 use Rattle.pgo_agrees.proofs.FineUses.{WithFree, EachFree, LabeledFree, GuardedFree}
-use Rattle.pgo_agrees.proofs.Unlabelled.{placed_name, names_inside, with_inside_is}
+use Rattle.pgo_agrees.proofs.Unlabelled.{placed_name, with_inside_is}
 
 abbrev of_item : Item → List PlacedName
 of_item i = labels_in_with i.1
@@ -39,7 +40,7 @@ mutual
   free (while_do p e t) g h = free t (none_left (labels_in_with t) (flat_map of_item (inside t)) h) (none_right (labels_in_with t) (flat_map of_item (inside t)) h)
   free (either_of p ts) g h = free_each ts h
   free (await_that p e) g h = tt
-  free (with_in p ws t) g h = sym (names_inside (with_in p ws t)) ∙ ap (map placed_name) g
+  free (with_in p ws t) g h = sym (names_in (with_in p ws t)) ∙ ap (map placed_name) g
   free (print_out p e) g h = tt
   free (assert_that p e) g h = tt
   free (go_to p l) g h = tt

@@ -23,6 +23,9 @@ use Rattle.pgo_bound.specs.Instances.{archetype_among}
 use Rattle.pgo_bound.specs.Runs.{archetype_named}
 use Rattle.pgo_bound.specs.Sound.{labels_among}
 use Rattle.pgo_bound.specs.State.{variables_of}
+use Rattle.pgo_accept.proofs.Heads.{nothing_if}
+use Rattle.pgo_accept.proofs.Unlabelled.{macros_unlabelled}
+use Rattle.pgo_accept.proofs.Variables.{found_own}
 use Rattle.pgo_accept.proofs.Fitting.{ArgumentsFit}
 use Rattle.pgo_sections.specs.Expand.{expansion}
 use Rattle.pgo_sections.specs.WellFormed.{NotMade}
@@ -35,11 +38,11 @@ use Rattle.pgo_meaning.proofs.LabelSections.{sections_are}
 use Rattle.pgo_translate.specs.Premises.{process_names, further_names}
 use Rattle.pgo_agrees.specs.Accepted.{IsOfText, ArchetypeOfText, LabelOfText}
 use Rattle.pgo_agrees.proofs.Further.{IsFurther, is_proc_set, is_terminating, is_process, is_written}
-use Rattle.pgo_agrees.proofs.Kept.{NoFindings, NoLabelFindings, nothing_if, none_of_name}
-use Rattle.pgo_agrees.proofs.Labels.{label_own, label_among, label_written, found_own}
+use Rattle.pgo_agrees.proofs.Kept.{NoFindings, NoLabelFindings, none_of_name}
+use Rattle.pgo_agrees.proofs.Labels.{label_own, label_among, label_written}
 use Rattle.pgo_agrees.proofs.Meanings.{process_unit}
 use Rattle.pgo_agrees.proofs.Names.{single, written_single, identifier_letter}
-use Rattle.pgo_agrees.proofs.Unlabelled.{are_unlabelled, none_is_done}
+use Rattle.pgo_agrees.proofs.Unlabelled.{none_is_done}
 use Rattle.pgo_agrees.proofs.Uses.{fine_use, of_archetype}
 
 -- which name it is
@@ -62,7 +65,7 @@ first_parts f (c ∷ cs) = ap (λ ns. c.0 ∷ ns) (first_parts f cs)
 
 module _ (s : Spec) (k : NoFindings s) (labels : NoLabelFindings s) where
   unlabelled : AreUnlabelled s.macros
-  unlabelled = are_unlabelled s.macros labels.macros
+  unlabelled = macros_unlabelled s.macros labels.macros
 
   pub not_done : (a : Archetype) → IsAmong a s.archetypes → (y : Name) → IsAmong y (labels_among (labeled a.body)) → same_name y done ≡ false
   not_done a h y b =

@@ -1,5 +1,5 @@
 -- The code of statements in which names stand so has well-formed names, and changes element-bound globals by their elements alone.
-use Rattle.std.proofs.Common.{◌≡◌, ◌<◌, ℕ, zero, suc, Bool, true, false, ◌||◌, if◌then◌else◌, List, [], ◌∷◌, ◌++◌, map, Option, Some, None, refl, ap, sym, subst, inl, inr, arith}
+use Rattle.std.proofs.Common.{◌≡◌, ◌<◌, ℕ, zero, suc, Bool, true, false, if◌then◌else◌, List, [], ◌∷◌, ◌++◌, map, Option, Some, None, refl, ap, sym, subst, inl, inr, arith}
 use Rattle.std.specs.Prelude.{◌⊎◌}
 use Rattle.std.specs.List.{AllByRecursion}
 use Rattle.pgo_base.specs.Lookup.{Name, same_name, find}
@@ -28,20 +28,17 @@ use Rattle.pgo_meaning.specs.MacrosPlaced.{unmarked}
 use Rattle.pgo_meaning.specs.Statements.{Setting, Part, Index, Field, part_tree, index_of, label_of, alone, to_variable, assigned, steps, assign_all, assignment_code, bind_name, bind_names, code, branches, arms, in_order}
 use Rattle.pgo_agrees.proofs.Fine.{in_with, Expr, PathFine, AssignsFine, WithsFine, Fine, EachFine, LabeledFine, GuardedFine}
 use Rattle.pgo_agrees.proofs.Hoist.{place_single, never, InScope, lower, Base, Hoistable, ReadWhole, ReadElement, ReadsFrom, hoist}
+use Rattle.pgo_agrees.proofs.Names.{false_or}
 use Rattle.pgo_agrees.proofs.Stands.{Above, or_in, or_first, or_second}
 use Rattle.pgo_agrees.proofs.Weaker.{plain}
 
 in_front : (x y : Name) (ws : List Name) → is_among x ws ≡ true → is_among x (y ∷ ws) ≡ true
 in_front x y ws h = or_second (same_name x y) (is_among x ws) h
 
-first_there : (y : Name) (ws : List Name) → is_among y (y ∷ ws) ≡ true
+pub first_there : (y : Name) (ws : List Name) → is_among y (y ∷ ws) ≡ true
 first_there y ws = or_first (same_name y y) (is_among y ws) (same_name-self y)
 
-neither : (a b : Bool) → a ≡ false → b ≡ false → a || b ≡ false
-neither true b h g = absurd (cc)
-neither false b h g = g
-
-less_or_same : (i j : ℕ) → i < suc j → (i < j) ⊎ (i ≡ j)
+pub less_or_same : (i j : ℕ) → i < suc j → (i < j) ⊎ (i ≡ j)
 less_or_same zero zero h = inr refl
 less_or_same zero (suc j) h = inl (omega arith)
 less_or_same (suc i) zero h = absurd (omega (arith, h))
@@ -116,7 +113,7 @@ module _ (vs gs : List Name) (st : Setting) (by : Name → Bool) (N : List Name 
     with_place ns ws j s = record {
       names = λ x h. in_front x (place j) ws (s.names x h);
       places = λ i h. go i (less_or_same i j h);
-      apart = λ x c. neither (same_name x (place j)) (is_among x ws) (r.place_apart j x c) (s.apart x c);
+      apart = λ x c. false_or (same_name x (place j)) (is_among x ws) (r.place_apart j x c) (s.apart x c);
     }
       where
         go : (i : ℕ) → (i < j) ⊎ (i ≡ j) → is_among (place i) (place j ∷ ws) ≡ true
@@ -130,7 +127,7 @@ module _ (vs gs : List Name) (st : Setting) (by : Name → Bool) (N : List Name 
     with_name ns ws k x w s = record {
       names = λ y h. go y (or_in (same_name y x) (is_among y ns) h);
       places = λ j h. absurd (omega (arith, h));
-      apart = λ y c. neither (same_name y x) (is_among y ws) (r.with_apart x y w c) (s.apart y c);
+      apart = λ y c. false_or (same_name y x) (is_among y ws) (r.with_apart x y w c) (s.apart y c);
     }
       where
         go : (y : Name) → (same_name y x ≡ true) ⊎ (is_among y ns ≡ true) → is_among y (x ∷ ws) ≡ true

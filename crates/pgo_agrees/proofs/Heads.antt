@@ -1,5 +1,5 @@
 -- What the heads of processes name is declared.
-use Rattle.std.proofs.Common.{◌≡◌, Bool, true, false, not, if◌then◌else◌, List, [], ◌∷◌, ◌++◌, Some, refl, ap, sym, ◌∙◌, subst, inl, inr}
+use Rattle.std.proofs.Common.{◌≡◌, Bool, true, false, if◌then◌else◌, List, [], ◌∷◌, ◌++◌, Some, refl, ap, sym, ◌∙◌, subst, inl, inr}
 use Rattle.std.specs.Prelude.{is_some}
 use Rattle.pgo_base.specs.Lookup.{Name, same_name, find}
 use Rattle.pgo_model.specs.Names.{same_name-is}
@@ -13,17 +13,13 @@ use Rattle.pgo_syntax.specs.declared.process.MappingClause.{MappingClause}
 use Rattle.pgo_syntax.specs.declared.process.Process.{Process}
 use Rattle.pgo_syntax.specs.declared.spec.Spec.{Spec}
 use Rattle.pgo_uses.specs.declared.tables.Tables.{Tables}
-use Rattle.pgo_uses.specs.Names.{Rows, has_row}
+use Rattle.pgo_uses.specs.Names.{has_row}
 use Rattle.pgo_uses.specs.Tables.{tables_of, variable_rows, mapping_rows}
-use Rattle.pgo_scope.specs.declared.errors.ScopeError.TheVariants as errors
 use Rattle.pgo_scope.specs.Unknown.{unknown_in, unknown_argument, unknown_target, unknown_arguments, unknown_clauses, unknown_heads}
 use Rattle.pgo_bound.specs.Among.{IsAmong, none_left, none_right, among_nth, nth_among}
 use Rattle.pgo_bound.specs.Runs.{mapping_named}
 use Rattle.pgo_meaning.specs.SystemStates.{RefsDeclared}
-use Rattle.pgo_agrees.proofs.Kept.{nothing_if, not_false}
-
-known_name : (rows : Rows) (x : PlacedName) → unknown_in rows x ≡ [] → has_row x.name rows ≡ true
-known_name rows x h = not_false (has_row x.name rows) (nothing_if (not (has_row x.name rows)) x.place (errors.Unknown x.name) h)
+use Rattle.pgo_accept.proofs.Heads.{known_name}
 
 pub record HeadKnown (ts : Tables) (p : Process) : Type 0 where
   pub arguments : unknown_arguments ts p.arguments ≡ []

@@ -1,5 +1,6 @@
 -- Names in the statements of an archetype that a process runs.
 use Rattle.std.proofs.Common.{◌≡◌, ℕ, suc, Bool, true, false, ◌||◌, not, if◌then◌else◌, List, [], ◌∷◌, ◌++◌, map, length, Option, Some, None, refl, ap, sym, ◌∙◌, subst, inl, inr}
+use Rattle.std.proofs.lemmas.Bool.{not-false}
 use Rattle.std.specs.Prelude.{◌⊎◌, slice_get}
 use Rattle.std.specs.List.{AllByRecursion, filter_map}
 use Rattle.pgo_base.specs.Data.{Data}
@@ -14,7 +15,6 @@ use Rattle.pgo_syntax.specs.declared.declaration.Declaration.{Declaration}
 use Rattle.pgo_syntax.specs.declared.process.Process.{Process}
 use Rattle.pgo_syntax.specs.Statement.{labeled}
 use Rattle.pgo_heads.specs.Refusals.{bind_refusal}
-use Rattle.pgo_scope.specs.declared.errors.ScopeError.{ScopeError}
 use Rattle.pgo_syntax.specs.declared.process.Argument.{Argument}
 use Rattle.pgo_syntax.specs.declared.process.Argument.TheVariants as arguments
 use Rattle.pgo_syntax.specs.declared.spec.Spec.{Spec}
@@ -26,7 +26,7 @@ use Rattle.pgo_uses.specs.declared.uses.Home.TheVariants as homes
 use Rattle.pgo_uses.specs.declared.uses.Shape.{Shape}
 use Rattle.pgo_uses.specs.declared.uses.Shape.TheVariants.{Bare, OneIndex, Further}
 use Rattle.pgo_uses.specs.declared.uses.Use.{Use}
-use Rattle.pgo_scope.specs.Findings.{found_if, found_where}
+use Rattle.pgo_scope.specs.Findings.{found_where}
 use Rattle.pgo_scope.specs.Mapped.{some_process, mapped_kind, mapped_among, mapped_of, mapped_in, wrong_read, wrong_write, mapped_read, mapped_write, mapped_use_of}
 use Rattle.pgo_scope.specs.Underscores.{has_double}
 use Rattle.pgo_scope.specs.Usage.{macro_table}
@@ -36,6 +36,8 @@ use Rattle.pgo_scope.specs.declared.mapped.Mapped.TheVariants.{ByElement}
 use Rattle.pgo_bound.specs.Among.{IsAmong, among_left, among_append, from_map, from_filter_map}
 use Rattle.pgo_bound.specs.Runs.{Handed, handed_from, archetype_named}
 use Rattle.pgo_bound.specs.State.{names_with, value_name}
+use Rattle.pgo_accept.proofs.Heads.{nothing_if}
+use Rattle.pgo_accept.proofs.Variables.{handed_value}
 use Rattle.pgo_accept.proofs.Fitting.{ArgumentsFit}
 use Rattle.pgo_sections.specs.Access.{Mapped}
 use Rattle.pgo_sections.specs.Code.{Place}
@@ -51,7 +53,7 @@ use Rattle.pgo_agrees.proofs.Kept.{NoFindings}
 use Rattle.pgo_agrees.proofs.MappedPlaces.{mapped_from, element_kind, parameter_or_mapped, local_placed}
 use Rattle.pgo_agrees.proofs.Meanings.{common_apart, common_single}
 use Rattle.pgo_agrees.proofs.Names.{or_right, single}
-use Rattle.pgo_agrees.proofs.Places.{handed_value, PlaceFrom, is_own, is_whole, hands, binds, place_from, found_there}
+use Rattle.pgo_agrees.proofs.Places.{PlaceFrom, is_own, is_whole, hands, binds, place_from, found_there}
 use Rattle.pgo_agrees.proofs.Uses.{FineUse}
 use Rattle.pgo_agrees.proofs.Variables.{parameter_fine, local_fine}
 
@@ -252,11 +254,7 @@ module _ (s : Spec) (k : NoFindings s) (fit : AllByRecursion (ArgumentsFit s.arc
     MayRead h i x = kind x ≡ ByElement → i ≡ true
 
     pub may_read : (a : Around) (x : Name) → wrong_read a (kind x) ≡ false → MayRead a.hidden a.indexed x
-    may_read a x h e = not_false a.indexed (or_right a.hidden (not a.indexed) (ap (wrong_read a) (sym e) ∙ h))
-      where
-        not_false : (b : Bool) → not b ≡ false → b ≡ true
-        not_false true g = refl
-        not_false false g = absurd (cc)
+    may_read a x h e = not-false a.indexed (or_right a.hidden (not a.indexed) (ap (wrong_read a) (sym e) ∙ h))
 
     pub may_write : (h : Shape) (x : Name) → wrong_write h (kind x) ≡ false → kind x ≡ ByElement → h ≡ OneIndex
     may_write h x g e = go h (ap (wrong_write h) (sym e) ∙ g)
@@ -279,14 +277,10 @@ module _ (s : Spec) (k : NoFindings s) (fit : AllByRecursion (ArgumentsFit s.arc
     pub statements : InStatements s k fit of_text (homes.Body j)
     statements x = refl
 
-    found_nothing : (b : Bool) (p : ℕ) (e : ScopeError) → found_if b p e ≡ [] → b ≡ false
-    found_nothing true p e h = absurd (cc)
-    found_nothing false p e h = refl
-
     -- a use that is read
     pub read_fine : (u : Use) → u.around.home ≡ homes.Body j → mapped_read s u ≡ [] → MayRead u.around.hidden u.around.indexed u.name
     read_fine u h f =
-        may_read u.around u.name (ap (λ z. wrong_read u.around (mapped_in s z u.name)) (sym h) ∙ found_nothing (wrong_read u.around (mapped_in s u.around.home u.name)) u.around.place (errors.MappedReadHere u.name) f)
+        may_read u.around u.name (ap (λ z. wrong_read u.around (mapped_in s z u.name)) (sym h) ∙ nothing_if (wrong_read u.around (mapped_in s u.around.home u.name)) u.around.place (errors.MappedReadHere u.name) f)
 
     pub alone_read : (u : Use) → FineUse s u → IsAt (homes.Body j) false u.around → u.form ≡ forms.Alone → MayRead u.around.hidden u.around.indexed u.name
     alone_read u f w e =
@@ -295,7 +289,7 @@ module _ (s : Spec) (k : NoFindings s) (fit : AllByRecursion (ArgumentsFit s.arc
 
     pub written_fine : (a : Around) (x : Name) (h : Shape) → a.home ≡ homes.Body j → mapped_write s a x h ≡ [] → kind x ≡ ByElement → h ≡ OneIndex
     written_fine a x h e f =
-        may_write h x (ap (λ z. wrong_write h (mapped_in s z x)) (sym e) ∙ found_nothing (wrong_write h (mapped_in s a.home x)) a.place (errors.MappedReadHere x) f)
+        may_write h x (ap (λ z. wrong_write h (mapped_in s z x)) (sym e) ∙ nothing_if (wrong_write h (mapped_in s a.home x)) a.place (errors.MappedReadHere x) f)
 
     pub assigned_fine : (ns : List Name) (u : Use) (h : Shape) → FineUse s u → IsAt (homes.Body j) false u.around → u.form ≡ forms.Assigned h → RunAssigned ns h u.name
     assigned_fine ns u h f w e = (single u.name f.double, written_fine u.around u.name h w.0 (subst (λ z. mapped_use_of s (macro_table s.macros) u z ≡ []) e f.mapped))

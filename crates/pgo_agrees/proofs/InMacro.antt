@@ -1,7 +1,9 @@
 -- Each macro's body, with the macros before it in place, has names that stand as in a macro; by the order of the macros.
 use Rattle.std.proofs.Common.{◌≡◌, ◌<◌, ℕ, zero, suc, ◌+◌, Bool, true, false, ◌||◌, not, ◌&&◌, if◌then◌else◌, List, [], ◌∷◌, ◌++◌, map, length, Some, None, refl, ap, sym, ◌∙◌, subst, inl, inr, arith}
+use Rattle.std.proofs.lemmas.Bool.{not-false}
 use Rattle.std.specs.Prelude.{◌⊎◌, slice_get}
 use Rattle.std.specs.List.{AllByRecursion}
+use Rattle.pgo_base.proofs.LastPlaces.{last_at}
 use Rattle.pgo_base.specs.Lookup.{Name, same_name, find}
 use Rattle.pgo_base.specs.Tree.{Tree}
 use Rattle.pgo_model.specs.Names.{same_name-self, same_name-is, is_among}
@@ -26,6 +28,7 @@ use Rattle.pgo_scope.specs.declared.errors.ScopeError.TheVariants as errors
 use Rattle.pgo_scope.specs.declared.usage.Usage.{Usage}
 use Rattle.pgo_bound.specs.Among.{IsAmong, among_left, among_right, all_at, some_is}
 use Rattle.pgo_bound.specs.Sound.{labels_among}
+use Rattle.pgo_accept.proofs.Heads.{nothing_if}
 use Rattle.pgo_accept.proofs.Fitting.{ArgumentsFit}
 use Rattle.pgo_meaning.specs.LabelSections.{AreUnlabelled}
 use Rattle.pgo_meaning.specs.MacrosPlaced.{marked as marked', Body, Bodies, placed, bodies_with, bodies}
@@ -38,8 +41,9 @@ use Rattle.pgo_agrees.proofs.Env.{C, B, Common, D, Known', Inside, InStatements,
 use Rattle.pgo_agrees.proofs.Fine.{Fine}
 use Rattle.pgo_agrees.proofs.FineUses.{Within, labeled_fine}
 use Rattle.pgo_agrees.proofs.FromUses.{Known, IsAt}
+use Rattle.pgo_agrees.proofs.GoodCode.{less_or_same}
 use Rattle.pgo_agrees.proofs.Hoist.{never}
-use Rattle.pgo_agrees.proofs.Kept.{NoFindings, nothing_if, not_false}
+use Rattle.pgo_agrees.proofs.Kept.{NoFindings}
 use Rattle.pgo_agrees.proofs.MacroCalls.{MacroOk, all_names, called_known, parameters_are, call_ok, assigned_base}
 use Rattle.pgo_agrees.proofs.MacroNames.{FirstMacro, first_macro, one_macro, earlier_first}
 use Rattle.pgo_agrees.proofs.Names.{identifier_bytes}
@@ -65,10 +69,6 @@ prefix_get [] ys j x h = absurd (cc)
 prefix_get (z ∷ xs) ys zero x h = h
 prefix_get (z ∷ xs) ys (suc j) x h = prefix_get xs ys j x h
 
-last_get : {A : Type 0} (xs : List A) (x : A) → slice_get (xs ++ x ∷ []) (length xs) ≡ Some x
-last_get [] x = refl
-last_get (z ∷ xs) x = last_get xs x
-
 last_length : {A : Type 0} (xs : List A) (x : A) → length (xs ++ x ∷ []) ≡ suc (length xs)
 last_length [] x = refl
 last_length (z ∷ xs) x = ap suc (last_length xs x)
@@ -81,16 +81,6 @@ later_get (m ∷ ms) known i j r h =
 names_map : (ps : List PlacedName) → map (λ (p : PlacedName). p.name) ps ≡ names_of ps
 names_map [] = refl
 names_map (p ∷ ps) = ap (λ ns. p.name ∷ ns) (names_map ps)
-
-less_or_same : (i j : ℕ) → i < suc j → (i < j) ⊎ (i ≡ j)
-less_or_same zero zero h = inr refl
-less_or_same zero (suc j) h = inl (omega arith)
-less_or_same (suc i) zero h = absurd (omega (arith, h))
-less_or_same (suc i) (suc j) h = go (less_or_same i j (omega (arith, h)))
-  where
-    go : (i < j) ⊎ (i ≡ j) → (suc i < suc j) ⊎ (suc i ≡ suc j)
-    go (inl l) = inl (omega (arith, l))
-    go (inr e) = inr (ap suc e)
 
 less_or_more : (j i : ℕ) → (j < i) ⊎ ((n : ℕ) × (j ≡ i + n))
 less_or_more j zero = inr (j, omega arith)
@@ -185,7 +175,7 @@ module _ (s : Spec) (k : NoFindings s) (fit : AllByRecursion (ArgumentsFit s.arc
 
     own_assigned : (ns : List Name) (u : Use) (h : Shape) → P u → IsAt (homes.Macro i) false u.around → u.form ≡ forms.Assigned h → A ns h u.name
     own_assigned ns u h p g e = (
-      may_be u.name (ap (λ z. may_assign s z u.name) (sym g.0) ∙ not_false (may_assign s u.around.home u.name) (nothing_if (not (may_assign s u.around.home u.name)) u.around.place (errors.AssignedNotRef u.name) (subst (λ f. assigned_of s (macro_table s.macros) u f ≡ []) e p.0.assigned))),
+      may_be u.name (ap (λ z. may_assign s z u.name) (sym g.0) ∙ not-false (may_assign s u.around.home u.name) (nothing_if (not (may_assign s u.around.home u.name)) u.around.place (errors.AssignedNotRef u.name) (subst (λ f. assigned_of s (macro_table s.macros) u f ≡ []) e p.0.assigned))),
       (use_among K u.name us u p.1).writes h
           (ap (λ f. writes_so (usage_by K u.name u f) h) e ∙ ap (λ b. writes_so (usage_if b (write_usage h)) h) (same_name-self u.name) ∙ write_way_is h),
     )
@@ -300,7 +290,7 @@ module _ (s : Spec) (k : NoFindings s) (fit : AllByRecursion (ArgumentsFit s.arc
           let none = all_unlabelled m s.macros unlabelled among in
           let usage = w m among i at_i (uses_there m i at_i) none known bs before in
           let here : slice_get (known ++ each_parameter (macro_rows s.macros, known) (macro_uses i m) (names_of m.params) ∷ []) j ≡ Some (rows usage (names_of m.params)) =
-          ap (slice_get (known ++ each_parameter (macro_rows s.macros, known) (macro_uses i m) (names_of m.params) ∷ [])) (e ∙ sym size) ∙ last_get known (each_parameter (macro_rows s.macros, known) (macro_uses i m) (names_of m.params)) ∙ ap Some (each_rows (macro_rows s.macros, known) (macro_uses i m) (names_of m.params)) in (
+          ap (slice_get (known ++ each_parameter (macro_rows s.macros, known) (macro_uses i m) (names_of m.params) ∷ [])) (e ∙ sym size) ∙ last_at known (each_parameter (macro_rows s.macros, known) (macro_uses i m) (names_of m.params)) ∙ ap Some (each_rows (macro_rows s.macros, known) (macro_uses i m) (names_of m.params)) in (
             record {
               macro = record { it = m; at' = ap (slice_get s.macros) e ∙ at_i; named = ap (λ (z : Macro). z.name.name) (sym same) ∙ f.named; row = f.row ∙ ap (λ (z : Macro). Some (length z.params)) same };
               usage = usage;

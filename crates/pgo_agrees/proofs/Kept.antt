@@ -1,5 +1,5 @@
 -- Where nothing is refused, no rule finds anything.
-use Rattle.std.proofs.Common.{◌≡◌, ℕ, Bool, true, false, not, if◌then◌else◌, nat_lt, List, [], ◌∷◌, ◌++◌, map, Option, Some, None, option_map, refl, ap, ◌∙◌, inl, inr}
+use Rattle.std.proofs.Common.{◌≡◌, List, [], ◌∷◌, ◌++◌, map, None, ap, ◌∙◌, inl, inr}
 use Rattle.std.specs.List.{AllByRecursion, flat_map}
 use Rattle.pgo_syntax.specs.declared.name.PlacedName.{PlacedName}
 use Rattle.pgo_syntax.specs.declared.spec.Spec.{Spec}
@@ -7,53 +7,30 @@ use Rattle.pgo_uses.specs.declared.uses.Use.{Use}
 use Rattle.pgo_uses.specs.AllUses.{all_uses}
 use Rattle.pgo_uses.specs.Heads.{head_names, unit_names, macro_names, shared_names, mapping_names, archetype_names, process_names}
 use Rattle.pgo_uses.specs.Tables.{tables_of}
-use Rattle.pgo_scope.specs.declared.errors.ScopeError.{ScopeError}
 use Rattle.pgo_scope.specs.declared.finding.Finding.{Finding}
 use Rattle.pgo_scope.specs.Arity.{arity_use, arity_heads}
 use Rattle.pgo_scope.specs.Assigned.{assigned_use}
 use Rattle.pgo_scope.specs.Clash.{name_clashes}
-use Rattle.pgo_scope.specs.Findings.{found_if, first_of_all, earliest, each_use, each_name}
+use Rattle.pgo_scope.specs.Findings.{each_use, each_name}
 use Rattle.pgo_scope.specs.Globals.{global_finding}
 use Rattle.pgo_scope.specs.Mapped.{mapped_use}
-use Rattle.pgo_scope.specs.Refusal.{or_next, first_broken, all_rules, scope_refusal}
+use Rattle.pgo_scope.specs.Refusal.{first_broken, all_rules, scope_refusal}
 use Rattle.pgo_scope.specs.Rules.{context_of, found_by}
 use Rattle.pgo_scope.specs.Twice.{captures, repeated_in, declared_twice, reserved_name, hiding_use, capture_use}
 use Rattle.pgo_scope.specs.Underscores.{double_name, double_use}
 use Rattle.pgo_scope.specs.Unknown.{unknown_use, unknown_heads}
 use Rattle.pgo_scope.specs.Usage.{macro_table}
-use Rattle.pgo_labels.specs.declared.errors.LabelError.{LabelError}
 use Rattle.pgo_labels.specs.declared.finding.Finding as labels
-use Rattle.pgo_labels.specs.Least.{sooner_of, least}
 use Rattle.pgo_labels.specs.Refusal.{first_refusal, label_refusal}
 use Rattle.pgo_labels.specs.Rules.{findings, label_in_with, label_in_macro, label_in_mapping, label_twice, reserved_done, yield_rule}
 use Rattle.pgo_bound.specs.Among.{IsAmong, none_left, none_right}
+use Rattle.pgo_accept.proofs.Unbroken.{first_rule, next_rules, first_label_rule, next_label_rules}
 
 -- ---- names
 
-still_found : (f : Finding) (fs : List Finding) → option_map (λ g. g.error) (first_of_all (Some f) fs) ≡ None → ⊥
-still_found f [] h = cc
-still_found f (g ∷ gs) h = go (nat_lt g.place f.place) h (still_found g gs) (still_found f gs)
-  where
-    go : (b : Bool) → option_map (λ e. e.error) (first_of_all (if b then Some g else Some f) gs) ≡ None
-        → (option_map (λ e. e.error) (first_of_all (Some g) gs) ≡ None → ⊥) → (option_map (λ e. e.error) (first_of_all (Some f) gs) ≡ None → ⊥) → ⊥
-    go true e new old = new e
-    go false e new old = old e
-
-none_earliest : (fs : List Finding) → earliest fs ≡ None → fs ≡ []
-none_earliest [] h = refl
-none_earliest (f ∷ fs) h = absurd (still_found f fs h)
-
-first_none : (o p : Option ScopeError) → or_next o p ≡ None → o ≡ None
-first_none None p h = refl
-first_none (Some e) p h = absurd (cc)
-
-next_none : (o p : Option ScopeError) → or_next o p ≡ None → p ≡ None
-next_none None p h = h
-next_none (Some e) p h = absurd (cc)
-
 all_empty : (rules : List (List Finding)) → first_broken rules ≡ None → AllByRecursion (λ fs. fs ≡ []) rules
 all_empty [] h = tt
-all_empty (fs ∷ rules) h = (none_earliest fs (first_none (earliest fs) (first_broken rules) h), all_empty rules (next_none (earliest fs) (first_broken rules) h))
+all_empty (fs ∷ rules) h = (first_rule fs rules h, all_empty rules (next_rules fs rules h))
 
 pub record NoFindings (s : Spec) : Type 0 where
   pub unknown : each_use (unknown_use (tables_of s) s.archetypes) (all_uses s) ≡ []
@@ -104,14 +81,6 @@ no_findings s h =
 
 -- ---- one name
 
-pub nothing_if : (b : Bool) (p : ℕ) (e : ScopeError) → found_if b p e ≡ [] → b ≡ false
-nothing_if true p e h = absurd (cc)
-nothing_if false p e h = refl
-
-pub not_false : (b : Bool) → not b ≡ false → b ≡ true
-not_false true h = refl
-not_false false h = absurd (cc)
-
 pub none_of_use : (f : Use → List Finding) (us : List Use) → each_use f us ≡ [] → (u : Use) → IsAmong u us → f u ≡ []
 none_of_use f [] h u a = absurd a
 none_of_use f (v ∷ us) h u (inl e) = ap f e ∙ none_left (f v) (each_use f us) h
@@ -124,24 +93,9 @@ none_of_name f (y ∷ xs) h x (inr a) = none_of_name f xs (none_right (f y) (eac
 
 -- ---- labels
 
-abbrev label_place : labels.Finding → ℕ
-label_place f = f.place
-
 all_unlabelled : (rules : List (List labels.Finding)) → first_refusal rules ≡ None → AllByRecursion (λ fs. fs ≡ []) rules
 all_unlabelled [] h = tt
-all_unlabelled (fs ∷ rules) h = go (least label_place fs) refl h (λ k. all_unlabelled rules k)
-  where
-    empty : (gs : List labels.Finding) → least label_place gs ≡ None → gs ≡ []
-    empty [] e = refl
-    empty (g ∷ gs) e = absurd (some (least label_place gs) e)
-      where
-        some : (o : Option labels.Finding) → sooner_of label_place (Some g) o ≡ None → ⊥
-        some None e = cc
-        some (Some f) e = cc
-
-    go : (o : Option labels.Finding) → least label_place fs ≡ o → elim o as (λ o. Option LabelError) [ None ↦ first_refusal rules | Some f ↦ Some f.error ] ≡ None → (first_refusal rules ≡ None → AllByRecursion (λ fs. fs ≡ []) rules) → AllByRecursion (λ fs. fs ≡ []) (fs ∷ rules)
-    go None e k more = (empty fs e, more k)
-    go (Some f) e k more = absurd (cc)
+all_unlabelled (fs ∷ rules) h = (first_label_rule fs rules h, all_unlabelled rules (next_label_rules fs rules h))
 
 pub record NoLabelFindings (s : Spec) : Type 0 where
   pub withs : flat_map label_in_with s.archetypes ≡ []

@@ -1,5 +1,5 @@
 -- At a label of a process the trees of the whole specification have the expansion of that process.
-use Rattle.std.proofs.Common.{◌≡◌, ◌≤◌, ◌<◌, ◌^◌, ℕ, suc, Bool, true, false, if◌then◌else◌, List, [], ◌∷◌, ◌++◌, map, Option, Some, None, option_map, refl, ap, sym, ◌∙◌, subst, inl, inr, arith}
+use Rattle.std.proofs.Common.{◌≡◌, ◌≤◌, ◌<◌, ◌^◌, ℕ, Bool, true, false, if◌then◌else◌, List, [], ◌∷◌, ◌++◌, map, Option, Some, None, option_map, refl, ap, sym, ◌∙◌, subst, inl, inr, arith}
 use Rattle.std.specs.Prelude.{◌⊎◌, is_some}
 use Rattle.std.specs.List.{flat_map}
 use Rattle.pgo_base.specs.Lookup.{Name, same_name, find}
@@ -19,7 +19,7 @@ use Rattle.pgo_uses.specs.declared.uses.Around.{Around}
 use Rattle.pgo_uses.specs.declared.uses.Form.TheVariants as forms
 use Rattle.pgo_uses.specs.declared.uses.Home.TheVariants as homes
 use Rattle.pgo_uses.specs.declared.uses.Use.{Use}
-use Rattle.pgo_scope.specs.Clash.{value_names, new_label, labels_from, own_names, own_rows, or_none, own_module_name, own_module_names, process_module_names, name_clashes}
+use Rattle.pgo_scope.specs.Clash.{value_names, new_label, labels_from, own_names, or_none, own_module_name, own_module_names, process_module_names, name_clashes}
 use Rattle.pgo_scope.specs.declared.module_names.ModuleName.{ModuleName}
 use Rattle.pgo_labels.specs.ReservedDone.{reserved_done}
 use Rattle.pgo_bound.specs.Among.{IsAmong, among_left, among_right, among_append, from_map, nth_among, none_flat_map}
@@ -27,6 +27,7 @@ use Rattle.pgo_bound.specs.Instances.{archetype_among}
 use Rattle.pgo_bound.specs.Runs.{archetype_named}
 use Rattle.pgo_bound.specs.Sound.{labels_in, labels_each, labels_among, labels_guarded}
 use Rattle.pgo_bound.specs.State.{variables_of}
+use Rattle.pgo_accept.proofs.Variables.{found_own}
 use Rattle.pgo_accept.proofs.WrittenOnce.{writes, writes-append}
 use Rattle.pgo_sections.specs.Code.{Code}
 use Rattle.pgo_sections.specs.Expand.{expansion}
@@ -40,7 +41,7 @@ use Rattle.pgo_meaning.specs.Sections.{sections_of}
 use Rattle.pgo_meaning.specs.Statements.{label_of}
 use Rattle.pgo_meaning.proofs.LabelSections.{sections_are}
 use Rattle.pgo_agrees.specs.Accepted.{AreSmall}
-use Rattle.pgo_agrees.proofs.WrittenNames.{writes_some, counted, rows_of}
+use Rattle.pgo_agrees.proofs.WrittenNames.{writes_some, counted, rows_of, own_among}
 use Rattle.pgo_agrees.proofs.Unlabelled.{none_is_done}
 
 -- ---- a label is used as a label
@@ -155,20 +156,6 @@ pub label_own : (j : ℕ) (a : Archetype) (x : Name) → IsAmong x (labels_among
 label_own j a x h =
     among_right x (value_names a.params ++ variable_names a.locals) (labels_from [] (archetype_uses j a)) (body_label j a x h)
 
-pub found_own : (x : Name) (j : ℕ) (as' : List Archetype) (a : Archetype) → archetype_named x as' ≡ Some a → (k : ℕ) × (find x (own_rows j as') ≡ Some (own_names k a))
-found_own x j [] a h = absurd (cc)
-found_own x j (b ∷ bs) a h = go (same_name x b.name.name) h (found_own x (suc j) bs a)
-  where
-    go : (c : Bool) → (if c then Some b else archetype_named x bs) ≡ Some a → (archetype_named x bs ≡ Some a → (k : ℕ) × (find x (own_rows (suc j) bs) ≡ Some (own_names k a)))
-        → (k : ℕ) × ((if c then Some (own_names j b) else find x (own_rows (suc j) bs)) ≡ Some (own_names k a))
-    go true e r = let same : b ≡ a = cc in (j, ap (λ d. Some (own_names j d)) same)
-    go false e r = r e
-
-own_thing_among : (p : Process) (y : Name) (ys : List Name) → IsAmong y ys → IsAmong (own_module_name p y) (own_module_names p ys)
-own_thing_among p y [] a = absurd a
-own_thing_among p y (z ∷ ys) (inl e) = inl (ap (own_module_name p) e)
-own_thing_among p y (z ∷ ys) (inr a) = inr (own_thing_among p y ys a)
-
 there : {A : Type 0} (l : Name) (x : A) (xs : List (Name × A)) → find l xs ≡ Some x → IsAmong l (map (λ c. c.0) xs)
 there l x [] h = absurd (cc)
 there {A} l x (q ∷ xs) h = go (same_name l q.0) refl h (there l x xs)
@@ -205,7 +192,7 @@ module _ (s : Spec) (clashes : name_clashes s ≡ []) (unlabelled : AreUnlabelle
 
   own_count : (p : Process) (y l : Name) → IsAmong y (or_none (find p.archetype.name (rows_of s))) → l ≡ written p.name.name y → 1 ≤ writes l (own_of p)
   own_count p y l a e =
-      writes_some l (own_module_name p y) (own_of p) (own_thing_among p y (or_none (find p.archetype.name (rows_of s))) a) (ap (same_name l) (sym e) ∙ same_name-self l)
+      writes_some l (own_module_name p y) (own_of p) (own_among p y (or_none (find p.archetype.name (rows_of s))) a) (ap (same_name l) (sym e) ∙ same_name-self l)
 
   -- no tree of another process has the label
   no_tree : (q : Process) (l : Name) → writes l (own_of q) ≡ 0 → find l (process_expansions s q) ≡ None

@@ -1,5 +1,6 @@
 -- A call of a macro that the rules of names let pass.
-use Rattle.std.proofs.Common.{◌≡◌, ℕ, suc, Bool, true, false, not, ◌||◌, if◌then◌else◌, nat_eq, List, [], ◌∷◌, ◌++◌, length, Option, Some, None, refl, ap, sym, ◌∙◌, subst, arith}
+use Rattle.std.proofs.Common.{◌≡◌, ℕ, suc, Bool, true, false, not, ◌||◌, if◌then◌else◌, nat_eq, List, [], ◌∷◌, ◌++◌, length, Option, Some, None, refl, ap, sym, ◌∙◌, subst}
+use Rattle.std.proofs.lemmas.Bool.{not-false, eqb-true}
 use Rattle.std.specs.Prelude.{slice_get}
 use Rattle.std.specs.List.{AllByRecursion}
 use Rattle.pgo_base.specs.Lookup.{Name, same_name, find}
@@ -25,6 +26,7 @@ use Rattle.pgo_scope.specs.Unknown.{may_call, is_unknown}
 use Rattle.pgo_scope.specs.Usage.{MacroTable, macro_table_from, each_parameter, macro_table, item_at, or_none, parameters_of, is_assigned, left_base}
 use Rattle.pgo_scope.specs.declared.errors.ScopeError.TheVariants as errors
 use Rattle.pgo_scope.specs.declared.usage.Usage.{Usage}
+use Rattle.pgo_accept.proofs.Heads.{nothing_if}
 use Rattle.pgo_accept.proofs.Fitting.{ArgumentsFit}
 use Rattle.pgo_meaning.specs.MacrosPlaced.{Body, Bodies, handed}
 use Rattle.pgo_agrees.specs.Accepted.{IsOfText}
@@ -35,14 +37,11 @@ use Rattle.pgo_agrees.proofs.Env.{C, B, Common, Known', Inside, InStatements, ar
 use Rattle.pgo_agrees.proofs.Fine.{Fine}
 use Rattle.pgo_agrees.proofs.FromUses.{Known, IsAt}
 use Rattle.pgo_agrees.proofs.Hoist.{never}
-use Rattle.pgo_agrees.proofs.Kept.{NoFindings, nothing_if, not_false}
+use Rattle.pgo_agrees.proofs.Kept.{NoFindings}
 use Rattle.pgo_agrees.proofs.MacroNames.{FirstMacro}
 use Rattle.pgo_agrees.proofs.Placing.{MacroName, MacroAssigned, MacroWith, Target, CallOk, writes_so}
 use Rattle.pgo_agrees.proofs.Stands.{or_first, or_second}
 use Rattle.pgo_agrees.proofs.Uses.{FineUse}
-
-number_is : (m n : ℕ) → nat_eq m n ≡ true → m ≡ n
-number_is m n h = grind (arith, h)
 
 module _ (s : Spec) (k : NoFindings s) (fit : AllByRecursion (ArgumentsFit s.archetypes) s.processes) (of_text : IsOfText s) where
   -- a macro whose body, with the macros before it in place, is known to be fine
@@ -58,7 +57,7 @@ module _ (s : Spec) (k : NoFindings s) (fit : AllByRecursion (ArgumentsFit s.arc
 
   -- ---- what the rules say of a call
   pub called_known : (u : Use) (ts : List Tree) → FineUse s u → u.form ≡ forms.Called ts → may_call (tables_of s) u.around.home u.name ≡ true
-  called_known u ts f e = not_false (may_call (tables_of s) u.around.home u.name) (subst (λ g. is_unknown (tables_of s) s.archetypes u g ≡ false) e f.unknown)
+  called_known u ts f e = not-false (may_call (tables_of s) u.around.home u.name) (subst (λ g. is_unknown (tables_of s) s.archetypes u g ≡ false) e f.unknown)
 
   names_length : (ps : List PlacedName) → length (names_of ps) ≡ length ps
   names_length [] = refl
@@ -68,8 +67,8 @@ module _ (s : Spec) (k : NoFindings s) (fit : AllByRecursion (ArgumentsFit s.arc
   called_number u ts j m f e =
       let h = subst (λ g. arity_of (tables_of s) u g ≡ []) e f.arity in
       let n = or_number (find u.name (macro_rows s.macros)) (length ts) in
-      let same = not_false (nat_eq n (length ts)) (nothing_if (not (nat_eq n (length ts))) u.around.place (errors.Arity u.name (length ts)) h) in
-      names_length m.it.params ∙ number_is (length m.it.params) (length ts) (subst (λ o. nat_eq (or_number o (length ts)) (length ts) ≡ true) m.row same)
+      let same = not-false (nat_eq n (length ts)) (nothing_if (not (nat_eq n (length ts))) u.around.place (errors.Arity u.name (length ts)) h) in
+      names_length m.it.params ∙ eqb-true (length m.it.params) (length ts) (subst (λ o. nat_eq (or_number o (length ts)) (length ts) ≡ true) m.row same)
 
   kept_names : (ms : List Macro) (known : MacroTable) (i : ℕ) → (macro_table_from known i ms).0 ≡ known.0
   kept_names [] known i = refl
@@ -125,4 +124,4 @@ module _ (s : Spec) (k : NoFindings s) (fit : AllByRecursion (ArgumentsFit s.arc
         where
           by : (b : Bool) → (if b then found_if true u.around.place (errors.AssignedNotRef p) else found_if (not (may_assign s u.around.home x)) u.around.place (errors.AssignedNotRef x)) ≡ [] → may_assign s u.around.home x ≡ true
           by true f = absurd (cc)
-          by false f = not_false (may_assign s u.around.home x) (nothing_if (not (may_assign s u.around.home x)) u.around.place (errors.AssignedNotRef x) f)
+          by false f = not-false (may_assign s u.around.home x) (nothing_if (not (may_assign s u.around.home x)) u.around.place (errors.AssignedNotRef x) f)

@@ -1,6 +1,7 @@
 -- Macros by their names: each name is that of one macro, at its place.
 use Rattle.std.proofs.Common.{◌≡◌, ◌≤◌, ◌<◌, ℕ, zero, suc, ◌+◌, Bool, true, false, if◌then◌else◌, List, [], ◌∷◌, ◌++◌, map, length, Option, Some, None, option_map, refl, ap, sym, ◌∙◌, subst, arith}
-use Rattle.std.specs.Prelude.{nat_le, nat_lt, is_some, slice_get}
+use Rattle.std.proofs.lemmas.Bool.{ltb-true}
+use Rattle.std.specs.Prelude.{nat_le, is_some, slice_get}
 use Rattle.pgo_base.specs.Lookup.{Name, same_name, find}
 use Rattle.pgo_model.specs.Machine.{nth}
 use Rattle.pgo_model.specs.Names.{same_name-is, or_that, find_append}
@@ -14,8 +15,8 @@ use Rattle.pgo_scope.specs.TextOrder.{in_place, in_text_order}
 use Rattle.pgo_scope.specs.Twice.{repeated, repeated_in}
 use Rattle.pgo_scope.specs.declared.errors.ScopeError.TheVariants as errors
 use Rattle.pgo_bound.specs.Among.{none_left, none_right}
+use Rattle.pgo_accept.proofs.Heads.{nothing_if}
 use Rattle.pgo_accept.proofs.Counted.{one_if, times, one_place}
-use Rattle.pgo_agrees.proofs.Kept.{nothing_if}
 
 abbrev count : Name → List PlacedName → ℕ
 count x ns = times x (map (λ n. n.name) ns)
@@ -118,12 +119,9 @@ there_first x (r ∷ rs) h = go (same_name x r.0) h (there_first x rs)
     go true k more = (0, refl)
     go false k more = let q = more k in (suc q.0, ap (option_map suc) q.1)
 
-below_is : (a b : ℕ) → nat_lt a b ≡ true → a < b
-below_is a b h = grind (arith, h)
-
 pub earlier_first : (i : ℕ) (x : Name) (rs : Rows) → is_earlier i x rs ≡ true → (j : ℕ) × (first_at x rs ≡ Some j) × (j < i)
 earlier_first i x rs h = go (first_at x rs) refl h
   where
     go : (o : Option ℕ) → first_at x rs ≡ o → is_below i o ≡ true → (j : ℕ) × (first_at x rs ≡ Some j) × (j < i)
     go None e k = absurd (cc)
-    go (Some j) e k = (j, e, below_is j i k)
+    go (Some j) e k = (j, e, ltb-true j i k)

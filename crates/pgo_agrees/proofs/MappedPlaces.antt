@@ -24,37 +24,14 @@ use Rattle.pgo_bound.specs.Among.{IsAmong, among_left, among_right, among_map, a
 use Rattle.pgo_bound.specs.BoundOf.{globals_of}
 use Rattle.pgo_bound.specs.Runs.{Run, Handed, handed_from, archetype_named, mapping_by, speaking, target_of, binding_of, run_with, run_of, runs_of, has_ids}
 use Rattle.pgo_bound.specs.Values.{defs_of}
-use Rattle.pgo_heads.specs.declared.errors.BindError.{BindError}
-use Rattle.pgo_heads.specs.declared.errors.BindError.TheVariants as errors
-use Rattle.pgo_heads.specs.Refusals.{or_next, first, same_extent, differs, names_no_elements, is_bad_argument, is_bad_handed, bad_arguments, bad_clauses, bad_places, bad_mappings, constants_refused, ids_refused, starts_refused, heads_refused, bind_refusal}
+use Rattle.pgo_heads.specs.Refusals.{same_extent, differs, names_no_elements, is_bad_argument, is_bad_handed, bad_arguments, bad_clauses, bad_places, bind_refusal}
 use Rattle.pgo_sections.specs.Access.{Mapped}
 use Rattle.pgo_sections.specs.Code.{Place, Whole, Own}
 use Rattle.pgo_meaning.specs.Parameters.{by_element, mapped_of, all_mapped, place_of, parameter_places, local_places, places_of, reads_by, writes_by}
+use Rattle.pgo_accept.proofs.Fitting.{no_bad_mappings}
 use Rattle.pgo_agrees.proofs.Places.{hands, binds}
 
 -- ---- arguments fit their parameters
-first_none : (o p : Option BindError) → or_next o p ≡ None → o ≡ None
-first_none None p h = refl
-first_none (Some e) p h = absurd (cc)
-
-next_none : (o p : Option BindError) → or_next o p ≡ None → p ≡ None
-next_none None p h = h
-next_none (Some e) p h = absurd (cc)
-
-none_mapped : {A : Type 0} (f : A → BindError) (xs : List A) → option_map f (first xs) ≡ None → xs ≡ []
-none_mapped f [] h = refl
-none_mapped f (x ∷ xs) h = absurd (cc)
-
-no_bad_mappings : (s : Spec) (consts : List (Name × Data)) → bind_refusal s consts ≡ None → bad_mappings (globals_of s (defs_of s consts) (runs_of s (defs_of s consts))) (runs_of s (defs_of s consts)) ≡ []
-no_bad_mappings s consts h =
-    let ds = defs_of s consts in
-    let rs = runs_of s ds in
-    let gs = globals_of s ds rs in
-    let heads = next_none (constants_refused s consts) (heads_refused s.archetypes ds rs gs) h in
-    let bad = option_map (λ (p : Name × ℕ). errors.BadMapping p.0 p.1) (first (bad_mappings gs rs)) in
-    let none = first_none bad (or_next (ids_refused rs) (starts_refused s.archetypes ds rs gs)) heads in
-    none_mapped (λ (p : Name × ℕ). errors.BadMapping p.0 p.1) (bad_mappings gs rs) none
-
 module _ (s : Spec) (consts : List (Name × Data)) (none : bind_refusal s consts ≡ None) (p : Process) (a : Archetype) (among : IsAmong p s.processes) (named : archetype_named p.archetype.name s.archetypes ≡ Some a) where
   pub handed_fits : (h : Handed) → IsAmong h (hands s p a) → is_bad_handed (globals_of s (defs_of s consts) (runs_of s (defs_of s consts))) (run_with (defs_of s consts) p a) h ≡ false
   handed_fits h b = go (is_bad_handed (globals_of s (defs_of s consts) (runs_of s (defs_of s consts))) (run_with (defs_of s consts) p a) h) refl

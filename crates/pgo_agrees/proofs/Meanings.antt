@@ -1,6 +1,7 @@
 -- What a name means where nothing around it gives it a meaning: a constant, an operator, a definition or `self`, and no variable nor
 -- another name that the module writes.
 use Rattle.std.proofs.Common.{◌≡◌, ℕ, suc, Bool, true, false, not, ◌&&◌, ◌||◌, if◌then◌else◌, nat_eq, List, [], ◌∷◌, ◌++◌, length, Option, Some, None, option_map, refl, ap, sym, ◌∙◌, subst, inl, inr, arith}
+use Rattle.std.proofs.lemmas.Bool.{not-false, eqb-true}
 use Rattle.std.specs.Prelude.{◌⊎◌, is_some}
 use Rattle.std.specs.List.{AllByRecursion}
 use Rattle.pgo_base.specs.Lookup.{Name, same_name, find}
@@ -24,10 +25,11 @@ use Rattle.pgo_scope.specs.Underscores.{has_double}
 use Rattle.pgo_scope.specs.Unknown.{is_constant, is_common, means, is_unknown}
 use Rattle.pgo_scope.specs.declared.errors.ScopeError.TheVariants as errors
 use Rattle.pgo_bound.specs.Among.{IsAmong, among_left, among_right}
+use Rattle.pgo_accept.proofs.Heads.{nothing_if}
 use Rattle.pgo_accept.proofs.Fitting.{ArgumentsFit}
 use Rattle.pgo_sections.specs.WellFormed.{NotMade}
 use Rattle.pgo_agrees.specs.Accepted.{IsOfText}
-use Rattle.pgo_agrees.proofs.Kept.{NoFindings, nothing_if, not_false, none_of_name}
+use Rattle.pgo_agrees.proofs.Kept.{NoFindings, none_of_name}
 use Rattle.pgo_agrees.proofs.Names.{single, written_marked, has_mark}
 use Rattle.pgo_agrees.proofs.Stands.{or_in}
 use Rattle.pgo_agrees.proofs.WrittenNames.{writes_some, counted, shared_among}
@@ -101,9 +103,6 @@ earlier_row i x rows h = found rows (first_at x rows) refl h
         go : (b : Bool) → (if b then Some 0 else option_map suc (first_at x rs)) ≡ Some j → ((q : Option ℕ) → first_at x rs ≡ q → (m : ℕ) → option_map suc q ≡ Some m → has_row x rs ≡ true) → is_some (if b then Some r.1 else find x rs) ≡ true
         go true a more = refl
         go false a more = more (first_at x rs) refl j a
-
-number_is : (m n : ℕ) → nat_eq m n ≡ true → m ≡ n
-number_is m n h = grind (arith, h)
 
 not_zero : (n : ℕ) → 0 ≡ suc n → ⊥
 not_zero n h = omega (arith, h)
@@ -242,7 +241,7 @@ module _ (s : Spec) (k : NoFindings s) (fit : AllByRecursion (ArgumentsFit s.arc
 
   not_inner : (b m : Bool) → b ≡ false → (not b && not m) ≡ false → m ≡ true
   not_inner true m e h = absurd (contradiction e)
-  not_inner false m e h = not_false m h
+  not_inner false m e h = not-false m h
 
   not_inner_false : (b m : Bool) → b ≡ false → (not b && m) ≡ false → m ≡ false
   not_inner_false true m e h = absurd (contradiction e)
@@ -289,10 +288,10 @@ module _ (s : Spec) (k : NoFindings s) (fit : AllByRecursion (ArgumentsFit s.arc
   applied_is u n f e = go u.inner (find u.name (tables_of s).definitions) (find u.name operator_rows) refl refl (same (takes (tables_of s) u) (suc n) (subst (λ g. arity_of (tables_of s) u g ≡ []) e f.arity))
     where
       same : (m j : ℕ) → other_number m j u.around.place u.name ≡ [] → nat_eq m j ≡ true
-      same m j h = not_false (nat_eq m j) (nothing_if (not (nat_eq m j)) u.around.place (errors.Arity u.name j) h)
+      same m j h = not-false (nat_eq m j) (nothing_if (not (nat_eq m j)) u.around.place (errors.Arity u.name j) h)
 
       none : nat_eq 0 (suc n) ≡ true → ⊥
-      none h = not_zero n (number_is 0 (suc n) h)
+      none h = not_zero n (eqb-true 0 (suc n) h)
 
       go : (b : Bool) (p q : Option ℕ) → find u.name (tables_of s).definitions ≡ p → find u.name operator_rows ≡ q → nat_eq (if b then 0 else or_number p (or_number q 0)) (suc n) ≡ true → IsApplicable s u.name
       go true p q g k h = absurd (none h)

@@ -1,20 +1,15 @@
 -- How often variables and further definitions have a name: one of them at most has it.
-use Rattle.std.proofs.Common.{◌≡◌, ◌≤◌, ℕ, suc, ◌+◌, Bool, true, false, ◌||◌, if◌then◌else◌, List, [], ◌∷◌, ◌++◌, map, codes, Option, Some, None, refl, ap, sym, ◌∙◌, subst, inl, inr, arith}
+use Rattle.std.proofs.Common.{◌≡◌, ◌≤◌, ℕ, ◌+◌, Bool, true, false, ◌||◌, if◌then◌else◌, List, [], ◌∷◌, ◌++◌, map, codes, Option, Some, None, refl, ap, sym, ◌∙◌, subst, inl, inr, arith}
 use Rattle.std.proofs.lemmas.List.{append_cancel_left}
 use Rattle.std.specs.Prelude.{flat_map}
-use Rattle.std.specs.List.{AllByRecursion, filter_map, cons_option}
+use Rattle.std.specs.List.{AllByRecursion, filter_map}
 use Rattle.pgo_base.specs.Lookup.{Name, same_name, find}
 use Rattle.pgo_model.specs.Names.{same_name-self, same_name-is, same_name-not, is_among}
 use Rattle.pgo_model.specs.Written.{pc, proc_set, terminating, written}
 use Rattle.pgo_syntax.specs.Statement.{labeled}
 use Rattle.pgo_syntax.specs.declared.archetype.Archetype.{Archetype}
-use Rattle.pgo_syntax.specs.declared.archetype.Parameter.{Parameter}
-use Rattle.pgo_syntax.specs.declared.archetype.ParameterKind.{ParameterKind}
-use Rattle.pgo_syntax.specs.declared.archetype.ParameterKind.TheVariants as kinds
 use Rattle.pgo_syntax.specs.declared.declaration.Declaration.{Declaration}
 use Rattle.pgo_syntax.specs.declared.name.PlacedName.{PlacedName}
-use Rattle.pgo_syntax.specs.declared.process.Argument.{Argument}
-use Rattle.pgo_syntax.specs.declared.process.Argument.TheVariants as arguments
 use Rattle.pgo_syntax.specs.declared.process.Process.{Process}
 use Rattle.pgo_syntax.specs.declared.spec.Spec.{Spec}
 use Rattle.pgo_uses.specs.AllUses.{archetype_uses, variable_names}
@@ -26,21 +21,24 @@ use Rattle.pgo_labels.specs.Rules.{repeated, found_at, label_twice}
 use Rattle.pgo_labels.specs.declared.errors.LabelError.TheVariants.{LabelTwice}
 use Rattle.pgo_bound.specs.Among.{IsAmong, among_map, from_map, none_left, none_right, none_flat_map, empty_map}
 use Rattle.pgo_bound.specs.Instances.{archetype_among}
-use Rattle.pgo_bound.specs.Runs.{Handed, handed_from, archetype_named}
+use Rattle.pgo_bound.specs.Runs.{handed_from, archetype_named}
 use Rattle.pgo_bound.specs.Sound.{labels_among}
 use Rattle.pgo_bound.specs.State as bind
 use Rattle.pgo_bound.specs.State.{variables_of}
 use Rattle.pgo_accept.proofs.Counted.{one_if, times, times-append, times-map_append}
-use Rattle.pgo_accept.proofs.Fitting.{Fits, ArgumentsFit, is_stray}
+use Rattle.pgo_accept.proofs.Fitting.{Fits, ArgumentsFit}
+use Rattle.pgo_accept.proofs.Unlabelled.{names_of_body}
+use Rattle.pgo_accept.proofs.Variables.{variables_are, handed_value, values_counted, found_own, own_written}
 use Rattle.pgo_accept.proofs.WrittenOnce.{writes, writes-append}
 use Rattle.pgo_meaning.specs.Expansions.{process_expansions}
 use Rattle.pgo_translate.specs.Premises.{process_names, further_names}
 use Rattle.pgo_agrees.proofs.FurtherNames.{label_names, tree_names}
 use Rattle.pgo_agrees.proofs.Kept.{NoFindings, NoLabelFindings}
-use Rattle.pgo_agrees.proofs.Labels.{found_own, body_label}
+use Rattle.pgo_agrees.proofs.Labels.{body_label}
 use Rattle.pgo_agrees.proofs.Names.{or_left, or_right}
+use Rattle.pgo_agrees.proofs.Stands.{or_second}
 use Rattle.pgo_agrees.proofs.WrittenNames.{counted, rows_of}
-use Rattle.pgo_agrees.proofs.Unlabelled.{body_names, placed_name}
+use Rattle.pgo_agrees.proofs.Unlabelled.{placed_name}
 use Rattle.pgo_agrees.proofs.Variables.{among_is}
 
 -- ---- how often a name stands in a list
@@ -97,17 +95,13 @@ no_oftener p x ns ms f there = go (is_among x (map (written p) ns)) refl
 
 -- ---- an archetype's labels differ
 
-or_true : (a b : Bool) → b ≡ true → a || b ≡ true
-or_true true b h = refl
-or_true false b h = h
-
 no_label : (b : Bool) (l : PlacedName) → (if b then l ∷ [] else []) ≡ [] → b ≡ false
 no_label true l h = absurd (cc)
 no_label false l h = refl
 
 not_again : (y : Name) (before : List Name) (ls : List PlacedName) → repeated before ls ≡ [] → is_among y before ≡ true → times y (map placed_name ls) ≡ 0
 not_again y before [] h a = refl
-not_again y before (l ∷ ls) h a = go (same_name y l.name) refl (not_again y (l.name ∷ before) ls (none_right (if is_among l.name before then l ∷ [] else []) (repeated (l.name ∷ before) ls) h) (or_true (same_name y l.name) (is_among y before) a))
+not_again y before (l ∷ ls) h a = go (same_name y l.name) refl (not_again y (l.name ∷ before) ls (none_right (if is_among l.name before then l ∷ [] else []) (repeated (l.name ∷ before) ls) h) (or_second (same_name y l.name) (is_among y before) a))
   where
     none : is_among l.name before ≡ false
     none = no_label (is_among l.name before) l (none_left (if is_among l.name before then l ∷ [] else []) (repeated (l.name ∷ before) ls) h)
@@ -129,35 +123,9 @@ labels_once y before (l ∷ ls) h =
 labels_differ : (a : Archetype) → label_twice a ≡ [] → (y : Name) → times y (labels_among (labeled a.body)) ≤ 1
 labels_differ a h y =
     let ls = labels_of (with_inside a.body) in
-    subst (λ ns. times y ns ≤ 1) (body_names a.body) (labels_once y [] ls (empty_map (λ l. found_at l.place (LabelTwice a.name.name l.name)) (repeated [] ls) h))
+    subst (λ ns. times y ns ≤ 1) (names_of_body a.body) (labels_once y [] ls (empty_map (λ l. found_at l.place (LabelTwice a.name.name l.name)) (repeated [] ls) h))
 
 -- ---- what a process writes
-
-variables_are : (ds : List Declaration) → variable_names ds ≡ map (λ (d : Declaration). d.name.name) ds
-variables_are [] = refl
-variables_are (d ∷ ds) = ap (λ ns. d.name.name ∷ ns) (variables_are ds)
-
-abbrev handed_value : Handed → Option Name
-handed_value h = bind.value_name h.parameter.name.name h.argument
-
--- a parameter that is handed a value is a value parameter
-values_counted : (f : Name → Name) (x : Name) (n : ℕ) (ps : List Parameter) (es : List Argument) → AllByRecursion Fits (handed_from n ps es)
-    → times x (map f (filter_map handed_value (handed_from n ps es))) ≤ times x (map f (value_names ps))
-values_counted f x n [] es h = omega arith
-values_counted f x n (p ∷ ps) [] h = omega arith
-values_counted f x n (p ∷ ps) (e ∷ es) h = go p.kind e h.0 (values_counted f x (suc n) ps es h.1)
-  where
-    go : (k : ParameterKind) (e : Argument) → is_stray k e ≡ false → times x (map f (filter_map handed_value (handed_from (suc n) ps es))) ≤ times x (map f (value_names ps))
-        → times x (map f (cons_option (bind.value_name p.name.name e) (filter_map handed_value (handed_from (suc n) ps es))))
-        ≤ times x (map f (elim k as (λ k. List Name) [ kinds.Value ↦ p.name.name ∷ value_names ps | kinds.Ref extent ↦ value_names ps ]))
-    go kinds.Value (arguments.Value place t) g r = omega (arith, r)
-    go kinds.Value (arguments.Ref y extent) g r = omega (arith, r)
-    go (kinds.Ref extent) (arguments.Value place t) g r = absurd (cc)
-    go (kinds.Ref extent) (arguments.Ref y f) g r = r
-
-own_written : (x : Name) (p : Process) (ns : List Name) → writes x (own_module_names p ns) ≡ times x (map (written p.name.name) ns)
-own_written x p [] = refl
-own_written x p (n ∷ ns) = ap (λ k. one_if (same_name x (written p.name.name n)) + k) (own_written x p ns)
 
 -- its variables and its labels
 names_counted : (x : Name) (p : Process) (j : ℕ) (a : Archetype) → AllByRecursion Fits (handed_from 1 a.params p.arguments) → label_twice a ≡ []

@@ -32,11 +32,9 @@ use Rattle.pgo_uses.specs.Tables.{tables_of}
 use Rattle.pgo_scope.specs.Unknown.{unknown_heads}
 use Rattle.pgo_meaning.specs.Parameters.{place_of, parameter_places, local_places, places_of, own_name, own_variables}
 use Rattle.pgo_meaning.specs.Sect.{is_by_element}
+use Rattle.pgo_accept.proofs.Variables.{handed_value}
 use Rattle.pgo_agrees.proofs.Heads.{ref_declared, mapping_found}
 use Rattle.pgo_agrees.proofs.Variables.{is_among_there, among_is}
-
-abbrev pub handed_value : Handed → Option Name
-handed_value h = bind.value_name h.parameter.name.name h.argument
 
 -- an entry of the places of a process: a value parameter or a local; or a parameter that is handed a global as a whole
 pub data PlaceFrom (s : Spec) (cs : List MappingClause) (pn : Name) (hs : List Handed) (names : List Name) (q : Name × Place) : Type 0 where

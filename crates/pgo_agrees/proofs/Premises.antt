@@ -21,6 +21,7 @@ use Rattle.pgo_bound.specs.Runs.{archetype_named, run_with}
 use Rattle.pgo_bound.specs.Sound.{WellNamed}
 use Rattle.pgo_bound.specs.State.{kind_in, variables_of}
 use Rattle.pgo_bound.specs.Values.{defs_of}
+use Rattle.pgo_accept.proofs.Unlabelled.{macros_unlabelled}
 use Rattle.pgo_accept.proofs.Accepted.{accepted_well_named}
 use Rattle.pgo_accept.proofs.Fitting.{ArgumentsFit, arguments_fit}
 use Rattle.pgo_sections.specs.Code.{Place, Whole, Own, Code}
@@ -47,7 +48,7 @@ use Rattle.pgo_agrees.proofs.Labels.{tree_of_label, few_names}
 use Rattle.pgo_agrees.proofs.Places.{IsPlaceOf, owns, places, binds}
 use Rattle.pgo_agrees.proofs.RunBody as body
 use Rattle.pgo_agrees.proofs.RunCode as code
-use Rattle.pgo_agrees.proofs.Unlabelled.{are_unlabelled, none_is_done}
+use Rattle.pgo_agrees.proofs.Unlabelled.{none_is_done}
 use Rattle.pgo_agrees.proofs.Uses.{FineUse, fine_use, of_archetype}
 use Rattle.pgo_agrees.proofs.Variables.{variable_written}
 
@@ -65,7 +66,7 @@ module _ (s : Spec) (consts : List (Name × Data)) (h : IsAccepted s consts) whe
   well = accepted_well_named s consts h.names h.labels h.binding
 
   pub unlabelled : AreUnlabelled s.macros
-  unlabelled = are_unlabelled s.macros labels.macros
+  unlabelled = macros_unlabelled s.macros labels.macros
 
   pub refs : RefsDeclared s
   refs = refs_declared s names.heads

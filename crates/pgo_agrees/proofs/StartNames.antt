@@ -21,6 +21,7 @@ use Rattle.pgo_bound.specs.Instances.{archetype_among}
 use Rattle.pgo_bound.specs.Sound.{labels_among}
 use Rattle.pgo_bound.specs.State.{variables_of}
 use Rattle.pgo_bound.specs.Values.{define_of, defs_of}
+use Rattle.pgo_accept.proofs.Heads.{nothing_if}
 use Rattle.pgo_accept.proofs.Fitting.{ArgumentsFit}
 use Rattle.pgo_model.specs.Names.{is_among}
 use Rattle.pgo_translate.specs.Premises.{OriginAvoids, ProcessAvoids, StartsAtLabel, StartNames, definition_names, further_names, taken_names, is_taken}
@@ -30,7 +31,7 @@ use Rattle.pgo_agrees.proofs.Closed.{all_among, definitions_closed}
 use Rattle.pgo_agrees.proofs.Fewer.{closed_fewer}
 use Rattle.pgo_agrees.proofs.Further.{names_written, further_written, further_among}
 use Rattle.pgo_agrees.proofs.FurtherNames.{name_of, named_further, not_done}
-use Rattle.pgo_agrees.proofs.Kept.{NoFindings, NoLabelFindings, nothing_if, none_of_name}
+use Rattle.pgo_agrees.proofs.Kept.{NoFindings, NoLabelFindings, none_of_name}
 use Rattle.pgo_agrees.proofs.Meanings.{defined_name, global_unit, shared_of, reserved_apart}
 use Rattle.pgo_agrees.proofs.Variables.{not_among, is_among_there}
 

@@ -21,7 +21,8 @@ use Rattle.pgo_scope.specs.Unknown.{is_unknown, unknown_use}
 use Rattle.pgo_scope.specs.Usage.{macro_table}
 use Rattle.pgo_scope.specs.declared.errors.ScopeError.TheVariants as errors
 use Rattle.pgo_bound.specs.Among.{IsAmong, among_left, among_right}
-use Rattle.pgo_agrees.proofs.Kept.{NoFindings, nothing_if, none_of_use}
+use Rattle.pgo_accept.proofs.Heads.{nothing_if}
+use Rattle.pgo_agrees.proofs.Kept.{NoFindings, none_of_use}
 
 -- ---- no rule finds anything at a use
 

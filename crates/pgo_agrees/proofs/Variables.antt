@@ -1,8 +1,8 @@
 -- The variables of a specification: no two things are written as one of them.
-use Rattle.std.proofs.Common.{◌≡◌, ℕ, suc, ◌+◌, Bool, true, false, ◌||◌, ◌==◌, if◌then◌else◌, List, [], ◌∷◌, ◌++◌, map, Option, Some, None, refl, ap, sym, ◌∙◌, subst, inl, inr, arith}
+use Rattle.std.proofs.Common.{◌≡◌, ℕ, suc, ◌+◌, Bool, true, false, ◌||◌, ◌==◌, List, [], ◌∷◌, ◌++◌, map, Option, Some, None, refl, ap, sym, ◌∙◌, subst, inl, inr, arith}
 use Rattle.std.specs.Prelude.{◌⊎◌}
 use Rattle.std.specs.List.{AllByRecursion, filter_map, flat_map, cons_option}
-use Rattle.pgo_base.specs.Lookup.{Name, same_name, find}
+use Rattle.pgo_base.specs.Lookup.{Name, same_name}
 use Rattle.pgo_model.specs.Names.{same_name-self, same_name-is, same_name-not, is_among}
 use Rattle.pgo_model.specs.Written.{pc, self_name, written}
 use Rattle.pgo_syntax.specs.Statement.{labeled}
@@ -24,19 +24,21 @@ use Rattle.pgo_uses.specs.declared.uses.Around.{Around}
 use Rattle.pgo_uses.specs.declared.uses.Home.TheVariants as homes
 use Rattle.pgo_uses.specs.declared.uses.Use.{Use}
 use Rattle.pgo_uses.specs.declared.uses.Form.TheVariants as forms
-use Rattle.pgo_scope.specs.Clash.{itself, fixed_names, fixed_module_names, shared_module_names, value_names, labels_from, own_names, own_rows, or_none, own_module_name, name_clashes}
+use Rattle.pgo_scope.specs.Clash.{itself, fixed_names, fixed_module_names, shared_module_names, value_names, labels_from, own_names, or_none, own_module_name, name_clashes}
 use Rattle.pgo_scope.specs.Underscores.{has_double, double_name}
 use Rattle.pgo_scope.specs.declared.errors.ScopeError.TheVariants as errors
 use Rattle.pgo_bound.specs.Among.{IsAmong, among_left, among_right, among_append, from_map, from_flat_map, all_at}
-use Rattle.pgo_bound.specs.Runs.{Handed, handed_from, archetype_named}
+use Rattle.pgo_bound.specs.Runs.{handed_from, archetype_named}
 use Rattle.pgo_bound.specs.Instances.{archetype_among}
 use Rattle.pgo_bound.specs.State as bind
 use Rattle.pgo_bound.specs.State.{variables_of, names_with, names_or_none}
+use Rattle.pgo_accept.proofs.Heads.{nothing_if}
 use Rattle.pgo_accept.proofs.Fitting.{Fits, ArgumentsFit, is_stray}
+use Rattle.pgo_accept.proofs.Variables.{handed_value, found_own}
 use Rattle.pgo_accept.proofs.WrittenOnce.{writes}
 use Rattle.pgo_sections.specs.WellFormed.{NotMade}
 use Rattle.pgo_agrees.specs.Accepted.{IsOfText, ArchetypeOfText, ParameterOfText, DeclarationOfText}
-use Rattle.pgo_agrees.proofs.Kept.{NoFindings, nothing_if, none_of_name}
+use Rattle.pgo_agrees.proofs.Kept.{NoFindings, none_of_name}
 use Rattle.pgo_agrees.proofs.Names.{single, written_single, written_marked, has_mark, identifier_letter}
 use Rattle.pgo_agrees.proofs.WrittenNames.{writes_some, counted, shared_among, process_among, bound_apart, bound_not_fixed, written_by, rows_of}
 use Rattle.pgo_agrees.proofs.Uses.{FineUse, fine_use, of_archetype}
@@ -101,9 +103,6 @@ variable_is s x h = front (among_append x (globals ++ (pc ∷ [])) locals h)
 
 -- ---- a process's names
 
-abbrev handed_value : Handed → Option Name
-handed_value h = bind.value_name h.parameter.name.name h.argument
-
 -- a parameter that is handed a value is a value parameter
 value_there : (y : Name) (n : ℕ) (ps : List Parameter) (es : List Argument) → AllByRecursion Fits (handed_from n ps es) → IsAmong y (filter_map handed_value (handed_from n ps es)) → IsAmong y (value_names ps)
 value_there y n [] es h a = absurd a
@@ -133,15 +132,6 @@ local_names : (y : Name) (ds : List Declaration) → IsAmong y (map (λ (d : Dec
 local_names y [] a = absurd a
 local_names y (d ∷ ds) (inl e) = inl e
 local_names y (d ∷ ds) (inr a) = inr (local_names y ds a)
-
-found_own : (x : Name) (j : ℕ) (as' : List Archetype) (a : Archetype) → archetype_named x as' ≡ Some a → (k : ℕ) × (find x (own_rows j as') ≡ Some (own_names k a))
-found_own x j [] a h = absurd (cc)
-found_own x j (b ∷ bs) a h = go (same_name x b.name.name) h (found_own x (suc j) bs a)
-  where
-    go : (c : Bool) → (if c then Some b else archetype_named x bs) ≡ Some a → (archetype_named x bs ≡ Some a → (k : ℕ) × (find x (own_rows (suc j) bs) ≡ Some (own_names k a)))
-        → (k : ℕ) × ((if c then Some (own_names j b) else find x (own_rows (suc j) bs)) ≡ Some (own_names k a))
-    go true e r = let same : b ≡ a = cc in (j, ap (λ d. Some (own_names j d)) same)
-    go false e r = r e
 
 module _ (s : Spec) (fit : AllByRecursion (ArgumentsFit s.archetypes) s.processes) where
   -- what a process has as its own is a thing that is written

@@ -12,13 +12,13 @@ use Rattle.pgo_uses.specs.Tables.{all_definitions}
 use Rattle.pgo_uses.specs.declared.uses.Use.{Use}
 use Rattle.pgo_uses.specs.declared.uses.Form.TheVariants as forms
 use Rattle.pgo_scope.specs.declared.errors.ScopeError.TheVariants as errors
-use Rattle.pgo_scope.specs.declared.finding.Finding.{Finding}
 use Rattle.pgo_scope.specs.declared.module_names.ModuleName.{ModuleName}
 use Rattle.pgo_scope.specs.TextOrder.{in_place, in_text_order}
-use Rattle.pgo_scope.specs.Clash.{itself, fixed_names, fixed_module_names, shared_module_names, bound_module_name, bound_module_names, own_rows, or_none, own_module_name, own_module_names, process_module_names, module_names_with, clash, clash_with, clashes_from, name_clashes}
+use Rattle.pgo_scope.specs.Clash.{itself, fixed_names, fixed_module_names, shared_module_names, bound_module_name, bound_module_names, own_rows, or_none, own_module_name, own_module_names, process_module_names, clash, clash_with, clashes_from, name_clashes}
 use Rattle.pgo_bound.specs.Among.{IsAmong, among_left, among_right, none_left, none_right}
 use Rattle.pgo_accept.proofs.Counted.{one_if}
-use Rattle.pgo_accept.proofs.WrittenOnce.{is_written, writes, writes-append, writes_in_order, written_once}
+use Rattle.pgo_accept.proofs.Variables.{shared-append, once, parts_written}
+use Rattle.pgo_accept.proofs.WrittenOnce.{is_written, writes, found_none}
 
 -- ---- counts
 
@@ -30,15 +30,8 @@ writes_some x t (u ∷ ts) (inr a) h = omega (arith, writes_some x t ts a h)
 abbrev pub rows_of : Spec → List (Name × List Name)
 rows_of s = own_rows 0 s.archetypes
 
-abbrev pub all_module_names : Spec → List ModuleName
-all_module_names s = module_names_with s (all_uses s)
-
 abbrev pub written_by : Spec → List ModuleName
 written_by s = process_module_names (rows_of s) s.processes
-
-shared-append : (x : Name) (ms ns : List PlacedName) → writes x (shared_module_names (ms ++ ns)) ≡ writes x (shared_module_names ms) + writes x (shared_module_names ns)
-shared-append x [] ns = omega arith
-shared-append x (m ∷ ms) ns = omega (arith, shared-append x ms ns)
 
 -- of the fixed names, constants, definitions, globals and what processes write one at most has the name
 pub counted : (s : Spec) → name_clashes s ≡ [] → (x : Name) → writes x (fixed_module_names fixed_names) + (writes x (shared_module_names s.constants) + writes x (shared_module_names (definition_names (all_definitions s))) + writes x (shared_module_names (declared_names s.globals))) + writes x (written_by s) ≤ 1
@@ -46,18 +39,9 @@ counted s h x =
     let constants = s.constants in
     let definitions = definition_names (all_definitions s) in
     let globals = declared_names s.globals in
-    let shared = shared_module_names (shared_names s) in
-    let bound = bound_module_names (all_uses s) in
-    let own = written_by s in
-    let z : writes x [] ≤ 1 = omega arith in
-    let once = written_once x [] (all_module_names s) h z in
-    let a = writes-append x (fixed_module_names fixed_names) (in_text_order (λ t. t.place) (shared ++ own ++ bound)) in
-    let b = writes_in_order x (λ t. t.place) (shared ++ own ++ bound) in
-    let c = writes-append x (shared ++ own) bound in
-    let d = writes-append x shared own in
     let e = shared-append x (constants ++ definitions) globals in
     let f = shared-append x constants definitions in
-    omega (arith, once, a, b, c, d, e, f)
+    omega (arith, once x s h, parts_written x s, e, f)
 
 -- ---- bound names
 
@@ -75,10 +59,6 @@ pub among_ordered : (place : ModuleName → ℕ) (t : ModuleName) (ts : List Mod
 among_ordered place t [] a = absurd a
 among_ordered place t (u ∷ ts) (inl e) = put_among place t u (in_text_order place ts) (inl e)
 among_ordered place t (u ∷ ts) (inr a) = put_among place t u (in_text_order place ts) (inr (among_ordered place t ts a))
-
-found_none : (b : Bool) (f : Finding) (rest : List Finding) → (if b then f ∷ [] else rest) ≡ [] → (b ≡ false) × (rest ≡ [])
-found_none true f rest h = absurd (cc)
-found_none false f rest h = (refl, h)
 
 clash_none : (us : List ModuleName) (t u : ModuleName) → clash_with us t ≡ [] → IsAmong u us → clash t u ≡ false
 clash_none [] t u h a = absurd a
@@ -144,7 +124,7 @@ shared_among x [] a = absurd a
 shared_among x (y ∷ xs) (inl e) = inl (ap (λ z. itself false z.name z.place) e)
 shared_among x (y ∷ xs) (inr a) = inr (shared_among x xs a)
 
-own_among : (p : Process) (y : Name) (ys : List Name) → IsAmong y ys → IsAmong (own_module_name p y) (own_module_names p ys)
+pub own_among : (p : Process) (y : Name) (ys : List Name) → IsAmong y ys → IsAmong (own_module_name p y) (own_module_names p ys)
 own_among p y [] a = absurd a
 own_among p y (z ∷ ys) (inl e) = inl (ap (own_module_name p) e)
 own_among p y (z ∷ ys) (inr a) = inr (own_among p y ys a)

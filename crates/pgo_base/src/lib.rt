@@ -9,6 +9,7 @@ pub mod expr;
 pub mod items;
 pub mod log;
 pub mod module;
+pub mod name_map;
 mod order;
 pub mod results;
 pub mod scope;

@@ -1,9 +1,11 @@
 // A written module: what it declares, and what its processes do.
-ghost use Rattle.std.specs.Prelude.{◌≡◌, List, [], ◌∷◌, ◌++◌, map, IfOk};
+ghost use Rattle.std.specs.Prelude.{◌≡◌, List, [], ◌∷◌, ◌++◌, take, map, IfOk};
 ghost use Rattle.pgo_base.specs.ActionView.{action_pair};
+ghost use Rattle.pgo_base.specs.LastPlace.{defined_name, last_place};
 
 use crate::expr::{Names, Sub};
 use crate::items::Items;
+use crate::name_map::NameMap;
 use crate::text::Text;
 use crate::value::Value;
 use std::alloc::{AllocError, Global};
@@ -94,8 +96,115 @@ pub enum Defined {
     },
 }
 
-/// Definitions in order; the values of constants may be among them.
-pub type Defs = Items<Defined>;
+impl Defined {
+    /// The name that is defined.
+    pub fn name(&self) -> &Text
+        ensures { result.now ≡ defined_name self.now }
+    {
+        match self {
+            Defined::Given { name, .. } => name,
+            Defined::Means { name, .. } => name,
+        }
+    }
+}
+
+/// Definitions in order; the values of constants may be among them. The last one of a name is found without going over the list.
+#[derive(Drop)]
+pub struct Defs {
+    list: Vec<Defined>,
+    places: NameMap<usize>,
+}
+
+impl Model for Defs {
+    ghost use Rattle.std.specs.Prelude.{◌≡◌, List};
+    ghost use Rattle.std.specs.Coded.{codes};
+    ghost use Rattle.pgo_base.specs.Code.{coded_data};
+    ghost use Rattle.pgo_base.specs.LastPlace.{defined_name, last_place};
+    ghost use Rattle.pgo_base.specs.Lookup.{Name};
+    ghost use Rattle.pgo_base.specs.NameMaps.{found};
+    ghost use Rattle.pgo_base.specs.TreeCode.{coded_tree};
+    ghost use Rattle.pgo_base.specs.declared.module.Defined.{Defined};
+
+    ghost Value = { List Defined };
+
+    ghost coded = { Prim.hlevel (codes, coded_data, coded_tree) };
+
+    ghost view = { λ d. d.list.items };
+
+    ghost invariant = { λ d. (x : Name) → found d.places x ≡ last_place defined_name x d.list.items };
+}
+
+impl Defs {
+    /// No definition.
+    pub fn new(alloc: Global) -> Defs
+        ensures { result ≡ [] }
+    {
+        Defs {
+            list: Vec::new(alloc),
+            places: NameMap::new(alloc),
+        }
+    }
+
+    /// The definitions as a slice.
+    pub fn as_slice(&self) -> &[Defined]
+        ensures { result.now ≡ self.now }
+    {
+        self.list.as_slice()
+    }
+
+    /// One definition more, at the end.
+    pub fn push(&mut self, definition: Defined) -> Result<(), AllocError>
+        ensures { IfOk result (λ _. self.new ≡ self.old ++ definition ∷ []) }
+    {
+        let place = self.list.len();
+        self.list.reserve(1)?;
+        self.places
+            .set(*self.list.allocator(), definition.name(), place)?;
+        self.list.push_reserved(definition);
+        Ok(())
+    }
+
+    /// The place of the last definition of a name among the first so many.
+    pub fn last_place(&self, name: &Text, count: usize) -> Option<usize>
+        ensures { result ≡ last_place defined_name name.now (take count self.now) }
+    {
+        match self.places.get(name) {
+            Some(place) => {
+                if *place < count {
+                    Some(*place)
+                } else {
+                    last_among(first(self.list.as_slice(), count), name)
+                }
+            }
+            None => None,
+        }
+    }
+}
+
+/// The first definitions, at most so many.
+fn first(list: &[Defined], count: usize) -> &[Defined]
+    ensures { result.now ≡ take count list.now }
+{
+    if count < list.len() {
+        &list[..count]
+    } else {
+        list
+    }
+}
+
+/// The place of the last definition of the name.
+fn last_among(list: &[Defined], name: &Text) -> Option<usize>
+    ensures { result ≡ last_place defined_name name.now list.now }
+{
+    let mut i = list.len();
+    while i > 0 {
+        i -= 1;
+        if name.is(list[i].name()) {
+            return Some(i);
+        }
+    }
+    None
+}
 
 /// A written module, in the order of its lines.
 #[derive(Drop)]

@@ -8,6 +8,7 @@ use Rattle.pgo_base.specs.Tree.{Tree}
 use Rattle.pgo_base.specs.ValueCode.{value_from}
 use Rattle.pgo_base.specs.declared.module.Defined.{Defined}
 use Rattle.pgo_model.specs.Operators.{members_of, is_member, contains}
+use Rattle.pgo_syntax.proofs.Leasts.{least_empty}
 use Rattle.pgo_syntax.specs.declared.archetype.Archetype.{Archetype}
 use Rattle.pgo_syntax.specs.declared.binding.Origin.{Origin}
 use Rattle.pgo_syntax.specs.declared.binding.Origin.TheVariants.{Equals, In}
@@ -23,7 +24,7 @@ use Rattle.pgo_bound.specs.Lookups.{same_equal}
 use Rattle.pgo_bound.specs.Once.{StandOnce}
 use Rattle.pgo_heads.specs.declared.errors.BindError.TheVariants as errors
 use Rattle.pgo_heads.specs.declared.findings.Lack.TheVariants.{NoSet, NoMember}
-use Rattle.pgo_heads.specs.Refusals.{first, more_than, first_placed, earlier, where_true, at_place, bad_mappings, ids_shared, ids_unknown, instances_past, resources_past, values_unset, sets_empty, ids_refused, starts_refused, heads_refused, or_next, unset_global, empty_global, lacking, archetypes_run, lacking_in, lacking_local, lacks, lacks_in, local_set, unset_in_run, unset_local, unset_handed, unset_argument, is_unset_at, is_value_unset, is_some_unset, is_closed_unset}
+use Rattle.pgo_heads.specs.Refusals.{first, more_than, first_placed, where_true, at_place, bad_mappings, ids_shared, ids_unknown, instances_past, resources_past, values_unset, sets_empty, ids_refused, starts_refused, heads_refused, or_next, unset_global, empty_global, lacking, archetypes_run, lacking_in, lacking_local, lacks, lacks_in, local_set, unset_in_run, unset_local, unset_handed, unset_argument, is_unset_at, is_value_unset, is_some_unset, is_closed_unset}
 use Rattle.pgo_bind.proofs.Passing.{none_first, none_next}
 use Rattle.pgo_bind.proofs.UniqueIds.{once_of}
 
@@ -34,18 +35,6 @@ mapped_none f (Some x) h = absurd (cc)
 first_empty : {A : Type 0} (xs : List A) → first xs ≡ None → xs ≡ []
 first_empty [] h = refl
 first_empty (x ∷ xs) h = absurd (cc)
-
-placed_empty : (xs : List (ℕ × Name)) → first_placed xs ≡ None → xs ≡ []
-placed_empty [] h = refl
-placed_empty (x ∷ xs) h = absurd (go (first_placed xs) h)
-  where
-    one : (b : Bool) (y : ℕ × Name) → (if b then Some y else Some x) ≡ None → ⊥
-    one true y g = cc
-    one false y g = cc
-
-    go : (o : Option (ℕ × Name)) → earlier (Some x) o ≡ None → ⊥
-    go None g = cc
-    go (Some y) g = one (nat_lt y.0 x.0) y g
 
 pub where_false : {A : Type 0} (b : Bool) (x : A) → where_true b x ≡ None → b ≡ false
 where_false true x h = absurd (cc)
@@ -87,8 +76,8 @@ unrefused as' ds rs gs h =
       known = first_empty (ids_unknown rs) (mapped_none errors.IdsNoValue (first (ids_unknown rs)) unknown);
       few_ids = few_of 64 (length (all_ids rs)) (mapped_none errors.TooManyInstances (first (instances_past rs)) many);
       few_parts = few_of 1024 (length (all_parts gs)) (mapped_none errors.TooManyResources (first (resources_past gs)) parts);
-      unset = placed_empty (values_unset as' ds rs gs) (mapped_none (λ p. errors.InitNoValue p.1) (first_placed (values_unset as' ds rs gs)) values);
-      empty = placed_empty (sets_empty as' ds rs gs) (mapped_none (λ p. errors.InitEmpty p.1) (first_placed (sets_empty as' ds rs gs)) sets);
+      unset = least_empty (λ p. p.0) (values_unset as' ds rs gs) (mapped_none (λ p. errors.InitNoValue p.1) (first_placed (values_unset as' ds rs gs)) values);
+      empty = least_empty (λ p. p.0) (sets_empty as' ds rs gs) (mapped_none (λ p. errors.InitEmpty p.1) (first_placed (sets_empty as' ds rs gs)) sets);
     }
 
 begins : (n : ℕ) (st : Start) → is_unset n st ≡ false → is_empty st ≡ false → (v : Data) × (st ≡ Begins v)

@@ -29,11 +29,11 @@ use pgo_heads::globals::{GlobalStart, all_parts, resources_of};
 use pgo_heads::identifiers::all_ids;
 use pgo_heads::ids_no_value::ids_known;
 use pgo_heads::instances::instances_of;
-use pgo_heads::known::known_state;
 use pgo_heads::runs::Run;
 use pgo_heads::same_id::ids_differ;
 use pgo_heads::too_many_instances::few_instances;
 use pgo_heads::too_many_resources::few_resources;
+use pgo_heads::well_formed::state_is_well_formed;
 use pgo_syntax::archetype::Archetype;
 use pgo_syntax::bound::{Bound, Instances, Resources};
 use pgo_syntax::spec::Spec;
@@ -91,7 +91,7 @@ fn heads_fit<'a>(
 }
 
 /// The bound system of a specification that is not refused.
-fn made(
+fn bound_system(
     alloc: Global,
     spec: &Spec,
     defs: EvaluatedDefinitions,
@@ -107,7 +107,7 @@ fn made(
     let parts = all_parts(alloc, globals)?;
     let resources = resources_of(alloc, parts.as_slice())?;
     let start = start_of(alloc, &defs, runs, globals)?;
-    known_state(&start);
+    state_is_well_formed(&start);
     Ok(Bound {
         spec: spec.copy(alloc)?,
         defs: defs.into_written(),
@@ -129,7 +129,7 @@ fn bound(
     ensures values { IfOk result (λ b. AllValues b.start) }
 {
     heads_fit(alloc, spec.archetypes.as_slice(), &defs, runs, globals)?;
-    let bound = made(alloc, spec, defs, runs, globals)?;
+    let bound = bound_system(alloc, spec, defs, runs, globals)?;
     Ok(bound)
 }
 

@@ -30,7 +30,7 @@ fn is_empty(start: &Start) -> bool
 }
 
 /// The first global with an empty set.
-#[tactic(auto, using(crate::proofs::Placed::placed_step, crate::proofs::Placed::earlier_none))]
+#[tactic(auto, using(crate::proofs::Placed::placed_step, pgo_syntax::proofs::Leasts::sooner_none))]
 fn empty_globals<'a>(globals: &'a [GlobalStart<'a>]) -> Option<Finding<'a>>
     ensures { option_map finding_view result ≡ findings.first_placed (filter_map spec.empty_global (map global_view globals.now)) }
 {

@@ -29,7 +29,7 @@ use pgo_syntax::process::Argument;
 use std::alloc::{AllocError, Global};
 
 /// The first global without a value, or with too deep a one.
-#[tactic(auto, using(crate::proofs::Placed::placed_step, crate::proofs::Placed::earlier_none))]
+#[tactic(auto, using(crate::proofs::Placed::placed_step, pgo_syntax::proofs::Leasts::sooner_none))]
 fn unset_globals<'a>(globals: &'a [GlobalStart<'a>]) -> Option<Finding<'a>>
     ensures { option_map finding_view result ≡ findings.first_placed (filter_map spec.unset_global (map global_view globals.now)) }
 {
@@ -125,7 +125,7 @@ fn is_unset_at(
 }
 
 /// The first local of a process that is missing or too deep at some identifier.
-#[tactic(auto, using(crate::proofs::Placed::placed_step, crate::proofs::Placed::earlier_none))]
+#[tactic(auto, using(crate::proofs::Placed::placed_step, pgo_syntax::proofs::Leasts::sooner_none))]
 fn unset_locals<'a>(
     alloc: Global,
     defs: &EvaluatedDefinitions,
@@ -167,7 +167,7 @@ fn unset_handed<'a>(
 }
 
 /// The first value parameter of a process that is missing or too deep at some identifier.
-#[tactic(auto, using(crate::proofs::Placed::placed_step, crate::proofs::Placed::earlier_none))]
+#[tactic(auto, using(crate::proofs::Placed::placed_step, pgo_syntax::proofs::Leasts::sooner_none))]
 fn unset_arguments<'a>(
     alloc: Global,
     defs: &EvaluatedDefinitions,
@@ -199,7 +199,7 @@ fn unset_in_run<'a>(
 }
 
 /// What is first missing or too deep in the processes.
-#[tactic(auto, using(crate::proofs::Placed::placed_more, crate::proofs::Placed::earlier_none))]
+#[tactic(auto, using(crate::proofs::Placed::placed_more, pgo_syntax::proofs::Leasts::sooner_none))]
 fn unset_in_runs<'a>(
     alloc: Global,
     defs: &EvaluatedDefinitions,

@@ -48,7 +48,7 @@ fn lacks_in(
 }
 
 /// The first local of an archetype whose set has this lack.
-#[tactic(auto, using(crate::proofs::Placed::placed_step, crate::proofs::Placed::earlier_none))]
+#[tactic(auto, using(crate::proofs::Placed::placed_step, pgo_syntax::proofs::Leasts::sooner_none))]
 fn lacking_in<'a>(
     alloc: Global,
     defs: &EvaluatedDefinitions,
@@ -66,7 +66,7 @@ fn lacking_in<'a>(
 }
 
 /// The first local whose set has this lack, of the archetypes that a process runs.
-#[tactic(auto, using(crate::proofs::Placed::placed_more, crate::proofs::Placed::earlier_none))]
+#[tactic(auto, using(crate::proofs::Placed::placed_more, pgo_syntax::proofs::Leasts::sooner_none))]
 pub fn lacking<'a>(
     alloc: Global,
     defs: &EvaluatedDefinitions,

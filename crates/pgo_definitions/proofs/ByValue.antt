@@ -13,11 +13,11 @@ use Rattle.pgo_definitions.specs.Meant.{meant}
 use Rattle.pgo_definitions.specs.Bodies.{bare, with_meaning, with_body}
 
 -- a name that stands for this value or none
-abbrev pub standing : List Meaning → Name → Option Data → List Meaning
-standing before x o = record { name = x; arity = 0; gives = λ args. o } ∷ before
+abbrev pub with_value : List Meaning → Name → Option Data → List Meaning
+with_value before x o = record { name = x; arity = 0; gives = λ args. o } ∷ before
 
-pub by_body : (before : List Meaning) (x : Name) (e : Tree) (o : Option Data) → o ≡ val e (bare before) → standing before x o ≡ with_body before x [] e
-by_body before x e o h = ap (standing before x) h
+pub by_body : (before : List Meaning) (x : Name) (e : Tree) (o : Option Data) → o ≡ val e (bare before) → with_value before x o ≡ with_body before x [] e
+by_body before x e o h = ap (with_value before x) h
 
 -- these definitions behind others
 abbrev pub behind : List Meaning → List Defined → List Meaning

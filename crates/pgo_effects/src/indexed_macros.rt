@@ -1,12 +1,13 @@
 // Macros that are found by name.
 ghost use Rattle.std.specs.Prelude.{◌≡◌, take, IfOk};
+ghost use Rattle.pgo_base.specs.LastPlace.{last_place};
 ghost use Rattle.pgo_base.specs.Lookup.{Name};
-ghost use Rattle.pgo_effects.specs.Bodies.{last_place};
-ghost use Rattle.pgo_syntax.specs.NameMaps.{found};
+ghost use Rattle.pgo_base.specs.NameMaps.{found};
+ghost use Rattle.pgo_effects.specs.Bodies.{macro_name};
 
+use pgo_base::name_map::NameMap;
 use pgo_base::text::Text;
 use pgo_syntax::macros::Macro;
-use pgo_syntax::name_map::NameMap;
 use std::alloc::{AllocError, Global};
 use std::marker::Model;
 use std::rc::Rc;
@@ -22,12 +23,13 @@ pub struct IndexedMacros<'a> {
 impl<'a> Model for IndexedMacros<'a> {
     ghost use Rattle.std.specs.Prelude.{◌≡◌, ◌<◌, ℕ, List, Some, length};
     ghost use Rattle.std.specs.Coded.{codes};
+    ghost use Rattle.pgo_base.specs.LastPlace.{last_place};
     ghost use Rattle.pgo_base.specs.Lookup.{Name};
     ghost use Rattle.pgo_base.specs.TreeCode.{coded_tree};
-    ghost use Rattle.pgo_syntax.specs.NameMaps.{found};
+    ghost use Rattle.pgo_base.specs.NameMaps.{found};
     ghost use Rattle.pgo_syntax.specs.StatementCode.{coded_statement};
     ghost use Rattle.pgo_syntax.specs.declared.macros.Macro.{Macro};
-    ghost use Rattle.pgo_effects.specs.Bodies.{last_place};
+    ghost use Rattle.pgo_effects.specs.Bodies.{macro_name};
 
     ghost Value = { List Macro };
 
@@ -35,7 +37,7 @@ impl<'a> Model for IndexedMacros<'a> {
 
     ghost view = { λ m. m.list.now };
 
-    ghost invariant = { λ m. (x : Name) (i : ℕ) → found m.places.value x ≡ Some i → i < length m.list.now → last_place x m.list.now ≡ Some i };
+    ghost invariant = { λ m. (x : Name) (i : ℕ) → found m.places.value x ≡ Some i → i < length m.list.now → last_place macro_name x m.list.now ≡ Some i };
 }
 
 impl<'a> IndexedMacros<'a> {
@@ -95,7 +97,7 @@ impl<'a> IndexedMacros<'a> {
 
     /// The place of the last macro of the name.
     pub(crate) fn place(&self, x: &Text) -> Option<usize>
-        ensures { result ≡ last_place x.now self.now }
+        ensures { result ≡ last_place macro_name x.now self.now }
     {
         if let Some(place) = self.places.get(x) {
             if *place < self.list.len() {
@@ -119,7 +121,7 @@ fn first<'a>(list: &'a [Macro], count: usize) -> &'a [Macro]
 
 /// The place of the last macro of the name.
 fn last_among(list: &[Macro], x: &Text) -> Option<usize>
-    ensures { result ≡ last_place x.now list.now }
+    ensures { result ≡ last_place macro_name x.now list.now }
 {
     let mut i = list.len();
     while i > 0 {
@@ -133,7 +135,7 @@ fn last_among(list: &[Macro], x: &Text) -> Option<usize>
 
 /// The place of the last macro of each name.
 fn last_places(alloc: Global, list: &[Macro]) -> Result<NameMap<usize>, AllocError>
-    ensures { IfOk result (λ m. (x : Name) → found m x ≡ last_place x list.now) }
+    ensures { IfOk result (λ m. (x : Name) → found m x ≡ last_place macro_name x list.now) }
 {
     let mut places = NameMap::new(alloc);
     for i in 0..list.len() {

@@ -1,5 +1,5 @@
 -- What an expression sees as it lies in memory, as the scope that it stands for.
-use Rattle.std.specs.Prelude.{List, [], Option, None, map, option_map}
+use Rattle.std.specs.Prelude.{List, [], Option, None, take, map, option_map}
 use Rattle.pgo_base.specs.View.{data_of}
 use Rattle.pgo_base.specs.Data.{Data}
 use Rattle.pgo_base.specs.Lookup.{Name, Vars}
@@ -16,7 +16,7 @@ scope_view s = record {
   part = option_map (λ r. data_of r.now) s.part;
   now = s.state.now;
   next = next_view s;
-  defs = meanings (map defined_view s.defs.now) s.state.now (next_view s);
+  defs = meanings (map defined_view (take s.seen s.defs.now)) s.state.now (next_view s);
 }
 
 -- what a definition's body sees: its arguments, and the definitions before it

@@ -57,6 +57,7 @@ fn value_bound<'a>(
         state: s.state,
         next: s.next,
         defs: s.defs,
+        seen: s.seen,
         left: s.left,
     };
     owned(alloc, held(alloc, e, &inner)?)

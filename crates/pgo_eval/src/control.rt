@@ -97,6 +97,7 @@ pub fn value_with(
         state: s.state,
         next: s.next,
         defs: s.defs,
+        seen: s.seen,
         left: s.left,
     };
     owned(alloc, held(alloc, e, &inner)?)

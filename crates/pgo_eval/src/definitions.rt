@@ -1,49 +1,37 @@
 // The definitions that an expression sees.
-ghost use Rattle.std.specs.Prelude.{◌≡◌, ◌==◌, if◌then◌else◌, List, [], ◌∷◌, length, map, Option, Some, None, option_map, IfOk};
+ghost use Rattle.std.specs.Prelude.{◌≡◌, ◌==◌, if◌then◌else◌, List, [], ◌∷◌, length, take, map, Option, Some, None, option_map, IfOk};
 ghost use Rattle.pgo_base.specs.Data.{Data};
 ghost use Rattle.pgo_base.specs.BindingsView.{onto, named_view};
 ghost use Rattle.pgo_base.specs.View.{data_of};
-ghost use Rattle.pgo_model.specs.ModuleView.{defined_view};
 ghost use Rattle.pgo_model.specs.Val.{call_def, default_meaning, name_values};
 ghost use Rattle.pgo_eval.specs.HeldView.{held_data};
-ghost use Rattle.pgo_eval.specs.Newest.{IsFound, name_of};
+ghost use Rattle.pgo_eval.specs.Newest.{IsFound};
 
 use crate::held::Held;
 use crate::words::is_word;
 use pgo_base::bindings::NamedValue;
-use pgo_base::module::Defined;
+use pgo_base::module::{Defined, Defs};
 use pgo_base::text::Text;
 use pgo_base::value::Value;
 use std::alloc::{AllocError, Global};
 
-/// A definition, and those before it.
+/// A definition, and how many there are before it.
 #[derive(Clone, Copy)]
 pub struct Found<'a> {
     pub definition: &'a Defined,
-    pub before: &'a [Defined],
+    pub before: usize,
 }
 
-/// The newest definition of a name: the last in the list.
-pub fn newest<'a>(x: &Text, defs: &'a [Defined]) -> Option<Found<'a>>
-    ensures { IsFound x.now (map defined_view defs.now) result }
+/// The newest definition of a name among the first so many: the last of them that has it.
+pub fn newest<'a>(x: &Text, defs: &'a Defs, count: usize) -> Option<Found<'a>>
+    ensures { IsFound x.now defs.now (take count defs.now) result }
 {
-    let mut left = defs;
-    while let Some((definition, before)) = left.split_last() {
-        if x.is(name_of(definition)) {
-            return Some(Found { definition, before });
-        }
-        left = before;
-    }
-    None
-}
-
-/// The name of a definition.
-fn name_of(d: &Defined) -> &Text
-    ensures { result.now ≡ name_of (defined_view d.now) }
-{
-    match d {
-        Defined::Given { name, .. } => name,
-        Defined::Means { name, .. } => name,
+    match defs.last_place(x, count) {
+        Some(before) => match defs.as_slice().get(before) {
+            Some(definition) => Some(Found { definition, before }),
+            None => None,
+        },
+        None => None,
     }
 }
 

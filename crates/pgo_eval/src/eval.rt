@@ -10,7 +10,7 @@ use crate::evaluate::held;
 use crate::held::owned;
 use crate::scope::{MOST_LEVELS, Scope};
 use pgo_base::expr::Expr;
-use pgo_base::module::{Defined, Defs};
+use pgo_base::module::Defs;
 use pgo_base::scope::Env;
 use pgo_base::value::Value;
 use pgo_sets::errors::EvalStop;
@@ -26,7 +26,7 @@ use std::alloc::{AllocError, Global};
 pub fn eval(alloc: Global, defs: &Defs, e: &Expr, env: &Env<'_, '_>) -> Result<Value, EvalStop>
     ensures { Answers result (Val (map defined_view defs.now) (tree e.now) env.now.names.now env.now.state.now (option_map (λ r. r.now) env.now.next)) }
 {
-    match value(alloc, defs.as_slice(), e, env)? {
+    match value(alloc, defs, e, env)? {
         Some(v) => Ok(v),
         None => Err(EvalStop::NoValue),
     }
@@ -35,7 +35,7 @@ pub fn eval(alloc: Global, defs: &Defs, e: &Expr, env: &Env<'_, '_>) -> Result<V
 /// The value, or none.
 fn value<'x>(
     alloc: Global,
-    defs: &'x [Defined],
+    defs: &'x Defs,
     e: &Expr,
     env: &Env<'x, 'x>,
 ) -> Result<Option<Value>, AllocError>
@@ -47,6 +47,7 @@ fn value<'x>(
         state: env.state,
         next: env.next,
         defs,
+        seen: defs.as_slice().len(),
         left: MOST_LEVELS,
     };
     owned(alloc, held(alloc, e, &s)?)

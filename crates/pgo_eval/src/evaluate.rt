@@ -43,6 +43,7 @@ pub fn held<'a>(
         state: s.state,
         next: s.next,
         defs: s.defs,
+        seen: s.seen,
         left: s.left - 1,
     };
     match evaluated(alloc, e, &inner)? {
@@ -146,6 +147,7 @@ fn membership<'a>(
         state: s.state,
         next: s.next,
         defs: s.defs,
+        seen: s.seen,
         left: s.left - 1,
     };
     match evaluated(alloc, e, &inner)? {

@@ -1,5 +1,5 @@
 // Names and calls: what stands for them in scope, among the variables, and among the definitions.
-ghost use Rattle.std.specs.Prelude.{◌≡◌, [], length, map, option_map, option_and_then, IfOk};
+ghost use Rattle.std.specs.Prelude.{◌≡◌, [], length, take, map, option_map, option_and_then, IfOk};
 ghost use Rattle.pgo_base.specs.ExprView.{tree};
 ghost use Rattle.pgo_base.specs.Tree.{trees, call};
 ghost use Rattle.pgo_base.specs.View.{data_of};
@@ -105,7 +105,7 @@ fn applied<'a>(
 ) -> Result<Option<Held<'a>>, AllocError>
     ensures { IfOk result (λ o. option_map held_data o ≡ call_def x.now (map data_of args.items) (scope_view s.now).defs) }
 {
-    let Some(found) = newest(x, s.defs) else {
+    let Some(found) = newest(x, s.defs, s.seen) else {
         return default_value(alloc, x, args.len());
     };
     match found.definition {
@@ -127,11 +127,11 @@ fn body_value<'a>(
     params: &[Text],
     args: Vec<Value>,
     body: &Expr,
-    before: &'a [Defined],
+    before: usize,
     s: &Scope<'a, 'a, 'a>,
 ) -> Result<Option<Value>, AllocError>
     requires { length args.items ≡ length params.now }
-    ensures { IfOk result (λ o. option_map data_of o ≡ val (tree body.now) (body_scope params.now (map data_of args.items) (map defined_view before.now) s.now.state.now (next_view s.now))) }
+    ensures { IfOk result (λ o. option_map data_of o ≡ val (tree body.now) (body_scope params.now (map data_of args.items) (map defined_view (take before s.now.defs.now)) s.now.state.now (next_view s.now))) }
 {
     let named = arguments(alloc, params, args)?;
     let none = Bindings::new();
@@ -140,7 +140,8 @@ fn body_value<'a>(
         part: None,
         state: s.state,
         next: s.next,
-        defs: before,
+        defs: s.defs,
+        seen: before,
         left: s.left,
     };
     value_with(alloc, &named, body, &inner)

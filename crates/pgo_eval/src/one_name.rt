@@ -36,6 +36,7 @@ fn value_named<'a>(
         state: s.state,
         next: s.next,
         defs: s.defs,
+        seen: s.seen,
         left: s.left,
     };
     owned(alloc, held(alloc, e, &inner)?)

@@ -73,6 +73,7 @@ fn updated_at<'a>(
         state: s.state,
         next: s.next,
         defs: s.defs,
+        seen: s.seen,
         left: s.left,
     };
     match owned(alloc, held(alloc, e, &inner)?)? {

@@ -125,7 +125,7 @@ fn header(alloc: Global, spec: &Spec) -> Result<Header, AllocError>
 }
 
 /// The specification whose labels are expanded.
-fn made(alloc: Global, spec: &Spec, names: &Names) -> Result<PlusCal, AllocError>
+fn expansion(alloc: Global, spec: &Spec, names: &Names) -> Result<PlusCal, AllocError>
     requires unlabelled { AreUnlabelled spec.now.macros }
     requires variables { names.now.variables.items ≡ variables_of spec.now }
     ensures { IfOk result (λ p. p ≡ pluscal_of spec.now) }
@@ -144,7 +144,7 @@ fn made(alloc: Global, spec: &Spec, names: &Names) -> Result<PlusCal, AllocError
 }
 
 /// The specification whose labels are expanded, where its height and its nodes are within the limits.
-fn made_within(
+fn expansion_within(
     alloc: Global,
     spec: &Spec,
     names: &Names,
@@ -161,7 +161,7 @@ fn made_within(
     if height > 512 {
         return Err(ExpandStop::Deep { height: 513 });
     }
-    match made(alloc, spec, names) {
+    match expansion(alloc, spec, names) {
         Ok(expanded) => Ok(expanded),
         Err(_) => Err(ExpandStop::NoMemory),
     }
@@ -198,7 +198,7 @@ pub fn expand(alloc: Global, spec: &Spec) -> Result<PlusCal, ExpandStop>
     ensures { Answers (expand_refusal spec.now) (pluscal_of spec.now) result }
 {
     match measured_spec(alloc, spec) {
-        Ok(measured) => made_within(alloc, spec, &measured.names, measured.height),
+        Ok(measured) => expansion_within(alloc, spec, &measured.names, measured.height),
         Err(_) => Err(ExpandStop::NoMemory),
     }
 }

@@ -4,7 +4,7 @@ ghost use Rattle.pgo_measure.specs.Heights.{capped};
 ghost use Rattle.pgo_expand.specs.Items.{capped_items};
 ghost use Rattle.pgo_expand.specs.Module as expected;
 
-use pgo_measure::heights::{joined, one_higher};
+use pgo_measure::heights::{MOST_HEIGHT, joined, one_higher};
 use pgo_sizes::heights::height_up_to;
 use pgo_syntax::binding::Origin;
 use pgo_syntax::declaration::{Declaration, Declarations, Definition, Definitions};
@@ -33,9 +33,6 @@ pub fn joined_all(heights: &[u64]) -> u64
     }
     joined(None, so_far.unwrap_or(0))
 }
-
-/// The most that is told apart.
-const MOST_HEIGHT: u64 = 513;
 
 /// Of the set of a process's identifiers.
 fn height_of_ids(alloc: Global, ids: &Origin) -> Result<u64, AllocError>

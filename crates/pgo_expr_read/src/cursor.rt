@@ -13,7 +13,7 @@ use pgo_base::expr::{Infix, Word};
 use pgo_base::text::Text;
 use pgo_lexer::errors::TextStop;
 use pgo_lexer::symbol::{Bracket, Symbol};
-use pgo_lexer::token::{Lexeme, Token};
+use pgo_lexer::token::{Lexeme, Token, first_offset};
 use std::alloc::Global;
 use std::marker::Model;
 
@@ -33,16 +33,6 @@ impl<'a> Model for Cursor<'a> {
     ghost Value = { List Token };
 
     ghost view = { λ c. tokens_of c.rest.now };
-}
-
-/// The offset of the first of these tokens that has a place, or the end of the text.
-fn offset(rest: &[Lexeme], end: u64) -> u64 {
-    for lexeme in rest {
-        if lexeme.stop > lexeme.start {
-            return lexeme.start as u64;
-        }
-    }
-    end
 }
 
 impl<'a> Cursor<'a> {
@@ -66,7 +56,7 @@ impl<'a> Cursor<'a> {
         ensures { spec.IsSyntax result }
     {
         TextStop::Syntax {
-            offset: offset(self.rest, self.end),
+            offset: first_offset(self.rest, self.end),
         }
     }
 

@@ -1,5 +1,5 @@
 -- Lines that are written one after another.
-use Rattle.std.proofs.Common.{◌≡◌, ◌<◌, ◌+◌, ℕ, suc, List, [], ◌∷◌, ◌++◌, length, take, drop, get_or, Option, Result, Ok, Err, OnErr, refl, ap, sym, ◌∙◌, subst, arith, append_assoc, append-nil}
+use Rattle.std.proofs.Common.{◌≡◌, ◌<◌, ◌+◌, ℕ, suc, List, [], ◌∷◌, ◌++◌, length, take, drop, get_or, Option, refl, ap, sym, ◌∙◌, subst, arith, append_assoc, append-nil}
 use Rattle.std.proofs.Math.Seq.{take-suc, drop-cons, take-append_seam}
 use Rattle.std.proofs.lemmas.List.{take-append-drop}
 use Rattle.pgo_io.specs.Sink.{Grows, GrowsByPrefix}
@@ -49,8 +49,3 @@ prefix_written a b c ls i l below l_is g (n, h) =
     front =
         ap (take (length (flatten (take i ls) ++ take n l))) split
         ∙ take-append_seam (flatten (take i ls) ++ take n l) (drop n l ++ flatten (drop (suc i) ls))
-
--- where there is an error, what holds anyway
-pub on_err : {T E P : Type 0} (r : Result T E) → P → OnErr r P
-on_err (Ok x) p = tt
-on_err (Err e) p = p

@@ -3,7 +3,7 @@ pub mod KindLaws
 pub mod Matching
 pub mod Firsts
 pub mod Ordered
-pub mod KnownParts
+pub mod WellFormedParts
 pub mod SameNumbers
 pub mod NamedGlobals
 pub mod SpokenLaws

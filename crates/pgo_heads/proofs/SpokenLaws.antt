@@ -1,7 +1,6 @@
 -- Clauses that speak of an argument, from the last to the first.
 use Rattle.std.proofs.Common.{◌≡◌, ℕ, suc, ◌+◌, ◌<◌, Bool, true, false, not, ◌||◌, nat_lt, List, [], ◌∷◌, length, get_or, drop, cond, Option, Some, None, refl, ap, sym, ◌∙◌, arith}
-use Rattle.std.specs.Prelude.{filter, is_some, option_map, option_copied}
-use denote.Ref.{Bor}
+use Rattle.std.specs.Prelude.{filter, is_some, option_map}
 use Rattle.std.proofs.lemmas.Bool.Decides.{nat_tests}
 use Rattle.pgo_base.specs.Lookup.{Name, same_name}
 use Rattle.pgo_syntax.specs.declared.archetype.Extent.{Extent}
@@ -26,11 +25,6 @@ clause_step t xs k i c old new h e is made before =
     ∙ ap (one_more (t c) c) (before ∙ ap (λ j. first_of (filter t (drop j xs))) (sym e))
     ∙ sym (filter_more t c (drop (k + 1) xs))
     ∙ ap (λ ys. first_of (filter t ys)) (sym (drop_step xs k c h is))
-
--- something is lent where there is something
-pub is_some-copied : {V : Type 0} (o : Option (Bor V)) → is_some o ≡ is_some (option_copied o)
-is_some-copied None = refl
-is_some-copied (Some v) = refl
 
 kept : (o : Option Spoken) → is_some o ≡ is_some (option_map spoken_view o)
 kept None = refl

@@ -1,7 +1,8 @@
 -- Of what a rule finds: the first, and the first in the text.
-use Rattle.std.specs.Prelude.{ℕ, Bool, if◌then◌else◌, nat_lt, List, [], ◌∷◌, Option, Some, None}
+use Rattle.std.specs.Prelude.{ℕ, Bool, if◌then◌else◌, List, [], ◌∷◌, Option, Some, None}
 use Rattle.pgo_base.specs.Lookup.{Name}
 use Rattle.pgo_syntax.specs.declared.name.PlacedName.{PlacedName}
+use Rattle.pgo_syntax.specs.Least.{sooner_of, least}
 use Rattle.pgo_heads.specs.declared.errors.BindError.{BindError}
 
 abbrev pub where_true : {A : Type 0} → Bool → A → Option A
@@ -17,14 +18,11 @@ first (x ∷ xs) = Some x
 
 -- the one that stands first in the text
 abbrev pub earlier : Option (ℕ × Name) → Option (ℕ × Name) → Option (ℕ × Name)
-earlier None b = b
-earlier (Some a) None = Some a
-earlier (Some a) (Some b) = if nat_lt b.0 a.0 then Some b else Some a
+earlier = sooner_of (λ p. p.0)
 
 -- the first in the text; of those at one place the first in the list
 abbrev pub first_placed : List (ℕ × Name) → Option (ℕ × Name)
-first_placed [] = None
-first_placed (x ∷ xs) = earlier (Some x) (first_placed xs)
+first_placed = least (λ p. p.0)
 
 -- the first of two that is there
 abbrev pub or_next : Option BindError → Option BindError → Option BindError

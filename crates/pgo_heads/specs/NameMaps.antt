@@ -1,6 +1,7 @@
 -- What a map of names, or of numbers, has under one.
-use Rattle.std.specs.Prelude.{ℕ, Bool, false, if◌then◌else◌, Option, Some, None, option_map, is_some, unwrap_or}
+use Rattle.std.specs.Prelude.{ℕ, Bool, false, if◌then◌else◌, Option, Some, None, option_map, unwrap_or}
 use Rattle.std.specs.BTreeMap.{BTreeMap, get_by}
+use Rattle.std.specs.BTreeSet.{BTreeSet, contains_by}
 use Rattle.std.specs.Ordering.{nat_cmp}
 use denote.Ref.{Bor}
 use Rattle.pgo_base.specs.Data.{Data}
@@ -10,11 +11,11 @@ use Rattle.pgo_base.specs.declared.value.Value.{Value}
 use Rattle.pgo_syntax.specs.declared.archetype.Archetype.{Archetype}
 use Rattle.pgo_syntax.specs.declared.archetype.Extent.{Extent}
 use Rattle.pgo_syntax.specs.declared.macros.MappingMacro.{MappingMacro}
-use Rattle.pgo_syntax.specs.declared.name_map.NameMap.{NameMap}
+use Rattle.pgo_base.specs.declared.name_map.NameMap.{NameMap}
 use Rattle.pgo_bound.specs.declared.kinds.Kind.{Kind}
 use Rattle.pgo_bound.specs.declared.kinds.Kind.TheVariants.{Unbound}
 use Rattle.pgo_bound.specs.Kinds.{with_extent}
-pub use Rattle.pgo_syntax.specs.NameMaps.{found, has_name}
+pub use Rattle.pgo_base.specs.NameMaps.{found, has_name}
 
 unfoldable pub numbered : {V : Type 0} → BTreeMap ℕ V → ℕ → Option V
 numbered m n = get_by (λ k. nat_cmp n k) m
@@ -48,6 +49,6 @@ abbrev pub with_binding : Kind → Option Extent → Kind
 with_binding k None = k
 with_binding k (Some e) = with_extent k e
 
--- whether there is something under the number
-abbrev pub has_number_in : {V : Type 0} → BTreeMap ℕ V → ℕ → Bool
-has_number_in m n = is_some (numbered m n)
+-- whether the number is in the set
+abbrev pub has_number_in : BTreeSet ℕ → ℕ → Bool
+has_number_in s n = contains_by (nat_cmp n) s

@@ -5,7 +5,7 @@ use Rattle.pgo_base.specs.Lookup.{Name}
 use Rattle.pgo_syntax.specs.declared.archetype.Extent.{Extent}
 use Rattle.pgo_syntax.specs.declared.bound.Mapping.{Mapping}
 use Rattle.pgo_syntax.specs.declared.bound.Mapping.TheVariants.{Macro}
-use Rattle.pgo_syntax.specs.declared.name_map.NameMap.{NameMap}
+use Rattle.pgo_base.specs.declared.name_map.NameMap.{NameMap}
 use Rattle.pgo_syntax.specs.declared.process.MappingClause.{MappingClause}
 use Rattle.pgo_syntax.specs.declared.spec.Spec.{Spec}
 use Rattle.pgo_bound.specs.Runs.{mapping_named, mapping_without}

@@ -7,8 +7,8 @@ ghost use Rattle.pgo_heads.specs.Refusals as specs;
 ghost use Rattle.pgo_heads.specs.Views.{run_view};
 
 use crate::runs::Run;
+use pgo_base::name_map::NameMap;
 use pgo_syntax::archetype::Archetype;
-use pgo_syntax::name_map::NameMap;
 use std::alloc::{AllocError, Global};
 use std::marker::Model;
 
@@ -53,7 +53,7 @@ impl<'l, 'a> ArchetypesRun<'l, 'a> {
     pub fn has(&self, archetype: &Archetype) -> bool
         ensures { result ≡ specs.is_run self.now archetype.now }
     {
-        self.names.get(&archetype.name.name).is_some()
+        self.names.contains(&archetype.name.name)
     }
 }
 

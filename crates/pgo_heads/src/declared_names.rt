@@ -4,9 +4,9 @@ ghost use Rattle.pgo_base.specs.Lookup.{Name};
 ghost use Rattle.pgo_model.specs.Names.{is_among};
 ghost use Rattle.pgo_heads.specs.NameMaps.{has_name};
 
+use pgo_base::name_map::NameMap;
 use pgo_base::text::Text;
 use pgo_syntax::name::PlacedName;
-use pgo_syntax::name_map::NameMap;
 use std::alloc::{AllocError, Global};
 use std::marker::Model;
 
@@ -47,7 +47,7 @@ impl<'a> DeclaredNames<'a> {
     pub fn has(&self, name: &Text) -> bool
         ensures { result ≡ is_among name.now (map (λ d. d.name) self.now) }
     {
-        self.known.get(name).is_some()
+        self.known.contains(name)
     }
 }
 

@@ -5,9 +5,9 @@ ghost use Rattle.pgo_base.specs.View.{data_of, named_data};
 ghost use Rattle.pgo_bound.specs.Values as values;
 ghost use Rattle.pgo_heads.specs.NameMaps.{value_in};
 
+use pgo_base::name_map::NameMap;
 use pgo_base::text::Text;
 use pgo_base::value::Value;
-use pgo_syntax::name_map::NameMap;
 use std::alloc::{AllocError, Global};
 use std::marker::Model;
 

@@ -3,12 +3,12 @@ ghost use Rattle.std.specs.Prelude.{◌≡◌, map, IfOk};
 ghost use Rattle.pgo_heads.specs.Refusals as specs;
 ghost use Rattle.pgo_heads.specs.Views.{handed_view};
 
-use crate::number_map::NumberMap;
 use crate::runs::Handed;
+use pgo_base::name_map::NameMap;
 use pgo_base::text::Text;
-use pgo_syntax::name_map::NameMap;
 use pgo_syntax::process::Argument;
 use std::alloc::{AllocError, Global};
+use std::collections::BTreeSet;
 use std::marker::Model;
 
 /// The arguments of a process. One is found by its number, or as a global, without going over the list.
@@ -16,8 +16,8 @@ use std::marker::Model;
 pub struct IndexedArguments<'l, 'a> {
     list: &'l [Handed<'a>],
     globals: NameMap<()>,
-    globals_at: NumberMap<()>,
-    numbers: NumberMap<()>,
+    globals_at: BTreeSet<u64>,
+    numbers: BTreeSet<u64>,
 }
 
 impl<'l, 'a> Model for IndexedArguments<'l, 'a> {
@@ -37,7 +37,7 @@ impl<'l, 'a> Model for IndexedArguments<'l, 'a> {
 
     ghost view = { λ s. map handed_view s.list.now };
 
-    ghost invariant = { λ s. ((n : Name) → has_name s.globals n ≡ has_ref_to n (map handed_view s.list.now)) × ((k : ℕ) → has_number_in s.globals_at.map k ≡ has_ref_at k (map handed_view s.list.now)) × ((k : ℕ) → has_number_in s.numbers.map k ≡ has_number k (map handed_view s.list.now)) };
+    ghost invariant = { λ s. ((n : Name) → has_name s.globals n ≡ has_ref_to n (map handed_view s.list.now)) × ((k : ℕ) → has_number_in s.globals_at k ≡ has_ref_at k (map handed_view s.list.now)) × ((k : ℕ) → has_number_in s.numbers k ≡ has_number k (map handed_view s.list.now)) };
 }
 
 impl<'l, 'a> IndexedArguments<'l, 'a> {
@@ -49,17 +49,13 @@ impl<'l, 'a> IndexedArguments<'l, 'a> {
         ensures { IfOk result (λ a. a ≡ map handed_view list.now) }
     {
         let mut globals = NameMap::new(alloc);
-        let mut globals_at = NumberMap::new(alloc);
-        let mut numbers = NumberMap::new(alloc);
+        let mut globals_at = BTreeSet::new(alloc);
+        let mut numbers = BTreeSet::new(alloc);
         for h in list {
-            numbers.set(h.number, ())?;
-            match h.argument {
-                Argument::Value(..) => continue,
-                Argument::Ref(g, _) => {
-                    globals.set(alloc, &g.name, ())?;
-                    globals_at.set(h.number, ())?;
-                    continue;
-                }
+            numbers.insert(h.number)?;
+            if let Argument::Ref(g, _) = h.argument {
+                globals.set(alloc, &g.name, ())?;
+                globals_at.insert(h.number)?;
             }
         }
         Ok(IndexedArguments {
@@ -74,20 +70,20 @@ impl<'l, 'a> IndexedArguments<'l, 'a> {
     pub fn has_ref_to(&self, name: &Text) -> bool
         ensures { result ≡ specs.has_ref_to name.now self.now }
     {
-        self.globals.get(name).is_some()
+        self.globals.contains(name)
     }
 
     /// Whether the argument of this number is a global.
     pub fn has_ref_at(&self, number: u64) -> bool
         ensures { result ≡ specs.has_ref_at number self.now }
     {
-        self.globals_at.get(number).is_some()
+        self.globals_at.contains(&number)
     }
 
     /// Whether there is an argument of this number.
     pub fn has_number(&self, number: u64) -> bool
         ensures { result ≡ specs.has_number number self.now }
     {
-        self.numbers.get(number).is_some()
+        self.numbers.contains(&number)
     }
 }

@@ -4,9 +4,9 @@ ghost use Rattle.pgo_base.specs.Lookup.{Name};
 ghost use Rattle.pgo_bound.specs.Runs as specs;
 ghost use Rattle.pgo_heads.specs.NameMaps.{mapping_in};
 
+use pgo_base::name_map::NameMap;
 use pgo_base::text::Text;
 use pgo_syntax::macros::MappingMacro;
-use pgo_syntax::name_map::NameMap;
 use pgo_syntax::spec::Spec;
 use std::alloc::{AllocError, Global};
 use std::marker::Model;

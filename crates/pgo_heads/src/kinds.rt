@@ -7,10 +7,10 @@ ghost use Rattle.pgo_heads.specs.NameMaps.{kind_in, with_binding, extent_if};
 ghost use Rattle.pgo_heads.specs.Views.{handed_view, run_view};
 
 use crate::runs::{Handed, Run};
+use pgo_base::name_map::NameMap;
 use pgo_base::text::Text;
 use pgo_bound::kinds::Kind;
 use pgo_syntax::archetype::Extent;
-use pgo_syntax::name_map::NameMap;
 use pgo_syntax::process::Argument;
 use std::alloc::{AllocError, Global};
 use std::marker::Model;

@@ -5,8 +5,8 @@ ghost use Rattle.pgo_bound.specs.Runs as specs;
 ghost use Rattle.pgo_heads.specs.Spoken.{first_of, one_more, spoken_view, clauses_at, clauses_under};
 
 use crate::number_map::NumberMap;
+use pgo_base::name_map::NameMap;
 use pgo_base::text::Text;
-use pgo_syntax::name_map::NameMap;
 use pgo_syntax::process::{MappingClause, MappingTarget};
 use std::alloc::{AllocError, Global};
 use std::marker::Model;
@@ -103,7 +103,7 @@ fn add_name<'a>(
     match &clause.target {
         MappingTarget::Argument { .. } => Ok(()),
         MappingTarget::Global { name, .. } => {
-            let several = known.get(&name.name).is_some();
+            let several = known.contains(&name.name);
             known.set(
                 alloc,
                 &name.name,

@@ -4,9 +4,9 @@ ghost use Rattle.pgo_base.specs.Lookup.{Name};
 ghost use Rattle.pgo_bound.specs.Runs as specs;
 ghost use Rattle.pgo_heads.specs.NameMaps.{archetype_in};
 
+use pgo_base::name_map::NameMap;
 use pgo_base::text::Text;
 use pgo_syntax::archetype::Archetype;
-use pgo_syntax::name_map::NameMap;
 use std::alloc::{AllocError, Global};
 use std::marker::Model;
 

@@ -8,10 +8,10 @@ ghost use Rattle.pgo_heads.specs.Views.{start_view, global_view};
 
 use crate::globals::GlobalStart;
 use crate::start_values::Start;
+use pgo_base::name_map::NameMap;
 use pgo_base::text::Text;
 use pgo_base::value::Value;
 use pgo_bound::kinds::Kind;
-use pgo_syntax::name_map::NameMap;
 use std::alloc::{AllocError, Global};
 use std::marker::Model;
 

@@ -8,8 +8,8 @@ use Rattle.pgo_labels.specs.declared.finding.Rule.{Rule}
 use Rattle.pgo_labels.specs.declared.errors.LabelError.TheVariants.{NeedsLabel}
 use Rattle.pgo_labels.specs.NeedsLabel.{last_before}
 use Rattle.pgo_labels.specs.Findings.{error_of, found_at}
-use Rattle.pgo_labels.specs.Least.{least}
-use Rattle.pgo_labels.proofs.Leasts.{least-map}
+use Rattle.pgo_syntax.specs.Least.{least}
+use Rattle.pgo_syntax.proofs.Leasts.{least-map}
 
 abbrev pub found_by : Rule → Name → PlacedName → Finding
 found_by rule owner n = found_at n.place (error_of rule owner n.name)

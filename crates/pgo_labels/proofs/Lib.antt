@@ -1,6 +1,5 @@
 mod Rows
 pub mod Nesting
-pub mod Leasts
 pub mod Found
 pub mod Repeats
 pub mod Lasts

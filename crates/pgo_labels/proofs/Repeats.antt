@@ -1,7 +1,7 @@
 -- The step of a walk over labels that keeps those that stood before.
 use Rattle.std.proofs.Common.{◌≡◌, ◌<◌, ◌+◌, ℕ, Bool, true, false, List, [], ◌∷◌, ◌++◌, length, get_or, drop, refl, ap, ◌∙◌, sym, append_assoc}
 use Rattle.std.proofs.lemmas.List.{drop_more, map_push}
-use Rattle.std.specs.Prelude.{◌||◌, cond, if◌then◌else◌, Option, Some, None, is_some, option_copied}
+use Rattle.std.specs.Prelude.{◌||◌, cond, if◌then◌else◌, Option, Some, is_some}
 use denote.Ref.{Bor}
 use Rattle.pgo_base.specs.Lookup.{Name}
 use Rattle.pgo_model.specs.Names.{is_among}
@@ -21,11 +21,6 @@ pub fresh : (passed : List Name) (ns rest whole : List PlacedName) (l : PlacedNa
     → ns ++ repeated (l.name ∷ passed) rest ≡ whole
 fresh passed ns rest whole l h made =
     ap (λ b. ns ++ ((if b then l ∷ [] else []) ++ repeated (l.name ∷ passed) rest)) (sym h) ∙ made
-
--- something is lent where there is something
-pub is_some-copied : {V : Type 0} (o : Option (Bor V)) → is_some o ≡ is_some (option_copied o)
-is_some-copied None = refl
-is_some-copied (Some v) = refl
 
 -- whether there is something under a name, once one is noted
 pub noted : {V : Type 0} (b : Bool) (v : V) (o : Option V) → is_some (cond b (Some v) o) ≡ b || is_some o

@@ -2,8 +2,8 @@
 use Rattle.std.proofs.Common.{◌≡◌, ◌<◌, ◌+◌, ℕ, List, ◌++◌, length, get_or, drop, Option, ap, ◌∙◌, sym}
 use Rattle.std.proofs.lemmas.List.{drop_more}
 use Rattle.std.specs.Prelude.{flat_map}
-use Rattle.pgo_labels.specs.Least.{sooner_of, least}
-use Rattle.pgo_labels.proofs.Leasts.{sooner_assoc, least-append}
+use Rattle.pgo_syntax.specs.Least.{sooner_of, least}
+use Rattle.pgo_syntax.proofs.Leasts.{sooner_assoc, least-append}
 
 module _ {B : Type 0} (place : B → ℕ) where
   abbrev of : Option B → Option B → Option B

@@ -1,4 +1,3 @@
-pub mod Least
 pub mod Inside
 pub mod Parts
 pub mod Labels

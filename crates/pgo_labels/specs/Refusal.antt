@@ -4,7 +4,7 @@ use Rattle.pgo_syntax.specs.declared.spec.Spec.{Spec}
 use Rattle.pgo_labels.specs.declared.errors.LabelError.{LabelError}
 use Rattle.pgo_labels.specs.declared.errors.LabelError.TheVariants.{NoMemory}
 use Rattle.pgo_labels.specs.declared.finding.Finding.{Finding}
-use Rattle.pgo_labels.specs.Least.{least}
+use Rattle.pgo_syntax.specs.Least.{least}
 use Rattle.pgo_labels.specs.Rules.{findings}
 
 -- the first rule that finds something, at its least place

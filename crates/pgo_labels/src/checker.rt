@@ -1,6 +1,6 @@
 // Whether the labels of a specification stand where they must.
 ghost use Rattle.std.specs.Prelude.{◌≡◌, map, flat_map, option_map, IfOk};
-ghost use Rattle.pgo_labels.specs.Least.{least};
+ghost use Rattle.pgo_syntax.specs.Least.{least};
 ghost use Rattle.pgo_labels.specs.Refusal.{Answers, label_refusal, first_refusal};
 ghost use Rattle.pgo_labels.specs.Rules as finds;
 

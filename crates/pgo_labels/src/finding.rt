@@ -1,7 +1,7 @@
 // What a rule finds: a place and the refusal there.
 ghost use Rattle.std.specs.Prelude.{◌≡◌, map, Some, IfOk, option_copied};
 ghost use Rattle.pgo_labels.specs.Lent.{lent};
-ghost use Rattle.pgo_labels.specs.Least.{sooner_of, least};
+ghost use Rattle.pgo_syntax.specs.Least.{sooner_of, least};
 ghost use Rattle.pgo_labels.specs.Findings.{error_of, found_at};
 
 use crate::errors::LabelError;

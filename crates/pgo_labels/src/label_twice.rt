@@ -1,14 +1,14 @@
 // Rule 4: an archetype has a label that stands before in it.
 ghost use Rattle.std.specs.Prelude.{◌≡◌, [], IfOk};
 ghost use Rattle.pgo_labels.specs.LabelTwice as spec;
-ghost use Rattle.pgo_labels.specs.Least.{least};
+ghost use Rattle.pgo_syntax.specs.Least.{least};
 ghost use Rattle.pgo_labels.specs.Lent.{lent};
 
 use crate::finding::{Finding, Rule, least_finding};
 use crate::names::body_labels;
+use pgo_base::name_map::NameMap;
 use pgo_syntax::archetype::Archetype;
 use pgo_syntax::name::PlacedName;
-use pgo_syntax::name_map::NameMap;
 use std::alloc::{AllocError, Global};
 
 /// Those of the labels that stand before too.
@@ -18,7 +18,7 @@ fn repeated<'a>(alloc: Global, labels: &[&'a PlacedName]) -> Result<Vec<&'a Plac
     let mut before = NameMap::new(alloc);
     let mut names = Vec::new(alloc);
     for label in labels {
-        if before.get(&label.name).is_some() {
+        if before.contains(&label.name) {
             names.push(*label)?;
         }
         before.set(alloc, &label.name, ())?;

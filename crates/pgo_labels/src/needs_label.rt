@@ -3,7 +3,7 @@ ghost use Rattle.std.specs.Prelude.{◌≡◌, ◌||◌, ◌++◌, [], true, fal
 ghost use Rattle.std.specs.List.{list_any};
 ghost use Rattle.pgo_syntax.specs.Statement.{labeled};
 ghost use Rattle.pgo_syntax.specs.StatementView.{statement};
-ghost use Rattle.pgo_labels.specs.Least.{sooner_of, least};
+ghost use Rattle.pgo_syntax.specs.Least.{sooner_of, least};
 ghost use Rattle.pgo_labels.specs.Lent.{lent};
 ghost use Rattle.pgo_labels.specs.NeedsLabel as spec;
 ghost use Rattle.pgo_labels.specs.Parts.{see};

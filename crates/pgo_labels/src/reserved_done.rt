@@ -2,7 +2,7 @@
 ghost use Rattle.std.specs.Prelude.{◌≡◌, filter, IfOk};
 ghost use Rattle.pgo_base.specs.Lookup.{same_name};
 ghost use Rattle.pgo_labels.specs.Labels.{done};
-ghost use Rattle.pgo_labels.specs.Least.{least};
+ghost use Rattle.pgo_syntax.specs.Least.{least};
 ghost use Rattle.pgo_labels.specs.Lent.{lent};
 ghost use Rattle.pgo_labels.specs.ReservedDone as spec;
 

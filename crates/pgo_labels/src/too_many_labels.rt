@@ -1,6 +1,6 @@
 // Rule 7: an archetype has more than 256 labels.
 ghost use Rattle.std.specs.Prelude.{◌≡◌, IfOk};
-ghost use Rattle.pgo_labels.specs.Least.{least};
+ghost use Rattle.pgo_syntax.specs.Least.{least};
 ghost use Rattle.pgo_labels.specs.TooManyLabels as spec;
 
 use crate::finding::{Finding, Rule, make_finding};

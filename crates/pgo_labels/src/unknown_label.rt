@@ -2,11 +2,11 @@
 ghost use Rattle.std.specs.Prelude.{◌≡◌, ◌||◌, map, not, filter, IfOk, option_copied, option_to_list};
 ghost use Rattle.pgo_base.specs.Lookup.{Name, same_name};
 ghost use Rattle.pgo_model.specs.Names.{is_among};
-ghost use Rattle.pgo_syntax.specs.NameMaps.{has_name};
+ghost use Rattle.pgo_base.specs.NameMaps.{has_name};
 ghost use Rattle.pgo_syntax.specs.StatementView.{statement};
 ghost use Rattle.pgo_labels.specs.Inside.{with_inside};
 ghost use Rattle.pgo_labels.specs.Labels.{done};
-ghost use Rattle.pgo_labels.specs.Least.{least};
+ghost use Rattle.pgo_syntax.specs.Least.{least};
 ghost use Rattle.pgo_labels.specs.Lent.{lent};
 ghost use Rattle.pgo_labels.specs.Parts.{see};
 ghost use Rattle.pgo_labels.specs.UnknownLabel as spec;
@@ -14,9 +14,9 @@ ghost use Rattle.pgo_labels.specs.UnknownLabel as spec;
 use crate::finding::{Finding, Rule, least_finding};
 use crate::items::{Item, items_of_body};
 use crate::names::{body_labels, is_done};
+use pgo_base::name_map::NameMap;
 use pgo_syntax::archetype::Archetype;
 use pgo_syntax::name::PlacedName;
-use pgo_syntax::name_map::NameMap;
 use pgo_syntax::statement::{Block, Stmt};
 use std::alloc::{AllocError, Global};
 
@@ -73,7 +73,7 @@ fn unknown<'a>(
     let label_set = set_of(alloc, labels)?;
     let mut names = Vec::new(alloc);
     for target in targets {
-        if label_set.get(&target.name).is_none() && !is_done(&target.name) {
+        if !label_set.contains(&target.name) && !is_done(&target.name) {
             names.push(*target)?;
         }
     }

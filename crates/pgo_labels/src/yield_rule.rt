@@ -8,7 +8,7 @@ ghost use Rattle.pgo_syntax.specs.StatementView.{statement};
 ghost use Rattle.pgo_operands.specs.Operands.{lent_trees};
 ghost use Rattle.pgo_labels.specs.Inside.{with_inside};
 ghost use Rattle.pgo_labels.specs.ItemEnds.{all_items_end, items_end};
-ghost use Rattle.pgo_labels.specs.Least.{least};
+ghost use Rattle.pgo_syntax.specs.Least.{least};
 ghost use Rattle.pgo_labels.specs.Parts.{see, parts};
 ghost use Rattle.pgo_labels.specs.YieldRule as spec;
 

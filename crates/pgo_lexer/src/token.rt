@@ -1,5 +1,6 @@
 // Tokens, and the marks of junction lists among them.
 ghost use Rattle.std.specs.Prelude.{◌≡◌, [], ◌∷◌, ◌++◌, length, IfOk};
+ghost use Rattle.pgo_lexer.specs.Offsets as spec;
 
 use crate::symbol::{Junction, Symbol};
 use pgo_base::text::Text;
@@ -89,4 +90,16 @@ impl Tokens {
     {
         self.list.as_slice()
     }
+}
+
+/// The offset of the first of these tokens that has a place, or the end. Marks of lists have none.
+pub fn first_offset(lexemes: &[Lexeme], end: u64) -> u64
+    ensures { result ≡ spec.first_offset lexemes.now end }
+{
+    for lexeme in lexemes {
+        if lexeme.start < lexeme.stop {
+            return lexeme.start as u64;
+        }
+    }
+    end
 }

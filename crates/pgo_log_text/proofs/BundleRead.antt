@@ -7,6 +7,7 @@ use Rattle.pgo_model.specs.ModuleText.{flatten}
 use Rattle.pgo_model.specs.Log.{Log}
 use Rattle.pgo_model.specs.Bundle.{value_line}
 use Rattle.pgo_module_spells.specs.Spells.{SpellsModule}
+use Rattle.pgo_value_text.proofs.Steps.{some_pair}
 use Rattle.pgo_log_text.specs.declared.errors.LineStop.{LineStop}
 use Rattle.pgo_log_text.specs.declared.errors.LineStop.TheVariants as parts
 use Rattle.pgo_log_text.specs.declared.errors.LogStop.{LogStop}
@@ -14,7 +15,6 @@ use Rattle.pgo_log_text.specs.declared.errors.LogStop.TheVariants.{BadLog, NoMem
 use Rattle.pgo_log_text.specs.Parsers.{ReadsAs, Reads}
 use Rattle.pgo_log_text.specs.Lines.{constants_part, module_part, log_of}
 use Rattle.pgo_log_text.specs.ReadBundle.{IsReadBundle, IsOnlyBundle, IsNoBundle, IsRefused, IsStopped, stop_of, SpellsOnly, SpellsNone, HasNoModule}
-use Rattle.pgo_log_text.proofs.BytesSteps.{some_pair}
 use Rattle.pgo_log_text.proofs.LinesConstants.{head_opened, opened_some, opened_finds, module_some, module_finds, log_of_some, log_of_finds}
 
 -- what the readers gave: constants, the module's bytes, and what stands behind each

@@ -1,33 +1,24 @@
 -- Numbers and names: what the readers give, and what they are given by.
-use Rattle.std.proofs.Common.{◌≡◌, ◌≤◌, ◌<◌, ◌+◌, ◌*◌, ◌-◌, ◌^◌, ℕ, zero, suc, Bool, true, false, not, ◌&&◌, ◌||◌, cond, nat_eq, nat_lt, nat_le, IsTrue, List, [], ◌∷◌, ◌++◌, length, get_or, decimal, Some, None, refl, sym, ◌∙◌, ap, subst, arith}
+use Rattle.std.proofs.Common.{◌≡◌, ◌≤◌, ◌<◌, ◌+◌, ◌*◌, ◌-◌, ◌^◌, ℕ, zero, suc, Bool, true, false, not, ◌&&◌, ◌||◌, cond, nat_eq, nat_lt, IsTrue, List, [], ◌∷◌, ◌++◌, length, get_or, decimal, Some, None, refl, sym, ◌∙◌, ap, subst, arith}
 use Rattle.std.specs.List.{prefix_len}
-use Rattle.std.specs.Int.{IsInRange}
-use Rattle.std.proofs.lemmas.Bool.{eq-eqb, ne_eqb, lt-ltb, ltb-true, ltb-false, le-ltb, le-leb, leb-true, and_parts, and_from, or_parts}
+use Rattle.std.proofs.lemmas.Bool.{eq-eqb, ne_eqb, lt-ltb, ltb-true, ltb-false, le-ltb, le-leb, and_parts, and_from, or_parts}
 use Rattle.std.proofs.lemmas.Str.Parse.{IsDigitsTest, FoldsDigits, IsNumeralModel, numerals_by_fold}
 use Rattle.std.proofs.lemmas.Fmt.{digits_decimal, digits_value-decimal, decimal-digits_value, decimal_nonempty, decimal_digit, first_decimal}
 use Rattle.pgo_base.specs.Lookup.{Name}
-use Rattle.pgo_model.specs.ValueText.{is_digit, is_letter, is_word_byte, all_word_bytes, is_identifier}
+use Rattle.pgo_model.specs.ValueText.{is_digit, is_letter, is_word_byte}
 use Rattle.pgo_model.specs.BundleParts.{count_limit, is_read_name}
+use Rattle.pgo_value_text.specs.IsValueText.{all_digits, number_from, number_of}
+use Rattle.pgo_value_text.proofs.Steps.{if_some, cond_true, cond_false, bind_then, then_at, some_pair, give_some}
+use Rattle.pgo_value_text.proofs.Runs.{is_apart, Stops, prefix_goes, run_front, run_behind, front_behind, words_run, apart_stops}
+use Rattle.pgo_value_text.proofs.Numbers.{digit_range}
+use Rattle.pgo_value_text.proofs.WordBytes.{name_words}
 use Rattle.pgo_log_text.specs.Parsers.{Outcome}
-use Rattle.pgo_log_text.specs.Bytes.{is_apart, front, behind, most, natural_from, is_shortest, natural_of, give, natural, number, name}
-use Rattle.pgo_log_text.proofs.BytesSteps.{if_some, cond_true, cond_false, bind_then, then_at, some_pair, give_some}
-use Rattle.pgo_log_text.proofs.BytesRuns.{Stops, prefix_goes, run_front, run_behind, front_behind, words_run, apart_stops}
+use Rattle.pgo_log_text.specs.Bytes.{front, behind, most, natural_from, is_shortest, natural_of, give, natural, number, name}
 
 -- ---- digits
 
-abbrev all_digits : List ℕ → Bool
-all_digits [] = true
-all_digits (b ∷ bs) = is_digit b && all_digits bs
-
-abbrev value_from : ℕ → List ℕ → ℕ
-value_from n [] = n
-value_from n (b ∷ bs) = value_from (n * 10 + (b - 48)) bs
-
 AreDigits : List ℕ → Type 0
 AreDigits ds = all_digits ds ≡ true
-
-digit_range : (c : ℕ) → is_digit c ≡ true → IsInRange 48 57 c
-digit_range c h = let p = and_parts (nat_le 48 c) (nat_le c 57) h in (leb-true 48 c p.0, leb-true c 57 p.1)
 
 tells : IsDigitsTest AreDigits
 unfolding AreDigits
@@ -37,18 +28,18 @@ tells = record {
   more = λ c cs k e i. (le-leb 48 c k.0 i && le-leb c 57 k.1 i) && e i;
 }
 
-folds : FoldsDigits value_from
+folds : FoldsDigits number_from
 folds = record { empty = λ n. refl; more = λ n c cs k. refl }
 
-own : IsNumeralModel AreDigits (value_from 0)
-own = numerals_by_fold AreDigits tells value_from folds
+own : IsNumeralModel AreDigits number_of
+own = numerals_by_fold AreDigits tells number_from folds
 
 -- ---- numbers
 
 -- what digits behind a value were
 record Digits (k : ℕ) (bs : List ℕ) (n : ℕ) : Type 0 where
   digits : all_digits bs ≡ true
-  value : value_from k bs ≡ n
+  value : number_from k bs ≡ n
   small : k ≤ most → n ≤ most
 
 digits_sound : (k : ℕ) (bs : List ℕ) (n : ℕ) → natural_from k bs ≡ Some n → Digits k bs n
@@ -63,16 +54,16 @@ digits_sound k (b ∷ bs) n e =
     record { digits = and_from (is_digit b) (all_digits bs) d next.digits; value = next.value; small = λ _. next.small (ltb-false most (k * 10 + (b - 48)) s) }))
     (λ _ e. absurd (cc))
 
-value_grows : (k : ℕ) (bs : List ℕ) → k ≤ value_from k bs
-value_grows k [] = omega arith
-value_grows k (b ∷ bs) = let h = value_grows (k * 10 + (b - 48)) bs in omega arith
+number_grows : (k : ℕ) (bs : List ℕ) → k ≤ number_from k bs
+number_grows k [] = omega arith
+number_grows k (b ∷ bs) = let h = number_grows (k * 10 + (b - 48)) bs in omega arith
 
-digits_complete : (k : ℕ) (bs : List ℕ) → all_digits bs ≡ true → value_from k bs ≤ most → natural_from k bs ≡ Some (value_from k bs)
+digits_complete : (k : ℕ) (bs : List ℕ) → all_digits bs ≡ true → number_from k bs ≤ most → natural_from k bs ≡ Some (number_from k bs)
 unfolding natural_from
 digits_complete k [] h s = refl
 digits_complete k (b ∷ bs) h s =
     let d = and_parts (is_digit b) (all_digits bs) h in
-    let g = value_grows (k * 10 + (b - 48)) bs in
+    let g = number_grows (k * 10 + (b - 48)) bs in
     cond_true _ _ _ d.0 ∙ cond_false _ _ _ (le-ltb most (k * 10 + (b - 48)) (omega arith)) ∙ digits_complete (k * 10 + (b - 48)) bs d.1 s
 
 shortest_parts : (ds : List ℕ) → is_shortest ds ≡ true → (0 < length ds) × (get_or ds 0 0 ≡ 48 → length ds ≡ 1)
@@ -109,7 +100,7 @@ decimal_shortest (suc n) h =
 of_decimal : (n : ℕ) → n < 2 ^ 64 → natural_of (decimal n) ≡ Some n
 unfolding natural_of AreDigits
 of_decimal n h =
-    let v : value_from 0 (decimal n) ≡ n = digits_value-decimal own n h in
+    let v : number_from 0 (decimal n) ≡ n = digits_value-decimal own n h in
     cond_true _ _ _ (decimal_shortest n h)
     ∙ digits_complete 0 (decimal n) (digits_decimal own n h) (subst (λ x. x ≤ most) (sym v) (omega arith))
     ∙ ap Some v
@@ -142,9 +133,9 @@ natural_finds n r h a =
     (λ i. give (natural_of (run_front is_digit (decimal n) r run stop i)) (run_behind is_digit (decimal n) r run stop i))
     ∙ (λ i. give (of_decimal n h i) r)
 
-pub number_of : (bs : List ℕ) (n : ℕ) (r : List ℕ) → number bs ≡ Some (n, r) → (bs ≡ decimal n ++ r) × (n < 2 ^ 32)
+pub number_some : (bs : List ℕ) (n : ℕ) (r : List ℕ) → number bs ≡ Some (n, r) → (bs ≡ decimal n ++ r) × (n < 2 ^ 32)
 unfolding number
-number_of bs n r e =
+number_some bs n r e =
     let G : Type 0 = (bs ≡ decimal n ++ r) × (n < 2 ^ 32) in
     bind_then (natural bs) _ (n, r) G e
     (λ m i got e. if_some (nat_lt m count_limit) _ _ (n, r) G e
@@ -153,34 +144,28 @@ number_of bs n r e =
     (k.0 ∙ (λ j. decimal (p.0 j) ++ p.1 j), subst (λ x. x < 2 ^ 32) p.0 (ltb-true m count_limit s)))
     (λ _ e. absurd (cc)))
 
-pub number_at : (n : ℕ) (r : List ℕ) → n < 2 ^ 32 → is_apart r ≡ true → number (decimal n ++ r) ≡ Some (n, r)
+pub number_finds : (n : ℕ) (r : List ℕ) → n < 2 ^ 32 → is_apart r ≡ true → number (decimal n ++ r) ≡ Some (n, r)
 unfolding number
-number_at n r h a =
+number_finds n r h a =
     then_at (natural (decimal n ++ r)) _ (Some (n, r)) n r (natural_finds n r (omega arith) a) (cond_true _ _ _ (lt-ltb n count_limit h))
 
 -- ---- names
 
-pub name_of : (bs : List ℕ) (x : Name) (r : List ℕ) → name bs ≡ Some (x, r) → (bs ≡ x ++ r) × IsTrue (is_read_name x)
+pub name_some : (bs : List ℕ) (x : Name) (r : List ℕ) → name bs ≡ Some (x, r) → (bs ≡ x ++ r) × IsTrue (is_read_name x)
 unfolding name
-name_of bs x r e =
+name_some bs x r e =
     let G : Type 0 = (bs ≡ x ++ r) × IsTrue (is_read_name x) in
     if_some (is_read_name (front is_word_byte bs)) _ _ (x, r) G e
     (λ s e. let p = some_pair (front is_word_byte bs) x (behind is_word_byte bs) r e in
     (front_behind is_word_byte bs r p.1 ∙ ap (λ l. l ++ r) p.0, subst (λ x. IsTrue (is_read_name x)) p.0 s))
     (λ _ e. absurd (cc))
 
-name_words : (x : Name) → is_read_name x ≡ true → all_word_bytes x ≡ true
-name_words x h =
-    let p = and_parts (is_identifier x) (nat_le (length x) 512) h in
-    let q = and_parts _ _ p.0 in
-    (and_parts (all_word_bytes x) _ q.0).0
-
 name_there : (x : Name) (f : List ℕ) (b r : List ℕ) → f ≡ x → b ≡ r → is_read_name x ≡ true → cond {A = Outcome Name} (is_read_name f) (Some (f, b)) None ≡ Some (x, r)
 name_there x f b r e g h = (λ i. cond {A = Outcome Name} (is_read_name (e i)) (Some (e i, g i)) None) ∙ cond_true _ _ _ h
 
-pub name_at : (x : Name) (r : List ℕ) → IsTrue (is_read_name x) → is_apart r ≡ true → name (x ++ r) ≡ Some (x, r)
+pub name_finds : (x : Name) (r : List ℕ) → IsTrue (is_read_name x) → is_apart r ≡ true → name (x ++ r) ≡ Some (x, r)
 unfolding name
-name_at x r h a =
+name_finds x r h a =
     let run = words_run x (name_words x h) in
     let stop = apart_stops r a in
     name_there x _ _ r (run_front is_word_byte x r run stop) (run_behind is_word_byte x r run stop) h

@@ -1,25 +1,21 @@
 -- Values: what the reader gives, and what it is given by.
-use Rattle.std.proofs.Common.{◌≡◌, ℕ, true, nat_eq, List, [], ◌∷◌, ◌++◌, Option, Some, None, Ok, Err, Result, refl, sym, ◌∙◌, ap, subst}
-use Rattle.std.proofs.lemmas.Bool.{eq-eqb, and_from}
+use Rattle.std.proofs.Common.{◌≡◌, ℕ, true, List, ◌++◌, Option, Some, None, Ok, Err, Result, refl, sym, ◌∙◌, ap, subst}
 use Rattle.std.proofs.lemmas.List.{take-append-drop}
 use Rattle.pgo_base.specs.Data.{Data}
 use Rattle.pgo_model.specs.ValueText.{value_text, same_bytes}
+use Rattle.pgo_model.specs.Names.{same_bytes-self}
 use Rattle.pgo_value_text.specs.IsValueText.{IsValueText}
 use Rattle.pgo_value_text.specs.Reading.{whole}
 use Rattle.pgo_value_text.proofs.Complete.{whole_some, whole_finds}
 use Rattle.pgo_value_text.proofs.WordBytes.{same_is}
+use Rattle.pgo_value_text.proofs.Steps.{if_some, cond_true, give_some}
 use Rattle.pgo_log_text.specs.declared.errors.LineStop.{LineStop}
 use Rattle.pgo_log_text.specs.declared.errors.LineStop.TheVariants.{BadLine, NoMemory}
 use Rattle.pgo_log_text.specs.declared.value.Place.TheVariants.{Outside}
 use Rattle.pgo_log_text.specs.IsBundle.{IsCanonicalValue}
 use Rattle.pgo_log_text.specs.Parsers.{MakesAs, ReadsAs}
 use Rattle.pgo_log_text.specs.Bytes.{is_behind_value, value_length, value_front, value_behind, if_canonical, canonical, give, value}
-use Rattle.pgo_log_text.proofs.BytesSteps.{if_some, cond_true, give_some}
 use Rattle.pgo_log_text.proofs.ValueEnds.{text_front, text_behind}
-
-same_self : (x : List ℕ) → same_bytes x x ≡ true
-same_self [] = refl
-same_self (b ∷ bs) = and_from (nat_eq b b) (same_bytes bs bs) (eq-eqb b b refl) (same_self bs)
 
 -- the text is the canonical one of the value
 abbrev Canonical : List ℕ → Data → Type 0
@@ -39,20 +35,20 @@ canonical_some bs v e = go (whole bs) refl e
 canonical_finds : (v : Data) → IsCanonicalValue v → canonical (value_text v) ≡ Some v
 unfolding canonical
 canonical_finds v h =
-    ap (if_canonical (value_text v)) (whole_finds (value_text v) v h) ∙ cond_true (same_bytes (value_text v) (value_text v)) (Some v) None (same_self (value_text v))
+    ap (if_canonical (value_text v)) (whole_finds (value_text v) v h) ∙ cond_true (same_bytes (value_text v) (value_text v)) (Some v) None (same_bytes-self (value_text v))
 
-pub value_of : (bs : List ℕ) (v : Data) (r : List ℕ) → value bs ≡ Some (v, r) → (bs ≡ value_text v ++ r) × IsCanonicalValue v
+pub value_some : (bs : List ℕ) (v : Data) (r : List ℕ) → value bs ≡ Some (v, r) → (bs ≡ value_text v ++ r) × IsCanonicalValue v
 unfolding value
-value_of bs v r e =
+value_some bs v r e =
     let g = give_some (canonical (value_front bs)) (value_behind bs) v r e in
     let c = canonical_some (value_front bs) v g.0 in (
       sym (take-append-drop (value_length Outside 0 bs) bs) ∙ (λ i. sym c.0 i ++ g.1 i),
       subst (λ t. IsValueText t v) (sym c.0) c.1,
     )
 
-pub value_at : (v : Data) (r : List ℕ) → IsCanonicalValue v → is_behind_value r ≡ true → value (value_text v ++ r) ≡ Some (v, r)
+pub value_finds : (v : Data) (r : List ℕ) → IsCanonicalValue v → is_behind_value r ≡ true → value (value_text v ++ r) ≡ Some (v, r)
 unfolding value
-value_at v r h a =
+value_finds v r h a =
     (λ i. give (canonical (text_front (value_text v) r v h a i)) (text_behind (value_text v) r v h a i)) ∙ ap (λ o. give o r) (canonical_finds v h)
 
 -- ---- what the code has

@@ -1,9 +1,7 @@
-pub mod BytesSteps
-pub mod BytesRuns
+pub mod BytesTaken
 pub mod BytesNumbers
 pub mod ValueEnds
 pub mod BytesValues
-pub mod Bytes
 pub mod Turns
 pub mod LinesFields
 pub mod LinesStart
@@ -13,7 +11,6 @@ pub mod LinesEntries
 pub mod LinesAttempts
 pub mod LinesAccounts
 pub mod LinesLog
-pub mod Names
 pub mod LinesConstants
 pub mod LinesBundle
 pub mod BundleRead

@@ -6,11 +6,11 @@ use Rattle.pgo_model.specs.ValueText.{value_text}
 use Rattle.pgo_model.specs.ModuleText.{line, flatten}
 use Rattle.pgo_model.specs.Core.{End, Done, Stopped, JournalFull, Spent}
 use Rattle.pgo_model.specs.Bundle.{fields, end_text}
+use Rattle.pgo_value_text.proofs.Steps.{if_some, bind_then, then_at, some_pair}
+use Rattle.pgo_value_text.proofs.Runs.{expected}
 use Rattle.pgo_log_text.specs.IsBundle.{attempt_lines, Account, account_lines, read_accounts_lines, IsAccount, AreAccounts}
 use Rattle.pgo_log_text.specs.Bytes.{begins}
 use Rattle.pgo_log_text.specs.Lines.{end_word, account, accounts}
-use Rattle.pgo_log_text.proofs.BytesSteps.{if_some, bind_then, then_at, some_pair}
-use Rattle.pgo_log_text.proofs.Bytes.{expect_some}
 use Rattle.pgo_log_text.proofs.LinesFields.{this_field_some, this_field_finds, number_field_some, number_field_finds, last_value_some, last_value_finds}
 use Rattle.pgo_log_text.proofs.LinesEntries.{flatten_append}
 use Rattle.pgo_log_text.proofs.LinesAttempts.{attempts_some, attempts_finds}
@@ -22,11 +22,11 @@ end_word_some : (bs : List ℕ) (u : Unit {0}) (r : List ℕ) → end_word bs �
 unfolding end_word
 end_word_some bs u r e =
     let G : Type 0 = (o : Option End) × (bs ≡ end_text o ++ 32 ∷ r) in
-    if_some (begins (codes "done ") bs) _ _ (u, r) G e (λ _ e. (Some Done, expect_some (codes "done ") bs u r e))
-    (λ _ e. if_some (begins (codes "stopped ") bs) _ _ (u, r) G e (λ _ e. (Some Stopped, expect_some (codes "stopped ") bs u r e))
-    (λ _ e. if_some (begins (codes "full ") bs) _ _ (u, r) G e (λ _ e. (Some JournalFull, expect_some (codes "full ") bs u r e))
-    (λ _ e. if_some (begins (codes "spent ") bs) _ _ (u, r) G e (λ _ e. (Some Spent, expect_some (codes "spent ") bs u r e))
-    (λ _ e. (None, expect_some (codes "paused ") bs u r e)))))
+    if_some (begins (codes "done ") bs) _ _ (u, r) G e (λ _ e. (Some Done, expected (codes "done ") bs u r e))
+    (λ _ e. if_some (begins (codes "stopped ") bs) _ _ (u, r) G e (λ _ e. (Some Stopped, expected (codes "stopped ") bs u r e))
+    (λ _ e. if_some (begins (codes "full ") bs) _ _ (u, r) G e (λ _ e. (Some JournalFull, expected (codes "full ") bs u r e))
+    (λ _ e. if_some (begins (codes "spent ") bs) _ _ (u, r) G e (λ _ e. (Some Spent, expected (codes "spent ") bs u r e))
+    (λ _ e. (None, expected (codes "paused ") bs u r e)))))
 
 end_word_finds : (o : Option End) (r : List ℕ) → end_word (end_text o ++ 32 ∷ r) ≡ Some (tt, r)
 unfolding end_word
@@ -68,7 +68,7 @@ account_some k bs v r h =
       part = record { id = w; finish = e3.0; attempts = e5.attempts };
       seen = refl;
       text_is = account_joined bs b1 b2 b3 b4 b5 (decimal k) (decimal (length e5.attempts)) (end_text e3.0) (value_text w) (flatten (attempt_lines 1 e5.attempts)) r
-          (expect_some (codes "inst ") bs t b1 h0) e1.0 (e2.0 ∙ ap (λ x. decimal x ++ 32 ∷ b3) (sym e5.count)) e3.1 e4.0
+          (expected (codes "inst ") bs t b1 h0) e1.0 (e2.0 ∙ ap (λ x. decimal x ++ 32 ∷ b3) (sym e5.count)) e3.1 e4.0
           (e5.text_is ∙ ap (λ z. flatten (attempt_lines 1 e5.attempts) ++ z) same.1);
       valid = record { id = e4.1; count = subst (λ x. x < 2 ^ 32) (sym e5.count) e2.1; attempts = e5.read };
     })))))))

@@ -1,19 +1,21 @@
 -- The lines of an account's attempts.
-use Rattle.std.proofs.Common.{◌≡◌, ◌<◌, ◌≤◌, ◌^◌, ◌+◌, ℕ, zero, suc, true, false, ◌&&◌, nat_eq, nat_le, IsTrue, List, [], ◌∷◌, ◌++◌, length, decimal, Option, Some, None, refl, sym, ap, subst, ◌∙◌, append_assoc, arith}
+use Rattle.std.proofs.Common.{◌≡◌, ◌<◌, ◌≤◌, ◌^◌, ◌+◌, ℕ, zero, suc, true, false, ◌&&◌, IsTrue, List, [], ◌∷◌, ◌++◌, length, decimal, Option, Some, None, refl, sym, ap, ◌∙◌, append_assoc, arith}
 use Rattle.std.specs.Prelude.{codes}
-use Rattle.std.proofs.lemmas.Bool.{and_parts, ne_eqb}
+use Rattle.std.proofs.lemmas.Bool.{and_parts}
 use Rattle.pgo_base.specs.Data.{Data}
 use Rattle.pgo_base.specs.Lookup.{Name}
-use Rattle.pgo_model.specs.ValueText.{is_word_byte, all_word_bytes, has_letter, is_identifier}
+use Rattle.pgo_model.specs.ValueText.{is_word_byte, all_word_bytes}
 use Rattle.pgo_model.specs.ModuleText.{line, flatten}
 use Rattle.pgo_model.specs.Outcome.{Kind, Blocked, NoValue, AssertFails}
 use Rattle.pgo_model.specs.Bundle.{fields, indexed_text}
 use Rattle.pgo_model.specs.BundleParts.{is_read_name}
+use Rattle.pgo_value_text.proofs.Steps.{if_some, cond_false, bind_then, then_at, some_pair}
+use Rattle.pgo_value_text.proofs.Runs.{expected, is_apart}
+use Rattle.pgo_value_text.proofs.WordBytes.{name_words, no_byte}
 use Rattle.pgo_log_text.specs.IsBundle.{IsCanonicalIndex, AttemptLine, StepLine, NoteLine, HeldLine, HeldLogLine, DownLine, FullLine, attempt_fields, attempt_lines, IsAttemptLine, AreAttemptLines}
-use Rattle.pgo_log_text.specs.Bytes.{is_apart, begins}
+use Rattle.pgo_log_text.specs.Bytes.{begins}
 use Rattle.pgo_log_text.specs.Lines.{number_word, number_form, last_component, held_at, held_form, down_form, attempt_form, attempt_line, attempts}
-use Rattle.pgo_log_text.proofs.BytesSteps.{if_some, cond_false, bind_then, then_at, some_pair}
-use Rattle.pgo_log_text.proofs.Bytes.{expect_some, name_some, name_finds}
+use Rattle.pgo_log_text.proofs.BytesNumbers.{name_some, name_finds}
 use Rattle.pgo_log_text.proofs.LinesFields.{this_field_some, this_field_finds, number_field_some, number_field_finds, last_number_some, last_number_finds}
 use Rattle.pgo_log_text.proofs.LinesChanges.{index_text, index_some, index_finds}
 
@@ -47,11 +49,11 @@ word_some : (bs : List ℕ) (u : Unit {0}) (r : List ℕ) → number_word bs ≡
 unfolding number_word
 word_some bs u r e =
     let G : Type 0 = (w : NumberWord) × (bs ≡ word_text w ++ r) in
-    if_some (begins (codes "step ") bs) _ _ (u, r) G e (λ _ e. (StepWord, expect_some (codes "step ") bs u r e))
-    (λ _ e. if_some (begins (codes "note blocked ") bs) _ _ (u, r) G e (λ _ e. (NoteWord Blocked, expect_some (codes "note blocked ") bs u r e))
-    (λ _ e. if_some (begins (codes "note novalue ") bs) _ _ (u, r) G e (λ _ e. (NoteWord NoValue, expect_some (codes "note novalue ") bs u r e))
-    (λ _ e. if_some (begins (codes "note assert ") bs) _ _ (u, r) G e (λ _ e. (NoteWord AssertFails, expect_some (codes "note assert ") bs u r e))
-    (λ _ e. (FullWord, expect_some (codes "full ") bs u r e)))))
+    if_some (begins (codes "step ") bs) _ _ (u, r) G e (λ _ e. (StepWord, expected (codes "step ") bs u r e))
+    (λ _ e. if_some (begins (codes "note blocked ") bs) _ _ (u, r) G e (λ _ e. (NoteWord Blocked, expected (codes "note blocked ") bs u r e))
+    (λ _ e. if_some (begins (codes "note novalue ") bs) _ _ (u, r) G e (λ _ e. (NoteWord NoValue, expected (codes "note novalue ") bs u r e))
+    (λ _ e. if_some (begins (codes "note assert ") bs) _ _ (u, r) G e (λ _ e. (NoteWord AssertFails, expected (codes "note assert ") bs u r e))
+    (λ _ e. (FullWord, expected (codes "full ") bs u r e)))))
 
 word_said : (w : NumberWord) (n : ℕ) (r : List ℕ) → word_text w ++ (decimal n ++ 10 ∷ r) ≡ fields (attempt_fields (said_by w n)) ++ 10 ∷ r
 word_said StepWord n r = sym (append_assoc (codes "step ") (decimal n) (10 ∷ r))
@@ -99,7 +101,7 @@ component_some bs u r e =
     record {
       variable = x;
       index = o;
-      text_is = name.0 ∙ ap (λ z. x ++ z) (index.0 ∙ ap (λ z. index_text o ++ z) (expect_some (codes "\n") j u r e));
+      text_is = name.0 ∙ ap (λ z. x ++ z) (index.0 ∙ ap (λ z. index_text o ++ z) (expected (codes "\n") j u r e));
       is_name = name.1;
       is_index = index.1;
     }))
@@ -130,12 +132,12 @@ unfolding held_form held_at
 held_some bs u r e =
     let G : Type 0 = FormText bs r in
     bind_then _ _ _ G e (λ t i a e. bind_then _ _ _ G e (λ h j b e.
-    let word = expect_some (codes "held ") bs t i a in
+    let word = expected (codes "held ") bs t i a in
     let number = number_field_some i h j b in
     if_some (begins (codes "$log") j) _ _ (u, r) G e
     (λ _ e. record {
       said = HeldLogLine h;
-      text_is = word ∙ ap (λ z. codes "held " ++ z) (number.0 ∙ ap (λ z. decimal h ++ 32 ∷ z) (expect_some (codes "$log\n") j u r e)) ∙ log_nest (codes "held ") (decimal h) r;
+      text_is = word ∙ ap (λ z. codes "held " ++ z) (number.0 ∙ ap (λ z. decimal h ++ 32 ∷ z) (expected (codes "$log\n") j u r e)) ∙ log_nest (codes "held ") (decimal h) r;
       valid = number.1;
     })
     (λ _ e. let c = component_some j u r e in record {
@@ -149,7 +151,7 @@ unfolding down_form
 down_some bs u r e =
     let G : Type 0 = FormText bs r in
     bind_then _ _ _ G e (λ t i a e. bind_then _ _ _ G e (λ o j b e.
-    let word = expect_some (codes "down ") bs t i a in
+    let word = expected (codes "down ") bs t i a in
     let number = number_field_some i o j b in
     let c = component_some j u r e in
     record {
@@ -166,17 +168,12 @@ form_some bs u r e =
     (λ _ e. if_some (begins (codes "down ") bs) _ _ (u, r) G e (λ _ e. down_some bs u r e)
     (λ _ e. number_form_some bs u r e))
 
-no_dollar : (b : ℕ) → is_word_byte b ≡ true → nat_eq 36 b ≡ false
-no_dollar b h = ne_eqb 36 b (λ e. let k : false ≡ true = subst (λ c. is_word_byte c ≡ true) (sym e) h in cc)
-
 -- a name begins with no `$`
 no_log : (x : Name) (r : List ℕ) → IsTrue (is_read_name x) → begins (codes "$log") (x ++ r) ≡ false
 no_log [] r h = absurd (cc)
 no_log (b ∷ bs) r h =
-    let p = and_parts (is_identifier (b ∷ bs)) (nat_le (length (b ∷ bs)) 512) h in
-    let q = and_parts (all_word_bytes (b ∷ bs) && has_letter (b ∷ bs)) _ p.0 in
-    let w = and_parts (is_word_byte b) (all_word_bytes bs) (and_parts (all_word_bytes (b ∷ bs)) (has_letter (b ∷ bs)) q.0).0 in
-    ap (λ t. t && begins (codes "log") (bs ++ r)) (no_dollar b w.0)
+    let w = and_parts (is_word_byte b) (all_word_bytes bs) (name_words (b ∷ bs) h) in
+    ap (λ t. t && begins (codes "log") (bs ++ r)) (no_byte b 36 w.0 refl)
 
 form_finds : (x : AttemptLine) (r : List ℕ) → IsAttemptLine x → attempt_form (fields (attempt_fields x) ++ 10 ∷ r) ≡ Some (tt, r)
 unfolding attempt_form number_form number_word held_form held_at down_form

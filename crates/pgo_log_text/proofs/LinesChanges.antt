@@ -9,11 +9,13 @@ use Rattle.pgo_model.specs.ModuleText.{line, flatten}
 use Rattle.pgo_model.specs.Log.{Unowned, Change}
 use Rattle.pgo_model.specs.Bundle.{indexed_text, change_line}
 use Rattle.pgo_model.specs.BundleParts.{is_read_name}
+use Rattle.pgo_value_text.proofs.Steps.{if_some, cond_false, bind_then, then_at, some_pair}
+use Rattle.pgo_value_text.proofs.Runs.{expected, is_apart}
 use Rattle.pgo_log_text.specs.IsBundle.{IsCanonicalValue, IsCanonicalIndex, IsChange, AreChanges}
-use Rattle.pgo_log_text.specs.Bytes.{is_apart, begins}
+use Rattle.pgo_log_text.specs.Bytes.{begins}
 use Rattle.pgo_log_text.specs.Lines.{index_part, as_index, index, change, changes}
-use Rattle.pgo_log_text.proofs.BytesSteps.{if_some, cond_false, bind_then, then_at, some_pair}
-use Rattle.pgo_log_text.proofs.Bytes.{expect_some, name_some, name_finds, value_some, value_finds}
+use Rattle.pgo_log_text.proofs.BytesNumbers.{name_some, name_finds}
+use Rattle.pgo_log_text.proofs.BytesValues.{value_some, value_finds}
 use Rattle.pgo_log_text.proofs.LinesFields.{last_value_some, last_value_finds}
 
 -- the text of an index, or of none
@@ -28,7 +30,7 @@ index_part_some bs v r e =
     bind_then _ _ _ G e (λ t i a e. bind_then _ _ _ G e (λ w j b e. bind_then _ _ _ G e (λ u k c e.
     let read = value_some i w j b in
     let same = some_pair w v k r e in (
-      expect_some (codes "[") bs t i a ∙ ap (λ z. 91 ∷ z) (read.0 ∙ ap (λ z. value_text w ++ z) (expect_some (codes "]") j u k c)) ∙ (λ n. 91 ∷ (value_text (same.0 n) ++ 93 ∷ same.1 n)),
+      expected (codes "[") bs t i a ∙ ap (λ z. 91 ∷ z) (read.0 ∙ ap (λ z. value_text w ++ z) (expected (codes "]") j u k c)) ∙ (λ n. 91 ∷ (value_text (same.0 n) ++ 93 ∷ same.1 n)),
       subst (λ w. IsCanonicalValue w) same.0 read.1,
     ))))
 
@@ -77,7 +79,7 @@ change_some bs c r e =
     let made : Change = record { component = record { variable = x; index = o; owner = Unowned }; value = v } in
     let same = some_pair made c m r e in
     subst G same.0 (
-      change_joined bs i j k l r x (index_text o) (value_text v) (expect_some (codes "set ") bs t i a) is_name.0 is_index.0 (expect_some (codes " = ") k u l f) (is_value.0 ∙ ap (λ z. value_text v ++ 10 ∷ z) same.1),
+      change_joined bs i j k l r x (index_text o) (value_text v) (expected (codes "set ") bs t i a) is_name.0 is_index.0 (expected (codes " = ") k u l f) (is_value.0 ∙ ap (λ z. value_text v ++ 10 ∷ z) same.1),
       record { variable = is_name.1; index = is_index.1; owner = refl; value = is_value.1 },
     ))))))
 

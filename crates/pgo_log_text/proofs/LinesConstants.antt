@@ -5,16 +5,18 @@ use Rattle.std.proofs.lemmas.List.{append-nil}
 use Rattle.std.proofs.lemmas.Bool.{and_parts, and_from}
 use Rattle.pgo_base.specs.Data.{Data}
 use Rattle.pgo_base.specs.Lookup.{Name, Vars, same_name}
+use Rattle.pgo_base.specs.SameName.{same_name-self, same_name-is}
 use Rattle.pgo_model.specs.ValueText.{value_text}
 use Rattle.pgo_model.specs.ModuleText.{Line, line, flatten}
 use Rattle.pgo_model.specs.Log.{Log}
 use Rattle.pgo_model.specs.Bundle.{value_line}
 use Rattle.pgo_model.specs.BundleParts.{is_read_name}
+use Rattle.pgo_value_text.proofs.Steps.{if_some, cond_true, bind_then, then_at, some_pair}
+use Rattle.pgo_value_text.proofs.Runs.{expected}
 use Rattle.pgo_log_text.specs.IsBundle.{IsCanonicalValue, AreConstants, head_lines, IsLogText}
 use Rattle.pgo_log_text.specs.Lines.{constant_line, constants, constants_part, module_part, are_named, log_of}
-use Rattle.pgo_log_text.proofs.BytesSteps.{if_some, cond_true, bind_then, then_at, some_pair}
-use Rattle.pgo_log_text.proofs.Bytes.{expect_some, name_some, name_finds, taken_some, taken_finds}
-use Rattle.pgo_log_text.proofs.Names.{names_same, names_are}
+use Rattle.pgo_log_text.proofs.BytesNumbers.{name_some, name_finds}
+use Rattle.pgo_log_text.proofs.BytesTaken.{taken_some, taken_finds}
 use Rattle.pgo_log_text.proofs.LinesFields.{last_number_some, last_number_finds, last_value_some, last_value_finds}
 use Rattle.pgo_log_text.proofs.LinesStart.{line_nest}
 use Rattle.pgo_log_text.proofs.LinesEntries.{flatten_append}
@@ -40,7 +42,7 @@ constant_some bs p r e =
     let value = last_value_some j v k c in
     let same = some_pair {A = Name × Data} (x, v) p k r e in
     subst (λ p. ConstantText bs p r) same.0 (record {
-      text_is = name.0 ∙ ap (λ z. x ++ z) (expect_some (codes " = ") i u j b ∙ ap (λ z. codes " = " ++ z) (value.0 ∙ ap (λ z. value_text v ++ 10 ∷ z) same.1));
+      text_is = name.0 ∙ ap (λ z. x ++ z) (expected (codes " = ") i u j b ∙ ap (λ z. codes " = " ++ z) (value.0 ∙ ap (λ z. value_text v ++ 10 ∷ z) same.1));
       name = name.1;
       value = value.1;
     }))))
@@ -133,7 +135,7 @@ opened_some bs cs r e =
     let many : length cs ≡ n = ap length more.is_all ∙ more.count in
     let all : cs ≡ more.behind = more.is_all in
     record {
-      text_is = expect_some (codes "pgo 1\n") bs u h f ∙ ap (λ z. codes "pgo 1\n" ++ z) (expect_some (codes "consts ") h v i a)
+      text_is = expected (codes "pgo 1\n") bs u h f ∙ ap (λ z. codes "pgo 1\n" ++ z) (expected (codes "consts ") h v i a)
           ∙ ap (λ z. codes "pgo 1\nconsts " ++ z) (number.0 ∙ (λ k. decimal (sym many k) ++ 10 ∷ (more.text_is ∙ ap (λ z. flatten (map value_line z) ++ r) (sym all)) k));
       count = subst (λ k. k < 2 ^ 32) (sym many) number.1;
       constants = subst AreConstants (sym all) more.read;
@@ -154,7 +156,7 @@ module_some bs x r e =
     bind_then _ _ _ G e (λ u i a e. bind_then _ _ _ G e (λ n j b e.
     let number = last_number_some i n j b in
     let rest = taken_some n j x r e in (
-      expect_some (codes "module ") bs u i a ∙ ap (λ z. codes "module " ++ z) (number.0 ∙ (λ h. decimal (sym rest.1 h) ++ 10 ∷ rest.0 h)),
+      expected (codes "module ") bs u i a ∙ ap (λ z. codes "module " ++ z) (number.0 ∙ (λ h. decimal (sym rest.1 h) ++ 10 ∷ rest.0 h)),
       subst (λ h. h < 2 ^ 32) (sym rest.1) number.1,
     )))
 
@@ -168,11 +170,11 @@ are_names : (cs : Vars) (names : List Name) → are_named cs names ≡ true → 
 are_names [] [] h = refl
 are_names [] (x ∷ xs) h = absurd (cc)
 are_names (p ∷ ps) [] h = absurd (cc)
-are_names (p ∷ ps) (x ∷ xs) h = let t = and_parts (same_name p.0 x) (are_named ps xs) h in λ i. names_same p.0 x t.0 i ∷ are_names ps xs t.1 i
+are_names (p ∷ ps) (x ∷ xs) h = let t = and_parts (same_name p.0 x) (are_named ps xs) h in λ i. same_name-is p.0 x t.0 i ∷ are_names ps xs t.1 i
 
 names_found : (cs : Vars) → are_named cs (map (λ p. p.0) cs) ≡ true
 names_found [] = refl
-names_found (p ∷ ps) = and_from (same_name p.0 p.0) (are_named ps (map (λ p. p.0) ps)) (names_are p.0) (names_found ps)
+names_found (p ∷ ps) = and_from (same_name p.0 p.0) (are_named ps (map (λ p. p.0) ps)) (same_name-self p.0) (names_found ps)
 
 pub log_of_some : (cs : Vars) (names variables : List Name) (bs : List ℕ) (l : Log) (r : List ℕ) → log_of cs names variables bs ≡ Some (l, r)
     → (map (λ p. p.0) cs ≡ names) × IsLogText bs variables l × (r ≡ [])

@@ -6,11 +6,11 @@ use Rattle.pgo_model.specs.ModuleText.{Line, line, flatten}
 use Rattle.pgo_model.specs.Machine.{Entry}
 use Rattle.pgo_model.specs.Log.{Change, Effect}
 use Rattle.pgo_model.specs.Bundle.{fields, change_line, entry_lines, entries_lines}
+use Rattle.pgo_value_text.proofs.Steps.{bind_then, then_at, some_pair}
+use Rattle.pgo_value_text.proofs.Runs.{expected}
 use Rattle.pgo_log_text.specs.IsBundle.{AreChanges, IsEntry, AreEntries}
 use Rattle.pgo_log_text.specs.Bytes.{begins}
 use Rattle.pgo_log_text.specs.Lines.{entry, entries}
-use Rattle.pgo_log_text.proofs.BytesSteps.{bind_then, then_at, some_pair}
-use Rattle.pgo_log_text.proofs.Bytes.{expect_some}
 use Rattle.pgo_log_text.proofs.LinesFields.{this_field_some, this_field_finds, number_field_some, number_field_finds, name_field_some, name_field_finds, last_number_some, last_number_finds}
 use Rattle.pgo_log_text.proofs.LinesChanges.{changes_some, changes_finds}
 use Rattle.pgo_log_text.proofs.LinesParts.{texts, Each, PartText, parts_some, parts_finds}
@@ -56,7 +56,7 @@ entry_some i bs e r h =
       part = record { instance = k; attempt = a; change = record { label = l; next = m; changes = cs; prints = [] } };
       seen = refl;
       text_is = entry_joined bs b1 b2 b3 b4 b5 b6 b7 (decimal i) (decimal k) (decimal a) l m (decimal (length cs)) (flatten (map change_line cs)) r
-          (expect_some (codes "step ") bs t b1 h0) e1.0 e2.0 e3.0 e4.0 e5.0 (e6.0 ∙ ap (λ x. decimal x ++ 10 ∷ b7) (sym many))
+          (expected (codes "step ") bs t b1 h0) e1.0 e2.0 e3.0 e4.0 e5.0 (e6.0 ∙ ap (λ x. decimal x ++ 10 ∷ b7) (sym many))
           (e7.text_is ∙ ap (λ z. flatten (map change_line z) ++ b8) (sym e7.is_all) ∙ ap (λ z. flatten (map change_line cs) ++ z) same.1);
       valid = record { instance = e2.1; attempt = e3.1; label = e4.1; next = e5.1; count = subst (λ x. x < 2 ^ 32) (sym many) e6.1; changes = subst AreChanges (sym e7.is_all) e7.read; prints = refl };
     })))))))))

@@ -10,11 +10,12 @@ use Rattle.pgo_model.specs.Log.{Effect, Log}
 use Rattle.pgo_model.specs.ModuleText.{Line, line, flatten}
 use Rattle.pgo_model.specs.Bundle.{value_line, entries_lines}
 use Rattle.pgo_model.specs.BundleParts.{is_run_status}
-use Rattle.pgo_log_text.specs.Bytes.{is_apart, begins, at_end}
+use Rattle.pgo_value_text.proofs.Steps.{if_some, cond_true, bind_then, then_at, some_pair}
+use Rattle.pgo_value_text.proofs.Runs.{expected, is_apart}
+use Rattle.pgo_log_text.specs.Bytes.{begins, at_end}
 use Rattle.pgo_log_text.specs.Lines.{most_parts, run_status, nothing_behind, finish, heading, log_and_end}
 use Rattle.pgo_log_text.specs.IsBundle.{AreCanonical, AreEntries, Account, read_accounts_lines, AreAccounts, log_lines, IsLogText}
-use Rattle.pgo_log_text.proofs.BytesSteps.{if_some, cond_true, bind_then, then_at, some_pair}
-use Rattle.pgo_log_text.proofs.Bytes.{expect_some, number_some, number_finds}
+use Rattle.pgo_log_text.proofs.BytesNumbers.{number_some, number_finds}
 use Rattle.pgo_log_text.proofs.LinesFields.{this_number_some, this_number_finds, this_field_some, this_field_finds}
 use Rattle.pgo_log_text.proofs.LinesStart.{start_some, start_finds}
 use Rattle.pgo_log_text.proofs.LinesEntries.{flatten_append, entries_some, entries_finds}
@@ -28,7 +29,7 @@ heading_some n bs u r e =
     let G : Type 0 = (bs ≡ codes "init " ++ (decimal n ++ 10 ∷ r)) × (n < 2 ^ 32) in
     bind_then _ _ _ G e (λ t i a e. bind_then _ _ _ G e (λ v j b e.
     let number = this_number_some n i v j b in
-    (expect_some (codes "init ") bs t i a ∙ ap (λ z. codes "init " ++ z) (number.0 ∙ ap (λ z. decimal n ++ z) (expect_some (codes "\n") j u r e)), number.1)))
+    (expected (codes "init ") bs t i a ∙ ap (λ z. codes "init " ++ z) (number.0 ∙ ap (λ z. decimal n ++ z) (expected (codes "\n") j u r e)), number.1)))
 
 heading_finds : (n : ℕ) (r : List ℕ) → n < 2 ^ 32 → heading n (codes "init " ++ (decimal n ++ 10 ∷ r)) ≡ Some (tt, r)
 unfolding heading
@@ -76,8 +77,8 @@ finish_some n bs s r e =
     let status = status_some j m k c in
     let end = behind_some m l s r e in
     record {
-      text_is = expect_some (codes "end ") bs t i a ∙ ap (λ z. codes "end " ++ z) (steps.0 ∙ ap (λ z. decimal n ++ 32 ∷ z)
-          (status.0 ∙ ap (λ z. decimal m ++ z) (expect_some (codes "\n") k v l d) ∙ (λ z. decimal (end.0 z) ++ 10 ∷ end.1 z)));
+      text_is = expected (codes "end ") bs t i a ∙ ap (λ z. codes "end " ++ z) (steps.0 ∙ ap (λ z. decimal n ++ 32 ∷ z)
+          (status.0 ∙ ap (λ z. decimal m ++ z) (expected (codes "\n") k v l d) ∙ (λ z. decimal (end.0 z) ++ 10 ∷ end.1 z)));
       status = subst (λ m. IsTrue (is_run_status m)) end.0 status.1;
       none = end.2;
     }))))

@@ -1,10 +1,10 @@
 -- Parts while a word is next: what they read, and what is read by them.
 use Rattle.std.proofs.Common.{◌≡◌, ◌<◌, ◌≤◌, ◌+◌, ℕ, zero, suc, true, false, List, [], ◌∷◌, ◌++◌, length, map, Some, None, sym, ap, ◌∙◌, append_assoc, arith}
 use Rattle.std.proofs.lemmas.List.{append-nil}
+use Rattle.pgo_value_text.proofs.Steps.{if_some, cond_true, cond_false, bind_then, then_at, some_pair}
 use Rattle.pgo_log_text.specs.Parsers.{Outcome, Parser, and_then}
 use Rattle.pgo_log_text.specs.Bytes.{begins}
 use Rattle.pgo_log_text.specs.Lines.{parts}
-use Rattle.pgo_log_text.proofs.BytesSteps.{if_some, cond_true, cond_false, bind_then, then_at, some_pair}
 
 -- the texts of parts numbered from i on
 abbrev pub texts : {B : Type 0} → (ℕ → B → List ℕ) → ℕ → List B → List ℕ

@@ -7,10 +7,10 @@ use Rattle.pgo_base.specs.Lookup.{Name, Vars}
 use Rattle.pgo_model.specs.ValueText.{value_text}
 use Rattle.pgo_model.specs.ModuleText.{line, flatten}
 use Rattle.pgo_model.specs.Bundle.{value_line}
+use Rattle.pgo_value_text.proofs.Steps.{bind_then, then_at, some_pair}
+use Rattle.pgo_value_text.proofs.Runs.{expected, expects}
 use Rattle.pgo_log_text.specs.IsBundle.{IsCanonicalValue, AreCanonical}
 use Rattle.pgo_log_text.specs.Lines.{variable_line, start}
-use Rattle.pgo_log_text.proofs.BytesSteps.{bind_then, then_at, some_pair}
-use Rattle.pgo_log_text.proofs.Bytes.{expect_some, expect_finds}
 use Rattle.pgo_log_text.proofs.LinesFields.{last_value_some, last_value_finds}
 
 pub line_nest : (x v f r : List ℕ) → (line (x ++ codes " = " ++ v) ++ f) ++ r ≡ x ++ (codes " = " ++ (v ++ 10 ∷ (f ++ r)))
@@ -22,11 +22,11 @@ variable_some x bs v r e =
     let G : Type 0 = (bs ≡ x ++ (codes " = " ++ (value_text v ++ 10 ∷ r))) × IsCanonicalValue v in
     bind_then _ _ _ G e (λ t i a e. bind_then _ _ _ G e (λ u j b e.
     let read = last_value_some j v r e in
-    (expect_some x bs t i a ∙ ap (λ z. x ++ z) (expect_some (codes " = ") i u j b ∙ ap (λ z. codes " = " ++ z) read.0), read.1)))
+    (expected x bs t i a ∙ ap (λ z. x ++ z) (expected (codes " = ") i u j b ∙ ap (λ z. codes " = " ++ z) read.0), read.1)))
 
 variable_finds : (x : Name) (v : Data) (r : List ℕ) → IsCanonicalValue v → variable_line x (x ++ (codes " = " ++ (value_text v ++ 10 ∷ r))) ≡ Some (v, r)
 unfolding variable_line
-variable_finds x v r h = then_at _ _ _ tt (codes " = " ++ (value_text v ++ 10 ∷ r)) (expect_finds x (codes " = " ++ (value_text v ++ 10 ∷ r))) (last_value_finds v r h)
+variable_finds x v r h = then_at _ _ _ tt (codes " = " ++ (value_text v ++ 10 ∷ r)) (expects x (codes " = " ++ (value_text v ++ 10 ∷ r))) (last_value_finds v r h)
 
 -- the variables behind those that were read
 pub record StartText (names : List Name) (done all : Vars) (bs r : List ℕ) : Type 0 where

@@ -1,6 +1,7 @@
 -- Recursions on a count of turns, beside loops that count up.
-use Rattle.std.proofs.Common.{◌≡◌, refl, ℕ, zero, suc, ◌+◌, ◌-◌, ◌<◌, ◌≤◌, Bool, true, false, ◌&&◌, cond, List, [], ◌∷◌, ◌++◌, Some, None, ap, sym, ◌∙◌, arith, map, drop, get_or, length}
-use Rattle.std.proofs.lemmas.List.{map-append, length-map, drop_more}
+use Rattle.std.proofs.Common.{◌≡◌, refl, ℕ, zero, suc, ◌+◌, ◌-◌, ◌<◌, true, false, ◌&&◌, cond, List, [], ◌∷◌, ◌++◌, Some, None, ap, sym, ◌∙◌, arith, map, drop, get_or, length}
+use Rattle.std.proofs.lemmas.Bool.{and_right}
+use Rattle.std.proofs.lemmas.List.{length-map, drop_more}
 use Rattle.pgo_base.specs.declared.value.Value.{Value}
 use Rattle.pgo_base.specs.Data.{Data}
 use Rattle.pgo_base.specs.Lookup.{Name, Vars, same_name}
@@ -8,18 +9,6 @@ use Rattle.pgo_base.specs.View.{named_data}
 use Rattle.pgo_log_text.specs.Parsers.{Outcome, Parser, and_then}
 use Rattle.pgo_log_text.specs.Bytes.{begins}
 use Rattle.pgo_log_text.specs.Lines.{parts, variable_line, start, are_named}
-
--- one turn more is to come
-pub one_more : {X : Type 0} {x : X} (f : ℕ → X) (n at : ℕ) → at < n → x ≡ f (n - at) → x ≡ f (suc (n - (at + 1)))
-one_more f n at below e = let turn : n - at ≡ suc (n - (at + 1)) = omega arith in e ∙ ap f turn
-
--- no turn is to come
-pub no_more : {X : Type 0} {x : X} (f : ℕ → X) (n at : ℕ) → n ≤ at → x ≡ f (n - at) → x ≡ f 0
-no_more f n at done e = let none : n - at ≡ 0 = omega arith in e ∙ ap f none
-
--- one item more at the end of a list that is seen by f
-pub seen_more : {A B : Type 0} (f : A → B) (as' : List A) (a : A) → map f (as' ++ a ∷ []) ≡ map f as' ++ f a ∷ []
-seen_more f as' a = map-append f as' (a ∷ [])
 
 module _ {A : Type 0} (word : List ℕ) (part : ℕ → Parser A) where
   none_left : (i : ℕ) (done : List A) (bs : List ℕ) → begins word bs ≡ true → parts word part zero i done bs ≡ None
@@ -62,11 +51,7 @@ pub named_counts : (cs : List (Name × Data)) (ns : List Name) → (length cs �
 named_counts [] [] h = absurd (h refl)
 named_counts [] (x ∷ xs) h = refl
 named_counts (p ∷ ps) [] h = refl
-named_counts (p ∷ ps) (x ∷ xs) h = ap (λ t. same_name p.0 x && t) (named_counts ps xs (λ e. h (ap (λ k. suc k) e))) ∙ and_false (same_name p.0 x)
-  where
-    and_false : (b : Bool) → (b && false) ≡ false
-    and_false true = refl
-    and_false false = refl
+named_counts (p ∷ ps) (x ∷ xs) h = ap (λ t. same_name p.0 x && t) (named_counts ps xs (λ e. h (ap (λ k. suc k) e))) ∙ and_right (same_name p.0 x) false refl
 
 pub named_lengths : (cs : List (Name × Value)) (ns : List Name) → (length cs ≡ length ns → ⊥) → are_named (map named_data cs) ns ≡ false
 named_lengths cs ns h = named_counts (map named_data cs) ns (λ e. h (sym (length-map cs named_data) ∙ e))

@@ -1,17 +1,18 @@
 -- Where the text of a value ends: no newline stands in it, and no `]` outside of strings that closes none of its brackets.
 use Rattle.std.proofs.Common.{◌≡◌, ◌+◌, ◌-◌, ℕ, zero, suc, Bool, true, false, not, ◌&&◌, ◌||◌, cond, nat_eq, List, [], ◌∷◌, ◌++◌, length, take, drop, refl, sym, ◌∙◌, ap, arith, append_assoc, length-append, zero-add}
 use Rattle.std.specs.Prelude.{codes}
+use Rattle.std.proofs.Math.Bool.{and-true}
 use Rattle.std.proofs.Math.Seq.{drop-append_seam, take-append_seam}
-use Rattle.std.proofs.lemmas.Bool.{ne_eqb, and_parts}
+use Rattle.std.proofs.lemmas.Bool.{not-true, ne_eqb, and_parts}
 use Rattle.pgo_base.specs.Data.{Data}
 use Rattle.pgo_model.specs.ValueText.{is_word_byte, all_word_bytes, escaped, all_escaped, string_text}
 use Rattle.pgo_value_text.specs.IsValueText.{most_depth, is_blank, all_blank, Spaced, spaced, Joined, joined, Followed, none, next, Parted, parted, Listed, nothing, listed, Field, field, Form, truth, number, negative, string_in_quotes, name, set_text, tuple_text, record_text, function_text, Spells, IsValueText}
 use Rattle.pgo_value_text.proofs.Numbers.{all_of_some}
 use Rattle.pgo_value_text.proofs.WordBytes.{digits_words, name_words}
+use Rattle.pgo_value_text.proofs.Steps.{cond_true}
 use Rattle.pgo_log_text.specs.declared.value.Place.{Place}
 use Rattle.pgo_log_text.specs.declared.value.Place.TheVariants.{Outside, Quoted, Escaped}
 use Rattle.pgo_log_text.specs.Bytes.{is_behind_value, is_end, place_behind, brackets_behind, value_length, value_front, value_behind}
-use Rattle.pgo_log_text.proofs.BytesSteps.{cond_true}
 
 -- these bytes are passed over, from one place to another, with so many open brackets before and behind them
 record Over (p : Place) (n : ℕ) (bs : List ℕ) (q : Place) (m : ℕ) : Type 0 where
@@ -44,19 +45,15 @@ abbrev all_plain : List ℕ → Bool
 all_plain [] = true
 all_plain (b ∷ bs) = is_plain b && all_plain bs
 
-is_not : (b : Bool) → not b ≡ true → b ≡ false
-is_not true h = sym h
-is_not false h = refl
-
 plain_byte : (n b : ℕ) → is_plain b ≡ true → Over Outside n (b ∷ []) Outside n
 plain_byte n b h =
     let p = and_parts (not (nat_eq b 10) && not (nat_eq b 34) && not (nat_eq b 91)) (not (nat_eq b 93)) h in
     let q = and_parts (not (nat_eq b 10) && not (nat_eq b 34)) (not (nat_eq b 91)) p.0 in
     let r = and_parts (not (nat_eq b 10)) (not (nat_eq b 34)) q.0 in
-    let newline = is_not (nat_eq b 10) r.0 in
-    let quote = is_not (nat_eq b 34) r.1 in
-    let opens = is_not (nat_eq b 91) q.1 in
-    let closes = is_not (nat_eq b 93) p.1 in
+    let newline = not-true (nat_eq b 10) r.0 in
+    let quote = not-true (nat_eq b 34) r.1 in
+    let opens = not-true (nat_eq b 91) q.1 in
+    let closes = not-true (nat_eq b 93) p.1 in
     one b (λ i. newline i || (closes i && nat_eq n 0)) (λ i. cond (quote i) Quoted Outside) (λ i. cond (opens i) (n + 1) (cond (closes i) (n - 1) n))
 
 plains : (bs : List ℕ) → all_plain bs ≡ true → Passes bs
@@ -178,14 +175,10 @@ spelled_passes (suc n) bs v h = form_passes (Spells n) (spelled_passes n) bs v h
 
 -- ---- the end
 
-and_true : (b : Bool) → (b && true) ≡ b
-and_true true = refl
-and_true false = refl
-
 ends_there : (r : List ℕ) → is_behind_value r ≡ true → value_length Outside 0 r ≡ 0
 unfolding value_length
 ends_there [] h = refl
-ends_there (b ∷ bs) h = cond_true (nat_eq b 10 || (nat_eq b 93 && true)) 0 _ (ap (λ t. nat_eq b 10 || t) (and_true (nat_eq b 93)) ∙ h)
+ends_there (b ∷ bs) h = cond_true (nat_eq b 10 || (nat_eq b 93 && true)) 0 _ (ap (λ t. nat_eq b 10 || t) (and-true (nat_eq b 93)) ∙ h)
 
 length_of : (bs r : List ℕ) (v : Data) → IsValueText bs v → is_behind_value r ≡ true → value_length Outside 0 (bs ++ r) ≡ length bs
 length_of bs r v h e = let o = spelled_passes most_depth bs v h.spelled 0 in let z = ends_there r e in o.on r ∙ omega arith

@@ -12,11 +12,6 @@ use Rattle.pgo_log_text.specs.declared.value.Place.{Place}
 use Rattle.pgo_log_text.specs.declared.value.Place.TheVariants.{Outside, Quoted, Escaped}
 use Rattle.pgo_log_text.specs.Parsers.{Outcome, Parser, ◌>>=◌}
 
--- what stands behind a number or a name: nothing, or a byte that is in no word
-abbrev pub is_apart : List ℕ → Bool
-is_apart [] = true
-is_apart (b ∷ bs) = not (is_word_byte b)
-
 -- what stands behind a value: nothing, a newline or a `]`
 abbrev pub is_behind_value : List ℕ → Bool
 is_behind_value [] = true

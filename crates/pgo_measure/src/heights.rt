@@ -9,7 +9,8 @@ use pgo_base::text::Text;
 use pgo_uses::names::Names;
 use std::alloc::{AllocError, Global};
 
-const MOST_HEIGHT: u64 = 513;
+/// The most that is told apart, one more than the greatest height of a specification.
+pub const MOST_HEIGHT: u64 = 513;
 
 /// One more.
 pub fn one_higher(height: u64) -> u64

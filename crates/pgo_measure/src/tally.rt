@@ -5,6 +5,7 @@ ghost use Rattle.pgo_sections.specs.Nodes.{tree_nodes};
 ghost use Rattle.pgo_sizes.specs.Left.{left_after};
 ghost use Rattle.pgo_measure.specs.Heights.{capped};
 
+use crate::heights::MOST_HEIGHT;
 use crate::spot::Spot;
 use pgo_base::expr::Sub;
 use pgo_sizes::heights::height_up_to;
@@ -40,5 +41,5 @@ pub fn spend_with(alloc: Global, left: u64, e: &Sub) -> Result<Option<u64>, Allo
 pub fn height_of(alloc: Global, e: &Sub) -> Result<u64, AllocError>
     ensures { IfOk result (λ h. h ≡ capped (height e.now)) }
 {
-    height_up_to(alloc, e.get(), 513)
+    height_up_to(alloc, e.get(), MOST_HEIGHT)
 }

@@ -15,7 +15,7 @@ use Rattle.pgo_mpcal_read.specs.declared.units.Units.{Units}
 use Rattle.pgo_mpcal_read.specs.Depths.{labeled_depth}
 use Rattle.pgo_mpcal_read.specs.Signs.{sees}
 use Rattle.pgo_mpcal_read.specs.Elements.{Spot, at, word, placed}
-use Rattle.pgo_mpcal_read.specs.Units.{IsDefine, IsVariables, IsMacro, IsMappingMacro, IsArchetype, IsProcess, is_plain, may_stand_in_macro, all_are, IsUnit, no_units, AreUnits}
+use Rattle.pgo_mpcal_read.specs.Units.{IsDefine, IsVariables, IsProcess, is_plain, all_are, IsUnit, no_units, AreUnits}
 use Rattle.pgo_mpcal_read.specs.Units as u
 use Rattle.pgo_expr_read.specs.Steps.{and_then, pure, folded}
 use Rattle.pgo_mpcal_read.specs.Reading.{Outcome, Parser, front_of}

@@ -14,9 +14,9 @@ use Rattle.pgo_lexer.specs.declared.symbol.Bracket.TheVariants as bracket
 use Rattle.pgo_lexer.specs.declared.symbol.Keyword.TheVariants as keyword
 use Rattle.pgo_lexer.specs.declared.symbol.Symbol.TheVariants as symbol
 use Rattle.pgo_mpcal_read.specs.Signs.{sees}
-use Rattle.pgo_mpcal_read.specs.Elements.{Spot, at, word, numeral, placed, closes, Ended, IsName, IsExpression, most_depth, Items, InBrackets, Row}
+use Rattle.pgo_mpcal_read.specs.Elements.{at, word, numeral, IsName, IsExpression, InBrackets, Row}
 use Rattle.pgo_mpcal_read.specs.Elements as elements
-use Rattle.pgo_mpcal_read.specs.Units.{IsDefinition, IsDeclaration, Parted, IsDeclarations, IsVariables, IsExtent, IsParameter, IsArgument, IsTarget, IsClause, IsMacro, IsMappingMacro, IsLocals, IsArchetype, IsFair, IsClosing, IsProcess, IsDefine}
+use Rattle.pgo_mpcal_read.specs.Units.{IsExtent, IsParameter, IsArgument, IsTarget, IsClause}
 use Rattle.pgo_mpcal_read.specs.Units as u
 use Rattle.pgo_mpcal_read.specs.Reading.{name, place, expression, in_brackets, row}
 use Rattle.pgo_mpcal_read.specs.ReadingUnits.{element, extent, ref_parameter, value_parameter, parameter, ref_argument, value_argument, argument, numbered_target, named_target, target, clause, sees_clause}

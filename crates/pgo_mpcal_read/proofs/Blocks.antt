@@ -21,7 +21,7 @@ use Rattle.pgo_mpcal_read.specs.Signs.{sees}
 use Rattle.pgo_mpcal_read.specs.Elements.{Spot, at, word, placed, IsName, most_depth, InBrackets, Row}
 use Rattle.pgo_mpcal_read.specs.Statements.{IsOrigin, IsBody}
 use Rattle.pgo_mpcal_read.specs.Statements as s
-use Rattle.pgo_mpcal_read.specs.Units.{IsDefinition, IsDeclaration, Parted, IsDeclarations, IsVariables, IsExtent, IsParameter, IsArgument, IsTarget, IsClause, IsMacro, IsMappingMacro, IsLocals, IsArchetype, IsFair, IsClosing, IsProcess, IsDefine}
+use Rattle.pgo_mpcal_read.specs.Units.{IsDefinition, IsParameter, IsArgument, IsClause, IsMacro, IsMappingMacro, IsLocals, IsArchetype, IsFair, IsClosing, IsProcess, IsDefine}
 use Rattle.pgo_mpcal_read.specs.Units as u
 use Rattle.pgo_expr_read.specs.Steps.{and_then, skip}
 use Rattle.pgo_mpcal_read.specs.Reading.{past, name, sees_name, in_brackets, row}

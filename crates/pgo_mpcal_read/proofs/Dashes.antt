@@ -7,9 +7,9 @@ use Rattle.pgo_base.specs.declared.expr.Infix.TheVariants as operator
 use Rattle.pgo_lexer.specs.declared.symbol.Symbol.TheVariants as symbol
 use Rattle.pgo_expr_read.specs.Signs.{is_sign}
 use Rattle.pgo_mpcal_read.specs.Signs.{sees}
-use Rattle.pgo_mpcal_read.specs.Elements.{Spot, at, word, placed, IsName, Items}
+use Rattle.pgo_mpcal_read.specs.Elements.{Spot, at}
 use Rattle.pgo_mpcal_read.specs.Elements as elements
-use Rattle.pgo_mpcal_read.specs.Spells.{IsRow, IsDashes, IsExtends, IsConstantsWord, IsPart, IsHeader, SpellsTokens}
+use Rattle.pgo_mpcal_read.specs.Spells.{IsRow, IsDashes}
 use Rattle.pgo_mpcal_read.specs.Spells as h
 use Rattle.pgo_expr_read.specs.Steps.{and_then, skip}
 use Rattle.pgo_mpcal_read.specs.Reading.{Outcome}

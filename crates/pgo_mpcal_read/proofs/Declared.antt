@@ -11,11 +11,11 @@ use Rattle.pgo_lexer.specs.declared.symbol.Keyword.TheVariants as keyword
 use Rattle.pgo_lexer.specs.declared.symbol.Symbol.TheVariants as symbol
 use Rattle.pgo_expr_read.specs.Signs.{is_sign}
 use Rattle.pgo_mpcal_read.specs.Signs.{sees}
-use Rattle.pgo_mpcal_read.specs.Elements.{Spot, at, word, numeral, placed, closes, Ended, IsName, IsExpression, most_depth, Items, InBrackets, Row}
+use Rattle.pgo_mpcal_read.specs.Elements.{Spot, at, word, placed, closes, Ended, IsName, IsExpression, Items, Row}
 use Rattle.pgo_mpcal_read.specs.Elements as elements
-use Rattle.pgo_mpcal_read.specs.Statements.{IsOrigin, IsBody}
+use Rattle.pgo_mpcal_read.specs.Statements.{IsOrigin}
 use Rattle.pgo_mpcal_read.specs.Statements as s
-use Rattle.pgo_mpcal_read.specs.Units.{IsDefinition, IsDeclaration, Parted, IsDeclarations, IsVariables, IsExtent, IsParameter, IsArgument, IsTarget, IsClause, IsMacro, IsMappingMacro, IsLocals, IsArchetype, IsFair, IsClosing, IsProcess, IsDefine}
+use Rattle.pgo_mpcal_read.specs.Units.{IsDefinition, IsDeclaration, Parted, IsDeclarations, IsVariables, IsLocals}
 use Rattle.pgo_mpcal_read.specs.Units as u
 use Rattle.pgo_expr_read.specs.Steps.{and_then, skip, folded}
 use Rattle.pgo_mpcal_read.specs.Reading.{name, sees_name, expression, front_of, items, row, ended}

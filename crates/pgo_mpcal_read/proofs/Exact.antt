@@ -22,9 +22,9 @@ use Rattle.pgo_mpcal_read.specs.declared.units.Units.{Units}
 use Rattle.pgo_mpcal_read.specs.Signs.{sees}
 use Rattle.pgo_mpcal_read.specs.Elements.{Spot, at, word, placed, IsName, Items}
 use Rattle.pgo_mpcal_read.specs.Elements as elements
-use Rattle.pgo_mpcal_read.specs.Units.{IsDefinition, is_plain, all_are, AreUnits}
+use Rattle.pgo_mpcal_read.specs.Units.{IsDefinition, is_plain, all_are}
 use Rattle.pgo_mpcal_read.specs.Units as u
-use Rattle.pgo_mpcal_read.specs.Spells.{IsRow, IsDashes, IsExtends, IsConstantsWord, IsPart, IsHeader, AreWithinDepth, SpellsTokens}
+use Rattle.pgo_mpcal_read.specs.Spells.{IsDashes, IsExtends, IsConstantsWord, IsPart, IsHeader, AreWithinDepth, SpellsTokens}
 use Rattle.pgo_mpcal_read.specs.Spells as h
 use Rattle.pgo_expr_read.specs.Steps.{and_then, skip, folded}
 use Rattle.pgo_mpcal_read.specs.Reading.{Outcome, Parser, name, sees_name, behind, items}

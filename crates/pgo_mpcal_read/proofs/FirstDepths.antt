@@ -1,6 +1,6 @@
 -- The depth of the first macro of a name, once one macro is behind others.
-use Rattle.std.proofs.Common.{◌≡◌, ℕ, Bool, true, false, List, [], ◌∷◌, ◌++◌, Bor, cond, refl, ap, sym, ◌∙◌}
-use Rattle.std.specs.Prelude.{Option, Some, None, is_some, option_map, map, if◌then◌else◌}
+use Rattle.std.proofs.Common.{◌≡◌, ℕ, Bool, true, false, List, [], ◌∷◌, ◌++◌, cond, refl, ap, sym, ◌∙◌}
+use Rattle.std.specs.Prelude.{Option, Some, None, is_some, map, if◌then◌else◌}
 use Rattle.std.proofs.lemmas.List.{map-append}
 use Rattle.pgo_base.specs.Lookup.{Name, same_name, find}
 use Rattle.pgo_model.specs.Names.{same_name-is, or_that, find_append}
@@ -18,11 +18,6 @@ or_some (Some d) p h = refl
 or_second : (o : Option ℕ) (p : Option ℕ) → is_some o ≡ false → p ≡ or_that o p
 or_second None p h = refl
 or_second (Some d) p h = absurd (cc)
-
--- whether there is a depth, where it is lent
-pub is_known : (o : Option (Bor ℕ)) (p : Option ℕ) (b : Bool) → option_map (λ v. v.now) o ≡ p → b ≡ is_some o → is_some p ≡ b
-is_known None p b h e = sym (ap is_some h) ∙ sym e
-is_known (Some d) p b h e = sym (ap is_some h) ∙ sym e
 
 -- a macro of the name is known already
 pub first_stays : (known : Name → Option ℕ) (m : MacroDepth) → is_some (known m.name) ≡ true → (n : Name) → known n ≡ or_that (known n) (first_depth (m ∷ []) n)

@@ -11,7 +11,7 @@ use Rattle.pgo_lexer.specs.declared.symbol.Keyword.TheVariants as keyword
 use Rattle.pgo_lexer.specs.declared.symbol.Symbol.TheVariants as symbol
 use Rattle.pgo_mpcal_read.specs.Depths.{depth}
 use Rattle.pgo_mpcal_read.specs.Signs.{sees}
-use Rattle.pgo_mpcal_read.specs.Elements.{Spot, at, Ended, closes}
+use Rattle.pgo_mpcal_read.specs.Elements.{at, Ended, closes}
 use Rattle.pgo_mpcal_read.specs.Elements as elements
 use Rattle.pgo_expr_read.specs.Steps.{and_then, skip, folded}
 use Rattle.pgo_mpcal_read.specs.Reading.{Outcome, Parser, front_of, ended}

@@ -8,7 +8,7 @@ use Rattle.pgo_base.specs.declared.expr.Infix.TheVariants as operator
 use Rattle.pgo_lexer.specs.declared.symbol.Symbol.TheVariants as symbol
 use Rattle.pgo_mpcal_read.specs.Signs.{sees}
 use Rattle.pgo_mpcal_read.specs.Elements.{Spot, at, word, placed}
-use Rattle.pgo_mpcal_read.specs.Statements.{Spelled, IsBranch, ElseIfs, Ors, IsLabeled, Rows, IsBody, IsFairness, IsAwait, IsAssignment, IsWithName}
+use Rattle.pgo_mpcal_read.specs.Statements.{Spelled, IsLabeled, IsFairness}
 use Rattle.pgo_mpcal_read.specs.Statements as s
 use Rattle.pgo_expr_read.specs.Steps.{skip}
 use Rattle.pgo_mpcal_read.specs.Reading.{sees_name, sees_second}

@@ -3,7 +3,7 @@ use Rattle.std.proofs.Common.{◌≡◌, ℕ, zero, suc, ◌≤◌, max, Bool, t
 use Rattle.std.proofs.lemmas.List.{append_assoc, append-nil}
 use Rattle.pgo_lexer.specs.declared.token.Lexeme.{Lexeme}
 use Rattle.pgo_syntax.specs.declared.name.PlacedName.{PlacedName}
-use Rattle.pgo_syntax.specs.Statement.{Statement, statements, labeled, guarded}
+use Rattle.pgo_syntax.specs.Statement.{Statement, labeled}
 use Rattle.pgo_syntax.specs.Statement as st
 use Rattle.pgo_mpcal_read.specs.declared.with_depth.WithDepth.{WithDepth}
 use Rattle.pgo_mpcal_read.specs.declared.depths.MacroDepth.{MacroDepth}
@@ -12,7 +12,7 @@ use Rattle.pgo_lexer.specs.declared.symbol.Symbol.TheVariants as symbol
 use Rattle.pgo_mpcal_read.specs.Depths.{depth, labeled_depth}
 use Rattle.pgo_mpcal_read.specs.Signs.{sees}
 use Rattle.pgo_mpcal_read.specs.Elements.{Spot, at, Ended}
-use Rattle.pgo_mpcal_read.specs.Statements.{Spelled, IsBranch, ElseIfs, Ors, IsLabeled, Rows, IsBody, IsFairness, IsAwait, IsAssignment, IsWithName}
+use Rattle.pgo_mpcal_read.specs.Statements.{IsLabeled, Rows, IsBody}
 use Rattle.pgo_mpcal_read.specs.Statements as s
 use Rattle.pgo_expr_read.specs.Steps.{and_then, folded}
 use Rattle.pgo_mpcal_read.specs.Reading.{Outcome, Parser, ended}

@@ -4,7 +4,7 @@ use Rattle.std.proofs.lemmas.List.{append_assoc, append-nil}
 use Rattle.pgo_base.specs.Tree.{Tree}
 use Rattle.pgo_lexer.specs.declared.token.Lexeme.{Lexeme}
 use Rattle.pgo_syntax.specs.declared.assignment.Assignment.{Assignment}
-use Rattle.pgo_syntax.specs.Statement.{Statement, statements, labeled, guarded}
+use Rattle.pgo_syntax.specs.Statement.{Statement, statements, guarded}
 use Rattle.pgo_syntax.specs.Statement as st
 use Rattle.pgo_mpcal_read.specs.declared.with_depth.WithDepth.{WithDepth}
 use Rattle.pgo_mpcal_read.specs.declared.depths.MacroDepth.{MacroDepth}
@@ -18,7 +18,7 @@ use Rattle.pgo_mpcal_read.specs.Depths.{depth, depth_of, statements_depth, guard
 use Rattle.pgo_mpcal_read.specs.Lookahead.{form_of}
 use Rattle.pgo_mpcal_read.specs.Signs.{sees}
 use Rattle.pgo_mpcal_read.specs.Elements.{Spot, at, word, placed, IsExpression, Items, InBrackets}
-use Rattle.pgo_mpcal_read.specs.Statements.{Spelled, IsBranch, ElseIfs, Ors, IsLabeled, Rows, IsBody, IsFairness, IsAwait, IsAssignment, IsWithName}
+use Rattle.pgo_mpcal_read.specs.Statements.{Spelled, IsBranch, ElseIfs, Ors, IsAssignment, IsWithName}
 use Rattle.pgo_mpcal_read.specs.Statements as s
 use Rattle.pgo_expr_read.specs.Steps.{and_then, skip, folded}
 use Rattle.pgo_mpcal_read.specs.Reading.{Outcome, Parser, expression, items, in_brackets}

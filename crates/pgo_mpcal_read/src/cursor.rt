@@ -18,7 +18,7 @@ use pgo_expr_read::reader;
 use pgo_expr_read::sign::is_sign;
 use pgo_lexer::errors::TextStop;
 use pgo_lexer::symbol::{Bracket, Symbol};
-use pgo_lexer::token::{Lexeme, Token};
+use pgo_lexer::token::{Lexeme, Token, first_offset};
 use pgo_syntax::name::PlacedName;
 use std::alloc::Global;
 use std::marker::Model;
@@ -41,16 +41,6 @@ impl<'a> Model for Cursor<'a> {
     ghost Value = { List Lexeme };
 
     ghost view = { λ c. c.rest.now };
-}
-
-/// The offset of the first of these tokens that has a place, or the end.
-fn offset(rest: &[Lexeme], end: u64) -> u64 {
-    for lexeme in rest {
-        if lexeme.stop > lexeme.start {
-            return lexeme.start as u64;
-        }
-    }
-    end
 }
 
 /// A place in a text. No token at 4 GiB or behind it is read.
@@ -142,7 +132,7 @@ impl<'a> Cursor<'a> {
         ensures { steps.IsSyntax result }
     {
         TextStop::Syntax {
-            offset: offset(self.rest, self.end),
+            offset: first_offset(self.rest, self.end),
         }
     }
 

@@ -1,16 +1,15 @@
 // The depths of macros.
-ghost use Rattle.std.specs.Prelude.{◌≡◌, [], ◌∷◌, ◌++◌, IfOk, IfErr};
+ghost use Rattle.std.specs.Prelude.{◌≡◌, [], ◌∷◌, ◌++◌, IfOk, OnErr};
 ghost use Rattle.pgo_base.specs.Lookup.{Name};
 ghost use Rattle.pgo_model.specs.Names.{or_that};
-ghost use Rattle.pgo_syntax.specs.NameMaps.{found};
+ghost use Rattle.pgo_base.specs.NameMaps.{found};
 ghost use Rattle.pgo_mpcal_read.specs.Depths as spec;
 ghost use Rattle.pgo_mpcal_read.specs.Depths.{first_depth};
 
+use pgo_base::name_map::NameMap;
 use pgo_base::text::Text;
-use pgo_syntax::name_map::NameMap;
 use std::alloc::{AllocError, Global};
 use std::marker::Model;
-use std::mem::replace;
 
 /// How deep the statements of a macro's body nest, with macros in the place of their calls.
 #[derive(Drop)]
@@ -29,7 +28,7 @@ pub struct MacroDepths {
 impl Model for MacroDepths {
     ghost use Rattle.std.specs.Prelude.{◌≡◌, List};
     ghost use Rattle.pgo_base.specs.Lookup.{Name};
-    ghost use Rattle.pgo_syntax.specs.NameMaps.{found};
+    ghost use Rattle.pgo_base.specs.NameMaps.{found};
     ghost use Rattle.pgo_mpcal_read.specs.declared.depths.MacroDepth.{MacroDepth};
     ghost use Rattle.pgo_mpcal_read.specs.Depths.{first_depth};
 
@@ -51,33 +50,24 @@ impl MacroDepths {
         }
     }
 
-    /// These, and one macro more at the end.
-    fn with(self, alloc: Global, depth: MacroDepth) -> Result<MacroDepths, AllocError>
-        ensures { IfOk result (λ l. l ≡ self ++ depth ∷ []) }
-    {
-        let mut list = self.list;
-        let mut first = self.first;
-        note(alloc, &mut first, &depth)?;
-        list.push(depth)?;
-        Ok(MacroDepths { list, first })
-    }
-
-    /// One macro more, at the end. Where there is no memory for it, no macro is left.
+    /// One macro more, at the end. Where there is no memory for it, there are those that there were.
     pub fn push(&mut self, alloc: Global, depth: MacroDepth) -> Result<(), AllocError>
         ensures added { IfOk result (λ _. self.new ≡ self.old ++ depth ∷ []) }
-        ensures emptied { IfErr result (λ _. self.new ≡ []) }
+        ensures kept { OnErr result (self.new ≡ self.old) }
     {
-        let before = replace(self, MacroDepths::new(alloc));
-        *self = before.with(alloc, depth)?;
+        self.list.reserve(1)?;
+        note(alloc, &mut self.first, &depth)?;
+        self.list.push_reserved(depth);
         Ok(())
     }
 }
 
 /// Notes the depth of this macro, where none is noted of its name.
 fn note(alloc: Global, first: &mut NameMap<u32>, depth: &MacroDepth) -> Result<(), AllocError>
-    ensures { IfOk result (λ _. (n : Name) → found first.new n ≡ or_that (found first.old n) (first_depth (depth.now ∷ []) n)) }
+    ensures noted { IfOk result (λ _. (n : Name) → found first.new n ≡ or_that (found first.old n) (first_depth (depth.now ∷ []) n)) }
+    ensures kept { OnErr result ((n : Name) → found first.new n ≡ found first.old n) }
 {
-    if first.get(&depth.name).is_some() {
+    if first.contains(&depth.name) {
         return Ok(());
     }
     first.set(alloc, &depth.name, depth.depth)

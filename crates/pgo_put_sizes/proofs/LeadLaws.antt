@@ -11,7 +11,7 @@ use Rattle.pgo_put_sizes.specs.Leads as spec
 use Rattle.pgo_put_sizes.specs.Leads.{goes_on, nowhere, either_way, then_way, leads, any_lead, branches_lead, row_leads}
 use Rattle.pgo_put_sizes.specs.Least.{passes, one_passes, yields, one_yields}
 use Rattle.pgo_put_sizes.specs.declared.blocks.Leads.{Leads}
-use Rattle.pgo_rewrite.specs.Rewritten.{standing}
+use Rattle.pgo_rewrite.specs.Rewritten.{replacement}
 use Rattle.pgo_rewrite.proofs.RewrittenLaws.{plain, same}
 use Rattle.pgo_sections.specs.Access.{MappedNames, Mapped, place, after, evaluated}
 use Rattle.pgo_sections.specs.Code.{Code, Place, Whole, Empty, Let, Pick, Set, Await, Assert, Print, If, Seq, Goto, Codes, in_turn, at_base, val_base, old_base, content_name}
@@ -96,7 +96,7 @@ branches_out a b no_guarded = commuted a b
 branches_out a b (more_guarded p e t bs) = ap (λ z. branches_lead z bs) (swapped a b (leads t)) ∙ branches_out (either_way a (leads t)) b bs
 
 -- no parameter is mapped in a block
-no_reads : (e : Tree) (k : ℕ) (f : Tree → ℕ → Code) → evaluated [] e k f ≡ f (replaced (standing (λ x. None)) [] e) k
+no_reads : (e : Tree) (k : ℕ) (f : Tree → ℕ → Code) → evaluated [] e k f ≡ f (replaced (replacement (λ x. None)) [] e) k
 no_reads e k f = ap (λ p. after p.reads (f p.rest p.used)) (sym (same [] [] e k) ∙ plain (λ x. None) [] e k)
 
 abbrev Passes : List Code → Type 0

@@ -31,7 +31,7 @@ fn free_name<'a>(scope: &Scope<'_>, e: &'a Expr) -> Option<&'a Text>
 }
 
 /// What stands for a name, or else this expression.
-fn standing<'a>(es: &'a Arguments, x: &Text, e: &'a Expr) -> &'a Expr
+fn replacement<'a>(es: &'a Arguments, x: &Text, e: &'a Expr) -> &'a Expr
     ensures { tree result.now ≡ unwrap_or (find x.now es.entry.now) (tree e.entry.now) }
 {
     match es.find(x) {
@@ -55,7 +55,7 @@ pub(crate) fn resolve<'a>(layers: &'a [Arguments], scope: &Scope<'_>, e: &'a Exp
                     e,
                 };
             }
-            Some(x) => e = standing(es, x, e),
+            Some(x) => e = replacement(es, x, e),
         }
     }
     Level { layers: &[], e }

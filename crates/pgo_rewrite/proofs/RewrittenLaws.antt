@@ -11,7 +11,7 @@ use Rattle.pgo_sections.specs.Access.{Mapped, MappedNames, MappedRead, pure, the
 use Rattle.pgo_model.specs.Names.{is_among}
 use Rattle.pgo_sections.specs.Bound.{names_of, names_bound, below}
 use Rattle.pgo_sections.specs.Replaced.{replaced, replaced_all, replaced_arms, replaced_fields, replaced_let, replaced_bound, replaced_paths}
-use Rattle.pgo_rewrite.specs.Rewritten.{standing, rewritten, rewritten_all, rewritten_arms, rewritten_fields, rewritten_let, rewritten_bound, rewritten_paths}
+use Rattle.pgo_rewrite.specs.Rewritten.{replacement, rewritten, rewritten_all, rewritten_arms, rewritten_fields, rewritten_let, rewritten_bound, rewritten_paths}
 
 abbrev no_mapped : Bool → Option Mapped
 no_mapped b = if b then None else None
@@ -30,7 +30,7 @@ no_element under f = go (name_alone f)
     go None = refl
     go (Some x) = λ i. if_element (nothing_mapped under x i)
 
-nothing_stands : (under : List Name) (x : Name) → standing (λ y. None) under x ≡ name x
+nothing_stands : (under : List Name) (x : Name) → replacement (λ y. None) under x ≡ name x
 nothing_stands under x = go (is_among x under)
   where
     go : (b : Bool) → (if b then name x else name x) ≡ name x
@@ -39,8 +39,8 @@ nothing_stands under x = go (is_among x under)
 
 module _ (stands : Name → Option Tree) where
   mutual
-    pub plain : (under : List Name) (t : Tree) (k : ℕ) → rewritten stands [] under t k ≡ pure k (replaced (standing stands) under t)
-    plain under (name x) k = λ i. on (pure k (standing stands under x)) (if_whole (nothing_mapped under x i)) (λ m. read_whole m k)
+    pub plain : (under : List Name) (t : Tree) (k : ℕ) → rewritten stands [] under t k ≡ pure k (replaced (replacement stands) under t)
+    plain under (name x) k = λ i. on (pure k (replacement stands under x)) (if_whole (nothing_mapped under x i)) (λ m. read_whole m k)
     plain under (primed x) k = refl
     plain under (number z) k = refl
     plain under (text s) k = refl
@@ -70,33 +70,33 @@ module _ (stands : Name → Option Tree) where
     plain under (call x ts) k = λ i. then_hoist (plain_all under ts k i) (λ us k1. pure k1 (call x us))
     plain under (unchanged xs) k = refl
 
-    pub plain_all : (under : List Name) (t : Trees) (k : ℕ) → rewritten_all stands [] under t k ≡ pure k (replaced_all (standing stands) under t)
+    pub plain_all : (under : List Name) (t : Trees) (k : ℕ) → rewritten_all stands [] under t k ≡ pure k (replaced_all (replacement stands) under t)
     plain_all under no_trees k = refl
     plain_all under (more_trees t ts) k = λ i. then_hoist (plain under t k i) (λ t' k1. then_hoist (plain_all under ts k1 i) (λ us k2. pure k2 (more_trees t' us)))
 
-    pub plain_arms : (under : List Name) (t : TreePairs) (k : ℕ) → rewritten_arms stands [] under t k ≡ pure k (replaced_arms (standing stands) under t)
+    pub plain_arms : (under : List Name) (t : TreePairs) (k : ℕ) → rewritten_arms stands [] under t k ≡ pure k (replaced_arms (replacement stands) under t)
     plain_arms under no_arms k = refl
     plain_arms under (more_arms g e gs) k = λ i. then_hoist (plain under g k i) (λ g' k1. then_hoist (plain under e k1 i) (λ e' k2. then_hoist (plain_arms under gs k2 i) (λ gs' k3. pure k3 (more_arms g' e' gs'))))
 
-    pub plain_fields : (under : List Name) (t : NamedTrees) (k : ℕ) → rewritten_fields stands [] under t k ≡ pure k (replaced_fields (standing stands) under t)
+    pub plain_fields : (under : List Name) (t : NamedTrees) (k : ℕ) → rewritten_fields stands [] under t k ≡ pure k (replaced_fields (replacement stands) under t)
     plain_fields under no_named k = refl
     plain_fields under (more_named x t ts) k = λ i. then_hoist (plain under t k i) (λ t' k1. then_hoist (plain_fields under ts k1 i) (λ us k2. pure k2 (more_named x t' us)))
 
-    pub plain_let : (under : List Name) (t : NamedTrees) (k : ℕ) → rewritten_let stands [] under t k ≡ pure k (replaced_let (standing stands) under t)
+    pub plain_let : (under : List Name) (t : NamedTrees) (k : ℕ) → rewritten_let stands [] under t k ≡ pure k (replaced_let (replacement stands) under t)
     plain_let under no_named k = refl
     plain_let under (more_named x t ts) k = λ i. then_hoist (plain under t k i) (λ t' k1. then_hoist (plain_let (x ∷ under) ts k1 i) (λ us k2. pure k2 (more_named x t' us)))
 
-    pub plain_bound : (under : List Name) (t : BoundTrees) (k : ℕ) → rewritten_bound stands [] under t k ≡ pure k (replaced_bound (standing stands) under t)
+    pub plain_bound : (under : List Name) (t : BoundTrees) (k : ℕ) → rewritten_bound stands [] under t k ≡ pure k (replaced_bound (replacement stands) under t)
     plain_bound under no_bound k = refl
     plain_bound under (more_bound xs r bs) k = λ i. then_hoist (plain under r k i) (λ r' k1. then_hoist (plain_bound under bs k1 i) (λ bs' k2. pure k2 (more_bound xs r' bs')))
 
-    pub plain_paths : (under : List Name) (t : PathTrees) (k : ℕ) → rewritten_paths stands [] under t k ≡ pure k (replaced_paths (standing stands) under t)
+    pub plain_paths : (under : List Name) (t : PathTrees) (k : ℕ) → rewritten_paths stands [] under t k ≡ pure k (replaced_paths (replacement stands) under t)
     plain_paths under no_paths k = refl
     plain_paths under (more_paths ps e us) k = λ i. then_hoist (plain_all under ps k i) (λ ps' k1. then_hoist (plain under e k1 i) (λ e' k2. then_hoist (plain_paths under us k2 i) (λ us' k3. pure k3 (more_paths ps' e' us'))))
 
   -- where no name is bound around it and no binding is there
   pub put_in : (scope : Groups) (t : Tree) (k : ℕ) (bindings : List Binding) → scope ≡ [] → bindings ≡ []
-      → (rewritten stands (all_mapped bindings) (in_scope scope) t k).rest ≡ replaced (standing stands) [] t
+      → (rewritten stands (all_mapped bindings) (in_scope scope) t k).rest ≡ replaced (replacement stands) [] t
   put_in scope t k bindings s b = (λ i. (rewritten stands (all_mapped (b i)) (in_scope (s i)) t k).rest) ∙ ap (λ w. w.rest) (plain [] t k)
 
 module _ (mapped : MappedNames) where

@@ -1,4 +1,3 @@
-pub mod Newest
 pub mod Rewritten
 pub mod Scoped
 pub mod Scopes

@@ -4,7 +4,7 @@ use Rattle.pgo_base.specs.Lookup.{Name}
 use Rattle.pgo_base.specs.Tree.{Tree, index, trees}
 use Rattle.pgo_model.specs.Options.{on}
 use Rattle.pgo_sections.specs.Access.{Mapped, MappedNames, Hoisted, pure, read_whole, read_element, index_tree, if_whole, name_alone, mapped_under, element_of}
-use Rattle.pgo_rewrite.specs.Rewritten.{standing, rewritten}
+use Rattle.pgo_rewrite.specs.Rewritten.{replacement, rewritten}
 use Rattle.pgo_rewrite.specs.Rebuilt.{behind, rebuilt}
 
 -- what is indexed
@@ -32,7 +32,7 @@ module _ (stands : Name → Option Tree) (mapped : MappedNames) where
 
   -- a name
   abbrev pub name_rewritten : List Name → Name → ℕ → Hoisted Tree
-  name_rewritten under x k = on (pure k (standing stands under x)) (if_whole (mapped_under mapped under x)) (λ m. read_whole m k)
+  name_rewritten under x k = on (pure k (replacement stands under x)) (if_whole (mapped_under mapped under x)) (λ m. read_whole m k)
 
   abbrev pub finished : List Name → Tree → List Tree → ℕ → Hoisted Tree
   finished under t ps k = on (form_rewritten mapped under t ps k) (name_alone t) (λ x. name_rewritten under x k)

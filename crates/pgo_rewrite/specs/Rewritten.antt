@@ -8,14 +8,14 @@ use Rattle.pgo_model.specs.Names.{is_among}
 use Rattle.pgo_sections.specs.Bound.{names_of, names_bound, below}
 
 -- what stands for a name, where g says it and these names are bound around the name within the expression
-abbrev pub standing : (Name → Option Tree) → List Name → Name → Tree
-standing g under x = if is_among x under then name x else unwrap_or (g x) (name x)
+abbrev pub replacement : (Name → Option Tree) → List Name → Name → Tree
+replacement g under x = if is_among x under then name x else unwrap_or (g x) (name x)
 
 -- as `hoisted`, but with what stands for a name in its place
 module _ (stands : Name → Option Tree) (mapped : MappedNames) where
   abbrev mutual
     pub rewritten : List Name → Tree → ℕ → Hoisted Tree
-    rewritten under (name x) k = on (pure k (standing stands under x)) (if_whole (mapped_under mapped under x)) (λ m. read_whole m k)
+    rewritten under (name x) k = on (pure k (replacement stands under x)) (if_whole (mapped_under mapped under x)) (λ m. read_whole m k)
     rewritten under (primed x) k = pure k (primed x)
     rewritten under (number z) k = pure k (number z)
     rewritten under (text s) k = pure k (text s)

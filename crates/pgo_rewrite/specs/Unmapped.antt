@@ -3,11 +3,11 @@ use Rattle.std.specs.Prelude.{List, [], ◌∷◌, Option, Some, None, option_ma
 use denote.Ref.{Bor}
 use Rattle.pgo_base.specs.Lookup.{Name}
 use Rattle.pgo_sections.specs.Access.{Mapped}
-use Rattle.pgo_syntax.specs.NameMaps.{found}
+use Rattle.pgo_base.specs.NameMaps.{found}
 use Rattle.pgo_syntax.specs.declared.bound.Binding.{Binding}
 use Rattle.pgo_syntax.specs.declared.bound.Target.{Target}
 use Rattle.pgo_syntax.specs.declared.bound.Target.TheVariants as targets
-use Rattle.pgo_syntax.specs.declared.name_map.NameMap.{NameMap}
+use Rattle.pgo_base.specs.declared.name_map.NameMap.{NameMap}
 use Rattle.pgo_rewrite.specs.declared.mapped.Mapped.{Mapped as Lent}
 use Rattle.pgo_rewrite.specs.Views.{mapped_view}
 

@@ -8,9 +8,9 @@ ghost use Rattle.pgo_sections.specs.Access.{MappedNames};
 ghost use Rattle.pgo_syntax.specs.declared.bound.Target.{Target as Meant};
 
 use crate::mapped::{Mapped, mapped_target};
+use pgo_base::name_map::NameMap;
 use pgo_base::text::Text;
 use pgo_syntax::bound::{Binding, Target};
-use pgo_syntax::name_map::NameMap;
 use std::alloc::{AllocError, Global};
 use std::marker::Model;
 
@@ -61,8 +61,14 @@ impl<'a> IndexedBindings<'a> {
     pub fn new(alloc: Global, list: &'a [Binding]) -> Result<IndexedBindings<'a>, AllocError>
         ensures { IfOk result (λ b. b ≡ list.now) }
     {
-        let mapped = first_mapped(alloc, list)?;
-        let unmapped = first_unmapped(alloc, list)?;
+        let mut mapped = NameMap::new(alloc);
+        let mut unmapped = NameMap::new(alloc);
+        let mut i = list.len();
+        while i > 0 {
+            i -= 1;
+            put_mapped(alloc, &mut mapped, &list[i])?;
+            put_unmapped(alloc, &mut unmapped, &list[i])?;
+        }
         Ok(IndexedBindings {
             list,
             mapped,
@@ -81,20 +87,14 @@ impl<'a> IndexedBindings<'a> {
     pub fn mapped_named(&self, x: &Text) -> Option<Mapped<'a>>
         ensures { option_map mapped_view result ≡ find x.now (all_mapped self.now) }
     {
-        match self.mapped.get(x) {
-            Some(m) => Some(*m),
-            None => None,
-        }
+        self.mapped.get(x).copied()
     }
 
     /// What the parameter of a name that has no mapping stands for, if it is one.
     pub fn unmapped_named(&self, x: &Text) -> Option<&'a Target>
         ensures { option_map (λ t. t.now) result ≡ find x.now (all_unmapped self.now) }
     {
-        match self.unmapped.get(x) {
-            Some(target) => Some(*target),
-            None => None,
-        }
+        self.unmapped.get(x).copied()
     }
 }
 
@@ -137,30 +137,4 @@ fn put_unmapped<'a>(
         Some(target) => first.set(alloc, &b.parameter, target),
         None => Ok(()),
     }
-}
-
-/// The first mapped parameter of each name.
-fn first_mapped<'a>(alloc: Global, list: &'a [Binding]) -> Result<NameMap<Mapped<'a>>, AllocError>
-    ensures { IfOk result (λ m. (n : Name) → mapped_in m n ≡ find n (all_mapped list.now)) }
-{
-    let mut first = NameMap::new(alloc);
-    let mut i = list.len();
-    while i > 0 {
-        i -= 1;
-        put_mapped(alloc, &mut first, &list[i])?;
-    }
-    Ok(first)
-}
-
-/// What the first parameter of each name that has no mapping stands for.
-fn first_unmapped<'a>(alloc: Global, list: &'a [Binding]) -> Result<NameMap<&'a Target>, AllocError>
-    ensures { IfOk result (λ m. (n : Name) → target_in m n ≡ find n (all_unmapped list.now)) }
-{
-    let mut first = NameMap::new(alloc);
-    let mut i = list.len();
-    while i > 0 {
-        i -= 1;
-        put_unmapped(alloc, &mut first, &list[i])?;
-    }
-    Ok(first)
 }

@@ -3,22 +3,24 @@ ghost use Rattle.std.specs.Prelude.{◌≡◌, [], ◌∷◌, reverse, option_ma
 ghost use Rattle.pgo_base.specs.Lookup.{find};
 
 use pgo_base::items::Copied;
+use pgo_base::name_map::NameMap;
 use pgo_base::text::Text;
 use std::alloc::{AllocError, Global};
-use std::collections::BTreeMap;
 use std::marker::Model;
 
 /// Names with values, the newest first; the newest of a name counts. A name is found without going over the list.
 #[derive(Drop)]
 pub struct Newest<T> {
     list: Vec<(Text, T)>,
-    places: BTreeMap<Vec<u8>, usize>,
+    places: NameMap<usize>,
 }
 
 impl<T> Model for Newest<T> {
-    ghost use Rattle.std.specs.Prelude.{List, ℕ, reverse};
+    ghost use Rattle.std.specs.Prelude.{◌≡◌, List, ℕ, reverse};
     ghost use Rattle.std.specs.Coded.{coded_list, coded_ℕ, coded×};
-    ghost use Rattle.pgo_rewrite.specs.Newest.{IsPlaced};
+    ghost use Rattle.pgo_base.specs.LastPlace.{last_place};
+    ghost use Rattle.pgo_base.specs.Lookup.{Name};
+    ghost use Rattle.pgo_base.specs.NameMaps.{found};
 
     ghost Value = { List (List ℕ × T) };
 
@@ -26,7 +28,7 @@ impl<T> Model for Newest<T> {
 
     ghost view = { λ n. reverse n.list.items };
 
-    ghost invariant = { λ n. IsPlaced (λ k. k.items) n.list.items n.places.entries };
+    ghost invariant = { λ n. (x : Name) → found n.places x ≡ last_place (λ r. r.0) x n.list.items };
 }
 
 impl<T> Newest<T> {
@@ -36,7 +38,7 @@ impl<T> Newest<T> {
     {
         Newest {
             list: Vec::new(alloc),
-            places: BTreeMap::new(alloc),
+            places: NameMap::new(alloc),
         }
     }
 
@@ -51,7 +53,7 @@ impl<T> Newest<T> {
     pub fn find(&self, name: &Text) -> Option<&T>
         ensures { option_map (λ r. r.now) result ≡ find name.now self.now }
     {
-        match self.places.get(name.as_bytes()) {
+        match self.places.get(name) {
             Some(place) => match self.list.get(*place) {
                 Some(row) => Some(&row.1),
                 None => None,
@@ -68,9 +70,9 @@ impl<T: Drop> Newest<T> {
     pub fn push(&mut self, name: Text, value: T) -> Result<(), AllocError>
         ensures { IfOk result (λ _. self.new ≡ (name, value) ∷ self.old) }
     {
-        let key = Vec::from_slice(*self.list.allocator(), name.as_bytes())?;
+        let place = self.list.len();
         self.list.reserve(1)?;
-        self.places.insert(key, self.list.len())?;
+        self.places.set(*self.list.allocator(), &name, place)?;
         self.list.push_reserved((name, value));
         Ok(())
     }
@@ -83,11 +85,10 @@ impl<T: Copied> Newest<T> {
     pub fn copy(&self, alloc: Global) -> Result<Newest<T>, AllocError>
         ensures { IfOk result (λ n. n ≡ self.now) }
     {
-        let places = self.places.clone()?;
-        let mut list = Vec::with_capacity(alloc, self.list.len())?;
+        let mut all = Newest::new(alloc);
         for item in &self.list {
-            list.push((item.0.copy(alloc)?, item.1.copy(alloc)?))?;
+            all.push(item.0.copy(alloc)?, item.1.copy(alloc)?)?;
         }
-        Ok(Newest { list, places })
+        Ok(all)
     }
 }

@@ -2,7 +2,7 @@
 ghost use Rattle.std.specs.Prelude.{◌≡◌, [], IfOk};
 ghost use Rattle.pgo_base.specs.ExprView.{tree};
 ghost use Rattle.pgo_meaning.specs.Parameters.{all_mapped};
-ghost use Rattle.pgo_rewrite.specs.Rewritten.{standing};
+ghost use Rattle.pgo_rewrite.specs.Rewritten.{replacement};
 ghost use Rattle.pgo_rewrite.specs.Views.{hoisted_view};
 ghost use Rattle.pgo_sections.specs.Access.{hoisted};
 ghost use Rattle.pgo_sections.specs.Replaced.{replaced};
@@ -19,7 +19,7 @@ use std::alloc::{AllocError, Global};
 ///
 /// A name that the expression binds around its place stays. Err only where there is no memory.
 pub fn substitute<S: Substitution>(alloc: Global, names: &S, e: &Expr) -> Result<Expr, AllocError>
-    ensures { IfOk result (λ r. tree r ≡ replaced (standing (S.stands names.now)) [] (tree e.now)) }
+    ensures { IfOk result (λ r. tree r ≡ replaced (replacement (S.stands names.now)) [] (tree e.now)) }
 {
     let scope = Scope::new();
     let bindings = IndexedBindings::none(alloc);

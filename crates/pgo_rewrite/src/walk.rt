@@ -5,7 +5,7 @@ ghost use Rattle.pgo_base.specs.Tree.{trees};
 ghost use Rattle.pgo_meaning.specs.Parameters.{all_mapped};
 ghost use Rattle.pgo_operands.specs.Operands.{lent_trees};
 ghost use Rattle.pgo_rewrite.specs.Parts as spec;
-ghost use Rattle.pgo_rewrite.specs.Rewritten.{rewritten as walked, standing};
+ghost use Rattle.pgo_rewrite.specs.Rewritten.{rewritten as walked, replacement};
 ghost use Rattle.pgo_rewrite.specs.Scoped.{under_at};
 ghost use Rattle.pgo_rewrite.specs.Scopes.{in_scope};
 ghost use Rattle.pgo_rewrite.specs.Views.{mapped_view, read_views};
@@ -90,7 +90,7 @@ fn standing_for<S: Substitution>(
     scope: &Scope<'_>,
     x: &Text,
 ) -> Result<Expr, AllocError>
-    ensures { IfOk result (λ e. tree e ≡ standing (S.stands names.now) (in_scope scope.now) x.now) }
+    ensures { IfOk result (λ e. tree e ≡ replacement (S.stands names.now) (in_scope scope.now) x.now) }
 {
     if scope.has(x) {
         return Ok(Expr::Name(x.copy(alloc)?));

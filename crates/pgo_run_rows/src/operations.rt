@@ -2,7 +2,6 @@
 use crate::mapping::mapping;
 use crate::numbers::{copied, numbers};
 use crate::values::{text_of, value};
-use pgo_base::items::Items;
 use pgo_base::module::Defs;
 use pgo_base::value::Value;
 use pgo_cells::cell::Cell;
@@ -48,7 +47,7 @@ impl Operations {
     }
 
     fn read(&self, cell: &mut Cell, picks: &mut Picks) -> Result<String, AllocError> {
-        let (defs, id): (Defs, Value) = (Items::new(self.alloc), Value::Int(1));
+        let (defs, id): (Defs, Value) = (Defs::new(self.alloc), Value::Int(1));
         let env = MacroEnv {
             defs: &defs,
             id: &id,
@@ -60,7 +59,7 @@ impl Operations {
     }
 
     fn write(&self, cell: &mut Cell, v: Value, picks: &mut Picks) -> Result<String, AllocError> {
-        let (defs, id): (Defs, Value) = (Items::new(self.alloc), Value::Int(1));
+        let (defs, id): (Defs, Value) = (Defs::new(self.alloc), Value::Int(1));
         let env = MacroEnv {
             defs: &defs,
             id: &id,

@@ -1,8 +1,9 @@
 mod Answered
+mod BinderLaws
+mod CaptureLaws
 mod Clashing
 mod Declaring
 mod Doubled
-mod ForbiddenLaws
 mod Gathering
 mod Only
 mod Owning

@@ -1,6 +1,9 @@
 -- What is looked up among the targets of clauses is what the clauses name.
 use Rattle.std.proofs.Common.{◌≡◌, ◌<◌, ◌-◌, ◌+◌, ℕ, suc, Bool, true, false, ◌&&◌, ◌||◌, cond, List, [], ◌∷◌, map, length, zero, refl, subst, ap, sym, ◌∙◌, arith}
-use Rattle.std.specs.Prelude.{nat_eq, nat_lt, slice_get, Option, Some, None}
+use Rattle.std.specs.Prelude.{nat_eq, nat_lt, slice_get, Option, Some, None, unwrap_or}
+use Rattle.std.specs.BTreeMap.{is_at}
+use Rattle.std.specs.List.{list_any}
+use Rattle.std.specs.Ordering.{nat_cmp}
 use Rattle.std.specs.BTreeSet.{BTreeSet}
 use Rattle.std.proofs.lemmas.Bool.{eq-eqb, eqb-true}
 use Rattle.pgo_base.specs.Lookup.{Name, same_name}
@@ -77,6 +80,11 @@ no_global b o = go b (ref_among [] o) (none o)
     go : (b c : Bool) → c ≡ false → b || c ≡ b
     go true c h = refl
     go false c h = h
+
+-- what was there, or nothing
+pub taken : (o : Option (BTreeSet ℕ)) (none : BTreeSet ℕ) (n : ℕ) → none.keys ≡ [] → has_number (unwrap_or o none) n ≡ has_number_of o n
+taken None none n e = ap (list_any (is_at (nat_cmp n))) e
+taken (Some s) none n e = refl
 
 -- the process is one more
 pub named_more : (old : Name → Bool) (q r : Name) (n : ℕ) (c : Bool) (made : Option (BTreeSet ℕ)) (s : BTreeSet ℕ) (rest : Option (BTreeSet ℕ)) → made ≡ cond (same_name r q) (Some s) rest → has_number s n ≡ old q || c → (same_name r q ≡ false → has_number_of rest n ≡ old r) → has_number_of made n ≡ old r || (same_name r q && c)

@@ -1,7 +1,8 @@
 -- What breaks a rule.
-use Rattle.std.specs.Prelude.{ℕ, Bool, if◌then◌else◌, nat_lt, List, [], ◌∷◌, ◌++◌, Option, Some, None, option_map}
+use Rattle.std.specs.Prelude.{ℕ, Bool, if◌then◌else◌, List, [], ◌∷◌, ◌++◌, Option, option_map}
 use Rattle.pgo_base.specs.Lookup.{Name}
 use Rattle.pgo_syntax.specs.declared.name.PlacedName.{PlacedName}
+use Rattle.pgo_syntax.specs.Least.{least}
 use Rattle.pgo_uses.specs.declared.uses.Use.{Use}
 use Rattle.pgo_scope.specs.declared.errors.ScopeError.{ScopeError}
 use Rattle.pgo_scope.specs.declared.errors.ScopeError.TheVariants as errors
@@ -37,15 +38,6 @@ abbrev pub each_name : (PlacedName → List Finding) → List PlacedName → Lis
 each_name f [] = []
 each_name f (x ∷ xs) = f x ++ each_name f xs
 
--- the first in the text of what was found so far and this; of one place, what was found so far
-abbrev pub earlier : Option Finding → Finding → Option Finding
-earlier None g = Some g
-earlier (Some f) g = if nat_lt g.place f.place then Some g else Some f
-
-abbrev pub first_of_all : Option Finding → List Finding → Option Finding
-first_of_all o [] = o
-first_of_all o (f ∷ fs) = first_of_all (earlier o f) fs
-
 -- the first one in the text; of one place, the one that is listed first
 abbrev pub earliest : List Finding → Option ScopeError
-earliest fs = option_map (λ f. f.error) (first_of_all None fs)
+earliest fs = option_map (λ f. f.error) (least (λ f. f.place) fs)

@@ -2,8 +2,7 @@ pub mod Findings
 pub mod TextOrder
 pub mod Unknown
 pub mod Twice
-pub mod Forbidden
-pub mod CaptureView
+pub mod Binders
 pub mod Arity
 pub mod Globals
 pub mod Usage

@@ -1,7 +1,7 @@
 -- The usage of names, as it lies in memory.
 use Rattle.std.specs.Prelude.{Option, Some, None}
 use Rattle.pgo_base.specs.Lookup.{Name}
-use Rattle.pgo_syntax.specs.NameMaps.{found}
+use Rattle.pgo_base.specs.NameMaps.{found}
 use Rattle.pgo_scope.specs.declared.name_usage.NameUsage.{NameUsage}
 use Rattle.pgo_scope.specs.declared.usage.Usage.{Usage}
 use Rattle.pgo_scope.specs.Usage.{no_usage}

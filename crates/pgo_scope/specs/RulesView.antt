@@ -1,6 +1,6 @@
 -- What the rules look at, as it lies in memory.
 use Rattle.pgo_scope.specs.declared.rules.Context as code
-use Rattle.pgo_scope.specs.CaptureView.{see_captures}
+use Rattle.pgo_scope.specs.Binders.{see_captures}
 use Rattle.pgo_scope.specs.MacroTableView.{see_table}
 use Rattle.pgo_scope.specs.Rules.{Context}
 

@@ -13,7 +13,7 @@ use Rattle.pgo_uses.specs.Names.{Rows, has_row}
 use Rattle.pgo_scope.specs.declared.mapped.Mapped.{Mapped}
 use Rattle.pgo_scope.specs.declared.targets.Targets.{Targets}
 use Rattle.pgo_scope.specs.declared.targets.NamedParameters.{NamedParameters}
-use Rattle.pgo_syntax.specs.NameMaps.{found}
+use Rattle.pgo_base.specs.NameMaps.{found}
 use Rattle.pgo_scope.specs.UnitRows.{Kinds, parameter_rows}
 use Rattle.pgo_scope.specs.Mapped.{names_argument, some_clause, mapped_kind}
 

@@ -1,5 +1,6 @@
 // What breaks a rule, with its place.
-ghost use Rattle.std.specs.Prelude.{◌≡◌, ◌++◌, IfOk};
+ghost use Rattle.std.specs.Prelude.{◌≡◌, ◌++◌, Some, IfOk};
+ghost use Rattle.pgo_syntax.specs.Least.{sooner_of};
 ghost use Rattle.pgo_scope.specs.Findings as spec;
 
 use crate::errors::ScopeError;
@@ -60,7 +61,7 @@ pub fn add_if(
 
 /// The first in the text of what was found so far and this; of one place, what was found so far.
 fn earlier(first: Option<Finding>, next: Finding) -> Option<Finding>
-    ensures { result ≡ spec.earlier first next }
+    ensures { result ≡ sooner_of (λ f. f.place) first (Some next) }
 {
     match first {
         Some(f) => {

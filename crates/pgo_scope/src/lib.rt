@@ -3,12 +3,13 @@
 
 mod arity;
 mod assigned;
+mod binders;
 mod captures;
 mod clash;
 pub mod errors;
 mod finding;
-mod forbidden;
 mod globals;
+mod handed;
 mod macro_table;
 mod mapped;
 mod module_names;

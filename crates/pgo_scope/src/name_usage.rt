@@ -5,8 +5,8 @@ ghost use Rattle.pgo_scope.specs.NameUsage.{usage_of};
 ghost use Rattle.pgo_scope.specs.Usage as spec;
 
 use crate::usage::{Usage, either_usage, no_usage, read_usage};
+use pgo_base::name_map::NameMap;
 use pgo_base::text::Text;
-use pgo_syntax::name_map::NameMap;
 use pgo_uses::uses::{Form, Use};
 use std::alloc::{AllocError, Global};
 

@@ -2,6 +2,7 @@
 ghost use Rattle.std.specs.Prelude.{◌≡◌, IfOk};
 ghost use Rattle.pgo_scope.specs.Refusal.{scope_refusal, Answers};
 
+use crate::binders::all_binders;
 use crate::captures::{CaptureTable, all_captures};
 use crate::errors::ScopeError;
 use crate::macro_table::{MacroTable, all_parameters};
@@ -42,8 +43,10 @@ fn refusal(alloc: Global, s: &Spec) -> Result<Option<ScopeError>, AllocError>
 {
     let tables = tables_of(alloc, s)?;
     let macros = &tables.macros;
-    let parameters = all_parameters(alloc, macros, s.macros.as_slice())?;
-    let captures = all_captures(alloc, macros, s.macros.as_slice())?;
+    let list = s.macros.as_slice();
+    let parameters = all_parameters(alloc, macros, list)?;
+    let binders = all_binders(alloc, list)?;
+    let captures = all_captures(alloc, macros, &binders, list)?;
     let uses = all_uses(alloc, s)?;
     let units = names_of_units(alloc, s)?;
     let context = Context {
@@ -55,6 +58,7 @@ fn refusal(alloc: Global, s: &Spec) -> Result<Option<ScopeError>, AllocError>
         },
         captures: CaptureTable {
             names: macros,
+            binders: &binders,
             list: captures.as_slice(),
         },
         uses: uses.as_slice(),

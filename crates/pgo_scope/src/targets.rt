@@ -5,8 +5,8 @@ ghost use Rattle.pgo_syntax.specs.declared.process.Argument.{Argument as SpecArg
 ghost use Rattle.pgo_scope.specs.Mapped as mapping;
 ghost use Rattle.pgo_scope.specs.Targets as spec;
 
+use pgo_base::name_map::NameMap;
 use pgo_base::text::Text;
-use pgo_syntax::name_map::NameMap;
 use pgo_syntax::process::{Argument, MappingClause, MappingTarget, Process};
 use pgo_uses::names::Names;
 use std::alloc::{AllocError, Global};
@@ -163,22 +163,14 @@ impl NamedParameters {
         }
     }
 
-    /// Takes the numbers of the archetype; the others keep theirs.
-    fn take(&mut self, alloc: Global, archetype: &Text) -> BTreeSet<u64>
-        ensures value { (n : ℕ) → spec.has_number result n ≡ spec.is_named self.old archetype.now n }
-        ensures others { (r : Name) → same_name r archetype.now ≡ false → (n : ℕ) → spec.is_named self.new r n ≡ spec.is_named self.old r n }
-    {
-        match self.map.take(archetype) {
-            Some(numbers) => numbers,
-            None => BTreeSet::new(alloc),
-        }
-    }
-
     /// Those that the clauses of this process name too.
     fn add(&mut self, alloc: Global, p: &Process) -> Result<(), AllocError>
         ensures { IfOk result (λ _. (r : Name) (n : ℕ) → spec.is_named self.new r n ≡ spec.is_named self.old r n || spec.names_parameter r n p.now) }
     {
-        let before = self.take(alloc, &p.archetype.name);
+        let before = self
+            .map
+            .take(&p.archetype.name)
+            .unwrap_or(BTreeSet::new(alloc));
         let numbers = numbers_with(alloc, before, p)?;
         self.map.set(alloc, &p.archetype.name, numbers)?;
         Ok(())

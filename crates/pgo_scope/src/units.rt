@@ -46,7 +46,7 @@ pub struct UnitNames<'a> {
 }
 
 /// Whether the name is one of those of this number.
-fn has_name(list: &[Names], number: usize, x: &Text) -> bool
+fn is_among(list: &[Names], number: usize, x: &Text) -> bool
     ensures { result ≡ rows.among_in list.now number x.now }
 {
     match list.get(number) {
@@ -83,14 +83,14 @@ impl<'a> UnitNames<'a> {
     pub fn is_own(&self, number: usize, x: &Text) -> bool
         ensures { result ≡ unknown.is_own self.now.spec.now.archetypes number x.now }
     {
-        has_name(self.own.as_slice(), number, x)
+        is_among(self.own.as_slice(), number, x)
     }
 
     /// Whether the archetype of this number has a `ref` parameter or a local variable of the name.
     pub fn is_assignable(&self, number: usize, x: &Text) -> bool
         ensures { result ≡ assigning.assignable_in (slice_get self.now.spec.now.archetypes number) x.now }
     {
-        has_name(self.assignable.as_slice(), number, x)
+        is_among(self.assignable.as_slice(), number, x)
     }
 
     /// What the name is in the archetype of this number.
@@ -104,7 +104,7 @@ impl<'a> UnitNames<'a> {
     pub fn is_parameter(&self, number: usize, x: &Text) -> bool
         ensures { result ≡ assigning.parameter_in (slice_get self.now.spec.now.macros number) x.now }
     {
-        has_name(self.params.as_slice(), number, x)
+        is_among(self.params.as_slice(), number, x)
     }
 }
 

@@ -1,1 +1,1 @@
-pub mod Inserting
+pub mod Leasts

@@ -14,4 +14,4 @@ pub mod StatementSize
 pub mod StatementView
 pub mod StatementFalls
 pub mod RecordView
-pub mod NameMaps
+pub mod Least

@@ -8,7 +8,6 @@ pub mod bound;
 pub mod declaration;
 pub mod macros;
 pub mod name;
-pub mod name_map;
 pub mod process;
 pub mod records;
 pub mod spec;

@@ -7,9 +7,9 @@ use Rattle.std.specs.BTreeMap.{insert_entry}
 use Rattle.pgo_base.specs.Lookup.{Name, same_name, find}
 use Rattle.pgo_model.specs.Names.{same_name-is}
 use Rattle.pgo_uses.specs.Names.{Rows, first_at}
-use Rattle.pgo_syntax.specs.NameMaps.{found_in}
+use Rattle.pgo_base.specs.NameMaps.{found_in}
 use Rattle.pgo_uses.specs.Indexed.{IsIndexed, after_note, number_at}
-use Rattle.pgo_syntax.proofs.Inserting.{insert_found}
+use Rattle.pgo_base.proofs.Inserting.{insert_found}
 
 abbrev or_last : Option ℕ → Option ℕ → Option ℕ
 or_last None o = o

@@ -1,7 +1,7 @@
 -- An ordered map that says where each name stands first among rows.
 use Rattle.std.specs.Prelude.{◌≡◌, ℕ, List, Option, Some, None, option_map, slice_get, cond}
 use Rattle.pgo_base.specs.Lookup.{Name, same_name}
-use Rattle.pgo_syntax.specs.NameMaps.{found_in}
+use Rattle.pgo_base.specs.NameMaps.{found_in}
 use Rattle.pgo_uses.specs.Names.{Rows, first_at}
 
 -- the entries say of each name where it stands first

@@ -1,6 +1,7 @@
 -- The names that stand in an expression, in the order of the text, each with what is known at its place.
 use Rattle.std.specs.Prelude.{ℕ, suc, true, false, List, [], ◌∷◌, ◌++◌}
 use Rattle.pgo_base.specs.Tree.{Tree, name, primed, number, text, truth, at, word, unary, binary, product, cond_of, case_of, case_other, let_in, quantified, choose, tuple, set_of, filter_of, image, fun_of, fun_set, record_of, record_set, except, index, field, call, unchanged, Trees, no_trees, more_trees, NamedTrees, no_named, more_named, TreePairs, no_arms, more_arms, BoundTrees, no_bound, more_bound, PathTrees, no_paths, more_paths}
+pub use Rattle.pgo_base.specs.BoundNames.{let_names, binder_names}
 use Rattle.pgo_base.specs.Lookup.{Name}
 use Rattle.pgo_model.specs.Names.{is_among}
 use Rattle.pgo_uses.specs.declared.uses.Around.{Around}
@@ -30,16 +31,6 @@ indexed_by (more_trees t (more_trees u us)) a = inside a
 abbrev pub count_trees : Trees → ℕ
 count_trees no_trees = 0
 count_trees (more_trees t ts) = suc (count_trees ts)
-
--- the names that a LET defines
-abbrev pub let_names : NamedTrees → List Name
-let_names no_named = []
-let_names (more_named x t ds) = x ∷ let_names ds
-
--- the names that binders bind
-abbrev pub binder_names : BoundTrees → List Name
-binder_names no_bound = []
-binder_names (more_bound xs r bs) = xs ++ binder_names bs
 
 -- names that are bound one after another, each in the scope of those before it
 abbrev pub bound_uses : List Name → Around → List Name → List Use

@@ -1,7 +1,7 @@
 // Names that are declared, each with a number.
 ghost use Rattle.std.specs.Prelude.{◌≡◌, ◌||◌, [], ◌∷◌, ◌++◌, length, IfOk, IfErr};
 ghost use Rattle.pgo_base.specs.Lookup.{Name, same_name, find};
-ghost use Rattle.pgo_syntax.specs.NameMaps.{found_in};
+ghost use Rattle.pgo_base.specs.NameMaps.{found_in};
 ghost use Rattle.pgo_uses.specs.Indexed.{after_note, number_at};
 ghost use Rattle.pgo_uses.specs.Names.{first_at, has_row, among_all, is_earlier, is_at};
 

@@ -4,7 +4,7 @@ use Rattle.std.specs.Prelude.{option_map, unwrap_or}
 use Rattle.pgo_base.specs.Lookup.{Name, find}
 use Rattle.pgo_base.specs.Tree.{Tree, name}
 use Rattle.pgo_model.specs.Options.{on}
-use Rattle.pgo_rewrite.specs.Rewritten.{standing}
+use Rattle.pgo_rewrite.specs.Rewritten.{replacement}
 use Rattle.pgo_model.specs.Names.{is_among}
 use Rattle.pgo_sections.specs.Code.{Place}
 use Rattle.pgo_sections.specs.Expand.{Renames, Current, current, placed, named, current_name}
@@ -22,5 +22,5 @@ module _ (ps : List (Name × Place)) (ren : Renames) (cur : Current) where
   at_name x None = at_place x (find x ps)
   at_name x (Some y) = refl
 
-  pub naming_law : (under : List Name) (x : Name) → standing (stood_for ps ren cur) under x ≡ current_name ps ren cur under x
+  pub naming_law : (under : List Name) (x : Name) → replacement (stood_for ps ren cur) under x ≡ current_name ps ren cur under x
   naming_law under x = ap (λ t. if is_among x under then name x else t) (at_name x (find x ren))

@@ -20,16 +20,16 @@ both_true : (a b : Bool) → a && b ≡ true → (a ≡ true) × (b ≡ true)
 both_true true b h = (refl, h)
 both_true false b h = absurd (grind (arith, h))
 
-words_lack : (x : List ℕ) → all_word_bytes x ≡ true → Lacks 61 x
-words_lack [] h i lt e = absurd (omega (arith, lt))
-words_lack (b ∷ bs) h zero lt e =
+name_bytes_lack : (x : List ℕ) → all_word_bytes x ≡ true → Lacks 61 x
+name_bytes_lack [] h i lt e = absurd (omega (arith, lt))
+name_bytes_lack (b ∷ bs) h zero lt e =
     let w = (both_true (is_word_byte b) (all_word_bytes bs) h).0 in
     let n : is_word_byte 61 ≡ true = subst (λ k. is_word_byte k ≡ true) e w in
     absurd (grind (arith, n))
-words_lack (b ∷ bs) h (suc i) lt e = words_lack bs (both_true (is_word_byte b) (all_word_bytes bs) h).1 i (omega (arith, lt)) e
+name_bytes_lack (b ∷ bs) h (suc i) lt e = name_bytes_lack bs (both_true (is_word_byte b) (all_word_bytes bs) h).1 i (omega (arith, lt)) e
 
 name_lacks : (x : List ℕ) → IsTrue (is_name x) → Lacks 61 x
-name_lacks x h = words_lack x (name_words x h)
+name_lacks x h = name_bytes_lack x (name_words x h)
 
 -- a word without `=` is no constant
 pub no_cut : (word : List ℕ) → Lacks 61 word → ReadsConstant word None

@@ -61,8 +61,8 @@ first_of_three false b c e = absurd (true≢false (sym e))
 name_plain : (x : List ℕ) → is_name x ≡ true → is_plain x ≡ true
 name_plain [] e = refl
 name_plain (b ∷ bs) e =
-    let word = both (is_word_byte b) _ (first_of_three (all_word_bytes (b ∷ bs)) (has_letter (b ∷ bs)) _ (both (is_identifier (b ∷ bs)) _ e).0) in
-    plain_first b bs (λ f. true≢false (sym word.0 ∙ ap is_word_byte f))
+    let first = both (is_word_byte b) _ (first_of_three (all_word_bytes (b ∷ bs)) (has_letter (b ∷ bs)) _ (both (is_identifier (b ∷ bs)) _ e).0) in
+    plain_first b bs (λ f. true≢false (sym first.0 ∙ ap is_word_byte f))
 
 constant_plain : (w : List ℕ) (c : Name × Data) → IsConstant w c → is_plain w ≡ true
 constant_plain w c h = ap is_plain h.word_is ∙ plain_front c.0 (61 ∷ h.text) (name_plain c.0 h.named) refl

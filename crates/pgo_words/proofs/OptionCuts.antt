@@ -51,9 +51,6 @@ pub record SoFar (words rest : List (List ℕ)) : Type 0 where
   pub words_are : words ≡ option_words front ++ rest
   pub formed : are_options front ≡ true
 
-pub start : (words : List (List ℕ)) → SoFar words words
-start words = record { front = []; words_are = refl; formed = refl }
-
 words_more : (os : Pairs) (o : List ℕ × List ℕ) (later : List (List ℕ)) → option_words (os ++ o ∷ []) ++ later ≡ option_words os ++ (o.0 ∷ (o.1 ∷ later))
 words_more [] o later = refl
 words_more (d ∷ os) o later = ap (λ ws. d.0 ∷ (d.1 ∷ ws)) (words_more os o later)

@@ -196,23 +196,23 @@ module _ (behind : List (Bor (List ℕ))) (o : Options) (read : ReadsOptions tru
 -- ---- the command
 
 -- the command of a word
-abbrev unword : List ℕ → Option CommandName
-unword word =
+abbrev command_by_word : List ℕ → Option CommandName
+command_by_word word =
     if same_bytes word (codes "compile") then Some names.Compile else if same_bytes word (codes "expand") then Some names.Expand
     else if same_bytes word (codes "step") then Some names.Step else if same_bytes word (codes "run") then Some names.Run
     else if same_bytes word (codes "check") then Some names.Check else if same_bytes word (codes "load") then Some names.Load else None
 
 -- commands have words of their own
-unword_word : (k : CommandName) → unword (word_of k) ≡ Some k
-unword_word names.Compile = refl
-unword_word names.Expand = refl
-unword_word names.Step = refl
-unword_word names.Run = refl
-unword_word names.Check = refl
-unword_word names.Load = refl
+own_word : (k : CommandName) → command_by_word (word_of k) ≡ Some k
+own_word names.Compile = refl
+own_word names.Expand = refl
+own_word names.Step = refl
+own_word names.Run = refl
+own_word names.Check = refl
+own_word names.Load = refl
 
 same_command : (k l : CommandName) → word_of k ≡ word_of l → k ≡ l
-same_command k l e = some (sym (unword_word k) ∙ ap unword e ∙ unword_word l)
+same_command k l e = some (sym (own_word k) ∙ ap command_by_word e ∙ own_word l)
   where
     some : Some k ≡ Some l → k ≡ l
     some e = cc

@@ -3,15 +3,15 @@ ghost use Rattle.std.specs.Prelude.{◌≡◌, ◌||◌, option_map, IfOk};
 ghost use Rattle.pgo_base.specs.Lookup.{Name};
 ghost use Rattle.pgo_base.specs.View.{named_data};
 ghost use Rattle.pgo_model.specs.ValueText.{same_bytes};
-ghost use Rattle.pgo_syntax.specs.NameMaps.{has_name};
+ghost use Rattle.pgo_base.specs.NameMaps.{has_name};
 ghost use Rattle.pgo_words.specs.Constants.{ReadsConstant, ConstantsOnly};
 ghost use Rattle.pgo_words.specs.Parts.{texts};
 
 use crate::cuts::cut;
 use pgo_base::consts::Consts;
+use pgo_base::name_map::NameMap;
 use pgo_base::text::Text;
 use pgo_base::value::Value;
-use pgo_syntax::name_map::NameMap;
 use pgo_text::names::is_name;
 use pgo_value_text::errors::ValueStop;
 use pgo_value_text::read::read_value;
@@ -26,7 +26,7 @@ pub fn read_constants(alloc: Global, words: &[&str]) -> Result<Option<Consts>, A
     for word in words {
         match read_constant(alloc, *word)? {
             Some(constant) => {
-                if is_noted(&names, &constant.0) {
+                if names.contains(&constant.0) {
                     return Ok(None);
                 }
                 note(alloc, &mut names, &constant.0)?;
@@ -55,13 +55,6 @@ fn read_constant(alloc: Global, word: &str) -> Result<Option<(Text, Value)>, All
             }
         }
     }
-}
-
-/// Whether the name is one of these.
-fn is_noted(names: &NameMap<()>, name: &Text) -> bool
-    ensures { result ≡ has_name names.now name.now }
-{
-    names.get(name).is_some()
 }
 
 /// The name is one of these from now on.

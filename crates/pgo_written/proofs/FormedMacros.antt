@@ -25,7 +25,9 @@ use Rattle.pgo_written.specs.FormedCode.{IsShort}
 use Rattle.pgo_written.specs.FormedSpec.{MacroFormed}
 use Rattle.pgo_written.specs.FormedStatements.{Known, OriginFormed, PathFormed, AssignmentsFormed, WithsFormed, in_with, EachTree, StatementFormed, EachFormed, LabeledFormed, GuardedFormed}
 use Rattle.pgo_written.proofs.FormedTrees.{weaker, replaced_formed, range_replaced, bound_name}
-use Rattle.pgo_written.proofs.FormedSections.{one_of, or_second, first_there}
+use Rattle.pgo_agrees.proofs.GoodCode.{first_there}
+use Rattle.pgo_agrees.proofs.Stands.{or_second}
+use Rattle.pgo_written.proofs.FormedSections.{one_of}
 use Rattle.pgo_written.proofs.WrittenNames.{name_text}
 
 -- ---- statements without labels
@@ -168,13 +170,13 @@ module _ (es : Arguments) (ns ms : List Name) (s : Standing es ns ms) where
 
 record WithsPut (es : Arguments) (ns ms : List Name) (ws : List WithName) : Type 0 where
   pub formed : WithsFormed ms (put_names es ws)
-  pub standing : Standing (under_names es ws) (in_with ns ws) (in_with ms (put_names es ws))
+  pub names : Standing (under_names es ws) (in_with ns ws) (in_with ms (put_names es ws))
 
 withs_put : (es : Arguments) (ns ms : List Name) (ws : List WithName) → Standing es ns ms → WithsFormed ns ws → WithsPut es ns ms ws
-withs_put es ns ms [] s h = record { formed = tt; standing = s }
+withs_put es ns ms [] s h = record { formed = tt; names = s }
 withs_put es ns ms (w ∷ ws) s h =
     let r = withs_put (with_marked w es) (w.name.name ∷ ns) (marked w.name.name ∷ ms) ws (standing_more es ns ms w s) h.2 in
-    record { formed = (subst IsShort (sym (unmarked_again w.name.name)) h.0, origin_put es ns ms s w.origin h.1, r.formed); standing = r.standing }
+    record { formed = (subst IsShort (sym (unmarked_again w.name.name)) h.0, origin_put es ns ms s w.origin h.1, r.formed); names = r.names }
 
 -- a body without labels may be put where labels stand
 mutual
@@ -189,7 +191,7 @@ mutual
   put_formed (with_in p ws t) c b es ns ms s g =
       let r = withs_put es ns ms ws s g.0 in
       let further = one_of g.1 (λ h. h.1) (λ h. h) in
-      (r.formed, inr (put_formed t c false (under_names es ws) (in_with ns ws) (in_with ms (put_names es ws)) r.standing further))
+      (r.formed, inr (put_formed t c false (under_names es ws) (in_with ns ws) (in_with ms (put_names es ws)) r.names further))
   put_formed (print_out p e) c b es ns ms s g = tree_put es ns ms s e g
   put_formed (assert_that p e) c b es ns ms s g = tree_put es ns ms s e g
   put_formed (go_to p l) c b es ns ms s g = g

@@ -1,9 +1,9 @@
 -- The code of well-formed statements is well formed, and so are the sections of their labels.
-use Rattle.std.proofs.Common.{◌≡◌, ◌<◌, ℕ, zero, suc, Bool, true, false, ◌||◌, ◌⊎◌, inl, inr, if◌then◌else◌, List, [], ◌∷◌, ◌++◌, map, Option, Some, None, refl, ap, sym, subst, arith}
+use Rattle.std.proofs.Common.{◌≡◌, ◌<◌, ℕ, suc, Bool, true, false, ◌||◌, ◌⊎◌, inl, inr, if◌then◌else◌, List, [], ◌∷◌, ◌++◌, map, Option, Some, None, refl, ap, sym, subst, arith}
 use Rattle.std.specs.List.{AllByRecursion}
 use Rattle.pgo_base.specs.Lookup.{Name, same_name, find}
 use Rattle.pgo_base.specs.Tree.{Tree, name, trees}
-use Rattle.pgo_model.specs.Names.{same_name-self, is_among}
+use Rattle.pgo_model.specs.Names.{is_among}
 use Rattle.pgo_model.specs.Options.{on}
 use Rattle.pgo_model.specs.Written.{done, written}
 use Rattle.pgo_expr_write.specs.WellFormed.{IsName, AreNames}
@@ -20,6 +20,8 @@ use Rattle.pgo_sections.specs.Code.{Place, Whole, variable_of, Code, Empty, Let,
 use Rattle.pgo_meaning.specs.Labels.{own, labelled, within, within_branches, within_arms, within_order}
 use Rattle.pgo_meaning.specs.MacrosPlaced.{unmarked}
 use Rattle.pgo_meaning.specs.Statements.{Setting, Part, Index, Field, part_tree, index_of, label_of, alone, to_variable, assigned, steps, assign_all, assignment_code, bind_name, bind_names, code, branches, arms, in_order}
+use Rattle.pgo_agrees.proofs.GoodCode.{first_there, less_or_same}
+use Rattle.pgo_agrees.proofs.Stands.{Above, or_second}
 use Rattle.pgo_written.specs.Formed.{Formed, AllFormed, SomeFormed, RangeFormed}
 use Rattle.pgo_sections.specs.WellFormed.{KnownIndex}
 use Rattle.pgo_written.specs.FormedCode.{IsShort, IsBase, IsText, Alone, CodeFormed, CodesFormed}
@@ -30,36 +32,16 @@ use Rattle.pgo_written.proofs.WrittenNames.{short_base, base_name, written_base,
 
 -- ---- names that are bound
 
-abbrev Above : List Name → List Name → Type 0
-Above ws us = (x : Name) → is_among x ws ≡ true → is_among x us ≡ true
-
-pub or_second : (a b : Bool) → b ≡ true → a || b ≡ true
-or_second true b h = refl
-or_second false b h = h
-
 above_here : (ws : List Name) → Above ws ws
 above_here ws x h = h
 
 in_front : (y : Name) (ws : List Name) → Above ws (y ∷ ws)
 in_front y ws x h = or_second (same_name x y) (is_among x ws) h
 
-pub first_there : (y : Name) (ws : List Name) → is_among y (y ∷ ws) ≡ true
-first_there y ws = ap (λ b. b || is_among y ws) (same_name-self y)
-
 alone_more : (ps : List (Name × Place)) (ws us : List Name) (x : Name) → Above ws us → Alone ps ws x → Alone ps us x
 alone_more ps ws us x a (inl n) = inl n
 alone_more ps ws us x a (inr (inl h)) = inr (inl (a x h))
 alone_more ps ws us x a (inr (inr p)) = inr (inr p)
-
-less_or_same : (i j : ℕ) → i < suc j → (i < j) ⊎ (i ≡ j)
-less_or_same zero zero h = inr refl
-less_or_same zero (suc j) h = inl (omega arith)
-less_or_same (suc i) zero h = absurd (omega (arith, h))
-less_or_same (suc i) (suc j) h = go (less_or_same i j (omega (arith, h)))
-  where
-    go : (i < j) ⊎ (i ≡ j) → (suc i < suc j) ⊎ (suc i ≡ suc j)
-    go (inl l) = inl (omega (arith, l))
-    go (inr e) = inr (ap suc e)
 
 pub one_of : {A B C : Type 0} → A ⊎ B → (A → C) → (B → C) → C
 one_of (inl a) f g = f a

@@ -28,11 +28,12 @@ use Rattle.pgo_syntax.specs.declared.binding.Origin.{Origin}
 use Rattle.pgo_syntax.specs.declared.binding.WithName.{WithName}
 use Rattle.pgo_syntax.specs.declared.name.PlacedName.{PlacedName}
 use Rattle.pgo_meaning.specs.MacrosPlaced.{unmarked}
+use Rattle.pgo_agrees.proofs.SpokenStatements.{Quiet}
+use Rattle.pgo_agrees.proofs.Stands.{or_second}
 use Rattle.pgo_written.specs.Formed.{Formed, RangeFormed}
 use Rattle.pgo_written.specs.FormedCode.{IsShort}
 use Rattle.pgo_written.specs.FormedStatements.{Known, OriginFormed, PathFormed, AssignmentsFormed, WithsFormed, in_with, EachTree, AreIdentifiers, StatementFormed, EachFormed, LabeledFormed, GuardedFormed}
-use Rattle.pgo_written.proofs.FormedText.{Quiet, AllTold, formed, formed_range}
-use Rattle.pgo_written.proofs.FormedSections.{or_second}
+use Rattle.pgo_written.proofs.FormedText.{AllTold, formed, formed_range}
 use Rattle.pgo_written.proofs.WrittenNames.{identifier_parts, short_name, name_text}
 
 -- ---- tokens

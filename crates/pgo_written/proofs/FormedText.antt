@@ -1,5 +1,5 @@
 -- Expressions that tokens spell are well formed, where `$variable` and `$value` may stand in them.
-use Rattle.std.proofs.Common.{◌≡◌, Bool, true, false, ◌⊎◌, inl, inr, List, [], ◌∷◌, ◌++◌, refl}
+use Rattle.std.proofs.Common.{◌≡◌, Bool, true, ◌⊎◌, inl, inr, List, [], ◌∷◌, ◌++◌, refl}
 use Rattle.pgo_base.specs.Lookup.{Name}
 use Rattle.pgo_base.specs.Tree.{Tree, Trees, no_trees, more_trees, trees, named, arms, bound, paths}
 use Rattle.pgo_base.specs.Tree as e
@@ -16,18 +16,14 @@ use Rattle.pgo_expr_read.specs.Kinds as kind
 use Rattle.pgo_expr_read.specs.Kinds.{Kind, Thing, between}
 use Rattle.pgo_expr_read.specs.Spells.{Spelled, Range, Item, Behind, Items, names, more_names, applied, extended, product_of_two, appended, joined, infix_of}
 use Rattle.pgo_expr_read.specs.Spells as s
-use Rattle.pgo_mpcal_read.specs.Units.{is_plain}
 use Rattle.pgo_sections.specs.Code.{content_name, value_name}
 use Rattle.pgo_expr_write.specs.WellFormed.{IsName, AreNames, AreSomeNames, is_word}
 use Rattle.pgo_expr_write.proofs.Formed.{Told}
+use Rattle.pgo_agrees.proofs.SpokenStatements.{Quiet}
 use Rattle.pgo_written.specs.Formed.{Formed, AllFormed, SomeFormed, TwoFormed, NamedFormed, SomeNamedFormed, ArmsFormed, SomeArmsFormed, BoundFormed, SomeBoundFormed, PathsFormed, SomePathsFormed}
 use Rattle.pgo_written.proofs.WrittenNames.{name_text}
 
 -- m: whether `yield`, `$variable` and `$value` may stand there
-abbrev pub Quiet : Bool → Token → Type 0
-Quiet true k = Unit {0}
-Quiet false k = is_plain k ≡ true
-
 abbrev pub AllTold : Bool → List Token → Type 0
 AllTold m [] = Unit {0}
 AllTold m (k ∷ ks) = Told k × Quiet m k × AllTold m ks

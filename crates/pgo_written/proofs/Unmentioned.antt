@@ -1,5 +1,5 @@
 -- What does not name `$value` is well formed without it.
-use Rattle.std.proofs.Common.{◌≡◌, Bool, true, false, not, ◌&&◌, ◌||◌, ◌⊎◌, inl, inr, List, [], ◌∷◌, ◌++◌, map, codes, None, refl, ap, subst}
+use Rattle.std.proofs.Common.{◌≡◌, Bool, true, false, not, ◌&&◌, ◌||◌, ◌⊎◌, inl, inr, List, [], ◌∷◌, ◌++◌, map, codes, None, refl, subst}
 use Rattle.std.specs.Prelude.{flat_map}
 use Rattle.std.proofs.lemmas.Bool.{and_parts}
 use Rattle.pgo_base.specs.Lookup.{Name, same_name}
@@ -21,6 +21,7 @@ use Rattle.pgo_bound.specs.Among.{IsAmong, among_left, among_right, among_append
 use Rattle.pgo_model.specs.Names.{is_among}
 use Rattle.pgo_sections.specs.Code.{content_name, value_name}
 use Rattle.pgo_expr_write.specs.WellFormed.{IsName}
+use Rattle.pgo_agrees.proofs.Unlabelled.{with_inside_is}
 use Rattle.pgo_written.specs.Formed.{Formed, AllFormed, SomeFormed, TwoFormed, NamedFormed, SomeNamedFormed, ArmsFormed, SomeArmsFormed, BoundFormed, SomeBoundFormed, PathsFormed, SomePathsFormed, RangeFormed}
 use Rattle.pgo_written.specs.FormedStatements.{Known, OriginFormed, PathFormed, AssignmentsFormed, WithsFormed, in_with, EachTree, CallFormed, StatementFormed, EachFormed, LabeledFormed, GuardedFormed}
 use Rattle.pgo_written.proofs.FormedTrees.{either_way}
@@ -257,10 +258,6 @@ mutual
       (expression_less ns ms f e (g e (inl refl)) h.0, statement_less t c b ns ms f (own_none (None, t) (inside t ++ inside_guarded bs) k) (none_front (inside t) (inside_guarded bs) r) h.1, guarded_less bs c b ns ms f (λ d m. g d (inr m)) (none_behind (inside t) (inside_guarded bs) r) h.2)
 
 -- ---- the `read` of a mapping macro
-
-with_inside_is : (is : List Item) → with_inside is ≡ inside_labeled (labeled is)
-with_inside_is [] = refl
-with_inside_is (i ∷ is) = ap (λ js. (i.0, i.1) ∷ (inside i.1 ++ js)) (with_inside_is is)
 
 not_true : (b : Bool) → not b ≡ true → b ≡ false
 not_true true h = absurd (cc)

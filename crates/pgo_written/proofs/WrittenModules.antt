@@ -25,10 +25,11 @@ use Rattle.pgo_meaning.specs.LabelSections.{AreUnlabelled}
 use Rattle.pgo_mpcal_read.specs.Texts.{SpellsSpec}
 use Rattle.pgo_module_spells.specs.Parts.{HasProcesses}
 use Rattle.pgo_module_spells.specs.Written.{IsWrittenDefinition, IsWrittenAction, IsWrittenProcess, IsWritten}
+use Rattle.pgo_accept.proofs.Unlabelled.{macros_unlabelled}
 use Rattle.pgo_accept.proofs.Accepted.{accepted_well_named}
 use Rattle.pgo_accept.specs.Answers.{NothingRefuses}
 use Rattle.pgo_agrees.proofs.Kept.{NoLabelFindings, no_label_findings}
-use Rattle.pgo_agrees.proofs.Unlabelled.{are_unlabelled, none_is_done}
+use Rattle.pgo_agrees.proofs.Unlabelled.{none_is_done}
 use Rattle.pgo_translate.specs.ModuleOf.{module_of}
 use Rattle.pgo_written.specs.FormedModule.{DefinedFormed, ActionFormed, WrittenFormed, ModuleFormed}
 use Rattle.pgo_written.specs.FormedSpec.{ProcessFormed, SpecFormed}
@@ -94,7 +95,7 @@ module _ (text : List ℕ) (s : Spec) (consts : List (Name × Data)) (spells : S
   labels = no_label_findings s h.labels
 
   unlabelled : AreUnlabelled s.macros
-  unlabelled = are_unlabelled s.macros labels.macros
+  unlabelled = macros_unlabelled s.macros labels.macros
 
   all_yield : AllYield s.mappings
   all_yield = yields s.mappings labels.yields

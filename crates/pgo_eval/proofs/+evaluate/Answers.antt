@@ -1,5 +1,6 @@
 use Rattle.std.proofs.Common.{◌≡◌, ◌≤◌, ◌+◌, [], map, length, arith, sym, ap, subst, ◌∙◌, ◌++◌, drop, refl}
 use Rattle.std.proofs.lemmas.Bool.Decides.{nat_tests}
+use Rattle.std.proofs.lemmas.List.{length-map}
 use Rattle.std.specs.Prelude.{Bool, true, false, Some, None, Option, option_map, option_and_then, IfOk, if◌then◌else◌, not, nat_lt}
 use Rattle.pgo_base.specs.BindingsView.{onto, named_view}
 use Rattle.pgo_base.specs.Data.{Data}
@@ -12,7 +13,7 @@ use Rattle.pgo_model.specs.Operators.{members_of, most_members, truth_of, put_at
 use Rattle.pgo_model.specs.Val.{values_of, val, sem, plain, unary_sem, binary_sem, case_value, let_scope, with_names, ranges, over_each, updated, with_part}
 use Rattle.pgo_eval.specs.HeldView.{held_data, sem_of}
 use Rattle.pgo_eval.specs.Decided.{is_membership}
-use Rattle.pgo_eval.specs.ScopeView.{scope_view}
+use Rattle.pgo_eval.specs.ScopeView.{scope_view, next_view}
 use Rattle.pgo_eval.proofs.Operands.{unary_values, binary_values, membership_holds}
 use Rattle.pgo_eval.proofs.Walks.{arms_done, let_more, several, assert_two, assert_other}
 use Rattle.pgo_eval.specs.Choices.{over_bound, AreAt, join, over_choices, still_left, sets_of}
@@ -331,3 +332,10 @@ evaluate::evaluated-returns-in-Record t c = rw c.in-Record.is (c.plainly-in-Reco
 
 pub evaluate::evaluated-returns-in-Unchanged : goal.evaluate::evaluated-returns-in-Unchanged
 evaluate::evaluated-returns-in-Unchanged t c = rw c.in-Unchanged.is (c.owning-in-Unchanged.ensures _ (rw c.as_slice-in-Unchanged.ensures at c.unchanged_value.ensures))
+
+pub names::applied-returns-in_default : goal.names::applied-returns-in_default
+names::applied-returns-in_default t c =
+    let s = c.args.s.now in
+    let args = map data_of c.args.args.items in
+    subst (λ v. IfOk c.default_value.result (λ o. option_map held_data o ≡ v)) (sym (c.in_default.ensures args s.state.now (next_view s)))
+    (c.default_value.ensures args (omega (arith, c.len.ensures, length-map c.args.args.items data_of)))

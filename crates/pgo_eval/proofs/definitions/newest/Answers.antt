@@ -1,16 +1,20 @@
-use Rattle.std.proofs.Common.{◌≡◌, true, false, ap, sym, ◌∙◌}
-use Rattle.pgo_base.specs.Lookup.{same_name}
-use Rattle.pgo_model.specs.ModuleView.{defined_view}
-use Rattle.pgo_eval.specs.Newest.{name_of}
-use Rattle.pgo_eval.proofs.NewestFound.{reaches_before, newest_found}
+use Rattle.std.proofs.Common.{◌≡◌, get_or, ap, ◌∙◌, arith}
+use Rattle.std.specs.Prelude.{Some, None}
+use Rattle.pgo_base.specs.LastPlace.{defined_name, last_place}
+use Rattle.pgo_base.specs.declared.module.Defined.{Defined}
+use Rattle.std.proofs.Common.{List, take, length}
+use Rattle.pgo_eval.proofs.NewestFound.{newest_at, is_in, none_found}
 use Rattle.pgo_eval.proofs.definitions.newest.Goals as goal
 
-pub returns-then-is : goal.returns-then-is
-returns-then-is c =
-    let same : same_name c.args.x.now (name_of (defined_view c.in-Some.definition.now)) ≡ true = ap (same_name c.args.x.now) (sym c.name_of.ensures) ∙ sym c.is.ensures ∙ c.if-is.true in
-    newest_found c.args.x.now c.args.defs.now c.loop-definition.left.now c.in-Some.before.now c.in-Some.definition.now c.in-Some.ensures.cases.0 same c.loop-definition.invariant
+pub returns-in-Some-get : goal.returns-in-Some-get
+returns-in-Some-get c =
+    let d = c.in-Some-get.definition.now in
+    newest_at c.args.x.now c.args.defs.now c.args.count c.in-Some.before d c.in-Some.ensures
+    (c.in-Some-get.ensures.lookup.1 ∙ ap (λ (ds : List Defined). get_or ds c.in-Some.before d) c.as_slice.ensures)
 
-pub loop-definition-preserved : goal.loop-definition-preserved
-loop-definition-preserved c =
-    let other : same_name c.args.x.now (name_of (defined_view c.in-Some.definition.now)) ≡ false = ap (same_name c.args.x.now) (sym c.name_of.ensures) ∙ sym c.is.ensures ∙ c.if-is.false in
-    reaches_before c.args.x.now c.args.defs.now c.loop-definition.left.now c.in-Some.before.now c.in-Some.definition.now c.in-Some.ensures.cases.0 other c.loop-definition.invariant
+pub returns-in-None-get : goal.returns-in-None-get
+returns-in-None-get c =
+    absurd (omega (arith, is_in c.args.x.now c.args.defs.now c.args.count c.in-Some.before c.in-Some.ensures, c.in-None-get.ensures.lookup.3, ap (λ (ds : List Defined). length ds) c.as_slice.ensures))
+
+pub returns-in-None : goal.returns-in-None
+returns-in-None c = none_found c.args.x.now (take c.args.count c.args.defs.now) c.in-None.ensures

@@ -1,7 +1,8 @@
 use Rattle.std.proofs.Common.{subst, ◌∙◌}
 use Rattle.pgo_io.specs.Sink.{Grows, GrowsByPrefix}
 use Rattle.pgo_model.specs.ModuleText.{flatten}
-use Rattle.pgo_front.proofs.LinesWritten.{line_written, prefix_written, on_err}
+use Rattle.pgo_base.proofs.Inserting.{on_err}
+use Rattle.pgo_front.proofs.LinesWritten.{line_written, prefix_written}
 use Rattle.pgo_front.proofs.command.write_lines.Goals as goal
 
 pub returns-in_err-write_all-clause-prefix : goal.returns-in_err-write_all-clause-prefix

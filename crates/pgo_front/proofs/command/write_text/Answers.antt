@@ -1,5 +1,5 @@
 use Rattle.std.proofs.Common.{arith, length-drop, ◌∙◌}
-use Rattle.pgo_front.proofs.LinesWritten.{on_err}
+use Rattle.pgo_base.proofs.Inserting.{on_err}
 use Rattle.pgo_front.proofs.PiecesWritten.{piece_written, piece_in_part}
 use Rattle.pgo_front.proofs.command.write_text.Goals as goal
 

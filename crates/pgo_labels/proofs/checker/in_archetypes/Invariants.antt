@@ -2,7 +2,7 @@
 use Rattle.std.proofs.Common.{◌≡◌, drop}
 use Rattle.std.specs.Prelude.{flat_map}
 use Rattle.pgo_labels.specs.Rules.{in_archetype}
-use Rattle.pgo_labels.specs.Least.{sooner_of, least}
+use Rattle.pgo_syntax.specs.Least.{sooner_of, least}
 use Rattle.pgo_labels.proofs.checker.in_archetypes.Given as goal
 
 abbrev pub invariant-loop-a : goal.invariant-loop-a

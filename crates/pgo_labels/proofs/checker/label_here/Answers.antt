@@ -1,7 +1,7 @@
 use Rattle.std.proofs.Common.{◌∙◌, ap}
 use Rattle.std.specs.Prelude.{flat_map}
 use Rattle.pgo_labels.specs.declared.finding.Finding.{Finding}
-use Rattle.pgo_labels.specs.Least.{least}
+use Rattle.pgo_syntax.specs.Least.{least}
 use Rattle.pgo_labels.specs.LabelHere.{label_in_with, label_in_macro, label_in_mapping}
 use Rattle.pgo_labels.proofs.Walks.{three}
 use Rattle.pgo_labels.proofs.checker.label_here.Goals as goal

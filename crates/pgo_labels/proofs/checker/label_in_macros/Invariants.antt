@@ -2,7 +2,7 @@
 use Rattle.std.proofs.Common.{◌≡◌, drop}
 use Rattle.std.specs.Prelude.{flat_map}
 use Rattle.pgo_labels.specs.LabelHere.{label_in_macro}
-use Rattle.pgo_labels.specs.Least.{sooner_of, least}
+use Rattle.pgo_syntax.specs.Least.{sooner_of, least}
 use Rattle.pgo_labels.proofs.checker.label_in_macros.Given as goal
 
 abbrev pub invariant-loop-m : goal.invariant-loop-m

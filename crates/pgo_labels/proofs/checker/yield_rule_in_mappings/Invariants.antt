@@ -2,7 +2,7 @@
 use Rattle.std.proofs.Common.{◌≡◌, drop}
 use Rattle.std.specs.Prelude.{flat_map}
 use Rattle.pgo_labels.specs.YieldRule.{yield_rule}
-use Rattle.pgo_labels.specs.Least.{sooner_of, least}
+use Rattle.pgo_syntax.specs.Least.{sooner_of, least}
 use Rattle.pgo_labels.proofs.checker.yield_rule_in_mappings.Given as goal
 
 abbrev pub invariant-loop-m : goal.invariant-loop-m

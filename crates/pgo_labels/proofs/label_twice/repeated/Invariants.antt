@@ -2,7 +2,7 @@
 use Rattle.std.proofs.Common.{◌≡◌, ◌++◌, List, [], drop}
 use Rattle.pgo_base.specs.Lookup.{Name}
 use Rattle.pgo_model.specs.Names.{is_among}
-use Rattle.pgo_syntax.specs.NameMaps.{has_name}
+use Rattle.pgo_base.specs.NameMaps.{has_name}
 use Rattle.pgo_labels.specs.Lent.{lent}
 use Rattle.pgo_labels.specs.LabelTwice as spec
 use Rattle.pgo_labels.proofs.label_twice.repeated.Given as goal

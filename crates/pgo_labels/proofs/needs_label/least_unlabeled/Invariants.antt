@@ -1,7 +1,7 @@
 -- The sooner of what is found and what is left is the least of all.
 use Rattle.std.proofs.Common.{◌≡◌, map, drop}
 use Rattle.pgo_labels.specs.NeedsLabel as spec
-use Rattle.pgo_labels.specs.Least.{sooner_of, least}
+use Rattle.pgo_syntax.specs.Least.{sooner_of, least}
 use Rattle.pgo_labels.specs.Parts.{see}
 use Rattle.pgo_labels.proofs.needs_label.least_unlabeled.Given as goal
 

@@ -3,7 +3,7 @@ use Rattle.std.proofs.Common.{◌≡◌, map, drop}
 use Rattle.std.specs.Prelude.{◌||◌}
 use Rattle.pgo_base.specs.Lookup.{Name}
 use Rattle.pgo_model.specs.Names.{is_among}
-use Rattle.pgo_syntax.specs.NameMaps.{has_name}
+use Rattle.pgo_base.specs.NameMaps.{has_name}
 use Rattle.pgo_labels.specs.Lent.{lent}
 use Rattle.pgo_labels.proofs.unknown_label.set_of.Given as goal
 

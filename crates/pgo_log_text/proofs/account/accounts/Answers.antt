@@ -4,7 +4,8 @@ use Rattle.std.proofs.lemmas.Grind.{common_steps}
 use Rattle.std.specs.Prelude.{codes}
 use Rattle.pgo_base.specs.View.{data_of}
 use Rattle.pgo_log_text.specs.Lines.{account, most_parts}
-use Rattle.pgo_log_text.proofs.Turns.{all_read, too_many, part_turn, seen_more}
+use Rattle.pgo_value_text.proofs.Turns.{seen_more}
+use Rattle.pgo_log_text.proofs.Turns.{all_read, too_many, part_turn}
 use Rattle.pgo_log_text.proofs.account.accounts.Goals as goal
 
 pub returns-then-count : goal.returns-then-count

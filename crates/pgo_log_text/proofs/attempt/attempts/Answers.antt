@@ -2,7 +2,7 @@
 use Rattle.std.proofs.Common.{rules, arith, ◌+◌}
 use Rattle.std.proofs.lemmas.Grind.{common_steps}
 use Rattle.pgo_log_text.specs.Lines.{attempts}
-use Rattle.pgo_log_text.proofs.Turns.{one_more, no_more}
+use Rattle.pgo_lexer.proofs.Turns.{one_more, no_more}
 use Rattle.pgo_log_text.proofs.attempt.attempts.Goals as goal
 
 pub returns-in_err-attempt_line : goal.returns-in_err-attempt_line

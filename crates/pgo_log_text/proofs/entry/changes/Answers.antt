@@ -3,7 +3,8 @@ use Rattle.std.proofs.Common.{rules, arith, map}
 use Rattle.std.proofs.lemmas.Grind.{common_steps}
 use Rattle.pgo_model.specs.LogView.{change_view}
 use Rattle.pgo_log_text.specs.Lines.{changes}
-use Rattle.pgo_log_text.proofs.Turns.{one_more, no_more, seen_more}
+use Rattle.pgo_value_text.proofs.Turns.{seen_more}
+use Rattle.pgo_lexer.proofs.Turns.{one_more, no_more}
 use Rattle.pgo_log_text.proofs.entry.changes.Goals as goal
 
 pub returns-in_err-change : goal.returns-in_err-change

@@ -3,7 +3,8 @@ use Rattle.std.proofs.Common.{rules, arith, map}
 use Rattle.std.proofs.lemmas.Grind.{common_steps}
 use Rattle.pgo_base.specs.View.{named_data}
 use Rattle.pgo_log_text.specs.Lines.{start}
-use Rattle.pgo_log_text.proofs.Turns.{start_turn, seen_more}
+use Rattle.pgo_value_text.proofs.Turns.{seen_more}
+use Rattle.pgo_log_text.proofs.Turns.{start_turn}
 use Rattle.pgo_log_text.proofs.lines.start.Goals as goal
 
 pub returns-in_err-value : goal.returns-in_err-value

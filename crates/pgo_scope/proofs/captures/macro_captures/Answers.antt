@@ -1,10 +1,14 @@
+use Rattle.std.proofs.Common.{◌≡◌, false, ◌∙◌}
+use Rattle.pgo_base.specs.Lookup.{Name}
 use Rattle.pgo_uses.specs.AllUses.{names_of}
-use Rattle.pgo_scope.specs.Forbidden.{is_forbidden}
-use Rattle.pgo_scope.specs.CaptureView.{see_captures}
-use Rattle.pgo_scope.proofs.ForbiddenLaws.{parameters_are}
+use Rattle.pgo_scope.specs.Binders.{some_binds, see_captures}
+use Rattle.pgo_scope.specs.Twice.{is_bound_in}
+use Rattle.pgo_scope.proofs.CaptureLaws.{parameters_are}
 use Rattle.pgo_scope.proofs.captures.macro_captures.Goals as goal
 
 pub returns : goal.returns
 returns c =
-    let made = parameters_are (see_captures c.args.table.now) c.args.uses.now c.in_ok-bound.bound (is_forbidden c.in_ok-found.found) c.in_ok-bound.ensures c.in_ok-found.ensures (names_of c.args.params.now) c.in_ok-handed.handed.items c.in_ok-handed.ensures in
-    λ i. (made i, c.in_ok-bound.ensures i)
+    let b = c.args.table.now.binders.now in
+    let own : (x : Name) → some_binds b c.in_ok-own.own x ≡ is_bound_in false c.args.uses.now x = λ x. c.in_ok-own.ensures b x (c.requires x) in
+    let made = c.in_ok-handed.ensures b ∙ parameters_are (see_captures c.args.table.now) c.args.uses.now b c.in_ok-found.found c.in_ok-own.own own c.in_ok-found.ensures (names_of c.args.params.now) in
+    λ i. (made i, λ x. own x i)

@@ -1,7 +1,8 @@
--- What the loop keeps: the first so far and those that are left decide as all do.
+-- What the loop keeps: the sooner of the first so far and of those that are left is the first of all.
 use Rattle.std.proofs.Common.{◌≡◌}
-use Rattle.pgo_scope.specs.Findings.{first_of_all}
+use Rattle.pgo_syntax.specs.Least.{sooner_of, least}
 use Rattle.pgo_scope.proofs.finding.earliest.Given as goal
 
 abbrev pub invariant-loop-f : goal.invariant-loop-f
-invariant-loop-f l = first_of_all l.first l.f-iterator.rest.items ≡ first_of_all l.initial.first l.initial.f-iterator.rest.items
+invariant-loop-f l =
+    sooner_of (λ f. f.place) l.first (least (λ f. f.place) l.f-iterator.rest.items) ≡ least (λ f. f.place) l.initial.f-iterator.rest.items

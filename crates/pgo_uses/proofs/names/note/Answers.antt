@@ -1,7 +1,7 @@
 use Rattle.std.proofs.Common.{◌≡◌, ℕ, false, Vec, Global, ap, sym, ◌∙◌}
 use Rattle.std.specs.Prelude.{is_some}
 use Rattle.pgo_base.specs.Lookup.{Name}
-use Rattle.pgo_syntax.specs.NameMaps.{found_in}
+use Rattle.pgo_base.specs.NameMaps.{found_in}
 use Rattle.pgo_uses.proofs.Indexing.{noted_in}
 use Rattle.pgo_uses.proofs.names.note.Goals as goal
 use Rattle.pgo_uses.proofs.names.note.Goals.{in-Ok, in-Err}

@@ -18,8 +18,8 @@ returns-in-None c =
     let none = subst (λ o. ReadsConstant item (option_map named_data o)) c.in-None.is c.in_ok-constant.ensures in
     rest_none words read item (texts (drop (i + 1) c.args.words.now)) (subst (ReadsRest words read) at c.loop-word.invariant.0) none
 
-pub returns-then-is_noted : goal.returns-then-is_noted
-returns-then-is_noted c =
+pub returns-then-contains : goal.returns-then-contains
+returns-then-contains c =
     let words = texts c.args.words.now in
     let i = c.loop-word.word-index in
     let item = (get_or c.args.words.now i nothing).now in
@@ -28,7 +28,7 @@ returns-then-is_noted c =
     let constant = named_data c.in-Some.constant in
     let one = subst (λ o. ReadsConstant item (option_map named_data o)) c.in-Some.is c.in_ok-constant.ensures in
     let again : has_name constant.0 read ≡ true
-    = sym (c.loop-word.invariant.1 constant.0) ∙ sym c.is_noted.ensures ∙ c.if-is_noted.true
+    = sym (c.loop-word.invariant.1 constant.0) ∙ sym c.contains.ensures ∙ c.if-contains.true
     in
     rest_twice words read item (texts (drop (i + 1) c.args.words.now)) constant (subst (ReadsRest words read) at c.loop-word.invariant.0) one again
 
@@ -43,7 +43,7 @@ loop-word-preserved c =
     let constant = named_data c.in-Some.constant in
     let one = subst (λ o. ReadsConstant item (option_map named_data o)) c.in-Some.is c.in_ok-constant.ensures in
     let fresh : has_name constant.0 read ≡ false
-    = sym (c.loop-word.invariant.1 constant.0) ∙ sym c.is_noted.ensures ∙ c.if-is_noted.false
+    = sym (c.loop-word.invariant.1 constant.0) ∙ sym c.contains.ensures ∙ c.if-contains.false
     in
     let more : map named_data c.push.new.self.items ≡ read ++ constant ∷ []
     = ap (map named_data) c.in_ok-push-in-Some.ensures.items ∙ map-append named_data list (c.in-Some.constant ∷ [])

@@ -2,7 +2,7 @@
 use Rattle.std.proofs.Common.{◌≡◌, map, drop}
 use Rattle.pgo_base.specs.Lookup.{Name}
 use Rattle.pgo_base.specs.View.{named_data}
-use Rattle.pgo_syntax.specs.NameMaps as maps
+use Rattle.pgo_base.specs.NameMaps as maps
 use Rattle.pgo_words.specs.Constants.{ReadsRest, has_name}
 use Rattle.pgo_words.specs.Parts.{texts}
 use Rattle.pgo_words.proofs.constants.read_constants.Given as goal

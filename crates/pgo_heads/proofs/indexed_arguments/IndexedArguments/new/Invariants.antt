@@ -10,5 +10,5 @@ use Rattle.pgo_heads.proofs.indexed_arguments.IndexedArguments.new.Given as goal
 abbrev pub invariant-loop-h : goal.invariant-loop-h
 invariant-loop-h l =
     ((n : Name) → has_name l.globals n || has_ref_to n (map handed_view (drop l.h-index l.list)) ≡ has_ref_to n (map handed_view l.list))
-    × ((k : ℕ) → has_number_in l.globals_at.map k || has_ref_at k (map handed_view (drop l.h-index l.list)) ≡ has_ref_at k (map handed_view l.list))
-    × ((k : ℕ) → has_number_in l.numbers.map k || has_number k (map handed_view (drop l.h-index l.list)) ≡ has_number k (map handed_view l.list))
+    × ((k : ℕ) → has_number_in l.globals_at k || has_ref_at k (map handed_view (drop l.h-index l.list)) ≡ has_ref_at k (map handed_view l.list))
+    × ((k : ℕ) → has_number_in l.numbers k || has_number k (map handed_view (drop l.h-index l.list)) ≡ has_number k (map handed_view l.list))

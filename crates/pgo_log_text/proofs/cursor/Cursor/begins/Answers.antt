@@ -1,7 +1,7 @@
 -- The library's test is the function.
 use Rattle.std.proofs.Common.{◌≡◌, ap, ◌∙◌}
 use Rattle.pgo_log_text.specs.Bytes.{begins}
-use Rattle.pgo_log_text.proofs.BytesRuns.{starts_so}
+use Rattle.pgo_value_text.proofs.Runs.{starts_so}
 use Rattle.pgo_log_text.proofs.cursor.Cursor.begins.Goals as goal
 
 pub returns : goal.returns

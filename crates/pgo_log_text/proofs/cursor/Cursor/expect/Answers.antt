@@ -1,7 +1,7 @@
 -- What the library strips is what the function takes.
 use Rattle.std.proofs.Common.{◌≡◌, sym, ap, ◌∙◌}
 use Rattle.pgo_log_text.specs.Bytes.{expect}
-use Rattle.pgo_log_text.proofs.BytesRuns.{stripped, not_stripped}
+use Rattle.pgo_value_text.proofs.Runs.{stripped, not_stripped}
 use Rattle.pgo_log_text.proofs.cursor.Cursor.expect.Goals as goal
 
 pub returns-in-Some : goal.returns-in-Some

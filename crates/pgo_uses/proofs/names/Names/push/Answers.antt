@@ -1,6 +1,6 @@
 use Rattle.std.proofs.Common.{◌≡◌, ℕ, [], ◌∷◌, ◌++◌, length, Vec, Global, ap, sym, ◌∙◌, subst}
 use Rattle.pgo_base.specs.Lookup.{Name}
-use Rattle.pgo_syntax.specs.NameMaps.{found_in}
+use Rattle.pgo_base.specs.NameMaps.{found_in}
 use Rattle.pgo_uses.specs.Indexed.{after_note, IsIndexed}
 use Rattle.pgo_uses.proofs.Indexing.{more_indexed}
 use Rattle.pgo_uses.proofs.names.Names.push.Goals as goal

@@ -1,7 +1,0 @@
-use Rattle.std.proofs.Common.{map, drop}
-use Rattle.pgo_base.specs.View.{named_data}
-use Rattle.pgo_model.specs.State.{AllValues}
-use Rattle.pgo_heads.proofs.known.known_vars.Given as goal
-
-abbrev pub invariant-loop-p : goal.invariant-loop-p
-invariant-loop-p l = AllValues (map named_data (drop l.p-index l.list)) → AllValues (map named_data l.list)

@@ -1,7 +1,0 @@
-use Rattle.std.proofs.Common.{refl}
-use Rattle.pgo_syntax.specs.NameMaps.{found}
-use Rattle.pgo_syntax.proofs.name_map.NameMap.new.Goals as goal
-
-pub returns : goal.returns
-unfolding found
-returns g c = λ n. rw c.new.ensures.empty refl
