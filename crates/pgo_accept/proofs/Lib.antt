@@ -5,6 +5,7 @@ pub mod Fitting
 pub mod Heads
 pub mod Refused
 mod Rows
+pub mod TextValues
 pub mod Unbroken
 pub mod Unlabelled
 pub mod Variables

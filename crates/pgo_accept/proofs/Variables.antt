@@ -27,7 +27,7 @@ use Rattle.pgo_accept.proofs.Fitting.{Fits, ArgumentsFit, is_stray}
 
 -- ---- globals and fixed names
 
-fixed_written : (x : Name) (ns : List Name) → writes x (fixed_module_names ns) ≡ times x ns
+pub fixed_written : (x : Name) (ns : List Name) → writes x (fixed_module_names ns) ≡ times x ns
 fixed_written x [] = refl
 fixed_written x (n ∷ ns) = ap (λ k. one_if (same_name x n) + k) (fixed_written x ns)
 

@@ -1,7 +1,7 @@
 -- What an instance's code uses: places of its process, and mapped parameters of globals that the instance is bound to.
-use Rattle.std.proofs.Common.{◌≡◌, ℕ, Bool, true, false, ◌||◌, ◌&&◌, if◌then◌else◌, List, [], ◌∷◌, ◌++◌, Option, Some, None, inl, inr, refl, sym, ap, ◌∙◌, subst, arith}
+use Rattle.std.proofs.Common.{◌≡◌, ℕ, Bool, true, false, ◌||◌, ◌&&◌, if◌then◌else◌, List, [], ◌∷◌, ◌++◌, Option, Some, inl, inr, refl, ap, ◌∙◌, arith}
 use Rattle.std.specs.List.{cons_option, filter_map}
-use Rattle.pgo_base.specs.Data.{Data}
+use Rattle.std.proofs.lemmas.Bool.{and_parts}
 use Rattle.pgo_base.specs.Lookup.{Name, same_name, find}
 use Rattle.pgo_model.specs.Core.{number_among, same_index}
 use Rattle.pgo_model.specs.Names.{same_name-self, same_name-is, is_among}
@@ -9,98 +9,18 @@ use Rattle.pgo_model.specs.System.{Resource, Touched}
 use Rattle.pgo_syntax.specs.declared.bound.Binding.{Binding}
 use Rattle.pgo_syntax.specs.declared.bound.Bound.{Bound}
 use Rattle.pgo_syntax.specs.declared.bound.Instance.{Instance}
-use Rattle.pgo_syntax.specs.declared.bound.Target.{Target}
-use Rattle.pgo_syntax.specs.declared.bound.Target.TheVariants as targets
 use Rattle.pgo_syntax.specs.declared.declaration.Declaration.{Declaration}
 use Rattle.pgo_bound.specs.Among.{IsAmong}
-use Rattle.pgo_bound.specs.Lookups.{same_itself}
-use Rattle.pgo_sections.specs.Access.{Mapped}
 use Rattle.pgo_sections.specs.Code.{Place, Whole, Own, Code, Empty, Skip, Let, Pick, Become, Set, Await, Assert, Print, If, Either, Seq, Goto, Yield, Read, Write, Codes, no_codes, more_codes}
 use Rattle.pgo_sections.specs.Domains.{Uses, AllUse}
-use Rattle.pgo_meaning.specs.Parameters.{mapped_of, all_mapped, place_of, parameter_places, local_places, places_of, own_name, setting_of}
-use Rattle.pgo_meaning.specs.System.{global_in, globals_in}
+use Rattle.pgo_meaning.specs.Parameters.{parameter_places, local_places, places_of, own_name, setting_of}
+use Rattle.pgo_meaning.specs.System.{globals_in}
 use Rattle.pgo_meaning.specs.TreesAgree.{sections_at}
 use Rattle.pgo_meaning.proofs.SectionCode.{Holds, section_good}
-use Rattle.pgo_meaning.proofs.Traces.{no_local}
-use Rattle.pgo_workers.proofs.Components.{index_is, and_parts}
-
-or_right : (b c : Bool) → c ≡ true → b || c ≡ true
-or_right true c h = refl
-or_right false c h = h
-
-among_first : (g : Name) (gs : List Name) → is_among g (g ∷ gs) ≡ true
-among_first g gs = ap (λ b. b || is_among g gs) (same_name-self g)
-
-target_more : (g : Name) (t : Target) (gs : List Name) → is_among g gs ≡ true → is_among g (cons_option (global_in t) gs) ≡ true
-target_more g (targets.Value e) gs h = h
-target_more g (targets.Global x e m) gs h = or_right (same_name g x) (is_among g gs) h
-
-place_bound : (p : Name) (bs : List Binding) (ls : List (Name × Place)) (x g : Name) → find x (parameter_places p bs ++ ls) ≡ Some (Whole g) → (find x ls ≡ Some (Whole g) → ⊥) → is_among g (globals_in bs) ≡ true
-place_bound p [] ls x g h none = absurd (none h)
-place_bound p (b ∷ bs) ls x g h none = go b.target h (λ k. place_bound p bs ls x g k none)
-  where
-    found : (y g' : Name) (e : Bool) → (if e then Some (Whole g') else find x (parameter_places p bs ++ ls)) ≡ Some (Whole g) → (find x (parameter_places p bs ++ ls) ≡ Some (Whole g) → is_among g (globals_in bs) ≡ true) → is_among g (g' ∷ globals_in bs) ≡ true
-    found y g' true h more =
-        let same : g' ≡ g = ap (λ o. elim o [ None ↦ g' | Some q ↦ elim q [ Whole z ↦ z | Own z ↦ z ] ]) h in
-        subst (λ z. is_among g (z ∷ globals_in bs) ≡ true) (sym same) (among_first g (globals_in bs))
-    found y g' false h more = or_right (same_name g g') (is_among g (globals_in bs)) (more h)
-
-    own : (q : Place) (e : Bool) → ((q ≡ Whole g) → ⊥) → (if e then Some q else find x (parameter_places p bs ++ ls)) ≡ Some (Whole g) → (find x (parameter_places p bs ++ ls) ≡ Some (Whole g) → is_among g (globals_in bs) ≡ true) → is_among g (globals_in bs) ≡ true
-    own q true not h more = absurd (not (ap (λ o. elim o [ None ↦ q | Some z ↦ z ]) h))
-    own q false not h more = more h
-
-    own_not : (z : Name) → Own z ≡ Whole g → ⊥
-    own_not z h = grind (arith, h)
-
-    go : (t : Target) → find x (place_of p b.parameter t (parameter_places p bs) ++ ls) ≡ Some (Whole g) → (find x (parameter_places p bs ++ ls) ≡ Some (Whole g) → is_among g (globals_in bs) ≡ true) → is_among g (cons_option (global_in t) (globals_in bs)) ≡ true
-    go (targets.Value e) h more = own (Own _) (same_name x b.parameter) (own_not _) h more
-    go (targets.Global g' e None) h more = found x g' (same_name x b.parameter) h more
-    go (targets.Global g' e (Some m)) h more = or_right (same_name g g') (is_among g (globals_in bs)) (more h)
-
-pub mapped_bound : (bs : List Binding) (x : Name) (m : Mapped) → find x (all_mapped bs) ≡ Some m → is_among m.global (globals_in bs) ≡ true
-mapped_bound [] x m h = absurd (cc)
-mapped_bound (b ∷ bs) x m h = go b.target h (λ k. mapped_bound bs x m k)
-  where
-    found : (q : Mapped) (e : Bool) → (if e then Some q else find x (all_mapped bs)) ≡ Some m → (find x (all_mapped bs) ≡ Some m → is_among m.global (globals_in bs) ≡ true) → is_among m.global (q.global ∷ globals_in bs) ≡ true
-    found q true h more =
-        let same : q ≡ m = ap (λ o. elim o [ None ↦ q | Some z ↦ z ]) h in
-        subst (λ (z : Mapped). is_among m.global (z.global ∷ globals_in bs) ≡ true) (sym same) (among_first m.global (globals_in bs))
-    found q false h more = or_right (same_name m.global q.global) (is_among m.global (globals_in bs)) (more h)
-
-    go : (t : Target) → find x (mapped_of b.parameter t (all_mapped bs)) ≡ Some m → (find x (all_mapped bs) ≡ Some m → is_among m.global (globals_in bs) ≡ true) → is_among m.global (cons_option (global_in t) (globals_in bs)) ≡ true
-    go (targets.Value e) h more = more h
-    go (targets.Global g e None) h more = or_right (same_name m.global g) (is_among m.global (globals_in bs)) (more h)
-    go (targets.Global g e (Some q)) h more = found _ (same_name x b.parameter) h more
+use Rattle.pgo_meaning.proofs.Traces.{no_local, or_right, place_bound, mapped_bound}
+use Rattle.pgo_workers.proofs.Components.{index_is}
 
 -- ---- resources by their components
-pub number_there : (rs : List Resource) (r : Resource) (g : Name) (j : Option Data) → IsAmong r rs → r.global ≡ g → r.index ≡ j → (n : ℕ) × (number_among rs (g, j) ≡ Some n)
-number_there [] r g j h e f = absurd h
-number_there (q ∷ rs) r g j h e f = go (same_name q.global g && same_index q.index j) refl h (λ k. number_there rs r g j k e f)
-  where
-    same_part : (o : Option Data) → same_index o o ≡ true
-    same_part None = refl
-    same_part (Some v) = same_itself v
-
-    here : q.global ≡ g → q.index ≡ j → (same_name q.global g && same_index q.index j) ≡ true
-    here e f =
-        ap (λ z. same_name z g && same_index q.index j) e
-        ∙ ap (λ z. same_name g g && same_index z j) f
-        ∙ ap (λ b. b && same_index j j) (same_name-self g)
-        ∙ same_part j
-
-    go : (b : Bool) → (same_name q.global g && same_index q.index j) ≡ b → IsAmong r (q ∷ rs) → (IsAmong r rs → (n : ℕ) × (number_among rs (g, j) ≡ Some n)) → (n : ℕ) × ((if b then Some q.number else number_among rs (g, j)) ≡ Some n)
-    go true t h more = (q.number, refl)
-    go false t (inl s) more =
-        absurd (let z : true ≡ false = sym (here (sym (ap (λ (r : Resource). r.global) s) ∙ e) (sym (ap (λ (r : Resource). r.index) s) ∙ f)) ∙ t in cc)
-    go false t (inr h) more = more h
-
-pub among_is : (g : Name) (gs : List Name) → is_among g gs ≡ true → IsAmong g gs
-among_is g [] h = absurd (cc)
-among_is g (x ∷ gs) h = go (same_name g x) refl h (λ k. among_is g gs k)
-  where
-    go : (b : Bool) → same_name g x ≡ b → b || is_among g gs ≡ true → (is_among g gs ≡ true → IsAmong g gs) → IsAmong g (x ∷ gs)
-    go true e h more = inl (same_name-is g x e)
-    go false e h more = inr (more h)
 
 -- the resource that has the number of a component
 pub number_at : (rs : List Resource) (c : Touched) (n : ℕ) → number_among rs c ≡ Some n → (q : Resource) × IsAmong q rs × (q.number ≡ n) × (q.global ≡ c.0) × (q.index ≡ c.1)

@@ -1,6 +1,8 @@
 -- Where a section ends at a label: the state that it leads to, and that it is one exactly where no resource and no own component is too deep.
 use Rattle.std.proofs.Common.{◌≡◌, ℕ, ◌≤◌, Bool, true, false, ◌&&◌, List, [], ◌∷◌, length, Option, Some, None, inl, inr, refl, sym, ap, ◌∙◌, subst, arith, option_and_then}
 use Rattle.std.specs.Prelude.{if◌then◌else◌, nat_le, nat_lt}
+use Rattle.std.proofs.lemmas.Bool.{and_parts}
+use Rattle.std.proofs.lemmas.Option.{same_Some}
 use Rattle.pgo_base.specs.Data.{Data, boolean, integer, string, model, set, function, Pairs, graph, keys, graph-pairs}
 use Rattle.pgo_base.specs.Lookup.{Name, Vars, same_name, find}
 use Rattle.pgo_base.specs.Size.{depth, members_size, graph_size}
@@ -58,10 +60,6 @@ keys_low (p ∷ l) n h = let r = keys_low l n (omega (arith, h)) in omega (arith
 
 -- ---- tests
 
-pub both_true : (a b : Bool) → a && b ≡ true → (a ≡ true) × (b ≡ true)
-both_true true b h = (refl, h)
-both_true false b h = absurd (grind (arith, h))
-
 pub same_test : (a b : Bool) → (a ≡ true → b ≡ true) → (b ≡ true → a ≡ true) → a ≡ b
 same_test true b h g = sym (h refl)
 same_test false true h g = g refl
@@ -70,14 +68,11 @@ same_test false false h g = refl
 pub shallow_at : (t : Vars) (x : Name) (v : Data) → is_shallow t ≡ true → find x t ≡ Some v → depth v ≤ 256
 shallow_at [] x v s e = absurd (grind (arith, e))
 shallow_at (p ∷ t) x v s e =
-    let b = both_true (nat_le (depth p.1) 256) (is_shallow t) s in go (same_name x p.0) e (λ f. shallow_at t x v b.1 f) b.0
+    let b = and_parts (nat_le (depth p.1) 256) (is_shallow t) s in go (same_name x p.0) e (λ f. shallow_at t x v b.1 f) b.0
   where
     go : (c : Bool) → (if c then Some p.1 else find x t) ≡ Some v → (find x t ≡ Some v → depth v ≤ 256) → nat_le (depth p.1) 256 ≡ true → depth v ≤ 256
     go true e ih low = let s : p.1 ≡ v = cc in subst (λ z. depth z ≤ 256) s (le_of (depth p.1) 256 low)
     go false e ih low = ih e
-
-some_is : (a b : Data) → Some a ≡ Some b → a ≡ b
-some_is a b e = cc
 
 -- a function with another part, which there is
 pub put_some : (i w v : Data) (q : Pairs) → lookup i (graph q) ≡ Some v → nat_lt most_members (length (graph q)) ≡ false → depth (function q) ≤ 256 → depth w ≤ 2047 → put_part i (Some (function q)) (Some w) ≡ Some (with_at i w q)
@@ -124,7 +119,7 @@ module _ (K : Context) (rs : List Resource) (at_start : walks.Own) (d : Words) w
   part_of_own (p ∷ o) x v h e = go (same_name x p.0) refl e (λ f. part_of_own o x v h.1 f)
     where
       go : (b : Bool) → same_name x p.0 ≡ b → (if b then Some p.1 else find x o) ≡ Some v → (find x o ≡ Some v → HasPart x v) → HasPart x v
-      go true n e ih = subst (λ z. HasPart x z) (some_is p.1 v e) (subst (λ z. HasPart z p.1) (sym (same_name-is x p.0 n)) h.0)
+      go true n e ih = subst (λ z. HasPart x z) (same_Some p.1 v e) (subst (λ z. HasPart z p.1) (sym (same_name-is x p.0 n)) h.0)
       go false n e ih = ih e
 
   module _ (G : AsBound K rs at_start d) (S : Start) (l : Name) (ch : Vars) (cs : List ChoiceMade) (ps : List Data) (p : Progress) (g : ℕ → Data) (R : Related K rs at_start d ch cs ps p g) where
@@ -141,10 +136,10 @@ module _ (K : Context) (rs : List Resource) (at_start : walks.Own) (d : Words) w
     own_low : (own : walks.Own) (x : Name) (v : Data) → all_shallow (own_next l p.changes own) ≡ true → find x own ≡ Some v → depth (next_of x v) ≤ 255
     own_low [] x v s e = absurd (grind (arith, e))
     own_low (q ∷ own) x v s e =
-        let b = both_true (nat_le (depth (next_of q.0 q.1)) 255) (all_shallow (own_next l p.changes own)) s in go (same_name x q.0) refl e (λ f. own_low own x v b.1 f) (le_of (depth (next_of q.0 q.1)) 255 b.0)
+        let b = and_parts (nat_le (depth (next_of q.0 q.1)) 255) (all_shallow (own_next l p.changes own)) s in go (same_name x q.0) refl e (λ f. own_low own x v b.1 f) (le_of (depth (next_of q.0 q.1)) 255 b.0)
       where
         go : (b : Bool) → same_name x q.0 ≡ b → (if b then Some q.1 else find x own) ≡ Some v → (find x own ≡ Some v → depth (next_of x v) ≤ 255) → depth (next_of q.0 q.1) ≤ 255 → depth (next_of x v) ≤ 255
-        go true n e ih low = subst (λ z. depth (next_of x z) ≤ 255) (some_is q.1 v e) (subst (λ z. depth (next_of z q.1) ≤ 255) (sym (same_name-is x q.0 n)) low)
+        go true n e ih low = subst (λ z. depth (next_of x z) ≤ 255) (same_Some q.1 v e) (subst (λ z. depth (next_of z q.1) ≤ 255) (sym (same_name-is x q.0 n)) low)
         go false n e ih low = ih e
 
     -- no resource is too deep
@@ -181,7 +176,7 @@ module _ (K : Context) (rs : List Resource) (at_start : walks.Own) (d : Words) w
         let low_keys = subst (λ ks. members_size ks ≤ 255) (sym dom) (keys_low (graph f.0) 255 (omega (arith, z, start))) in
         let size = graph_low (graph E.pairs) 255 once low_keys (λ k v at. value k v at) in
         let s = size_is E.pairs in
-        subst (λ z. depth z ≤ 256) (some_is (function E.pairs) w (sym E.is ∙ e)) (omega (arith, s, size))
+        subst (λ z. depth z ≤ 256) (same_Some (function E.pairs) w (sym E.is ∙ e)) (omega (arith, s, size))
       where
         E : Elements K rs at_start d x (value_now K (Whole x) ch) g
         E = R.elements x is
@@ -195,7 +190,7 @@ module _ (K : Context) (rs : List Resource) (at_start : walks.Own) (d : Words) w
             matched (Some r) f None e m = absurd m
             matched (Some r) f (Some u) e m =
                 let deep = sym (ap (λ b. is_too_deep b (g r)) is.0) ∙ not_deep h (x, Some k) r f in
-                subst (λ z. depth z ≤ 255) (sym m ∙ some_is u v e) (element_low (g r) deep)
+                subst (λ z. depth z ≤ 255) (sym m ∙ same_Some u v e) (element_low (g r) deep)
 
     -- ---- what each variable becomes
 
@@ -213,7 +208,7 @@ module _ (K : Context) (rs : List Resource) (at_start : walks.Own) (d : Words) w
         → (q : Pairs) × (v ≡ function q) × (put_part K.id (Some v) (Some w) ≡ Some (with_at K.id w q)) × (depth w ≤ 255 → depth (with_at K.id w q) ≤ 256)
     replaced_part x v u w h e low =
         let q = h.graph_of in
-        let s : function q ≡ v = some_is (function q) v (sym h.is ∙ e) in
+        let s : function q ≡ v = same_Some (function q) v (sym h.is ∙ e) in
         let start = start_low x (function q) h.is in
         let z = size_is q in (
           q,
@@ -254,7 +249,7 @@ module _ (K : Context) (rs : List Resource) (at_start : walks.Own) (d : Words) w
         changed_case w n f (low, inr (inl is)) =
             global_case w n f (G.globals (x, None) is.1.0 is.1.1) (λ none.
             let r = is.1.0 in
-            let same = some_is (g r) w (sym (R.whole x r is.1.1 is.0).0 ∙ now_is w f) in
+            let same = same_Some (g r) w (sym (R.whole x r is.1.1 is.0).0 ∙ now_is w f) in
             subst (λ z. depth z ≤ 256) same (whole_low (g r) (sym (ap (λ b. is_too_deep b (g r)) is.0) ∙ not_deep none (x, None) r is.1.1)))
         changed_case w n f (low, inr (inr is)) = global_case w n f is.1 (λ none. elements_low x is none w (now_is w f))
 
@@ -439,4 +434,4 @@ module _ (K : Context) (rs : List Resource) (at_start : walks.Own) (d : Words) w
     is_state =
         same_test (is_shallow t) (none_deep p.too_deep && all_shallow o)
         (λ s. (λ i. none_deep_there s i && all_shallow_there s i))
-        (λ h. let b = both_true (none_deep p.too_deep) (all_shallow o) h in end_is.low b.0 b.1)
+        (λ h. let b = and_parts (none_deep p.too_deep) (all_shallow o) h in end_is.low b.0 b.1)

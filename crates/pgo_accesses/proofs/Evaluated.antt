@@ -13,7 +13,7 @@ use Rattle.pgo_model.specs.System.{Words, Resource, Touched}
 use Rattle.pgo_sections.specs.Access.{reads_among, unmapped_reads, touched_whole}
 use Rattle.pgo_sections.specs.Code.{Place, Whole, Own}
 use Rattle.pgo_sections.specs.Context as sections
-use Rattle.pgo_sections.specs.Context.{Context, part_at, value_now}
+use Rattle.pgo_sections.specs.Context.{Context, value_now}
 use Rattle.pgo_sections.specs.FreeNames.{free_names}
 use Rattle.pgo_sections.specs.Plain.{All}
 use Rattle.pgo_sections.specs.SectionRun.{ChoiceMade}

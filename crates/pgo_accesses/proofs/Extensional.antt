@@ -1,25 +1,22 @@
 -- States are equal where their variables are, and functions where their values are.
 use Rattle.std.proofs.Common.{◌≡◌, Bool, true, false, List, [], ◌∷◌, map, Option, Some, None, inl, inr, refl, sym, ap, ◌∙◌, subst, arith, option_map, option_and_then}
 use Rattle.std.specs.Prelude.{if◌then◌else◌}
-use Rattle.pgo_base.specs.Data.{Data, boolean, integer, string, model, set, function, Pairs, no_pairs, pair, pairs, graph, keys, graph-pairs}
+use Rattle.pgo_base.proofs.Keyed.{pairs_back}
+use Rattle.pgo_base.specs.Data.{Data, boolean, integer, string, model, set, function, pairs, graph, keys, graph-pairs}
 use Rattle.pgo_base.specs.Lookup.{Name, Vars, same_name, find}
 use Rattle.pgo_model.specs.Log.{Change, changed, after_changes, with_part}
-use Rattle.pgo_model.specs.Names.{same_name-self, same_name-is}
+use Rattle.pgo_model.specs.Names.{same_name-self, same_name-is, turned}
 use Rattle.pgo_model.specs.Operators.{apply, contains, lookup, same_data, replace_at}
 use Rattle.pgo_model.specs.Options.{on}
 use Rattle.pgo_model.specs.Variables.{IsFunctionOn, store}
 use Rattle.pgo_bound.specs.Among.{IsAmong, all_at}
 use Rattle.pgo_bound.specs.State.{AreDifferent}
-use Rattle.pgo_workers.proofs.Components.{find_stored, find_other, name_turned}
+use Rattle.pgo_workers.proofs.Components.{find_stored, find_other}
 use Rattle.pgo_accesses.proofs.Ending.{Once}
 use Rattle.pgo_accesses.proofs.Parts.{same_self, replaced_keys}
 use Rattle.pgo_sections.proofs.Domains.{same_of}
 
 -- ---- functions
-
-pairs_graph : (ps : Pairs) → pairs (graph ps) ≡ ps
-pairs_graph no_pairs = refl
-pairs_graph (pair k v ps) = ap (pair k v) (pairs_graph ps)
 
 first_key : (k j : Data) (ks js : List Data) → k ∷ ks ≡ j ∷ js → (k ≡ j) × (ks ≡ js)
 first_key k j ks js e = (cc, cc)
@@ -48,7 +45,7 @@ pub function_same : (ks : List Data) (o o' : Option Data) → IsFunctionOn ks o 
 function_same ks o o' h h' once same =
     let ps = h.0 in let qs = h'.0 in
     let graphs = graph_same (graph ps) (graph qs) (h.2 ∙ sym h'.2) (subst Once (sym h.2) once) (λ i c. sym (ap (option_and_then (λ f. apply f i)) h.1) ∙ same i (ap (contains i) (sym h.2) ∙ c) ∙ ap (option_and_then (λ f. apply f i)) h'.1) in
-    h.1 ∙ ap (λ l. Some (function l)) (sym (pairs_graph ps) ∙ ap pairs graphs ∙ pairs_graph qs) ∙ sym h'.1
+    h.1 ∙ ap (λ l. Some (function l)) (sym (pairs_back ps) ∙ ap pairs graphs ∙ pairs_back qs) ∙ sym h'.1
 
 -- ---- states
 
@@ -69,7 +66,7 @@ vars_same (p ∷ t) (q ∷ u) e d h =
   where
     later : (x : Name) → IsAmong x (map (λ p. p.0) t) → p.0 ≡ q.0 → find x t ≡ find x u
     later x m f =
-        let other : same_name x p.0 ≡ false = name_turned p.0 x (all_at (λ z. same_name p.0 z ≡ false) x (map (λ p. p.0) t) d.0 m) in
+        let other : same_name x p.0 ≡ false = turned p.0 x (all_at (λ z. same_name p.0 z ≡ false) x (map (λ p. p.0) t) d.0 m) in
         sym (ap (λ b. if b then Some p.1 else find x t) other) ∙ h x (inr m) ∙ ap (λ b. if b then Some q.1 else find x u) (subst (λ z. same_name x z ≡ false) f other)
 
 -- ---- changes keep domains

@@ -20,7 +20,7 @@ use Rattle.pgo_sections.specs.Domains.{Uses, AllUse}
 use Rattle.pgo_sections.specs.Exec.{MacroEnd, Gives, Stops, if_gives, with_choices, touching, read_unmapped, becoming, count, exec_arm_with}
 use Rattle.pgo_sections.specs.Macros.{block_read, block_write, exec}
 use Rattle.pgo_sections.specs.SectionRun as runs
-use Rattle.pgo_sections.specs.SectionRun.{ChoiceMade, SectionRun, Out, Go, Jump, Yielded, seen, changed, printed, chosen, picked, picked_number, go_on}
+use Rattle.pgo_sections.specs.SectionRun.{ChoiceMade, SectionRun, Out, Go, Jump, Yielded, changed, printed, chosen, picked, picked_number, go_on}
 use Rattle.pgo_workers.specs.Operations.{part_of, with_part, read_put, write_put}
 use Rattle.pgo_workers.specs.Walk as walks
 use Rattle.pgo_workers.specs.Walk.{Walk, Touch, Ahead, Sticks}

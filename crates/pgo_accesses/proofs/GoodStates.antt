@@ -37,6 +37,7 @@ use Rattle.pgo_meaning.specs.Parameters.{places_of}
 use Rattle.pgo_meaning.specs.Sect.{is_by_element, context_of}
 use Rattle.pgo_meaning.specs.System.{globals_in, member_of, owned, owned_by, resource_of, system_of}
 use Rattle.pgo_meaning.proofs.SystemStates.{bound_kind, states_same}
+use Rattle.pgo_meaning.proofs.Traces.{number_there, among_is}
 use Rattle.pgo_sections.specs.Code.{Whole}
 use Rattle.pgo_sections.specs.Context.{Context, part_at}
 use Rattle.pgo_sections.proofs.Closing as closing
@@ -46,7 +47,7 @@ use Rattle.pgo_workers.proofs.BoundLayout.{layout_sound, state_has}
 use Rattle.pgo_workers.proofs.Components.{index_self}
 use Rattle.pgo_workers.proofs.LayoutChanges.{component_there, own_name_behind, own_name_here}
 use Rattle.pgo_accesses.specs.Runnable.{Runnable}
-use Rattle.pgo_accesses.proofs.Bindings.{number_there, number_at, among_is, places_whole, own_among}
+use Rattle.pgo_accesses.proofs.Bindings.{number_at, places_whole, own_among}
 use Rattle.pgo_accesses.proofs.Ending.{Once, in_keys, HasPart, EachPart, Start, shallow_at}
 use Rattle.pgo_accesses.proofs.SectionTrees.{component_in}
 use Rattle.pgo_accesses.proofs.Parts.{size_is, lookup_low, of_le, not_less}

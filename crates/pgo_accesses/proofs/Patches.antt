@@ -6,7 +6,7 @@ use Rattle.pgo_base.specs.Data.{Data, graph, keys}
 use Rattle.pgo_base.specs.Lookup.{Name, Vars, same_name, find}
 use Rattle.pgo_base.specs.Sets.{IsIn, in_order, in-in_order, sorted-in_order}
 use Rattle.pgo_model.specs.Core.{Reaches}
-use Rattle.pgo_model.specs.Log.{OfResource, Unowned, Component, Change, Effect, After, after_changes, content, own_names}
+use Rattle.pgo_model.specs.Log.{Change, Effect, after_changes, content, own_names}
 use Rattle.pgo_model.specs.Machine.{among, nth}
 use Rattle.pgo_model.specs.MachineAccounts.{equal_or}
 use Rattle.pgo_model.specs.Names.{same_name-self, same_name-is, same_name-not, is_among}
@@ -27,20 +27,20 @@ use Rattle.pgo_meaning.specs.Sect.{Sect, code_at, context_of, is_by_element, not
 use Rattle.pgo_meaning.specs.System.{member_of, owned, owned_by, resource_of, system_of}
 use Rattle.pgo_sections.specs.Context.{part_at}
 use Rattle.pgo_workers.specs.Walk as walks
-use Rattle.pgo_workers.specs.Walk.{Walk, Stop, Touch, Goes, Leaves, Within, visits, ending, final, taken_after}
+use Rattle.pgo_workers.specs.Walk.{Walk, Goes, Within, visits, ending, final, taken_after}
 use Rattle.pgo_workers.specs.View.{Hold, EachHold, Once, World, changed, resources_of}
 use Rattle.pgo_workers.specs.Worker.{changes_of}
 use Rattle.pgo_workers.specs.Sentences.{IsOwn, changes_at}
 use Rattle.pgo_workers.specs.Worlds as worlds
-use Rattle.pgo_workers.specs.Worlds.{Layout, layout_of, effect_of, names_at, names_of, own_at, own_in, or_nothing, world_of, own_component, IsLayout, HasAll}
+use Rattle.pgo_workers.specs.Worlds.{Layout, layout_of, effect_of, names_at, names_of, own_at, own_in, or_nothing, world_of, IsLayout, HasAll}
 use Rattle.pgo_workers.proofs.BoundLayout.{layout_sound, state_has}
 use Rattle.pgo_workers.proofs.Differences.{made_has, made_value, made_else, made_untouched}
 use Rattle.pgo_workers.proofs.EntryComponents.{is_of, own_patched}
-use Rattle.pgo_workers.proofs.LayoutChanges.{each_there, first, whose, IsShared, IsOne, Whose, own_name_here, own_name_behind}
+use Rattle.pgo_workers.proofs.LayoutChanges.{first, whose, IsShared, IsOne, Whose, own_name_here, own_name_behind}
 use Rattle.pgo_workers.proofs.MadeEntries.{renews}
 use Rattle.pgo_workers.proofs.Patched.{after_is, patched_names}
 use Rattle.pgo_sections.proofs.Domains.{same_of, domains_kept}
-use Rattle.pgo_sections.specs.Domains.{place, own, elements}
+use Rattle.pgo_sections.specs.Domains.{own, elements}
 use Rattle.pgo_sections.specs.Section.{section}
 use Rattle.pgo_meaning.proofs.Ends.{end_at}
 use Rattle.pgo_meaning.proofs.SystemStates.{states_same}

@@ -1,15 +1,14 @@
 -- The sections of a bound specification do what the trees of its program say.
 use Rattle.std.proofs.Common.{◌≡◌, ℕ, suc, Bool, true, false, ◌||◌, List, [], ◌∷◌, map, Option, Some, None, ◌⊎◌, inl, inr, refl, sym, ap, ◌∙◌, subst, arith, option_and_then}
-use Rattle.std.specs.Prelude.{nat_lt}
 use Rattle.pgo_base.specs.Data.{Data}
 use Rattle.pgo_base.specs.Lookup.{Name, Vars, find}
 use Rattle.pgo_model.specs.Core as core
-use Rattle.pgo_model.specs.Core.{number_among, numbers_of}
+use Rattle.pgo_model.specs.Core.{numbers_of}
 use Rattle.pgo_model.specs.Machine.{nth}
 use Rattle.pgo_model.specs.Names.{same_name-self, is_among}
 use Rattle.pgo_model.specs.Options.{on}
 use Rattle.pgo_model.specs.Outcome.{Kind, NoValue, Next, Stuck}
-use Rattle.pgo_model.specs.System.{System, Words, Touched}
+use Rattle.pgo_model.specs.System.{System, Words}
 use Rattle.pgo_model.specs.SystemState.{IsSystemState}
 use Rattle.pgo_model.specs.Variables.{place_of}
 use Rattle.pgo_model.specs.Written.{pc, done}
@@ -23,6 +22,7 @@ use Rattle.pgo_meaning.specs.Sect.{Sect, code_at, context_of, is_by_element, not
 use Rattle.pgo_meaning.specs.System.{globals_in, member_of, system_of}
 use Rattle.pgo_meaning.specs.TreesAgree.{sections_at}
 use Rattle.pgo_meaning.proofs.Ends.{end_at}
+use Rattle.pgo_meaning.proofs.Traces.{among_is}
 use Rattle.pgo_sections.specs.Code.{Place, Whole, Own, variable_of, Code}
 use Rattle.pgo_sections.specs.Domains.{HasIndex}
 use Rattle.pgo_sections.specs.Macros.{exec}
@@ -35,7 +35,7 @@ use Rattle.pgo_workers.specs.Worlds.{Layout, layout_of, own_at, own_in, names_at
 use Rattle.pgo_accesses.specs.Accesses.{accesses_of, no_value}
 use Rattle.pgo_accesses.specs.Programs.{attempt_of, tree_with, is_done}
 use Rattle.pgo_accesses.specs.Runnable.{Runnable}
-use Rattle.pgo_accesses.proofs.Bindings.{IsPlaceOf, IsBoundHere, uses_at, uses_both, own_among, among_is}
+use Rattle.pgo_accesses.proofs.Bindings.{IsPlaceOf, IsBoundHere, uses_at, uses_both, own_among}
 use Rattle.pgo_accesses.proofs.Follows.{PlaceHere, MappedHere, UsesHere}
 use Rattle.pgo_accesses.proofs.GoodStates as good_states
 use Rattle.pgo_accesses.proofs.GoodStates.{as_bound, start, values}

@@ -13,15 +13,16 @@ use Rattle.pgo_bound.specs.Among.{nth_map, nth_among}
 use Rattle.pgo_meaning.specs.Sect.{code_at}
 use Rattle.pgo_meaning.specs.System.{globals_in, member_of, resource_of, system_of}
 use Rattle.pgo_meaning.proofs.Ends.{end_at}
+use Rattle.pgo_meaning.proofs.Traces.{among_is}
 use Rattle.pgo_model.specs.Names.{is_among}
 use Rattle.pgo_sections.specs.Code.{Place, Whole, Own, Code}
 use Rattle.pgo_workers.specs.Sentences.{IsOwn}
 use Rattle.pgo_workers.specs.Walk as walks
 use Rattle.pgo_workers.specs.Walk.{Walk, Within}
-use Rattle.pgo_accesses.specs.Accesses.{Attempt, accesses_of, own_next, no_value}
+use Rattle.pgo_accesses.specs.Accesses.{accesses_of, own_next, no_value}
 use Rattle.pgo_accesses.specs.Programs.{attempt_of, tree_with, world_at}
 use Rattle.pgo_accesses.specs.Runnable.{Runnable}
-use Rattle.pgo_accesses.proofs.Bindings.{IsPlaceOf, IsBoundHere, uses_at, uses_both, among_is, places_whole}
+use Rattle.pgo_accesses.proofs.Bindings.{IsPlaceOf, IsBoundHere, uses_at, uses_both, places_whole}
 use Rattle.pgo_accesses.proofs.GoodStates as good_states
 use Rattle.pgo_accesses.proofs.Reached.{InReach, PlaceInReach, within}
 

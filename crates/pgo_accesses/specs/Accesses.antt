@@ -60,8 +60,8 @@ without r (q ∷ qs) = if nat_eq q r then without r qs else q ∷ without r qs
 
 -- whether the resource is too deep for a state
 abbrev pub marked : Bool → ℕ → List ℕ → List ℕ
-marked true r deep = r ∷ without r deep
-marked false r deep = without r deep
+marked true r rs = r ∷ without r rs
+marked false r rs = without r rs
 
 -- The greatest depth of a value of a state, and of one that can stand in a set by itself. An element is one level below its global.
 abbrev pub state_limit : Bool → ℕ

@@ -1,5 +1,6 @@
 -- What the core machine does is a run of a module that agrees with what is bound.
 use Rattle.std.proofs.Common.{◌≡◌, ◌≤◌, ℕ, zero, suc, List, [], ◌∷◌, length, Option, Some, None, inl, refl, sym, ap, ◌∙◌, subst, arith, option_and_then}
+use Rattle.std.proofs.lemmas.Option.{same_Some}
 use Rattle.pgo_base.specs.Data.{Data, string}
 use Rattle.pgo_base.specs.Lookup.{Name, Vars, find}
 use Rattle.pgo_model.specs.Accounts.{EntriesMade, EntryMade}
@@ -20,7 +21,7 @@ use Rattle.pgo_syntax.specs.declared.bound.Bound.{Bound}
 use Rattle.pgo_syntax.specs.declared.bound.Instance.{Instance}
 use Rattle.pgo_syntax.specs.declared.spec.Spec.{Spec}
 use Rattle.pgo_bind.proofs.Declared.{declared}
-use Rattle.pgo_bound.specs.Among.{nth_map, some_is}
+use Rattle.pgo_bound.specs.Among.{nth_map}
 use Rattle.pgo_bound.specs.BoundOf.{bound_of}
 use Rattle.pgo_bound.specs.Declares.{value_in}
 use Rattle.pgo_bound.specs.Sound.{IsLabel}
@@ -36,15 +37,21 @@ use Rattle.pgo_accounts.specs.Runs.{NextHolds}
 use Rattle.pgo_accounts.proofs.Steps.{Leads, leads_from, is_label, allows}
 
 -- where an instance stands, said in two ways
-place_same : (o : Option Data) (id : Data) → elim o as (λ o. Option Data) [ None ↦ None | Some f ↦ apply f id ] ≡ option_and_then (λ f. apply f id) o
+pub place_same : (o : Option Data) (id : Data) → elim o as (λ o. Option Data) [ None ↦ None | Some f ↦ apply f id ] ≡ option_and_then (λ f. apply f id) o
 place_same None id = refl
 place_same (Some f) id = refl
 
 -- the label of an instance in a state
-label_at : (b : Bound) (k : ℕ) (i : Instance) (s : Vars) (l : Name) → nth b.instances k ≡ Some i → value_in s pc (id_of i) ≡ Some (string l) → label_of (system_of b) k s ≡ l
+pub label_at : (b : Bound) (k : ℕ) (i : Instance) (s : Vars) (l : Name) → nth b.instances k ≡ Some i → value_in s pc (id_of i) ≡ Some (string l) → label_of (system_of b) k s ≡ l
 label_at b k i s l at_k at_l =
     ap (λ o. on [] o (λ (m : Member). label_in (place_of m.id s))) (nth_map member_of k b.instances i at_k)
     ∙ ap label_in (place_same (find pc s) (id_of i) ∙ at_l)
+
+-- an entry stands at each place below their number
+pub nth_there : {A : Type 0} (l : List A) (n : ℕ) → suc n ≤ length l → (e : A) × (nth l n ≡ Some e)
+nth_there [] n h = absurd (omega (arith, h))
+nth_there (e ∷ l) zero h = (e, refl)
+nth_there (e ∷ l) (suc n) h = nth_there l n (omega (arith, h))
 
 -- a state after n entries is one after at most all
 state_below : (s t : Vars) (l : List (Entry Effect)) (n : ℕ) → StateAt s l n ≡ Some t → n ≤ length l
@@ -132,15 +139,10 @@ module _ (s : Spec) (consts : List (Name × Data)) (accepted : IsAccepted s cons
       steps = is_step;
     }
 
-    nth_there : (l : List (Entry Effect)) (n : ℕ) → suc n ≤ length l → (e : Entry Effect) × (nth l n ≡ Some e)
-    nth_there [] n h = absurd (omega (arith, h))
-    nth_there (e ∷ l) zero h = (e, refl)
-    nth_there (e ∷ l) (suc n) h = nth_there l n (omega (arith, h))
-
     pub next_holds : NextHolds m (constants_with s consts) b.start entries
     next_holds p t u from to =
         let le = state_below b.start u entries (suc p) to in
         let e = nth_there entries p le in
-        let before : at p ≡ t = some_is (at p) t (sym (states p (low p e.0 e.1)) ∙ from) in
-        let after : at (suc p) ≡ u = some_is (at (suc p)) u (sym (states (suc p) le) ∙ to) in
+        let before : at p ≡ t = same_Some (at p) t (sym (states p (low p e.0 e.1)) ∙ from) in
+        let after : at (suc p) ≡ u = same_Some (at (suc p)) u (sym (states (suc p) le) ∙ to) in
         subst (IsNext m (constants_with s consts) t) after (subst (λ z. IsNext m (constants_with s consts) z (at (suc p))) before (is_next p e.0 e.1))

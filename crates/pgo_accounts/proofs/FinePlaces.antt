@@ -1,5 +1,5 @@
 -- A section of one instance leaves the places of all others, so the status is 0 exactly where each instance is at Done.
-use Rattle.std.proofs.Common.{◌≡◌, ◌↔◌, ℕ, zero, suc, Bool, true, false, List, [], ◌∷◌, map, Option, Some, None, refl, sym, ap, ◌∙◌, arith, option_and_then}
+use Rattle.std.proofs.Common.{◌≡◌, ◌↔◌, ℕ, zero, suc, Bool, true, false, List, [], ◌∷◌, map, Option, Some, None, refl, sym, ap, ◌∙◌, arith}
 use Rattle.std.specs.Prelude.{◌⊎◌}
 use Rattle.pgo_base.specs.Data.{Data, string}
 use Rattle.pgo_base.specs.Lookup.{Vars, find}
@@ -7,7 +7,7 @@ use Rattle.pgo_model.specs.Accounts.{Fits}
 use Rattle.pgo_model.specs.Core.{Core, Reaches, Settings, is_at_done, is_place, rules_of, status_of}
 use Rattle.pgo_model.specs.Log.{Effect}
 use Rattle.pgo_model.specs.Machine.{Rules, finished_of, last_state, nth}
-use Rattle.pgo_model.specs.Operators.{apply, same_data}
+use Rattle.pgo_model.specs.Operators.{same_data}
 use Rattle.pgo_model.specs.Options.{on}
 use Rattle.pgo_model.specs.Outcome.{Next}
 use Rattle.pgo_model.specs.System.{Member, System, Words}
@@ -29,10 +29,7 @@ use Rattle.pgo_systems.proofs.States.{from_label, identifier_there}
 use Rattle.pgo_accounts.proofs.FineMachine.{LeavesOthers, ended_undone}
 use Rattle.pgo_accounts.proofs.FineStatus.{zero_is_done, done_is_zero}
 use Rattle.pgo_accounts.proofs.Steps.{Leads, leads_from}
-
-place_same : (o : Option Data) (id : Data) → elim o as (λ o. Option Data) [ None ↦ None | Some f ↦ apply f id ] ≡ option_and_then (λ f. apply f id) o
-place_same None id = refl
-place_same (Some f) id = refl
+use Rattle.pgo_accounts.proofs.Entries.{place_same}
 
 module _ (b : Bound) (keeps : KeepsStates b) (settings : Settings) where
   abbrev y : System

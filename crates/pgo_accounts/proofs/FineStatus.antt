@@ -1,26 +1,19 @@
 -- The status 0, by where the instances are and how their last records end them.
 use Rattle.std.proofs.Common.{◌≡◌, ℕ, zero, suc, ◌+◌, Bool, true, false, List, [], ◌∷◌, length, Option, Some, None, refl, sym, ap, ◌∙◌, arith}
-use Rattle.std.specs.Prelude.{if◌then◌else◌, ◌&&◌}
-use Rattle.pgo_base.specs.Data.{Data, boolean, integer, string, model, set, function}
+use Rattle.std.specs.Prelude.{if◌then◌else◌}
+use Rattle.std.proofs.lemmas.Bool.{and_parts, and_from}
+use Rattle.pgo_base.specs.Data.{string}
 use Rattle.pgo_base.specs.Lookup.{Vars}
 use Rattle.pgo_model.specs.Core.{Settings, End, are_at_done, end_by, has_full, has_stopped, is_at_done, is_place, last_ends_from, rules_of, status_of}
 use Rattle.pgo_model.specs.Log.{Effect}
 use Rattle.pgo_model.specs.Machine.{Finished, Record, Step, Noted, Held, Down, Full, last_ends, nth, state_at}
-use Rattle.pgo_model.specs.Names.{same_name-is, same_name-self}
+use Rattle.pgo_model.specs.Names.{same_name-self}
 use Rattle.pgo_model.specs.Options.{on}
 use Rattle.pgo_model.specs.Outcome.{Blocked, NoValue, AssertFails}
 use Rattle.pgo_model.specs.System.{Member, System}
 use Rattle.pgo_model.specs.Variables.{place_of}
 use Rattle.pgo_model.specs.Written.{done}
-
-place_done : (o : Option Data) → is_place done o ≡ true → o ≡ Some (string done)
-place_done None h = absurd (grind (arith, h))
-place_done (Some (string l)) h = ap (λ x. Some (string x)) (sym (same_name-is done l h))
-place_done (Some (boolean z)) h = absurd (grind (arith, h))
-place_done (Some (integer z)) h = absurd (grind (arith, h))
-place_done (Some (model z)) h = absurd (grind (arith, h))
-place_done (Some (set z)) h = absurd (grind (arith, h))
-place_done (Some (function z)) h = absurd (grind (arith, h))
+use Rattle.pgo_runnable.proofs.Workers.{at_done}
 
 -- what the last record says does not depend on those before it
 pub goes_past : (y z : Record) (l : List Record) → (end_by (y ∷ (z ∷ l)) ≡ end_by (z ∷ l)) × (last_ends (y ∷ (z ∷ l)) ≡ last_ends (z ∷ l))
@@ -52,15 +45,6 @@ passes : (o : Option End) (es : List (Option End)) → o ≡ None → (has_stopp
 passes None es e = (refl, refl)
 passes (Some x) es e = absurd (grind (arith, e))
 
-both_true : (a b : Bool) → (a && b) ≡ true → (a ≡ true) × (b ≡ true)
-both_true true true h = (refl, refl)
-both_true true false h = absurd (grind (arith, h))
-both_true false b h = absurd (grind (arith, h))
-
-both_are : (a b : Bool) → a ≡ true → b ≡ true → (a && b) ≡ true
-both_are true b p q = q
-both_are false b p q = absurd (grind (arith, p))
-
 -- the status, by whether an instance has stopped, one found the journal full, and all are at Done
 abbrev status_by : Bool → Bool → Bool → ℕ
 status_by a b c = if a then 20 else if b then 23 else if c then 0 else 21
@@ -88,14 +72,14 @@ module _ (y : System) (settings : Settings) (f : Finished Effect) where
   each_done : (k : ℕ) (is : List Member) → are_at_done y last k is ≡ true → (n j : ℕ) (i : Member) → nth is n ≡ Some i → j ≡ n + k → is_at_done y j last ≡ true
   each_done k [] h n j i e at = absurd (grind (arith, e))
   each_done k (x ∷ is) h zero j i e at =
-      let at_k : j ≡ k = omega (arith, at) in ap (λ j. is_at_done y j last) at_k ∙ (both_true (is_at_done y k last) (are_at_done y last (suc k) is) h).0
+      let at_k : j ≡ k = omega (arith, at) in ap (λ j. is_at_done y j last) at_k ∙ (and_parts (is_at_done y k last) (are_at_done y last (suc k) is) h).0
   each_done k (x ∷ is) h (suc n) j i e at =
-      each_done (suc k) is (both_true (is_at_done y k last) (are_at_done y last (suc k) is) h).1 n j i e (omega (arith, at))
+      each_done (suc k) is (and_parts (is_at_done y k last) (are_at_done y last (suc k) is) h).1 n j i e (omega (arith, at))
 
   all_done : (k : ℕ) (is : List Member) → ((n j : ℕ) (i : Member) → nth is n ≡ Some i → j ≡ n + k → is_at_done y j last ≡ true) → are_at_done y last k is ≡ true
   all_done k [] h = refl
   all_done k (x ∷ is) h =
-      both_are (is_at_done y k last) (are_at_done y last (suc k) is) (h 0 k x refl (omega arith)) (all_done (suc k) is (λ n j i e at. h (suc n) j i e (omega (arith, at))))
+      and_from (is_at_done y k last) (are_at_done y last (suc k) is) (h 0 k x refl (omega arith)) (all_done (suc k) is (λ n j i e at. h (suc n) j i e (omega (arith, at))))
 
   none_ends : (k : ℕ) (is : List Member) → ((n j : ℕ) (i : Member) → nth is n ≡ Some i → j ≡ n + k → end_by (f.records j) ≡ None)
       → (has_stopped (last_ends_from f k is) ≡ false) × (has_full (last_ends_from f k is) ≡ false)
@@ -108,7 +92,7 @@ module _ (y : System) (settings : Settings) (f : Finished Effect) where
   pub zero_is_done : status_of y settings f ≡ 0 → (n : ℕ) (i : Member) → nth y.members n ≡ Some i → place_of i.id last ≡ Some (string done)
   zero_is_done h n i e =
       let all = zero_status (has_stopped (last_ends_from f 0 y.members)) (has_full (last_ends_from f 0 y.members)) (are_at_done y last 0 y.members) h in
-      place_done (place_of i.id last) (sym (here n i e) ∙ each_done 0 y.members all n n i e (omega arith))
+      at_done (place_of i.id last) (sym (here n i e) ∙ each_done 0 y.members all n n i e (omega arith))
 
   -- where each is at Done, and no instance whose last record ends it is, the status is 0
   pub done_is_zero : ((k : ℕ) → last_ends (f.records k) ≡ true → is_at_done y k last ≡ false) → ((n : ℕ) (i : Member) → nth y.members n ≡ Some i → place_of i.id last ≡ Some (string done)) → status_of y settings f ≡ 0

@@ -1,7 +1,8 @@
 -- What is asked of a bound specification whose states are kept, so that workers follow the core machine.
-use Rattle.std.proofs.Common.{◌≡◌, ◌≤◌, ℕ, true, List, [], ◌∷◌, map, length, Some, refl, ap, ◌∙◌, arith}
+use Rattle.std.proofs.Common.{◌≡◌, ◌≤◌, ℕ, true, List, length, Some, ap, ◌∙◌, arith}
 use Rattle.std.proofs.lemmas.Bool.{lt-ltb}
 use Rattle.std.specs.Prelude.{nat_lt}
+use Rattle.std.proofs.lemmas.List.{length-map}
 use Rattle.pgo_base.specs.Lookup.{Vars}
 use Rattle.pgo_model.specs.Accounts.{Fits}
 use Rattle.pgo_model.specs.Core.{Settings, Reaches, rules_of}
@@ -42,10 +43,6 @@ module _ (b : Bound) (keeps : KeepsStates b) (numbers : AreNumbered (system_of b
     own_else = λ k j s o o' hs ps w ne. made_else y layout numbers k s o o' hs ps (has s w.good) w.own w.names w.once w.resources j ne;
   }
 
-long_map : {A B : Type 0} (f : A → B) (xs : List A) → length (map f xs) ≡ length xs
-long_map f [] = refl
-long_map f (x ∷ xs) = let q = long_map f xs in omega (arith, q)
-
 module _ (b : Bound) (settings : Settings) (fits : Fits (rules_of (system_of b) settings) (Reaches (system_of b)) (IsGoodState b)) (turns : List ℕ) where
   abbrev R : Rules Vars Effect
   R = rules_of (system_of b) settings
@@ -65,4 +62,4 @@ module _ (b : Bound) (settings : Settings) (fits : Fits (rules_of (system_of b) 
   holder_there r h e = lt-ltb h (length (system_of b).members) (kept.holding r h e).1
 
 pub few_resources : (b : Bound) → Sound b → length (system_of b).resources ≤ 1024
-few_resources b sound = let q = long_map resource_of b.resources in let few = sound.numbered.few_resources in omega (arith, q, few)
+few_resources b sound = let q = length-map b.resources resource_of in let few = sound.numbered.few_resources in omega (arith, q, few)

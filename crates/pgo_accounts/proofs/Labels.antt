@@ -1,6 +1,6 @@
 -- Where no rule on labels finds anything, each `goto` names a label of its archetype or Done, and each `while` has a label.
 use Rattle.std.proofs.Common.{◌≡◌, Bool, true, false, not, ◌||◌, if◌then◌else◌, ◌⊎◌, List, [], ◌∷◌, ◌++◌, map, filter, Some, None, inl, inr, refl, ap, sym, ◌∙◌, subst}
-use Rattle.std.proofs.lemmas.List.{map-append}
+use Rattle.std.proofs.lemmas.List.{map-append, append_assoc}
 use Rattle.std.specs.Prelude.{flat_map, is_none}
 use Rattle.pgo_base.specs.Lookup.{Name, same_name}
 use Rattle.pgo_model.specs.Names.{same_name-is, is_among}
@@ -19,12 +19,13 @@ use Rattle.pgo_labels.specs.UnknownLabel.{targets_of, target}
 use Rattle.pgo_labels.specs.declared.finding.Finding.{Finding}
 use Rattle.pgo_bound.specs.Among.{IsAmong, among_left, among_right, among_filter, among_flat_map, empty_map, empty_none, from_map}
 use Rattle.pgo_bound.specs.Sound.{labels_among}
+use Rattle.pgo_meaning.proofs.Traces.{among_is}
 use Rattle.pgo_systems.specs.Gotos.{gotos_in, gotos_each, gotos_among, gotos_guarded, NoBareWhile, NoneEach, NoneAmong, NoneGuarded}
 use Rattle.pgo_accept.proofs.Unlabelled.{names_of_body}
 use Rattle.pgo_accept.proofs.Accepted.{rules_behind, later_rules}
 use Rattle.pgo_accept.proofs.Unbroken.{first_label_rule, next_label_rules}
 use Rattle.pgo_agrees.proofs.Unlabelled.{placed_name, with_inside_is}
-use Rattle.pgo_agrees.proofs.Variables.{among_is}
+use Rattle.pgo_agrees.proofs.Stands.{or_in}
 
 -- ---- targets
 
@@ -32,13 +33,9 @@ use Rattle.pgo_agrees.proofs.Variables.{among_is}
 abbrev target_names : List Item → List Name
 target_names is = map placed_name (targets_of is)
 
-append_same : {A : Type 0} (xs ys zs : List A) → (xs ++ ys) ++ zs ≡ xs ++ (ys ++ zs)
-append_same [] ys zs = refl
-append_same (x ∷ xs) ys zs = ap (λ l. x ∷ l) (append_same xs ys zs)
-
 targets_joined : (is js : List Item) → targets_of (is ++ js) ≡ targets_of is ++ targets_of js
 targets_joined [] js = refl
-targets_joined (i ∷ is) js = ap (λ ts. target i.1 ++ ts) (targets_joined is js) ∙ sym (append_same (target i.1) (targets_of is) (targets_of js))
+targets_joined (i ∷ is) js = ap (λ ts. target i.1 ++ ts) (targets_joined is js) ∙ sym (append_assoc (target i.1) (targets_of is) (targets_of js))
 
 names_joined : (is js : List Item) → target_names (is ++ js) ≡ target_names is ++ target_names js
 names_joined is js = ap (map placed_name) (targets_joined is js) ∙ map-append placed_name (targets_of is) (targets_of js)
@@ -79,10 +76,6 @@ mutual
   guarded_are no_guarded = refl
   guarded_are (more_guarded p e s bs) = then_others (gotos_in s) (gotos_guarded bs) (item s ∷ inside s) (inside_guarded bs) (gotos_are s) (guarded_are bs)
 
-either_true : (a b : Bool) → a || b ≡ true → (a ≡ true) ⊎ (b ≡ true)
-either_true true b h = inl refl
-either_true false b h = inr h
-
 not_true : (b : Bool) → not b ≡ false → b ≡ true
 not_true true h = refl
 not_true false h = absurd (cc)
@@ -109,7 +102,7 @@ known a h x among = go (is_unknown a from.0) refl
 
     go : (b : Bool) → is_unknown a from.0 ≡ b → (x ≡ done) ⊎ IsAmong x (labels_among (labeled a.body))
     go true e = absurd (empty_none from.0 (filter (is_unknown a) ts) none (among_filter (is_unknown a) from.0 ts from.1 e))
-    go false e = by (either_true (is_among from.0.name (map placed_name (rules.labels a))) (same_name from.0.name rules.done) (not_true (is_among from.0.name (map placed_name (rules.labels a)) || same_name from.0.name rules.done) e))
+    go false e = by (or_in (is_among from.0.name (map placed_name (rules.labels a))) (same_name from.0.name rules.done) (not_true (is_among from.0.name (map placed_name (rules.labels a)) || same_name from.0.name rules.done) e))
 
 -- ---- loops
 

@@ -1,11 +1,10 @@
 -- What is asked of a specification, so that its states are kept, of every accepted one that a text spells.
-use Rattle.std.proofs.Common.{◌≡◌, ℕ, Bool, true, false, if◌then◌else◌, List, [], ◌∷◌, map, Some, option_map, Ok, inl, inr, refl, sym, subst}
+use Rattle.std.proofs.Common.{◌≡◌, ℕ, Bool, true, false, if◌then◌else◌, List, [], ◌∷◌, map, Some, option_map, Ok, refl, sym, subst}
 use Rattle.std.specs.List.{AllByRecursion}
 use Rattle.pgo_base.specs.Data.{Data}
-use Rattle.pgo_base.specs.Lookup.{Name, Vars, same_name}
+use Rattle.pgo_base.specs.Lookup.{Name, same_name}
 use Rattle.pgo_model.specs.Machine.{nth}
 use Rattle.pgo_model.specs.State.{AllValues}
-use Rattle.pgo_model.specs.Value.{IsValue}
 use Rattle.pgo_syntax.specs.Statement.{labeled}
 use Rattle.pgo_syntax.specs.declared.archetype.Extent.{Extent}
 use Rattle.pgo_syntax.specs.declared.archetype.Extent.TheVariants.{Whole, Element}
@@ -18,13 +17,13 @@ use Rattle.pgo_syntax.specs.declared.process.Argument.TheVariants as arguments
 use Rattle.pgo_syntax.specs.declared.process.MappingClause.{MappingClause}
 use Rattle.pgo_syntax.specs.declared.spec.Spec.{Spec}
 use Rattle.pgo_labels.specs.Rules.{needs_label, unknown_label}
-use Rattle.pgo_bound.specs.Among.{IsAmong, none_flat_map}
+use Rattle.pgo_bound.specs.Among.{none_flat_map, all_at}
 use Rattle.pgo_bound.specs.BoundOf.{bound_of}
 use Rattle.pgo_bound.specs.Runs.{run_with, mapping_named, mapping_by, speaking, target_of, binding_of}
 use Rattle.pgo_bound.specs.Sound.{Sound}
 use Rattle.pgo_bound.specs.Values.{defs_of}
 use Rattle.pgo_bind.proofs.SoundBound.{sound_answer}
-use Rattle.pgo_systems.specs.Counted.{AllCounted, IsCounted}
+use Rattle.pgo_systems.specs.Counted.{AllCounted}
 use Rattle.pgo_systems.specs.Gotos.{GotosKnown}
 use Rattle.pgo_systems.specs.StatementLiterals.{LabeledFit, SpecificationFits, TargetFits, TextFits}
 use Rattle.pgo_agrees.specs.Accepted.{IsAccepted}
@@ -33,13 +32,7 @@ use Rattle.pgo_agrees.proofs.Premises as premises
 use Rattle.pgo_accounts.specs.Texts.{AllLiteralsFit, BlocksFit, NeverJumps}
 use Rattle.pgo_accounts.proofs.Labels.{none_found, known, whiles}
 
--- what holds of all holds of each
-each_of : {A : Type 0} (P : A → Type 0) (x : A) (xs : List A) → AllByRecursion P xs → IsAmong x xs → P x
-each_of P x [] h a = absurd a
-each_of P x (y ∷ ys) h (inl e) = subst P (sym e) h.0
-each_of P x (y ∷ ys) h (inr a) = each_of P x ys h.1 a
-
-all_map : {A B : Type 0} (f : A → B) (P : B → Type 0) (xs : List A) → ((x : A) → P (f x)) → AllByRecursion P (map f xs)
+pub all_map : {A B : Type 0} (f : A → B) (P : B → Type 0) (xs : List A) → ((x : A) → P (f x)) → AllByRecursion P (map f xs)
 all_map f P [] h = tt
 all_map f P (x ∷ xs) h = (h x, all_map f P xs h)
 
@@ -64,17 +57,13 @@ target_fits s h cs n (arguments.Ref g e) = mapping_fits s h g.name e (speaking n
 
 -- ---- values
 
-pub all_values : ((v : Data) → IsCounted v → IsValue v) → (s : Vars) → AllCounted s → AllValues s
-all_values f [] h = tt
-all_values f (p ∷ s) h = (f p.1 h.0, all_values f s h.1)
-
 module _ (s : Spec) (consts : List (Name × Data)) (h : IsAccepted s consts) (literals : AllLiteralsFit s) (quiet : AllByRecursion NeverJumps s.macros) where
   pub text_fits : (k : ℕ) (i : Instance) → nth (bound_of s consts).instances k ≡ Some i → TextFits (bound_of s consts) i
   text_fits k i at_k =
       let r = runs_as s consts k i at_k in
       let run = run_with (defs_of s consts) r.process r.archetype in
       subst (TextFits (bound_of s consts)) (sym r.is) (record {
-        body = each_of (λ a. LabeledFit (labeled a.body)) r.archetype s.archetypes literals.archetypes r.declared;
+        body = all_at (λ a. LabeledFit (labeled a.body)) r.archetype s.archetypes literals.archetypes r.declared;
         macros = literals.macros;
         mappings = all_map (binding_of s run.process.clauses) (λ x. TargetFits x.target) run.handed (λ z. target_fits s literals.mappings run.process.clauses z.number z.argument);
       })

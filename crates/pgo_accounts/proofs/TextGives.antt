@@ -1,12 +1,10 @@
 -- Of a specification that a text spells, the literals are integers of 64 bits, and macros have neither `goto`s nor `while`s.
-use Rattle.std.proofs.Common.{◌≡◌, ◌≤◌, ◌^◌, ℕ, Bool, List, [], ◌∷◌, ◌++◌, Option, Some, refl, subst, arith, pos}
+use Rattle.std.proofs.Common.{◌≡◌, ◌≤◌, ◌^◌, ℕ, Bool, List, [], ◌∷◌, Option, Some, refl, subst, arith, pos}
 use Rattle.std.proofs.lemmas.Bool.{lt-ltb}
 use Rattle.std.specs.List.{AllByRecursion}
-use Rattle.pgo_lexer.specs.Layout.{Marked, Bullets, Marks}
-use Rattle.pgo_lexer.specs.Layout as mark
+use Rattle.pgo_lexer.specs.Layout.{Marked}
 use Rattle.pgo_lexer.specs.Lexemes.{IsPiece}
 use Rattle.pgo_lexer.specs.Lexemes as piece
-use Rattle.pgo_lexer.specs.declared.symbol.Junction.{Junction}
 use Rattle.pgo_lexer.specs.declared.symbol.Symbol.{Symbol}
 use Rattle.pgo_lexer.specs.declared.symbol.Symbol.TheVariants as symbol
 use Rattle.pgo_lexer.specs.declared.token.Lexeme.{Lexeme}
@@ -17,7 +15,7 @@ use Rattle.pgo_spec_text.specs.SpecText as text
 use Rattle.pgo_mpcal_read.specs.Spells.{IsHeader, IsPart, declarations_of, SpellsTokens}
 use Rattle.pgo_mpcal_read.specs.Spells as spells
 use Rattle.pgo_mpcal_read.specs.Texts.{SpellsSpec}
-use Rattle.pgo_mpcal_read.specs.Units.{IsDefinition, IsDeclaration, IsDeclarations, IsVariables, IsMacro, IsMappingMacro, IsLocals, IsArchetype, IsArgument, IsProcess, IsDefine, IsUnit, AreUnits, may_stand_in_macro, all_are}
+use Rattle.pgo_mpcal_read.specs.Units.{IsDefinition, IsDeclaration, IsDeclarations, IsVariables, IsMacro, IsMappingMacro, IsLocals, IsArchetype, IsArgument, IsProcess, IsDefine, IsUnit, AreUnits}
 use Rattle.pgo_mpcal_read.specs.Units as unit
 use Rattle.pgo_mpcal_read.specs.declared.header.Header.{Header}
 use Rattle.pgo_mpcal_read.specs.declared.units.Units.{Units}
@@ -33,17 +31,13 @@ use Rattle.pgo_syntax.specs.declared.spec.Spec.{Spec}
 use Rattle.pgo_bound.specs.Values as values
 use Rattle.pgo_systems.specs.Literals.{LiteralsFit, InitialFits, OriginFits, ArgumentFits}
 use Rattle.pgo_systems.specs.StatementLiterals.{LabeledFit}
+use Rattle.pgo_agrees.proofs.EachToken.{one_more, cut, all_in_brackets, all_in_row, all_marked}
 use Rattle.pgo_accounts.specs.Texts.{BlocksFit, NeverJumps, AllLiteralsFit}
 use Rattle.pgo_accounts.proofs.Tokens.{IsSmall}
-use Rattle.pgo_accounts.proofs.StatementLiterals.{AreSmall, cut, expression, origin_fits, all_in_brackets, all_in_row, body_fits}
-use Rattle.pgo_accounts.proofs.MacroStatements as macros
+use Rattle.pgo_accounts.proofs.StatementLiterals.{AreSmall, expression, origin_fits, body_fits}
 use Rattle.pgo_accounts.proofs.MacroStatements.{AllMay, all_may, body_quiet}
 
 -- ---- tokens
-
-joined : (xs ys : List Lexeme) → AreSmall xs → AreSmall ys → AreSmall (xs ++ ys)
-joined [] ys h g = g
-joined (x ∷ xs) ys h g = (h.0, joined xs ys h.1 g)
 
 of_symbol : (v : Symbol) (k : Token) → Some (t.Symbol v) ≡ Some k → IsSmall k
 of_symbol v k e = subst IsSmall (got e) tt
@@ -76,22 +70,8 @@ cut_small text.end = tt
 cut_small (text.pass p d a r) = cut_small r
 cut_small (text.token p {token = k} d r) = (piece_small k d refl, cut_small r)
 
-mutual
-  marked_small : {s : Bool} {b : ℕ} {p q : Bool} {rs ms : List Lexeme} → Marked s b p rs ms q → AreSmall rs → AreSmall ms
-  marked_small mark.done h = tt
-  marked_small (mark.plain l r d) h = (h.0, marked_small d h.1)
-  marked_small (mark.separator l k d) h = (h.0, marked_small d h.1)
-  marked_small (mark.bracket z {xs = xs} {ms = ms} {ns = ns} l k d m c e) h =
-      let q = cut xs _ h.1 in (h.0, joined ms (z ∷ ns) (marked_small d q.0) (q.1.0, marked_small e q.1.1))
-  marked_small (mark.list {xs = xs} {ys = ys} {ls = ls} {ms = ms} {ns = ns} l k d bs past e) h =
-      let q = cut xs _ h.1 in
-      let r = cut ys _ q.1 in
-      (tt, joined ls _ (marked_small d q.0) (joined ms _ (bullets_small bs r.0) (tt, marked_small e r.1)))
-
-  bullets_small : {op : Junction} {c : ℕ} {p q : Bool} {ys ms : List Lexeme} → Bullets op c p ys ms q → AreSmall ys → AreSmall ms
-  bullets_small mark.none h = tt
-  bullets_small (mark.next {xs = xs} {ms = ms} k e d bs) h =
-      let q = cut xs _ h.1 in (tt, joined ms _ (marked_small d q.0) (bullets_small bs q.1))
+marked_small : {s : Bool} {b : ℕ} {p q : Bool} {rs ms : List Lexeme} → Marked s b p rs ms q → AreSmall rs → AreSmall ms
+marked_small d h = all_marked IsSmall (λ o. tt) tt tt d h
 
 -- ---- definitions and declarations
 
@@ -103,16 +83,16 @@ DeclarationFits d = InitialFits d.initial
 
 definition_of : (xs : List Lexeme) (d : Definition) → IsDefinition xs d → AreSmall xs → DefinitionFits d
 definition_of xs d (unit.without_params i) h = expression i h.1.1
-definition_of xs d (unit.with_params c e {xs = ys} n i) h = let q = cut ys _ h.1.1 in expression i q.1.1.1
+definition_of xs d (unit.with_params c e {xs = ys} n i) h = let q = cut _ ys _ h.1.1 in expression i q.1.1.1
 
 declaration_of : (xs : List Lexeme) (d : Declaration) → IsDeclaration xs d → AreSmall xs → DeclarationFits d
 declaration_of xs d unit.without_value h = tt
 declaration_of xs d (unit.with_value {ts = ys} {o = o} i) h = origin_fits ys o i h.1
 
 declarations_fit : (xs : List Lexeme) (ds : List Declaration) → IsDeclarations xs ds → AreSmall xs → AllByRecursion DeclarationFits ds
-declarations_fit xs ds (unit.last_declaration {xs = ys} {d = d} i e) h = (declaration_of ys d i (cut ys _ h).0, tt)
+declarations_fit xs ds (unit.last_declaration {xs = ys} {d = d} i e) h = (declaration_of ys d i (cut _ ys _ h).0, tt)
 declarations_fit xs ds (unit.declaration {xs = us} {ys = ys} {zs = zs} {d = d} {ds = es} i p r) h =
-    let q = cut us _ h in (declaration_of us d i q.0, declarations_fit ys es r (cut zs ys q.1).1)
+    let q = cut _ us _ h in (declaration_of us d i q.0, declarations_fit ys es r (cut _ zs ys q.1).1)
 
 variables_of : (xs : List Lexeme) (ds : List Declaration) → IsVariables xs ds → AreSmall xs → AllByRecursion DeclarationFits ds
 variables_of xs ds (unit.variables {xs = ys} i) h = declarations_fit ys ds i h.1
@@ -127,22 +107,22 @@ abbrev MacroFits : Macro → Type 0
 MacroFits m = LabeledFit (labeled m.body)
 
 macro_of : (xs : List Lexeme) (m : Macro) → IsMacro xs m → AreSmall xs → MacroFits m
-macro_of xs m (unit.macro_of {xs = ys} {ys = zs} i r) h = body_fits r (cut ys zs h.1.1).1
+macro_of xs m (unit.macro_of {xs = ys} {ys = zs} i r) h = body_fits r (cut _ ys zs h.1.1).1
 
 macro_quiet : (xs : List Lexeme) (m : Macro) → IsMacro xs m → AllMay xs → NeverJumps m
-macro_quiet xs m (unit.macro_of {xs = ys} {ys = zs} i r) h = body_quiet r (macros.cut ys zs h.1.1).1
+macro_quiet xs m (unit.macro_of {xs = ys} {ys = zs} i r) h = body_quiet r (cut _ ys zs h.1.1).1
 
 mapping_of : (xs : List Lexeme) (m : MappingMacro) → IsMappingMacro xs m → AreSmall xs → BlocksFit m
 mapping_of xs m (unit.mapping_macro_of w c {xs = ys} {ys = zs} r s) h =
-    let q = cut ys _ h.1.1.1.1.1 in (body_fits r q.0, body_fits s (cut zs _ q.1.1).0)
+    let q = cut _ ys _ h.1.1.1.1.1 in (body_fits r q.0, body_fits s (cut _ zs _ q.1.1).0)
 
 abbrev ArchetypeFits : Archetype → Type 0
 ArchetypeFits a = AllByRecursion DeclarationFits a.locals × LabeledFit (labeled a.body)
 
 archetype_of : (xs : List Lexeme) (a : Archetype) → IsArchetype xs a → AreSmall xs → ArchetypeFits a
 archetype_of xs a (unit.archetype_of {xs = us} {ys = ys} {zs = zs} {ds = ds} i l r) h =
-    let q = cut us _ h.1.1 in
-    let w = cut ys zs q.1 in
+    let q = cut _ us _ h.1.1 in
+    let w = cut _ ys zs q.1 in
     (locals_of ys ds l w.0, body_fits r w.1)
 
 argument_of : (xs : List Lexeme) (a : Argument) → IsArgument xs a → AreSmall xs → ArgumentFits a
@@ -154,13 +134,13 @@ ProcessFits p = OriginFits p.ids × AllByRecursion ArgumentFits p.arguments
 
 process_of : (xs : List Lexeme) (p : Process) → IsProcess xs p → AreSmall xs → ProcessFits p
 process_of xs q (unit.instance_of p a n b d i m {fs = fs} {os = os} {vs = vs} {o = o} {as' = as'} f g r cs z) h =
-    let front = cut fs _ h in
-    let ids = cut os _ front.1.1.1.1 in
-    let given = cut vs _ ids.1.1.1.1.1 in
-    (origin_fits os o g ids.0, all_in_brackets IsArgument ArgumentFits argument_of vs as' r given.0)
+    let front = cut _ fs _ h in
+    let ids = cut _ os _ front.1.1.1.1 in
+    let given = cut _ vs _ ids.1.1.1.1.1 in
+    (origin_fits os o g ids.0, all_in_brackets _ IsArgument ArgumentFits argument_of vs as' r given.0)
 
 define_of : (xs : List Lexeme) (ds : List Definition) → IsDefine xs ds → AreSmall xs → AllByRecursion DefinitionFits ds
-define_of xs ds (unit.definitions c {xs = ys} r) h = all_in_row IsDefinition DefinitionFits definition_of ys ds r (cut ys _ h.1.1).0
+define_of xs ds (unit.definitions c {xs = ys} r) h = all_in_row _ IsDefinition DefinitionFits definition_of ys ds r (cut _ ys _ h.1.1).0
 
 record UnitsFit (u : Units) : Type 0 where
   pub define : AllByRecursion DefinitionFits (values.define_of u.define)
@@ -170,10 +150,6 @@ record UnitsFit (u : Units) : Type 0 where
   pub archetypes : AllByRecursion ArchetypeFits u.archetypes
   pub globals : AllByRecursion DeclarationFits (declarations_of u.globals)
   pub processes : AllByRecursion ProcessFits u.processes
-
-one_more : {A : Type 0} (P : A → Type 0) (xs : List A) (x : A) → AllByRecursion P xs → P x → AllByRecursion P (xs ++ x ∷ [])
-one_more P [] x h g = (g, tt)
-one_more P (y ∷ xs) x h g = (h.0, one_more P xs x h.1 g)
 
 unit_of : (b a : Units) (xs : List Lexeme) → IsUnit b xs a → AreSmall xs → UnitsFit b → UnitsFit a
 unit_of b a xs (unit.define {xs = ys} {ds = ds} n d p) h g = record { define = define_of ys ds d h; macros = g.macros; quiet = g.quiet; mappings = g.mappings; archetypes = g.archetypes; globals = g.globals; processes = g.processes }
@@ -185,21 +161,21 @@ unit_of b a xs (unit.process {xs = ys} {q = q} d p) h g = record { define = g.de
 
 units_of : {xs : List Lexeme} {a : Units} → AreUnits xs a → AreSmall xs → UnitsFit a
 units_of unit.no_unit h = record { define = tt; macros = tt; quiet = tt; mappings = tt; archetypes = tt; globals = tt; processes = tt }
-units_of (unit.unit {xs = xs} {ys = ys} {a = a} {b = b} r u) h = let q = cut xs ys h in unit_of b a ys u q.1 (units_of r q.0)
+units_of (unit.unit {xs = xs} {ys = ys} {a = a} {b = b} r u) h = let q = cut _ xs ys h in unit_of b a ys u q.1 (units_of r q.0)
 
 header_of : {xs : List Lexeme} {h : Header} → IsHeader xs h → AreSmall xs → AllByRecursion DefinitionFits h.definitions
 header_of (spells.title p n d e x) h = tt
-header_of (spells.part {xs = xs} {ys = ys} {a = a} {h = b} r d) h = let q = cut xs ys h in part_of d (header_of r q.0) q.1
+header_of (spells.part {xs = xs} {ys = ys} {a = a} {h = b} r d) h = let q = cut _ xs ys h in part_of d (header_of r q.0) q.1
   where
     part_of : {b a : Header} {ys : List Lexeme} → IsPart b ys a → AllByRecursion DefinitionFits b.definitions → AreSmall ys → AllByRecursion DefinitionFits a.definitions
     part_of (spells.constants w i) g k = g
     part_of {b = b} {ys = ys} (spells.definition {d = d} i) g k = one_more DefinitionFits b.definitions d g (definition_of ys d i k)
 
-all_first : {A : Type 0} (P Q : A → Type 0) (xs : List A) → AllByRecursion (λ x. P x × Q x) xs → AllByRecursion P xs
+pub all_first : {A : Type 0} (P Q : A → Type 0) (xs : List A) → AllByRecursion (λ x. P x × Q x) xs → AllByRecursion P xs
 all_first P Q [] h = tt
 all_first P Q (x ∷ xs) h = (h.0.0, all_first P Q xs h.1)
 
-all_second : {A : Type 0} (P Q : A → Type 0) (xs : List A) → AllByRecursion (λ x. P x × Q x) xs → AllByRecursion Q xs
+pub all_second : {A : Type 0} (P Q : A → Type 0) (xs : List A) → AllByRecursion (λ x. P x × Q x) xs → AllByRecursion Q xs
 all_second P Q [] h = tt
 all_second P Q (x ∷ xs) h = (h.0.1, all_second P Q xs h.1)
 
@@ -209,7 +185,7 @@ pub record TextGives (s : Spec) : Type 0 where
 
 tokens_give : (hs as' : List Lexeme) (s : Spec) → SpellsTokens hs as' s → AreSmall hs → AreSmall as' → TextGives s
 tokens_give hs as' s (spells.spec c {xs = xs} {h = h} {us = us} head plain units shallow some) f g =
-    let u = units_of units (cut xs _ g.1.1).0 in
+    let u = units_of units (cut _ xs _ g.1.1).0 in
     record {
       literals = record {
         start = record {

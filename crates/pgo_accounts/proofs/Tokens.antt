@@ -1,5 +1,6 @@
 -- Numbers among tokens.
-use Rattle.std.proofs.Common.{List, [], ◌∷◌, ◌++◌, IsTrue}
+use Rattle.std.proofs.Common.{List, IsTrue}
+use Rattle.std.specs.List.{AllByRecursion}
 use Rattle.pgo_lexer.specs.declared.token.Token.{Token}
 use Rattle.pgo_lexer.specs.declared.token.Token.TheVariants as t
 use Rattle.pgo_model.specs.Operators.{fits_i64}
@@ -10,9 +11,4 @@ IsSmall (t.Number z) = IsTrue (fits_i64 z)
 IsSmall _ = Unit {0}
 
 abbrev pub AllSmall : List Token → Type 0
-AllSmall [] = Unit {0}
-AllSmall (k ∷ ks) = IsSmall k × AllSmall ks
-
-pub parts : (xs ys : List Token) → AllSmall (xs ++ ys) → AllSmall xs × AllSmall ys
-parts [] ys h = (tt, h)
-parts (k ∷ xs) ys h = let q = parts xs ys h.1 in ((h.0, q.0), q.1)
+AllSmall = AllByRecursion IsSmall

@@ -20,10 +20,11 @@ use Rattle.pgo_meaning.specs.MacrosPlaced.{with_step, left_of}
 use Rattle.pgo_agrees.specs.Spoken.{Spoken}
 use Rattle.pgo_agrees.proofs.Zip.{any_flags}
 use Rattle.pgo_agrees.proofs.Fine.{PathFine}
-use Rattle.pgo_agrees.proofs.FromUses.{all_left, all_right, IsAt, Tells, stands}
+use Rattle.pgo_agrees.proofs.FromUses.{IsAt, Tells, stands}
 use Rattle.pgo_agrees.proofs.Placing.{reads_so, writes_so, shape_append, AnyCall, Handed}
 use Rattle.pgo_agrees.proofs.Stands.{Stands}
 use Rattle.pgo_agrees.proofs.Zip.{zip}
+use Rattle.pgo_agrees.proofs.EachToken.{cut}
 
 pub further : (h : Shape) → join h Further ≡ Further
 further Bare = refl
@@ -103,8 +104,8 @@ module _ (N : List Name → Bool → Bool → Name → Type 0) (C B W : Name →
     left_is ns a (index t (more_trees d no_trees)) x w q s f h e =
         let us = left_uses [] (inside a) t in
         let vs = uses [] (inside a) d in
-        let l = left_is ns a t x w q s.0 (λ j i. any j i (f j i).0) (all_left R us vs h) e in
-        let i = argument_stands ns (inside a) d w s.1.0 (f false false).1.0 (all_right R us vs h) in
+        let l = left_is ns a t x w q s.0 (λ j i. any j i (f j i).0) (cut R us vs h).0 e in
+        let i = argument_stands ns (inside a) d w s.1.0 (f false false).1.0 (cut R us vs h).1 in
         record {
           left = with_step (step.Index d) l.left;
           is = ap (option_map (with_step (step.Index d))) l.is;

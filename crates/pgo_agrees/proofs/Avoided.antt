@@ -2,6 +2,7 @@
 use Rattle.std.proofs.Common.{◌≡◌, ℕ, Bool, true, false, not, ◌||◌, List, [], ◌∷◌, ◌++◌, Option, Some, None, refl, ap, sym, ◌∙◌, subst, inl, inr, arith}
 use Rattle.std.specs.Prelude.{◌⊎◌}
 use Rattle.std.specs.List.{AllByRecursion}
+use Rattle.std.proofs.lemmas.Bool.{or_from}
 use Rattle.pgo_base.specs.Lookup.{Name, same_name}
 use Rattle.pgo_base.specs.Tree.{Tree}
 use Rattle.pgo_model.specs.Names.{same_name-self, same_name-not}
@@ -29,19 +30,19 @@ use Rattle.pgo_scope.specs.Unknown.{is_constant, is_common, is_own, means}
 use Rattle.pgo_syntax.specs.Statement.{labeled}
 use Rattle.pgo_bound.specs.Among.{IsAmong, among_left, among_right, among_append, all_at}
 use Rattle.pgo_bound.specs.State.{variables_of}
+use Rattle.pgo_bound.specs.Different.{all_from}
 use Rattle.pgo_accept.proofs.Fitting.{ArgumentsFit}
 use Rattle.pgo_translate.specs.Avoids.{Good, Free, Avoids}
 use Rattle.pgo_translate.specs.Premises.{OriginAvoids, ArgumentAvoids, ProcessAvoids, further_names, taken_names, is_taken, is_taken_or_self}
 use Rattle.pgo_agrees.specs.Accepted.{IsOfText, OriginOfText, DeclarationOfText, ArchetypeOfText, ArgumentOfText, ProcessOfText}
 use Rattle.pgo_agrees.specs.Spoken.{Spoken}
-use Rattle.pgo_agrees.proofs.Closed.{all_among}
 use Rattle.pgo_agrees.proofs.FromUses.{IsAt, Tells, stands}
 use Rattle.pgo_agrees.proofs.Further.{IsTaken, bound_not_taken}
 use Rattle.pgo_agrees.proofs.FurtherNames.{name_of, named_further}
 use Rattle.pgo_agrees.proofs.Hoist.{never}
 use Rattle.pgo_agrees.proofs.Kept.{NoFindings, NoLabelFindings}
 use Rattle.pgo_agrees.proofs.Meanings.{IsCommon, IsApplicable, named_row, row_test, operators_not_self, common_apart, applicable_apart, applicable_not_self, alone_means, alone_no_global, applied_is, common_here}
-use Rattle.pgo_agrees.proofs.Names.{and_right, false_or}
+use Rattle.pgo_agrees.proofs.Names.{and_right}
 use Rattle.pgo_agrees.proofs.Stands.{or_in}
 use Rattle.pgo_agrees.proofs.WrittenNames.{writes_some, counted, shared_among, bound_not_fixed}
 use Rattle.pgo_agrees.proofs.Uses.{FineUse, fine_use, of_global, of_archetype, of_process}
@@ -67,7 +68,7 @@ module _ (s : Spec) (k : NoFindings s) (fit : AllByRecursion (ArgumentsFit s.arc
   pub avoids : (home : Home) → Meaning home → (p : ℕ) (t : Tree) → Spoken t → ((u : Use) → IsAmong u (uses [] (start home p) t) → FineUse s u) → Avoids bad t
   avoids home meaning p t spoken f =
       let at' = start home p in
-      let st = stands (FineUse s) home false (λ h i x. Good bad x) (Good bad) (Good bad) (Good bad) (tells home meaning) [] [] at' t (refl, refl) (λ x h. never h) spoken (all_among (FineUse s) (uses [] at' t) f) in
+      let st = stands (FineUse s) home false (λ h i x. Good bad x) (Good bad) (Good bad) (Good bad) (tells home meaning) [] [] at' t (refl, refl) (λ x h. never h) spoken (all_from (FineUse s) (uses [] at' t) f) in
       plain (λ h i x. Good bad x) (Good bad) (Good bad) (Good bad) (Good bad) Free (λ h i x g. g) (λ x g. g) (λ x g. tt) (λ x g. g) [] false false t (λ x h. never h) st
 
 module _ (s : Spec) (k : NoFindings s) (labels : NoLabelFindings s) (fit : AllByRecursion (ArgumentsFit s.archetypes) s.processes) (of_text : IsOfText s) where
@@ -154,7 +155,7 @@ module _ (s : Spec) (k : NoFindings s) (labels : NoLabelFindings s) (fit : AllBy
       let ps = parameter_uses [] at' a.params in
       let ls = local_uses r.0 (parameter_names a.params) at' a.locals in
       let bs = uses_of_block (parameter_names a.params ++ variable_names a.locals) at' (labeled a.body) in
-      all_among (λ (d : Declaration). OriginAvoids (is_taken s) d.initial) a.locals (λ d b. local_avoids r.0 d (all_at DeclarationOfText d a.locals text.1 b).1 (λ u c. fine_use s k u (r.2 u (among_left u (ps ++ ls) bs (among_right u ps ls (initial_among r.0 d (parameter_names a.params) at' a.locals b u c))))))
+      all_from (λ (d : Declaration). OriginAvoids (is_taken s) d.initial) a.locals (λ d b. local_avoids r.0 d (all_at DeclarationOfText d a.locals text.1 b).1 (λ u c. fine_use s k u (r.2 u (among_left u (ps ++ ls) bs (among_right u ps ls (initial_among r.0 d (parameter_names a.params) at' a.locals b u c))))))
 
   -- ---- processes: their arguments, and their identifiers, which do not name `self` either
   constant_not_self : (x : Name) → has_row x (name_rows s.constants) ≡ true → x ≡ self_name → ⊥
@@ -189,14 +190,14 @@ module _ (s : Spec) (k : NoFindings s) (labels : NoLabelFindings s) (fit : AllBy
 
   in_process : (x : Name) → means (tables_of s) s.archetypes homes.Process x ≡ true → has_row x (tables_of s).globals ≡ false → is_taken_or_self s x ≡ false
   in_process x h g =
-      false_or (is_taken s x) (same_name x self_name) (common_good x (common_here s k fit of_text x (common_or x h) g)) (common_not_self x h g)
+      or_from (is_taken s x) (same_name x self_name) (common_good x (common_here s k fit of_text x (common_or x h) g)) (common_not_self x h g)
 
   applied_both : (x : Name) → IsApplicable s x → is_taken_or_self s x ≡ false
-  applied_both x c = false_or (is_taken s x) (same_name x self_name) (applied_good x c) (applicable_not_self s k fit of_text x c)
+  applied_both x c = or_from (is_taken s x) (same_name x self_name) (applied_good x c) (applicable_not_self s k fit of_text x c)
 
   bound_both : (u : Use) → FineUse s u → u.form ≡ forms.Bound → is_taken_or_self s u.name ≡ false
   bound_both u f e =
-      false_or (is_taken s u.name) (same_name u.name self_name) (bound_good u f e) (same_name-not u.name self_name (λ g. bound_not_fixed s k.clashes u f.among e self_name (inr (inr (inr (inr (inr (inr (inr (inl refl)))))))) (sym g)))
+      or_from (is_taken s u.name) (same_name u.name self_name) (bound_good u f e) (same_name-not u.name self_name (λ g. bound_not_fixed s k.clashes u f.among e self_name (inr (inr (inr (inr (inr (inr (inr (inl refl)))))))) (sym g)))
 
   ids_avoid : (p : ℕ) (o : Origin) → Spoken (origin_tree o) → ((u : Use) → IsAmong u (uses [] (start homes.Process p) (origin_tree o)) → FineUse s u) → OriginAvoids (is_taken_or_self s) (Some o)
   ids_avoid p (origins.Equals e) t f = avoids s k fit of_text (is_taken_or_self s) applied_both bound_both homes.Process in_process p e t f

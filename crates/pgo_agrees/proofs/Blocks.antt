@@ -23,6 +23,7 @@ use Rattle.pgo_labels.specs.Rules.{found_at, labels_here, label_in_mapping}
 use Rattle.pgo_labels.specs.declared.errors.LabelError.TheVariants.{LabelHere}
 use Rattle.pgo_bound.specs.Among.{IsAmong, among_left, among_right, all_at, empty_map, none_left, none_right, none_flat_map}
 use Rattle.pgo_bound.specs.Sound.{labels_among}
+use Rattle.pgo_bound.specs.Different.{all_from}
 use Rattle.pgo_accept.proofs.Unlabelled.{names_of_body}
 use Rattle.pgo_accept.proofs.Fitting.{ArgumentsFit}
 use Rattle.pgo_sections.specs.Code.{Place, Whole, content_name, content_places}
@@ -30,7 +31,7 @@ use Rattle.pgo_sections.specs.WellFormed.{NotMade, PlainCode}
 use Rattle.pgo_meaning.specs.Parameters.{block_setting, block_code, reads_by, writes_by}
 use Rattle.pgo_agrees.specs.Accepted.{IsOfText, MappingOfText, DefinitionOfText, DeclarationOfText, ProcessOfText}
 use Rattle.pgo_agrees.specs.Spoken.{LabeledSpoken}
-use Rattle.pgo_agrees.proofs.Closed.{all_among, apart}
+use Rattle.pgo_agrees.proofs.Closed.{apart}
 use Rattle.pgo_agrees.proofs.Env.{C, B, D, Known', Inside, InStatements, place_apart, UnitRules, tells_all}
 use Rattle.pgo_agrees.proofs.Fine.{LabeledFine}
 use Rattle.pgo_agrees.proofs.FineUses.{labeled_fine}
@@ -150,7 +151,7 @@ module _ (s : Spec) (k : NoFindings s) (fit : AllByRecursion (ArgumentsFit s.arc
       → ((u : Use) → IsAmong u (uses_of_block given_names (start homes.Mapping m.name.place) (labeled b)) → IsAmong u (mapping_uses m))
       → LabeledFine BlockName (C s k fit of_text) (B s k fit of_text) (D s k fit of_text) BlockAssigned Any (Unit {0}) false [] (labeled b)
   block_fine m a b none spoken there =
-      labeled_fine (FineUse s) homes.Mapping given_names BlockName (C s k fit of_text) (B s k fit of_text) (D s k fit of_text) BlockAssigned Any (Unit {0}) (Known' s k fit of_text given_names) (tells_all s k fit of_text homes.Mapping statements given_names (FineUse s) BlockName (D s k fit of_text) BlockAssigned Any (Unit {0}) Always rules) (labeled b) false given_names [] (start homes.Mapping m.name.place) none (refl, refl) (refl, refl) (record { known = λ x e. inr (inr e); unit = λ x e. e }) spoken (all_among (FineUse s) (uses_of_block given_names (start homes.Mapping m.name.place) (labeled b)) (λ u c. fine_use s k u (of_mapping s m a u (there u c))))
+      labeled_fine (FineUse s) homes.Mapping given_names BlockName (C s k fit of_text) (B s k fit of_text) (D s k fit of_text) BlockAssigned Any (Unit {0}) (Known' s k fit of_text given_names) (tells_all s k fit of_text homes.Mapping statements given_names (FineUse s) BlockName (D s k fit of_text) BlockAssigned Any (Unit {0}) Always rules) (labeled b) false given_names [] (start homes.Mapping m.name.place) none (refl, refl) (refl, refl) (record { known = λ x e. inr (inr e); unit = λ x e. e }) spoken (all_from (FineUse s) (uses_of_block given_names (start homes.Mapping m.name.place) (labeled b)) (λ u c. fine_use s k u (of_mapping s m a u (there u c))))
 
   hoistable : (ns : List Name) → Hoistable vs [] content_places ns (BlockName ns) (C s k fit of_text) (B s k fit of_text)
   hoistable ns = record {

@@ -20,10 +20,10 @@ use Rattle.pgo_scope.specs.declared.usage.Usage.{Usage}
 use Rattle.pgo_bound.specs.Among.{IsAmong, none_left, none_right}
 use Rattle.pgo_meaning.specs.MacrosPlaced.{handed}
 use Rattle.pgo_agrees.specs.Spoken.{Spoken, ArgumentsSpoken}
-use Rattle.pgo_agrees.proofs.FromUses.{all_left, all_right}
 use Rattle.pgo_agrees.proofs.Hoist.{never}
 use Rattle.pgo_agrees.proofs.Placing.{reads_so, writes_so}
 use Rattle.pgo_agrees.proofs.Stands.{or_first, or_second}
+use Rattle.pgo_agrees.proofs.EachToken.{cut}
 
 -- ---- parameters and arguments side by side
 
@@ -83,8 +83,8 @@ pub uses_at : (P : Use → Type 0) (ms : List Name) (a : Around) (p : Name × Us
 uses_at P ms a p t [] ts h e = absurd h
 uses_at P ms a p t (q ∷ qs) [] h e = absurd h
 uses_at P ms a p t (q ∷ qs) (v ∷ ts) (inl g) e =
-    subst (λ z. AllByRecursion P (uses ms a z)) (sym g.1) (all_left P (uses ms a v) (argument_uses ms a ts) e)
-uses_at P ms a p t (q ∷ qs) (v ∷ ts) (inr g) e = uses_at P ms a p t qs ts g (all_right P (uses ms a v) (argument_uses ms a ts) e)
+    subst (λ z. AllByRecursion P (uses ms a z)) (sym g.1) (cut P (uses ms a v) (argument_uses ms a ts) e).0
+uses_at P ms a p t (q ∷ qs) (v ∷ ts) (inr g) e = uses_at P ms a p t qs ts g (cut P (uses ms a v) (argument_uses ms a ts) e).1
 
 -- ---- ways that are among others
 

@@ -23,6 +23,7 @@ use Rattle.pgo_uses.specs.declared.uses.Home.TheVariants as homes
 use Rattle.pgo_uses.specs.declared.uses.Use.{Use}
 use Rattle.pgo_bound.specs.Among.{IsAmong, among_left, among_right, all_at}
 use Rattle.pgo_bound.specs.Values.{given_value, given_constant, meant, default_definition, define_of, defs_of}
+use Rattle.pgo_bound.specs.Different.{all_from}
 use Rattle.pgo_accept.proofs.Fitting.{ArgumentsFit}
 use Rattle.pgo_sections.specs.Closed.{Apart, AreClosed}
 use Rattle.pgo_sections.specs.Plain.{Plain}
@@ -34,10 +35,6 @@ use Rattle.pgo_agrees.proofs.Uses.{FineUse, fine_use, of_definition}
 use Rattle.pgo_agrees.proofs.Variables.{not_among}
 use Rattle.pgo_agrees.proofs.Further.{IsTaken, names_written, taken_is, bound_not_taken}
 use Rattle.pgo_agrees.proofs.Weaker.{plain}
-
-pub all_among : {A : Type 0} (P : A → Type 0) (xs : List A) → ((x : A) → IsAmong x xs → P x) → AllByRecursion P xs
-all_among P [] f = tt
-all_among P (x ∷ xs) f = (f x (inl refl), all_among P xs (λ y a. f y (inr a)))
 
 closed_append : (vs : List Name) (ds es : List Defined) → AreClosed vs (map defined_view ds) → AreClosed vs (map defined_view es) → AreClosed vs (map defined_view (ds ++ es))
 closed_append vs [] es h g = g
@@ -106,7 +103,7 @@ module _ (s : Spec) (k : NoFindings s) (fit : AllByRecursion (ArgumentsFit s.arc
       let fine = λ (u : Use) (b : IsAmong u (definition_uses j.0 d)). fine_use s k u (j.2 u b) in
       let known = parameters_known d.params [] at' (λ u b. fine u (among_left u hs us b)) in
       let text = all_at DefinitionOfText d (all_definitions s) of_text.definitions a in
-      let st = stands (FineUse s) (homes.Definition j.0) false (λ h i x. Apart vs x) (Apart vs) (Apart vs) (Apart vs) (tells j.0) (names_of d.params) [] at' d.body (refl, refl) known text.1 (all_among (FineUse s) us (λ u b. fine u (among_right u hs us b))) in
+      let st = stands (FineUse s) (homes.Definition j.0) false (λ h i x. Apart vs x) (Apart vs) (Apart vs) (Apart vs) (tells j.0) (names_of d.params) [] at' d.body (refl, refl) known text.1 (all_from (FineUse s) us (λ u b. fine u (among_right u hs us b))) in
       plain (λ h i x. Apart vs x) (Apart vs) (Apart vs) (Apart vs) (Apart vs) (λ y. Unit {0}) (λ h i x g. g) (λ x g. g) (λ x g. tt) (λ x g. g) [] false false d.body (λ x h. absurd (let e : false ≡ true = h in cc)) st
 
   pub definitions_closed : (consts : List (Name × Data)) → AreClosed (names_written s) (map defined_view (defs_of s consts))

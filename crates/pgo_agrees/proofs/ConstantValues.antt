@@ -1,6 +1,7 @@
 -- Where the constants' values are values, so are those that the definitions are given.
 use Rattle.std.proofs.Common.{◌≡◌, Bool, true, false, if◌then◌else◌, List, [], ◌∷◌, ◌++◌, map, Option, Some, None, option_map, refl, sym, subst}
 use Rattle.std.specs.List.{AllByRecursion, filter_map, cons_option}
+use Rattle.std.proofs.lemmas.Option.{same_Some}
 use Rattle.pgo_base.specs.Data.{Data}
 use Rattle.pgo_base.specs.Lookup.{Name, same_name}
 use Rattle.pgo_base.specs.ValueCode.{value_from}
@@ -12,7 +13,6 @@ use Rattle.pgo_model.specs.Value.{IsValue}
 use Rattle.pgo_syntax.specs.declared.name.PlacedName.{PlacedName}
 use Rattle.pgo_syntax.specs.declared.declaration.Definition.{Definition}
 use Rattle.pgo_syntax.specs.declared.spec.Spec.{Spec}
-use Rattle.pgo_bound.specs.Among.{some_is}
 use Rattle.pgo_bound.specs.Lookups.{data_from}
 use Rattle.pgo_bound.specs.Values.{latest, given_value, given_constant, meant, default_definition, define_of}
 use Rattle.pgo_translate.specs.Premises.{GivenValue, ConstantsAreValues}
@@ -22,7 +22,7 @@ latest_value x o [] h f v e = f v e
 latest_value x o (c ∷ cs) h f v e = latest_value x (if same_name x c.0 then Some c.1 else o) cs h.1 (go (same_name x c.0)) v e
   where
     go : (b : Bool) (w : Data) → (if b then Some c.1 else o) ≡ Some w → IsValue w
-    go true w g = subst IsValue (some_is c.1 w g) h.0
+    go true w g = subst IsValue (same_Some c.1 w g) h.0
     go false w g = f w g
 
 abbrev AreGiven : List Defined → Type 0

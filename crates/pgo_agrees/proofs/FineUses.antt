@@ -1,10 +1,10 @@
 -- How names stand in a statement follows from what holds of the uses that are listed of it.
-use Rattle.std.proofs.Common.{◌≡◌, ℕ, Bool, true, false, ◌||◌, if◌then◌else◌, List, [], ◌∷◌, ◌++◌, Option, Some, None, refl, ap, sym, ◌∙◌, subst, inl, inr, append_assoc, append-nil}
+use Rattle.std.proofs.Common.{◌≡◌, ℕ, Bool, true, false, ◌||◌, if◌then◌else◌, List, [], ◌∷◌, ◌++◌, Option, Some, None, refl, sym, ◌∙◌, subst, inl, inr, append_assoc, append-nil}
 use Rattle.std.specs.Prelude.{◌⊎◌}
 use Rattle.std.specs.List.{AllByRecursion}
 use Rattle.pgo_base.specs.Lookup.{Name, same_name}
 use Rattle.pgo_base.specs.Tree.{Tree}
-use Rattle.pgo_model.specs.Names.{same_name-self, same_name-is, is_among}
+use Rattle.pgo_model.specs.Names.{same_name-is, is_among}
 use Rattle.pgo_syntax.specs.declared.assignment.Assignment.{Assignment}
 use Rattle.pgo_syntax.specs.declared.assignment.Step.{Step}
 use Rattle.pgo_syntax.specs.declared.assignment.Step.TheVariants as step
@@ -20,10 +20,12 @@ use Rattle.pgo_uses.specs.declared.uses.Shape.{Shape}
 use Rattle.pgo_uses.specs.declared.uses.Use.{Use}
 use Rattle.pgo_bound.specs.Among.{none_left, none_right}
 use Rattle.pgo_bound.specs.Sound.{labels_in, labels_each, labels_among, labels_guarded}
+use Rattle.pgo_meaning.proofs.Trees.{among_front}
 use Rattle.pgo_agrees.specs.Spoken.{Spoken, PathSpoken, AssignmentsSpoken, WithsSpoken, ArgumentsSpoken, StatementSpoken, EachSpoken, LabeledSpoken, GuardedSpoken}
 use Rattle.pgo_agrees.proofs.Fine.{in_with, MayLabel, Expr, PathFine, AssignsFine, WithsFine, Fine, EachFine, LabeledFine, GuardedFine}
-use Rattle.pgo_agrees.proofs.FromUses.{all_left, all_right, Known, IsAt, Tells, stands}
+use Rattle.pgo_agrees.proofs.FromUses.{Known, IsAt, Tells, stands}
 use Rattle.pgo_agrees.proofs.Stands.{Stands}
+use Rattle.pgo_agrees.proofs.EachToken.{cut}
 
 -- ---- no label stands within a `with`
 abbrev mutual
@@ -131,10 +133,10 @@ module _ (P : Use → Type 0) (home : Home) (qs : List Name) (N : List Name → 
     AllP us = AllByRecursion P us
 
     abbrev l : (xs ys : List Use) → AllP (xs ++ ys) → AllP xs
-    l xs ys h = all_left P xs ys h
+    l xs ys h = (cut P xs ys h).0
 
     abbrev r : (xs ys : List Use) → AllP (xs ++ ys) → AllP ys
-    r xs ys h = all_right P xs ys h
+    r xs ys h = (cut P xs ys h).1
 
     -- the names in scope of the uses, and those of a `with` that are bound
     pub record InUnit (ms ns : List Name) : Type 0 where
@@ -144,14 +146,6 @@ module _ (P : Use → Type 0) (home : Home) (qs : List Name) (N : List Name → 
     expr : (ms ns : List Name) (a : Around) (e : Tree) → IsAt home false a → (a.hidden ≡ false) × (a.indexed ≡ false) → InUnit ms ns → Spoken e → AllP (uses ms a e) → Expr N C B W A M Y ns e
     expr ms ns a e w f v s h =
         subst (λ i. Stands (N ns) C B [] false i e) f.1 (subst (λ i. Stands (N ns) C B [] i a.indexed e) f.0 (stands P home false (N ns) C B (K ns) (tells.expressions ns) ms [] a e w v.known s h))
-
-    is_in : (x : Name) (ms : List Name) → (is_among x (ms ++ x ∷ [])) ≡ true
-    is_in x [] = ap (λ b. b || false) (same_name-self x)
-    is_in x (m ∷ ms) = go (same_name x m) (is_in x ms)
-      where
-        go : (b : Bool) → is_among x (ms ++ x ∷ []) ≡ true → (b || is_among x (ms ++ x ∷ [])) ≡ true
-        go true h = refl
-        go false h = h
 
     split : (y x : Name) (ms : List Name) → is_among y (ms ++ x ∷ []) ≡ true → (is_among y ms ≡ true) ⊎ (y ≡ x)
     split y x [] h = go (same_name y x) refl h
@@ -165,16 +159,8 @@ module _ (P : Use → Type 0) (home : Home) (qs : List Name) (N : List Name → 
         go true k more = inl refl
         go false k more = more k
 
-    still : (y : Name) (xs ys : List Name) → is_among y xs ≡ true → is_among y (xs ++ ys) ≡ true
-    still y [] ys h = absurd (cc)
-    still y (x ∷ xs) ys h = go (same_name y x) h (still y xs ys)
-      where
-        go : (b : Bool) → (b || is_among y xs) ≡ true → (is_among y xs ≡ true → is_among y (xs ++ ys) ≡ true) → (b || is_among y (xs ++ ys)) ≡ true
-        go true k more = refl
-        go false k more = more k
-
     with_more : (ms ns : List Name) (x : Name) → W x → InUnit ms ns → InUnit (ms ++ x ∷ []) (x ∷ ns)
-    with_more ms ns x d v = record { known = λ y h. go y (split y x ms h); unit = λ y h. still y ms (x ∷ []) (v.unit y h) }
+    with_more ms ns x d v = record { known = λ y h. go y (split y x ms h); unit = λ y h. among_front y ms (x ∷ []) (v.unit y h) }
       where
         old : (y : Name) → (is_among y [] ≡ true) ⊎ K ns y → (is_among y [] ≡ true) ⊎ K (x ∷ ns) y
         old y (inl e) = inl e

@@ -14,20 +14,13 @@ use Rattle.pgo_uses.specs.declared.uses.Home.{Home}
 use Rattle.pgo_uses.specs.declared.uses.Use.{Use}
 use Rattle.pgo_agrees.specs.Spoken.{Spoken, AllSpoken, ArmsSpoken, NamedSpoken, BoundSpoken, PathsSpoken}
 use Rattle.pgo_agrees.proofs.Stands.{Stands, AllStand, ArmsStand, FieldsStand, LetStand, BoundStand, PathsStand, behind}
-
-pub all_left : {A : Type 0} (P : A → Type 0) (xs ys : List A) → AllByRecursion P (xs ++ ys) → AllByRecursion P xs
-all_left P [] ys h = tt
-all_left P (x ∷ xs) ys h = (h.0, all_left P xs ys h.1)
-
-pub all_right : {A : Type 0} (P : A → Type 0) (xs ys : List A) → AllByRecursion P (xs ++ ys) → AllByRecursion P ys
-all_right P [] ys h = h
-all_right P (x ∷ xs) ys h = all_right P xs ys h.1
+use Rattle.pgo_agrees.proofs.EachToken.{cut}
 
 -- names in scope are bound within the expression, or meet K
 abbrev pub Known : (Name → Type 0) → List Name → List Name → Type 0
 Known K ns u = (x : Name) → is_among x ns ≡ true → (is_among x u ≡ true) ⊎ K x
 
-member_split : (x : Name) (ns ys : List Name) → is_among x (ns ++ ys) ≡ true → (is_among x ns ≡ true) ⊎ (is_among x ys ≡ true)
+pub member_split : (x : Name) (ns ys : List Name) → is_among x (ns ++ ys) ≡ true → (is_among x ns ≡ true) ⊎ (is_among x ys ≡ true)
 member_split x [] ys h = inr h
 member_split x (n ∷ ns) ys h = go (same_name x n) h (member_split x ns ys)
   where
@@ -82,10 +75,10 @@ module _ (P : Use → Type 0) (home : Home) (passed : Bool) (N : Bool → Bool �
   AllFine us = AllByRecursion P us
 
   abbrev l : (xs ys : List Use) → AllFine (xs ++ ys) → AllFine xs
-  l xs ys h = all_left P xs ys h
+  l xs ys h = (cut P xs ys h).0
 
   abbrev r : (xs ys : List Use) → AllFine (xs ++ ys) → AllFine ys
-  r xs ys h = all_right P xs ys h
+  r xs ys h = (cut P xs ys h).1
 
   bound_name : (ns : List Name) (a : Around) (x : Name) → IsAt home passed a → AllFine (one ns a x forms.Bound) → B x
   bound_name ns a x w h = tells.binds (record { name = x; form = forms.Bound; inner = is_among x ns; around = a }) h.0 w refl

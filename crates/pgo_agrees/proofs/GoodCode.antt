@@ -2,9 +2,10 @@
 use Rattle.std.proofs.Common.{◌≡◌, ◌<◌, ℕ, zero, suc, Bool, true, false, if◌then◌else◌, List, [], ◌∷◌, ◌++◌, map, Option, Some, None, refl, ap, sym, subst, inl, inr, arith}
 use Rattle.std.specs.Prelude.{◌⊎◌}
 use Rattle.std.specs.List.{AllByRecursion}
+use Rattle.std.proofs.lemmas.Bool.{or_from}
 use Rattle.pgo_base.specs.Lookup.{Name, same_name, find}
 use Rattle.pgo_base.specs.Tree.{Tree, name, trees}
-use Rattle.pgo_model.specs.Names.{same_name-self, is_among}
+use Rattle.pgo_model.specs.Names.{is_among}
 use Rattle.pgo_model.specs.Options.{on}
 use Rattle.pgo_model.specs.Written.{done}
 use Rattle.pgo_syntax.specs.declared.assignment.Assignment.{Assignment}
@@ -26,17 +27,15 @@ use Rattle.pgo_sections.specs.WellFormed.{NotMade, Bindable, Alone, Applied, Pla
 use Rattle.pgo_meaning.specs.Labels.{own, labelled, within, within_branches, within_arms, within_order}
 use Rattle.pgo_meaning.specs.MacrosPlaced.{unmarked}
 use Rattle.pgo_meaning.specs.Statements.{Setting, Part, Index, Field, part_tree, index_of, label_of, alone, to_variable, assigned, steps, assign_all, assignment_code, bind_name, bind_names, code, branches, arms, in_order}
+use Rattle.pgo_meaning.proofs.Traces.{among_first}
 use Rattle.pgo_agrees.proofs.Fine.{in_with, Expr, PathFine, AssignsFine, WithsFine, Fine, EachFine, LabeledFine, GuardedFine}
 use Rattle.pgo_agrees.proofs.Hoist.{place_single, never, InScope, lower, Base, Hoistable, ReadWhole, ReadElement, ReadsFrom, hoist}
-use Rattle.pgo_agrees.proofs.Names.{false_or}
 use Rattle.pgo_agrees.proofs.Stands.{Above, or_in, or_first, or_second}
 use Rattle.pgo_agrees.proofs.Weaker.{plain}
+use Rattle.pgo_agrees.proofs.EachToken.{all_joined, one_more}
 
 in_front : (x y : Name) (ws : List Name) → is_among x ws ≡ true → is_among x (y ∷ ws) ≡ true
 in_front x y ws h = or_second (same_name x y) (is_among x ws) h
-
-pub first_there : (y : Name) (ws : List Name) → is_among y (y ∷ ws) ≡ true
-first_there y ws = or_first (same_name y y) (is_among y ws) (same_name-self y)
 
 pub less_or_same : (i j : ℕ) → i < suc j → (i < j) ⊎ (i ≡ j)
 less_or_same zero zero h = inr refl
@@ -106,19 +105,16 @@ module _ (vs gs : List Name) (st : Setting) (by : Name → Bool) (N : List Name 
     above_here : (ws : List Name) → Above ws ws
     above_here ws x h = h
 
-    above_front : (y : Name) (ws us : List Name) → Above ws us → Above ws (y ∷ us)
-    above_front y ws us a x h = in_front x y us (a x h)
-
     with_place : (ns ws : List Name) (j : ℕ) → Scope ns ws j → Scope ns (place j ∷ ws) (suc j)
     with_place ns ws j s = record {
       names = λ x h. in_front x (place j) ws (s.names x h);
       places = λ i h. go i (less_or_same i j h);
-      apart = λ x c. false_or (same_name x (place j)) (is_among x ws) (r.place_apart j x c) (s.apart x c);
+      apart = λ x c. or_from (same_name x (place j)) (is_among x ws) (r.place_apart j x c) (s.apart x c);
     }
       where
         go : (i : ℕ) → (i < j) ⊎ (i ≡ j) → is_among (place i) (place j ∷ ws) ≡ true
         go i (inl l) = in_front (place i) (place j) ws (s.places i l)
-        go i (inr e) = subst (λ n. is_among (place n) (place j ∷ ws) ≡ true) (sym e) (first_there (place j) ws)
+        go i (inr e) = subst (λ n. is_among (place n) (place j ∷ ws) ≡ true) (sym e) (among_first (place j) ws)
 
     fresh : (ns ws : List Name) (k : ℕ) → Scope ns ws k → Scope ns ws 0
     fresh ns ws k s = lower ns C ws 0 k (omega arith) s
@@ -127,7 +123,7 @@ module _ (vs gs : List Name) (st : Setting) (by : Name → Bool) (N : List Name 
     with_name ns ws k x w s = record {
       names = λ y h. go y (or_in (same_name y x) (is_among y ns) h);
       places = λ j h. absurd (omega (arith, h));
-      apart = λ y c. false_or (same_name y x) (is_among y ws) (r.with_apart x y w c) (s.apart y c);
+      apart = λ y c. or_from (same_name y x) (is_among y ws) (r.with_apart x y w c) (s.apart y c);
     }
       where
         go : (y : Name) → (same_name y x ≡ true) ⊎ (is_among y ns ≡ true) → is_among y (x ∷ ws) ≡ true
@@ -152,7 +148,7 @@ module _ (vs gs : List Name) (st : Setting) (by : Name → Bool) (N : List Name 
             let zs = place k ∷ ws in
             let us = place (suc k) ∷ zs in
             let rest = more us (subst (Scope ns us) (sym w.next) (with_place ns zs (suc k) (with_place ns ws k s))) c (λ ys y a. f ys y (λ x g. a x (in_front x (place (suc k)) zs (in_front x (place k) ws g)))) in
-            subst (λ o. Good ws (starts b bs c o b.value)) (sym w.index) (subst (λ v. Good ws (starts b bs c (Some (place k, w.tree)) v)) (sym w.value) ((w.plain ws s, (r.mapped_global w.name b.mapped w.is, first_there (place k) ws, r.mapped_reads w.name b.mapped w.is, rest.0)), (tt, rest.1)))
+            subst (λ o. Good ws (starts b bs c o b.value)) (sym w.index) (subst (λ v. Good ws (starts b bs c (Some (place k, w.tree)) v)) (sym w.value) ((w.plain ws s, (r.mapped_global w.name b.mapped w.is, among_first (place k) ws, r.mapped_reads w.name b.mapped w.is, rest.0)), (tt, rest.1)))
 
     evaluated_good : (ns ws : List Name) (e : Tree) (k : ℕ) (f : Tree → ℕ → Code) → Expr N C B W A M Y ns e → Scope ns ws k
         → ((us : List Name) (t : Tree) (l : ℕ) → Scope ns us l → Above ws us → PlainTree vs st.places us t → Good us (f t l)) → Good ws (evaluated st.mapped e k f)
@@ -187,10 +183,6 @@ module _ (vs gs : List Name) (st : Setting) (by : Name → Bool) (N : List Name 
     lasting_more ns ws us [] a h = tt
     lasting_more ns ws us (c ∷ cs) a h = (λ zs k s b. h.0 zs k s (λ x g. b x (a x g)), lasting_more ns ws us cs a h.1)
 
-    lasting_end : (ns ws : List Name) (cs : List Code) (c : Code) → AllLasting ns ws cs → Lasting ns ws c → AllLasting ns ws (cs ++ c ∷ [])
-    lasting_end ns ws [] c h g = (g, tt)
-    lasting_end ns ws (d ∷ cs) c h g = (h.0, lasting_end ns ws cs c h.1 g)
-
     in_turn_good : (ns ws : List Name) (k : ℕ) (cs : List Code) → Scope ns ws k → AllLasting ns ws cs → Good ws (in_turn cs)
     in_turn_good ns ws k [] s h = (tt, tt)
     in_turn_good ns ws k (c ∷ cs) s h =
@@ -201,7 +193,7 @@ module _ (vs gs : List Name) (st : Setting) (by : Name → Bool) (N : List Name 
     steps_good ns ws [] k f g s h = h ws [] k tt tt s (above_here ws)
     steps_good ns ws (step.Index e ∷ path) k f g s h =
         evaluated_good ns ws e k (λ e' k'. Let at_base (place k') e' (steps st path (suc k') (λ ps. f (Index (place k') ∷ ps)))) g.0 s (λ us t l z a p.
-        let rest = steps_good ns (place l ∷ us) path (suc l) (λ ps. f (Index (place l) ∷ ps)) g.1 (with_place ns us l z) (λ ys ps n q i y b. h ys (Index (place l) ∷ ps) n q (b (place l) (first_there (place l) us), place_single l, i) y (λ x c. b x (in_front x (place l) us (a x c)))) in
+        let rest = steps_good ns (place l ∷ us) path (suc l) (λ ps. f (Index (place l) ∷ ps)) g.1 (with_place ns us l z) (λ ys ps n q i y b. h ys (Index (place l) ∷ ps) n q (b (place l) (among_first (place l) us), place_single l, i) y (λ x c. b x (in_front x (place l) us (a x c)))) in
         ((p, rest.0), rest.1))
     steps_good ns ws (step.Field x ∷ path) k f g s h =
         steps_good ns ws path k (λ ps. f (Field x ∷ ps)) g s (λ us ps l q i z a. h us (Field x ∷ ps) l q i z a)
@@ -258,7 +250,7 @@ module _ (vs gs : List Name) (st : Setting) (by : Name → Bool) (N : List Name 
         let here = place n ∷ ys in
         let up : Above ws here = λ x c. in_front x (place n) ys (d x (b x c)) in
         let from : Above us here = λ x c. in_front x (place n) ys (d x c) in
-        let rest = assign_good ns here as' (suc n) (cs ++ assigned st a.left.name.name ps (place n) ∷ []) g.3 (with_place ns ys n y) (lasting_end ns here cs (assigned st a.left.name.name ps (place n)) (lasting_more ns ws here cs up h) (assigned_lasting ns here a.left.name.name a.left.path ps (place n) g.0 q (parts_more us here ps from i) (place_single n) (first_there (place n) ys))) in
+        let rest = assign_good ns here as' (suc n) (cs ++ assigned st a.left.name.name ps (place n) ∷ []) g.3 (with_place ns ys n y) (one_more (Lasting ns here) cs (assigned st a.left.name.name ps (place n)) (lasting_more ns ws here cs up h) (assigned_lasting ns here a.left.name.name a.left.path ps (place n) g.0 q (parts_more us here ps from i) (place_single n) (among_first (place n) ys))) in
         ((p, rest.0), rest.1)))
 
     assignment_good : (ns ws : List Name) (as' : List Assignment) → AssignsFine N C B W A M Y ns as' → Scope ns ws 0 → Good ws (assignment_code st as')
@@ -337,10 +329,6 @@ module _ (vs gs : List Name) (st : Setting) (by : Name → Bool) (N : List Name 
     abbrev pub AllGood : List (Name × Code) → Type 0
     AllGood cs = AllByRecursion (λ c. Good [] c.1) cs
 
-    joined : (cs ds : List (Name × Code)) → AllGood cs → AllGood ds → AllGood (cs ++ ds)
-    joined [] ds h g = g
-    joined (c ∷ cs) ds h g = (h.0, joined cs ds h.1 g)
-
     nothing_bound : Scope [] [] 0
     nothing_bound = record { names = λ x h. never h; places = λ j h. absurd (omega (arith, h)); apart = λ x c. refl }
 
@@ -357,7 +345,7 @@ module _ (vs gs : List Name) (st : Setting) (by : Name → Bool) (N : List Name 
       within_none (skip p) ns l c g = tt
       within_none (assign p as') ns l c g = tt
       within_none (if_then p bs) ns l c g = branches_none bs ns l c g
-      within_none (if_else p bs t) ns l c g = joined (within_branches st l bs c) (within st l t c) (branches_none bs ns l c g.0) (within_none t ns l c g.1)
+      within_none (if_else p bs t) ns l c g = all_joined _ (within_branches st l bs c) (within st l t c) (branches_none bs ns l c g.0) (within_none t ns l c g.1)
       within_none (while_do p e t) ns l c g = within_none t ns l (Goto l) g.1
       within_none (either_of p ts) ns l c g = arms_none ts ns l c g
       within_none (await_that p e) ns l c g = tt
@@ -371,16 +359,16 @@ module _ (vs gs : List Name) (st : Setting) (by : Name → Bool) (N : List Name 
 
       branches_none : (bs : GuardedStatements) (ns : List Name) (l : Name) (c : Code) → GuardedFine N C B W A M Y false ns bs → AllGood (within_branches st l bs c)
       branches_none no_guarded ns l c g = tt
-      branches_none (more_guarded p e t bs) ns l c g = joined (within st l t c) (within_branches st l bs c) (within_none t ns l c g.1) (branches_none bs ns l c g.2)
+      branches_none (more_guarded p e t bs) ns l c g = all_joined _ (within st l t c) (within_branches st l bs c) (within_none t ns l c g.1) (branches_none bs ns l c g.2)
 
       arms_none : (ts : Statements) (ns : List Name) (l : Name) (c : Code) → EachFine N C B W A M Y false ns ts → AllGood (within_arms st l ts c)
       arms_none no_statements ns l c g = tt
-      arms_none (more_statements t ts) ns l c g = joined (within st l t c) (within_arms st l ts c) (within_none t ns l c g.0) (arms_none ts ns l c g.1)
+      arms_none (more_statements t ts) ns l c g = all_joined _ (within st l t c) (within_arms st l ts c) (within_none t ns l c g.0) (arms_none ts ns l c g.1)
 
       order_none : (ls : LabeledStatements) (ns : List Name) (l : Name) (c : Code) → LabeledFine N C B W A M Y false ns ls → AllGood (within_order st l ls c)
       order_none no_labeled ns l c g = tt
       order_none (more_labeled None t ls) ns l c g =
-          joined (within st l t (Seq (in_order st l ls) c)) (within_order st l ls c) (within_none t ns l (Seq (in_order st l ls) c) g.1) (order_none ls ns l c g.2)
+          all_joined _ (within st l t (Seq (in_order st l ls) c)) (within_order st l ls c) (within_none t ns l (Seq (in_order st l ls) c) g.1) (order_none ls ns l c g.2)
       order_none (more_labeled (Some x) t ls) ns l c g = never g.0
 
     mutual
@@ -388,7 +376,7 @@ module _ (vs gs : List Name) (st : Setting) (by : Name → Bool) (N : List Name 
       within_good (skip p) l c g h = tt
       within_good (assign p as') l c g h = tt
       within_good (if_then p bs) l c g h = within_branches_good bs l c g h
-      within_good (if_else p bs t) l c g h = joined (within_branches st l bs c) (within st l t c) (within_branches_good bs l c g.0 h) (within_good t l c g.1 h)
+      within_good (if_else p bs t) l c g h = all_joined _ (within_branches st l bs c) (within st l t c) (within_branches_good bs l c g.0 h) (within_good t l c g.1 h)
       within_good (while_do p e t) l c g h = within_good t l (Goto l) g.1 (tt, tt)
       within_good (either_of p ts) l c g h = within_arms_good ts l c g h
       within_good (await_that p e) l c g h = tt
@@ -402,18 +390,18 @@ module _ (vs gs : List Name) (st : Setting) (by : Name → Bool) (N : List Name 
 
       within_branches_good : (bs : GuardedStatements) (l : Name) (c : Code) → GuardedFine N C B W A M Y true [] bs → Good [] c → AllGood (within_branches st l bs c)
       within_branches_good no_guarded l c g h = tt
-      within_branches_good (more_guarded p e t bs) l c g h = joined (within st l t c) (within_branches st l bs c) (within_good t l c g.1 h) (within_branches_good bs l c g.2 h)
+      within_branches_good (more_guarded p e t bs) l c g h = all_joined _ (within st l t c) (within_branches st l bs c) (within_good t l c g.1 h) (within_branches_good bs l c g.2 h)
 
       within_arms_good : (ts : Statements) (l : Name) (c : Code) → EachFine N C B W A M Y true [] ts → Good [] c → AllGood (within_arms st l ts c)
       within_arms_good no_statements l c g h = tt
-      within_arms_good (more_statements t ts) l c g h = joined (within st l t c) (within_arms st l ts c) (within_good t l c g.0 h) (within_arms_good ts l c g.1 h)
+      within_arms_good (more_statements t ts) l c g h = all_joined _ (within st l t c) (within_arms st l ts c) (within_good t l c g.0 h) (within_arms_good ts l c g.1 h)
 
       pub within_order_good : (ls : LabeledStatements) (l : Name) (c : Code) → LabeledFine N C B W A M Y true [] ls → Good [] c → AllGood (within_order st l ls c)
       within_order_good no_labeled l c g h = tt
       within_order_good (more_labeled x t ls) l c g h =
           let next = Seq (in_order st l ls) c in
           let rest = both (in_order st l ls) c (order_good ls true [] [] l g.2 nothing_bound) h in
-          joined (own st x t next ++ within st (labelled st l x) t next) (within_order st l ls c) (joined (own st x t next) (within st (labelled st l x) t next) (own_good x t true next g.1 rest) (within_good t (labelled st l x) next g.1 rest)) (within_order_good ls l c g.2 h)
+          all_joined _ (own st x t next ++ within st (labelled st l x) t next) (within_order st l ls c) (all_joined _ (own st x t next) (within st (labelled st l x) t next) (own_good x t true next g.1 rest) (within_good t (labelled st l x) next g.1 rest)) (within_order_good ls l c g.2 h)
 
     pub section_good : (ls : LabeledStatements) → LabeledFine N C B W A M Y true [] ls → (l : Name) (c : Code) → find l (within_order st [] ls (Goto done)) ≡ Some c → Good [] c
     section_good ls g l c e = found (within_order st [] ls (Goto done)) (within_order_good ls [] (Goto done) g (tt, tt)) e

@@ -43,10 +43,11 @@ use Rattle.pgo_sections.specs.Access.{Mapped}
 use Rattle.pgo_sections.specs.Code.{Place}
 use Rattle.pgo_sections.specs.WellFormed.{NotMade}
 use Rattle.pgo_meaning.specs.Parameters.{by_element, all_mapped, places_of}
+use Rattle.pgo_meaning.proofs.Trees.{among_front}
 use Rattle.pgo_agrees.specs.Accepted.{IsOfText}
 use Rattle.pgo_agrees.proofs.Closed.{apart}
 use Rattle.pgo_agrees.proofs.Env.{C, D, Inside, InStatements, NamedFacts, named_facts}
-use Rattle.pgo_agrees.proofs.FromUses.{IsAt}
+use Rattle.pgo_agrees.proofs.FromUses.{IsAt, member_split}
 use Rattle.pgo_agrees.proofs.Further.{names_written}
 use Rattle.pgo_agrees.proofs.Hoist.{never}
 use Rattle.pgo_agrees.proofs.Kept.{NoFindings}
@@ -58,22 +59,6 @@ use Rattle.pgo_agrees.proofs.Uses.{FineUse}
 use Rattle.pgo_agrees.proofs.Variables.{parameter_fine, local_fine}
 
 -- ---- lists of names
-
-pub member_append : (x : Name) (xs ys : List Name) → is_among x (xs ++ ys) ≡ true → (is_among x xs ≡ true) ⊎ (is_among x ys ≡ true)
-member_append x [] ys h = inr h
-member_append x (z ∷ xs) ys h = go (same_name x z) h (member_append x xs ys)
-  where
-    go : (b : Bool) → (b || is_among x (xs ++ ys)) ≡ true → (is_among x (xs ++ ys) ≡ true → (is_among x xs ≡ true) ⊎ (is_among x ys ≡ true)) → ((b || is_among x xs) ≡ true) ⊎ (is_among x ys ≡ true)
-    go true k more = inl refl
-    go false k more = more k
-
-member_front : (x : Name) (xs ys : List Name) → is_among x xs ≡ true → is_among x (xs ++ ys) ≡ true
-member_front x [] ys h = never h
-member_front x (z ∷ xs) ys h = go (same_name x z) h (member_front x xs ys)
-  where
-    go : (b : Bool) → (b || is_among x xs) ≡ true → (is_among x xs ≡ true → is_among x (xs ++ ys) ≡ true) → (b || is_among x (xs ++ ys)) ≡ true
-    go true k more = refl
-    go false k more = more k
 
 member_end : (x y : Name) (xs : List Name) → x ≡ y → is_among x (xs ++ y ∷ []) ≡ true
 member_end x y [] e = ap (λ b. b || false) (ap (same_name x) (sym e) ∙ same_name-self x)
@@ -120,7 +105,7 @@ module _ (s : Spec) (k : NoFindings s) (fit : AllByRecursion (ArgumentsFit s.arc
       go true g =
           let same : p.name.name ≡ y = sym (ap (λ (z : Parameter). z.name.name) e) ∙ same_name-is q.name.name y g in
           absurd (let z : true ≡ false = sym m ∙ ap (λ w. is_among w ns) (sym same) ∙ facts.fresh in cc)
-  fresh_later ns a (p ∷ ps) f q (inr h) y m = fresh_later (ns ++ p.name.name ∷ []) a ps (λ u b. f u (inr b)) q h y (member_front y ns (p.name.name ∷ []) m)
+  fresh_later ns a (p ∷ ps) f q (inr h) y m = fresh_later (ns ++ p.name.name ∷ []) a ps (λ u b. f u (inr b)) q h y (among_front y ns (p.name.name ∷ []) m)
 
   kind_of_parameter : (r : Name) (procs : List Process) (n : ℕ) (ns : List Name) (a : Around) (ps : List Parameter) → ((u : Use) → IsAmong u (parameter_uses ns a ps) → FineUse s u) → (q : Parameter) → IsAmong q ps → q.kind ≡ kinds.Ref Element → mapped_among r procs n ps q.name.name ≡ ByElement
   kind_of_parameter r procs n ns a [] f q h e = absurd h
@@ -161,7 +146,7 @@ module _ (s : Spec) (k : NoFindings s) (fit : AllByRecursion (ArgumentsFit s.arc
         record { use' = u.0; fine = u.1; name = u.2; form = u.3; number = u.4.0; home = u.4.1 }
 
     pub mine : (x : Name) → is_among x names ≡ true → Mine x
-    mine x h = go (member_append x (parameter_names a.params) (variable_names a.locals) h)
+    mine x h = go (member_split x (parameter_names a.params) (variable_names a.locals) h)
       where
         go : (is_among x (parameter_names a.params) ≡ true) ⊎ (is_among x (variable_names a.locals) ≡ true) → Mine x
         go (inl e) = let q = parameter_of x a.params e in subst Mine (sym q.2) (mine_parameter q.0 q.1)
@@ -175,7 +160,7 @@ module _ (s : Spec) (k : NoFindings s) (fit : AllByRecursion (ArgumentsFit s.arc
 
     -- ---- a parameter or a local has a place, or is mapped
     place_or_mapped : (x : Name) → is_among x names ≡ true → ((z : Place) × (find x places ≡ Some z)) ⊎ ((m : Mapped) × (find x (all_mapped (binds s p a)) ≡ Some m))
-    place_or_mapped x h = go (member_append x (parameter_names a.params) (variable_names a.locals) h)
+    place_or_mapped x h = go (member_split x (parameter_names a.params) (variable_names a.locals) h)
       where
         go : (is_among x (parameter_names a.params) ≡ true) ⊎ (is_among x (variable_names a.locals) ≡ true) → ((z : Place) × (find x places ≡ Some z)) ⊎ ((m : Mapped) × (find x (all_mapped (binds s p a)) ≡ Some m))
         go (inl e) =
@@ -217,9 +202,6 @@ module _ (s : Spec) (k : NoFindings s) (fit : AllByRecursion (ArgumentsFit s.arc
         go None e = e
         go (Some z) e =
             absurd (let d = mine_declared x (placed_mine x z e) in let q : true ≡ false = sym (same_name-self x) ∙ d.1 x c in cc)
-
-    pub place_single' : (x : Name) (z : Place) → find x places ≡ Some z → NotMade x
-    place_single' x z h = mine_single x (placed_mine x z h)
 
     -- ---- kinds of mapped parameters
     abbrev pub kind : Name → Kind

@@ -3,6 +3,7 @@ use Rattle.std.proofs.Common.{◌≡◌, ◌<◌, ℕ, zero, suc, ◌+◌, Bool,
 use Rattle.std.proofs.lemmas.Bool.{not-false}
 use Rattle.std.specs.Prelude.{◌⊎◌, slice_get}
 use Rattle.std.specs.List.{AllByRecursion}
+use Rattle.std.proofs.lemmas.Option.{same_Some}
 use Rattle.pgo_base.proofs.LastPlaces.{last_at}
 use Rattle.pgo_base.specs.Lookup.{Name, same_name, find}
 use Rattle.pgo_base.specs.Tree.{Tree}
@@ -26,8 +27,9 @@ use Rattle.pgo_scope.specs.Unknown.{may_call, knows_self}
 use Rattle.pgo_scope.specs.Usage.{MacroTable, join, left_shape, left_uses, read_usage, write_usage, usage_if, no_usage, passed_usage, call_usage, usage_by, usage_in, macro_table_from, macro_table, each_parameter}
 use Rattle.pgo_scope.specs.declared.errors.ScopeError.TheVariants as errors
 use Rattle.pgo_scope.specs.declared.usage.Usage.{Usage}
-use Rattle.pgo_bound.specs.Among.{IsAmong, among_left, among_right, all_at, some_is}
+use Rattle.pgo_bound.specs.Among.{IsAmong, among_left, among_right, all_at}
 use Rattle.pgo_bound.specs.Sound.{labels_among}
+use Rattle.pgo_bound.specs.Different as different
 use Rattle.pgo_accept.proofs.Heads.{nothing_if}
 use Rattle.pgo_accept.proofs.Fitting.{ArgumentsFit}
 use Rattle.pgo_meaning.specs.LabelSections.{AreUnlabelled}
@@ -36,7 +38,6 @@ use Rattle.pgo_agrees.specs.Accepted.{IsOfText, MacroOfText, MacroParameterOfTex
 use Rattle.pgo_agrees.specs.Spoken.{ArgumentsSpoken}
 use Rattle.pgo_agrees.proofs.Arguments.{Joins, Given}
 use Rattle.pgo_agrees.proofs.Calls.{rows, each_rows, InPairs, assigned_at, Among, among_trans, read_way_is, write_way_is, use_among, read_among, passed_read, passed_write, base_among, path_among, call_among}
-use Rattle.pgo_agrees.proofs.Closed.{all_among}
 use Rattle.pgo_agrees.proofs.Env.{C, B, Common, D, Known', Inside, InStatements, named_facts, named_uncommon, applicable_no_bang, bytes_no_bang, UnitRules, tells_all}
 use Rattle.pgo_agrees.proofs.Fine.{Fine}
 use Rattle.pgo_agrees.proofs.FineUses.{Within, labeled_fine}
@@ -188,13 +189,13 @@ module _ (s : Spec) (k : NoFindings s) (fit : AllByRecursion (ArgumentsFit s.arc
 
       given : (ns : List Name) (x : Name) (t : Tree) → InPairs (x, o.usage x) t (rows o.usage (names_of o.macro.it.params)) ts → Given N (C s k fit of_text) (B s k fit of_text) W A ⊥ (Common s k fit of_text) (Inside s k fit of_text qs) R J (homes.Macro i) false joins ns u.around (o.usage x) t
       given ns x t h = record {
-        reads = λ a b e. all_among R (uses [] (record u.around { hidden = a; indexed = b }) t) (λ v c f g. (passed x v.name t h).reads v.around.hidden v.around.indexed ((passed_read (o.usage x) u.around v.name t a b e).reads v.around.hidden v.around.indexed (read_among (uses [] (record u.around { hidden = a; indexed = b }) t) v c f)));
+        reads = λ a b e. different.all_from R (uses [] (record u.around { hidden = a; indexed = b }) t) (λ v c f g. (passed x v.name t h).reads v.around.hidden v.around.indexed ((passed_read (o.usage x) u.around v.name t a b e).reads v.around.hidden v.around.indexed (read_among (uses [] (record u.around { hidden = a; indexed = b }) t) v c f)));
         writes = λ a e.
             (let full = parameters_are s k fit of_text (macro_table s.macros) u.name j o.usage (names_of o.macro.it.params) (all_names s k fit of_text) first o.known in
             let none = subst (λ f. assigned_of s (macro_table s.macros) u f ≡ []) form p.0.assigned in
             let found = assigned_at s u (x, o.usage x) t (rows o.usage (names_of o.macro.it.params)) ts h (subst (λ qs. assigned_arguments s u qs ts ≡ []) full none) in
             let b = assigned_base s k fit of_text u x (o.usage x) t a e found in
-            (b.0, b.1, (may_be b.0 (ap (λ z. may_assign s z b.0) (sym home) ∙ b.2), (passed x b.0 t h).writes (join (left_shape t) a) ((passed_write (o.usage x) u.around b.0 t a e).writes (join (left_shape t) a) (base_among a u.around b.0 t b.1))), all_among R (left_uses [] (inside u.around) t) (λ v c f g. (passed x v.name t h).reads v.around.hidden v.around.indexed ((passed_write (o.usage x) u.around v.name t a e).reads v.around.hidden v.around.indexed ((path_among a u.around v.name t).reads v.around.hidden v.around.indexed (read_among (left_uses [] (inside u.around) t) v c f))))));
+            (b.0, b.1, (may_be b.0 (ap (λ z. may_assign s z b.0) (sym home) ∙ b.2), (passed x b.0 t h).writes (join (left_shape t) a) ((passed_write (o.usage x) u.around b.0 t a e).writes (join (left_shape t) a) (base_among a u.around b.0 t b.1))), different.all_from R (left_uses [] (inside u.around) t) (λ v c f g. (passed x v.name t h).reads v.around.hidden v.around.indexed ((passed_write (o.usage x) u.around v.name t a e).reads v.around.hidden v.around.indexed ((path_among a u.around v.name t).reads v.around.hidden v.around.indexed (read_among (left_uses [] (inside u.around) t) v c f))))));
       }
 
     called : (ns ms : List Name) (a : Around) (c : PlacedName) (ts : List Tree) → P (record { name = c.name; form = forms.Called ts; inner = is_among c.name ms; around = at_place c.place a }) → IsAt (homes.Macro i) false a → (a.hidden ≡ false) × (a.indexed ≡ false) → Known (Known' s k fit of_text qs ns) ms [] → Within qs ms → ArgumentsSpoken ts → AllByRecursion P (argument_uses ms (as_passed (at_place c.place a)) ts)
@@ -226,7 +227,7 @@ module _ (s : Spec) (k : NoFindings s) (fit : AllByRecursion (ArgumentsFit s.arc
         let hs = heads forms.Named [] at' m.params in
         let body = uses_of_block qs at' (labeled m.body) in
         fine_placed (C s k fit of_text) (B s k fit of_text) (Common s k fit of_text) N W A ⊥ target bs (block 0 (labeled m.body)) false []
-        (labeled_fine P (homes.Macro i) qs N (C s k fit of_text) (B s k fit of_text) W A (CallOk (C s k fit of_text) (B s k fit of_text) (Common s k fit of_text) N W A ⊥ target bs) ⊥ (Known' s k fit of_text qs) (tells_all s k fit of_text (homes.Macro i) statements qs P N W A (CallOk (C s k fit of_text) (B s k fit of_text) (Common s k fit of_text) N W A ⊥ target bs) ⊥ J rules) (labeled m.body) false qs [] at' none (refl, refl) (refl, refl) (record { known = λ x e. inr (inr e); unit = λ x e. e }) text.1 (all_among P body (λ u c. (let d = among_right u hs body c in (there u d, d)))))
+        (labeled_fine P (homes.Macro i) qs N (C s k fit of_text) (B s k fit of_text) W A (CallOk (C s k fit of_text) (B s k fit of_text) (Common s k fit of_text) N W A ⊥ target bs) ⊥ (Known' s k fit of_text qs) (tells_all s k fit of_text (homes.Macro i) statements qs P N W A (CallOk (C s k fit of_text) (B s k fit of_text) (Common s k fit of_text) N W A ⊥ target bs) ⊥ J rules) (labeled m.body) false qs [] at' none (refl, refl) (refl, refl) (record { known = λ x e. inr (inr e); unit = λ x e. e }) text.1 (different.all_from P body (λ u c. (let d = among_right u hs body c in (there u d, d)))))
 
     head_named : (y : Name) (ns : List Name) (a : Around) (ps : List PlacedName) → is_among y (names_of ps) ≡ true → (u : Use) × IsAmong u (heads forms.Named ns a ps) × (u.name ≡ y) × (u.form ≡ forms.Named) × (u.around.home ≡ a.home)
     head_named y ns a [] h = never h
@@ -260,7 +261,7 @@ module _ (s : Spec) (k : NoFindings s) (fit : AllByRecursion (ArgumentsFit s.arc
 
   get_among : (ms : List Macro) (n : ℕ) (m : Macro) → slice_get ms n ≡ Some m → IsAmong m ms
   get_among [] n m h = absurd (cc)
-  get_among (z ∷ ms) zero m h = inl (sym (some_is z m h))
+  get_among (z ∷ ms) zero m h = inl (sym (same_Some z m h))
   get_among (z ∷ ms) (suc n) m h = inr (get_among ms n m h)
 
   uses_there : (m : Macro) (i : ℕ) → slice_get s.macros i ≡ Some m → (u : Use) → IsAmong u (macro_uses i m) → FineUse s u
@@ -286,7 +287,7 @@ module _ (s : Spec) (k : NoFindings s) (fit : AllByRecursion (ArgumentsFit s.arc
           other false e f y g = ap (λ b. if b then Some (record { parameters = map (λ (p : PlacedName). p.name) m.params; statement = placed bs (block 0 (labeled m.body)) }) else find x bs) e ∙ g
       go (inr e) =
           let f = first_macro s.macros x j first in
-          let same : f.it ≡ m = some_is f.it m (sym f.at' ∙ ap (slice_get s.macros) e ∙ at_i) in
+          let same : f.it ≡ m = same_Some f.it m (sym f.at' ∙ ap (slice_get s.macros) e ∙ at_i) in
           let none = all_unlabelled m s.macros unlabelled among in
           let usage = w m among i at_i (uses_there m i at_i) none known bs before in
           let here : slice_get (known ++ each_parameter (macro_rows s.macros, known) (macro_uses i m) (names_of m.params) ∷ []) j ≡ Some (rows usage (names_of m.params)) =

@@ -164,7 +164,7 @@ there {A} l x (q ∷ xs) h = go (same_name l q.0) refl h (there l x xs)
     go true e k more = inl (same_name-is l q.0 e)
     go false e k more = inr (more k)
 
-find_map : {A B : Type 0} → (f : A → B) (l : List (Name × A)) (x : Name) → find x (map (λ c. (c.0, f c.1)) l) ≡ option_map f (find x l)
+pub find_map : {A B : Type 0} → (f : A → B) (l : List (Name × A)) (x : Name) → find x (map (λ c. (c.0, f c.1)) l) ≡ option_map f (find x l)
 find_map f [] x = refl
 find_map {A} {B} f (p ∷ l) x = go (same_name x p.0) (find_map f l x)
   where

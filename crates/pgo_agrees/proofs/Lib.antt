@@ -35,6 +35,7 @@ pub mod InMacro
 pub mod RunBody
 pub mod Fewer
 pub mod Premises
+pub mod EachToken
 pub mod SpokenExpressions
 pub mod SpokenStatements
 pub mod SpokenLabels

@@ -1,6 +1,7 @@
 -- What the parameters of a process are, mapped or not, by the rules on arguments.
 use Rattle.std.proofs.Common.{◌≡◌, ℕ, suc, Bool, true, false, not, ◌&&◌, ◌||◌, if◌then◌else◌, List, [], ◌∷◌, map, filter, length, Option, Some, None, option_map, refl, ap, sym, ◌∙◌, subst, inl, inr, arith}
 use Rattle.std.specs.Prelude.{◌⊎◌, nat_lt}
+use Rattle.std.proofs.lemmas.Option.{same_Some}
 use Rattle.pgo_base.specs.Data.{Data}
 use Rattle.pgo_base.specs.Lookup.{Name, same_name, find}
 use Rattle.pgo_model.specs.Names.{same_name-self, same_name-is}
@@ -20,7 +21,7 @@ use Rattle.pgo_syntax.specs.declared.process.Argument.TheVariants as arguments
 use Rattle.pgo_syntax.specs.declared.process.MappingClause.{MappingClause}
 use Rattle.pgo_syntax.specs.declared.process.Process.{Process}
 use Rattle.pgo_syntax.specs.declared.spec.Spec.{Spec}
-use Rattle.pgo_bound.specs.Among.{IsAmong, among_left, among_right, among_map, among_filter_map, among_filter, none_flat_map, none_left, empty_map, empty_none, some_is}
+use Rattle.pgo_bound.specs.Among.{IsAmong, among_left, among_right, among_map, among_filter_map, among_filter, none_flat_map, none_left, empty_map, empty_none}
 use Rattle.pgo_bound.specs.BoundOf.{globals_of}
 use Rattle.pgo_bound.specs.Runs.{Run, Handed, handed_from, archetype_named, mapping_by, speaking, target_of, binding_of, run_with, run_of, runs_of, has_ids}
 use Rattle.pgo_bound.specs.Values.{defs_of}
@@ -106,7 +107,7 @@ mapped_from s cs (h ∷ hs) x m e = go h.argument refl e (λ f. later (mapped_fr
               argument = is;
               mapping = q;
               found = n;
-              is = some_is m (record { global = g.name; by_element = by_element t; reads = reads_by q; writes = writes_by q }) (sym k);
+              is = same_Some m (record { global = g.name; by_element = by_element t; reads = reads_by q; writes = writes_by q }) (sym k);
             }
             here false same k = more k
 

@@ -13,6 +13,7 @@ use Rattle.pgo_bound.specs.State.{variables_of}
 use Rattle.pgo_accept.proofs.Counted.{different}
 use Rattle.pgo_accept.proofs.Fitting.{ArgumentsFit}
 use Rattle.pgo_sections.specs.Code.{content_name}
+use Rattle.pgo_meaning.proofs.Traces.{among_is}
 use Rattle.pgo_translate.specs.Premises.{ModuleNames, further_names, is_further}
 use Rattle.pgo_agrees.specs.Accepted.{IsOfText, ProcessOfText}
 use Rattle.pgo_agrees.proofs.Blocks.{dollar_first, bytes_no_dollar}
@@ -22,7 +23,7 @@ use Rattle.pgo_agrees.proofs.Kept.{NoFindings, NoLabelFindings}
 use Rattle.pgo_agrees.proofs.Meanings.{reserved_apart}
 use Rattle.pgo_agrees.proofs.NameCounts.{times_some, names_once}
 use Rattle.pgo_agrees.proofs.Names.{has_mark, written_marked, identifier_bytes}
-use Rattle.pgo_agrees.proofs.Variables.{among_is, not_among, not_self, variable_is, variable_written}
+use Rattle.pgo_agrees.proofs.Variables.{not_among, not_self, variable_is, variable_written}
 
 -- where all names of a table pass a test, one that doesn't is not found there
 found_none : {A : Type 0} (f : Name → Bool) (x : Name) (rows : List (Name × A)) → AllByRecursion (λ r. f r.0 ≡ true) rows → f x ≡ false → find x rows ≡ None

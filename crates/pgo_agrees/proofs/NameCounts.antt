@@ -14,7 +14,7 @@ use Rattle.pgo_syntax.specs.declared.process.Process.{Process}
 use Rattle.pgo_syntax.specs.declared.spec.Spec.{Spec}
 use Rattle.pgo_uses.specs.AllUses.{archetype_uses, variable_names}
 use Rattle.pgo_uses.specs.Heads.{declared_names}
-use Rattle.pgo_scope.specs.Clash.{fixed_names, fixed_module_names, shared_module_names, value_names, labels_from, own_names, or_none, own_module_names, process_module_names}
+use Rattle.pgo_scope.specs.Clash.{fixed_names, shared_module_names, value_names, labels_from, own_names, or_none, own_module_names, process_module_names}
 use Rattle.pgo_labels.specs.Labels.{labels_of}
 use Rattle.pgo_labels.specs.Inside.{with_inside}
 use Rattle.pgo_labels.specs.Rules.{repeated, found_at, label_twice}
@@ -28,9 +28,10 @@ use Rattle.pgo_bound.specs.State.{variables_of}
 use Rattle.pgo_accept.proofs.Counted.{one_if, times, times-append, times-map_append}
 use Rattle.pgo_accept.proofs.Fitting.{Fits, ArgumentsFit}
 use Rattle.pgo_accept.proofs.Unlabelled.{names_of_body}
-use Rattle.pgo_accept.proofs.Variables.{variables_are, handed_value, values_counted, found_own, own_written}
+use Rattle.pgo_accept.proofs.Variables.{variables_are, handed_value, values_counted, found_own, own_written, fixed_written}
 use Rattle.pgo_accept.proofs.WrittenOnce.{writes, writes-append}
 use Rattle.pgo_meaning.specs.Expansions.{process_expansions}
+use Rattle.pgo_meaning.proofs.Traces.{among_is}
 use Rattle.pgo_translate.specs.Premises.{process_names, further_names}
 use Rattle.pgo_agrees.proofs.FurtherNames.{label_names, tree_names}
 use Rattle.pgo_agrees.proofs.Kept.{NoFindings, NoLabelFindings}
@@ -39,7 +40,6 @@ use Rattle.pgo_agrees.proofs.Names.{or_left, or_right}
 use Rattle.pgo_agrees.proofs.Stands.{or_second}
 use Rattle.pgo_agrees.proofs.WrittenNames.{counted, rows_of}
 use Rattle.pgo_agrees.proofs.Unlabelled.{placed_name}
-use Rattle.pgo_agrees.proofs.Variables.{among_is}
 
 -- ---- how often a name stands in a list
 
@@ -176,10 +176,6 @@ module _ (s : Spec) (k : NoFindings s) (labels : NoLabelFindings s) where
       omega (arith, a, b, c, d, e)
 
   -- ---- the whole
-
-  fixed_written : (x : Name) (ns : List Name) → writes x (fixed_module_names ns) ≡ times x ns
-  fixed_written x [] = refl
-  fixed_written x (n ∷ ns) = ap (λ j. one_if (same_name x n) + j) (fixed_written x ns)
 
   declared_written : (x : Name) (ds : List Declaration) → writes x (shared_module_names (declared_names ds)) ≡ times x (map (λ (d : Declaration). d.name.name) ds)
   declared_written x [] = refl

@@ -1,8 +1,8 @@
 -- Names that no expansion makes.
 use Rattle.std.proofs.Common.{◌≡◌, ◌≤◌, ℕ, Bool, true, false, ◌&&◌, ◌||◌, if◌then◌else◌, nat_eq, [], ◌∷◌, ◌++◌, codes, refl, ap, sym, ◌∙◌, arith}
 use Rattle.std.specs.Prelude.{nat_le}
-use Rattle.pgo_base.specs.Lookup.{Name, same_name}
-use Rattle.pgo_model.specs.Names.{same_name-not}
+use Rattle.std.proofs.lemmas.Bool.{or_from}
+use Rattle.pgo_base.specs.Lookup.{Name}
 use Rattle.pgo_model.specs.Written.{written}
 use Rattle.pgo_scope.specs.Underscores.{has_double}
 use Rattle.pgo_sections.specs.PlainTest.{digits_behind, looks_made}
@@ -26,10 +26,6 @@ pub and_right : (a b : Bool) → a && b ≡ true → b ≡ true
 and_right true b h = h
 and_right false b h = absurd (cc)
 
-pub false_or : (a b : Bool) → a ≡ false → b ≡ false → a || b ≡ false
-false_or true b h g = absurd (cc)
-false_or false b h g = g
-
 and_false : (a b : Bool) → b ≡ false → a && b ≡ false
 and_false true b h = h
 and_false false b h = refl
@@ -39,7 +35,7 @@ two_marks true true d l h g = absurd (cc)
 two_marks true false d l h g = g
 two_marks false q d l h g = g
 
-one_mark : (p : Bool) → (p && false) || false ≡ false
+pub one_mark : (p : Bool) → (p && false) || false ≡ false
 one_mark true = refl
 one_mark false = refl
 
@@ -108,7 +104,7 @@ behind_ends (y ∷ ys) x h = and_false (nat_eq y 95) (all_digits (ys ++ x)) (dig
 looks_behind : (ys x : Name) → has_double x ≡ false → has_letter x ≡ true → looks_made (ys ++ x) ≡ false
 looks_behind [] x d h = looks_single x d
 looks_behind (y ∷ ys) x d h =
-    false_or (nat_eq y 95 && digits_behind (ys ++ x)) (looks_made (ys ++ x)) (and_false (nat_eq y 95) (digits_behind (ys ++ x)) (behind_ends ys x h)) (looks_behind ys x d h)
+    or_from (nat_eq y 95 && digits_behind (ys ++ x)) (looks_made (ys ++ x)) (and_false (nat_eq y 95) (digits_behind (ys ++ x)) (behind_ends ys x h)) (looks_behind ys x d h)
 
 -- what a process writes its own names as
 pub written_single : (p x : Name) → has_double x ≡ false → has_letter x ≡ true → NotMade (written p x)
@@ -127,6 +123,3 @@ or_true false = refl
 pub written_marked : (p x : Name) → has_mark (written p x) ≡ true
 written_marked [] x = refl
 written_marked (b ∷ bs) x = ap (λ c. nat_eq b 95 || c) (written_marked bs x) ∙ or_true (nat_eq b 95)
-
-pub marked_apart : (x y : Name) → has_mark x ≡ true → has_mark y ≡ false → same_name x y ≡ false
-marked_apart x y h g = same_name-not x y (λ e. (let f : has_mark x ≡ has_mark y = ap has_mark e in cc))

@@ -2,11 +2,9 @@
 use Rattle.std.proofs.Common.{◌≡◌, ℕ, Bool, true, false, ◌&&◌, List, [], ◌∷◌, ◌++◌, Option, Some, refl, ap, sym, ◌∙◌}
 use Rattle.std.specs.List.{AllByRecursion}
 use Rattle.pgo_model.specs.ValueText.{is_identifier}
-use Rattle.pgo_lexer.specs.Layout.{Marked, Bullets, Marks}
-use Rattle.pgo_lexer.specs.Layout as mark
+use Rattle.pgo_lexer.specs.Layout.{Marked}
 use Rattle.pgo_lexer.specs.Lexemes.{IsPiece}
 use Rattle.pgo_lexer.specs.Lexemes as piece
-use Rattle.pgo_lexer.specs.declared.symbol.Junction.{Junction}
 use Rattle.pgo_lexer.specs.declared.symbol.Symbol.{Symbol}
 use Rattle.pgo_lexer.specs.declared.symbol.Symbol.TheVariants as symbol
 use Rattle.pgo_lexer.specs.declared.token.Lexeme.{Lexeme}
@@ -14,8 +12,7 @@ use Rattle.pgo_lexer.specs.declared.token.Token.{Token}
 use Rattle.pgo_lexer.specs.declared.token.Token.TheVariants as t
 use Rattle.pgo_spec_text.specs.SpecText.{Cut, is_allowed}
 use Rattle.pgo_spec_text.specs.SpecText as text
-use Rattle.pgo_expr_read.specs.Lookahead.{tokens_of}
-use Rattle.pgo_mpcal_read.specs.Elements.{IsName, Ended}
+use Rattle.pgo_mpcal_read.specs.Elements.{IsName}
 use Rattle.pgo_mpcal_read.specs.Elements as elements
 use Rattle.pgo_mpcal_read.specs.Spells.{IsHeader, IsPart, declarations_of, SpellsTokens}
 use Rattle.pgo_mpcal_read.specs.Spells as spells
@@ -36,23 +33,16 @@ use Rattle.pgo_syntax.specs.declared.process.Process.{Process}
 use Rattle.pgo_syntax.specs.declared.spec.Spec.{Spec}
 use Rattle.pgo_syntax.specs.Defines as defines
 use Rattle.pgo_agrees.specs.Accepted.{DefinitionOfText, MacroParameterOfText, MacroOfText, MappingOfText, ParameterOfText, DeclarationOfText, ArchetypeOfText, ArgumentOfText, ProcessOfText, IsOfText}
-use Rattle.pgo_agrees.specs.TextTokens.{AllowedSign, Allowed, AllAllowed}
+use Rattle.pgo_agrees.specs.TextTokens.{AllowedSign, Allowed}
 use Rattle.pgo_agrees.proofs.Names.{and_left, and_right}
-use Rattle.pgo_agrees.proofs.SpokenStatements.{AllOk, cut, expression, origin_spoken, all_in_brackets, all_in_row, body_spoken}
+use Rattle.pgo_agrees.proofs.SpokenStatements.{AllOk, expression, origin_spoken, body_spoken}
 use Rattle.pgo_agrees.proofs.SpokenLabels.{body_labels}
+use Rattle.pgo_agrees.proofs.EachToken.{cut, all_joined, one_more, all_in_brackets, all_in_row, all_marked}
 
 -- ---- tokens
 
 abbrev Told : List Lexeme → Type 0
-Told ls = AllAllowed (tokens_of ls)
-
-told_parts : (xs ys : List Lexeme) → Told (xs ++ ys) → Told xs × Told ys
-told_parts [] ys h = (tt, h)
-told_parts (x ∷ xs) ys h = let q = told_parts xs ys h.1 in ((h.0, q.0), q.1)
-
-told_joined : (xs ys : List Lexeme) → Told xs → Told ys → Told (xs ++ ys)
-told_joined [] ys h g = g
-told_joined (x ∷ xs) ys h g = (h.0, told_joined xs ys h.1 g)
+Told = AllByRecursion (λ (l : Lexeme). Allowed l.token)
 
 sign_allowed : (v : Symbol) → is_allowed (t.Symbol v) ≡ true → AllowedSign v
 sign_allowed symbol.Prime h = cc
@@ -82,22 +72,8 @@ cut_allowed text.end h = tt
 cut_allowed (text.pass p d a r) h = cut_allowed r h
 cut_allowed (text.token p {part = part} {rest = rest} {token = k} d r) h = (piece_allowed p (part ++ rest) k (Some k) d refl h.0, cut_allowed r h.1)
 
-mutual
-  marked_allowed : {s : Bool} {b : ℕ} {p q : Bool} {rs ms : List Lexeme} → Marked s b p rs ms q → Told rs → Told ms
-  marked_allowed mark.done h = tt
-  marked_allowed (mark.plain l r d) h = (h.0, marked_allowed d h.1)
-  marked_allowed (mark.separator l k d) h = (h.0, marked_allowed d h.1)
-  marked_allowed (mark.bracket z {xs = xs} {rs = rs} {ms = ms} {ns = ns} l k d m c e) h =
-      let q = told_parts xs _ h.1 in (h.0, told_joined ms (z ∷ ns) (marked_allowed d q.0) (q.1.0, marked_allowed e q.1.1))
-  marked_allowed (mark.list {xs = xs} {ys = ys} {ls = ls} {ms = ms} {ns = ns} l k d bs past e) h =
-      let q = told_parts xs _ h.1 in
-      let r = told_parts ys _ q.1 in
-      (tt, told_joined ls _ (marked_allowed d q.0) (told_joined ms _ (bullets_allowed bs r.0) (tt, marked_allowed e r.1)))
-
-  bullets_allowed : {op : Junction} {c : ℕ} {p q : Bool} {ys ms : List Lexeme} → Bullets op c p ys ms q → Told ys → Told ms
-  bullets_allowed mark.none h = tt
-  bullets_allowed (mark.next {xs = xs} {ms = ms} k e d bs) h =
-      let q = told_parts xs _ h.1 in (tt, told_joined ms _ (marked_allowed d q.0) (bullets_allowed bs q.1))
+marked_allowed : {s : Bool} {b : ℕ} {p q : Bool} {rs ms : List Lexeme} → Marked s b p rs ms q → Told rs → Told ms
+marked_allowed d h = all_marked Allowed (λ o. tt) tt tt d h
 
 -- ---- where a `yield` may stand
 ok_any : (ls : List Lexeme) → Told ls → AllOk true ls
@@ -125,16 +101,16 @@ ok_macro (l ∷ ls) h g =
 definition_of : (b : Bool) (xs : List Lexeme) (d : Definition) → IsDefinition xs d → AllOk b xs → DefinitionOfText d
 definition_of b xs d (unit.without_params i) h = (h.0.0, expression b i h.1.1)
 definition_of b xs d (unit.with_params c e {xs = ys} {ts = ts} n i) h =
-    let q = cut b ys _ h.1.1 in (h.0.0, expression b i q.1.1.1)
+    let q = cut _ ys _ h.1.1 in (h.0.0, expression b i q.1.1.1)
 
 declaration_of : (b : Bool) (xs : List Lexeme) (d : Declaration) → IsDeclaration xs d → AllOk b xs → DeclarationOfText d
 declaration_of b xs d unit.without_value h = (h.0.0, tt)
 declaration_of b xs d (unit.with_value {ts = ys} {o = o} i) h = (h.0.0, origin_spoken b ys o i h.1)
 
 declarations_of' : (b : Bool) (xs : List Lexeme) (ds : List Declaration) → IsDeclarations xs ds → AllOk b xs → AllByRecursion DeclarationOfText ds
-declarations_of' b xs ds (unit.last_declaration {xs = ys} {d = d} i e) h = (declaration_of b ys d i (cut b ys _ h).0, tt)
+declarations_of' b xs ds (unit.last_declaration {xs = ys} {d = d} i e) h = (declaration_of b ys d i (cut _ ys _ h).0, tt)
 declarations_of' b xs ds (unit.declaration {xs = us} {ys = ys} {zs = zs} {d = d} {ds = es} i p r) h =
-    let q = cut b us _ h in (declaration_of b us d i q.0, declarations_of' b ys es r (cut b zs ys q.1).1)
+    let q = cut _ us _ h in (declaration_of b us d i q.0, declarations_of' b ys es r (cut _ zs ys q.1).1)
 
 variables_of : (b : Bool) (xs : List Lexeme) (ds : List Declaration) → IsVariables xs ds → AllOk b xs → AllByRecursion DeclarationOfText ds
 variables_of b xs ds (unit.variables {xs = ys} i) h = declarations_of' b ys ds i h.1
@@ -154,17 +130,17 @@ name_of b xs p elements.name h = h.0.0
 
 macro_of : (xs : List Lexeme) (m : Macro) → IsMacro xs m → AllOk false xs → MacroOfText m
 macro_of xs m (unit.macro_of {xs = ys} {ys = zs} {ps = ps} i r) h =
-    let q = cut false ys zs h.1.1 in (all_in_brackets false IsName MacroParameterOfText (name_of false) ys ps i q.0, body_spoken r false q.1)
+    let q = cut _ ys zs h.1.1 in (all_in_brackets _ IsName MacroParameterOfText (name_of false) ys ps i q.0, body_spoken r false q.1)
 
 mapping_of : (xs : List Lexeme) (m : MappingMacro) → IsMappingMacro xs m → AllOk true xs → MappingOfText m
 mapping_of xs m (unit.mapping_macro_of w c {xs = ys} {ys = zs} r s) h =
-    let q = cut true ys _ h.1.1.1.1.1 in (body_spoken r true q.0, body_spoken s true (cut true zs _ q.1.1).0)
+    let q = cut _ ys _ h.1.1.1.1.1 in (body_spoken r true q.0, body_spoken s true (cut _ zs _ q.1.1).0)
 
 archetype_of : (xs : List Lexeme) (a : Archetype) → IsArchetype xs a → AllOk false xs → ArchetypeOfText a
 archetype_of xs a (unit.archetype_of {xs = us} {ys = ys} {zs = zs} {ps = ps} {ds = ds} i l r) h =
-    let q = cut false us _ h.1.1 in
-    let w = cut false ys zs q.1 in
-    (all_in_brackets false IsParameter ParameterOfText (parameter_of false) us ps i q.0, locals_of false ys ds l w.0, body_spoken r false w.1, body_labels r false w.1)
+    let q = cut _ us _ h.1.1 in
+    let w = cut _ ys zs q.1 in
+    (all_in_brackets _ IsParameter ParameterOfText (parameter_of false) us ps i q.0, locals_of false ys ds l w.0, body_spoken r false w.1, body_labels r false w.1)
 
 argument_of : (b : Bool) (xs : List Lexeme) (a : Argument) → IsArgument xs a → AllOk b xs → ArgumentOfText a
 argument_of b xs a (unit.value_argument d) h = expression b d h
@@ -172,13 +148,13 @@ argument_of b xs a (unit.ref_argument e) h = tt
 
 process_of : (xs : List Lexeme) (p : Process) → IsProcess xs p → AllOk false xs → ProcessOfText p
 process_of xs q (unit.instance_of p a n b d i m {fs = fs} {os = os} {vs = vs} {o = o} {as' = as'} f g r cs z) h =
-    let front = cut false fs _ h in
-    let ids = cut false os _ front.1.1.1.1 in
-    let given = cut false vs _ ids.1.1.1.1.1 in
-    (front.1.1.1.0.0, origin_spoken false os o g ids.0, all_in_brackets false IsArgument ArgumentOfText (argument_of false) vs as' r given.0)
+    let front = cut _ fs _ h in
+    let ids = cut _ os _ front.1.1.1.1 in
+    let given = cut _ vs _ ids.1.1.1.1.1 in
+    (front.1.1.1.0.0, origin_spoken false os o g ids.0, all_in_brackets _ IsArgument ArgumentOfText (argument_of false) vs as' r given.0)
 
 define_of : (xs : List Lexeme) (ds : List Definition) → IsDefine xs ds → AllOk false xs → AllByRecursion DefinitionOfText ds
-define_of xs ds (unit.definitions c {xs = ys} r) h = all_in_row false IsDefinition DefinitionOfText (definition_of false) ys ds r (cut false ys _ h.1.1).0
+define_of xs ds (unit.definitions c {xs = ys} r) h = all_in_row _ IsDefinition DefinitionOfText (definition_of false) ys ds r (cut _ ys _ h.1.1).0
 
 record UnitsOfText (u : Units) : Type 0 where
   pub define : AllByRecursion DefinitionOfText (defines.define_of u.define)
@@ -187,10 +163,6 @@ record UnitsOfText (u : Units) : Type 0 where
   pub archetypes : AllByRecursion ArchetypeOfText u.archetypes
   pub globals : AllByRecursion DeclarationOfText (declarations_of u.globals)
   pub processes : AllByRecursion ProcessOfText u.processes
-
-one_more : {A : Type 0} (P : A → Type 0) (xs : List A) (x : A) → AllByRecursion P xs → P x → AllByRecursion P (xs ++ x ∷ [])
-one_more P [] x h g = (g, tt)
-one_more P (y ∷ xs) x h g = (h.0, one_more P xs x h.1 g)
 
 unit_of : (b a : Units) (xs : List Lexeme) → IsUnit b xs a → Told xs → UnitsOfText b → UnitsOfText a
 unit_of b a xs (unit.define {xs = ys} {ds = ds} n d p) h g = record { define = define_of ys ds d (ok_plain ys h p); macros = g.macros; mappings = g.mappings; archetypes = g.archetypes; globals = g.globals; processes = g.processes }
@@ -202,23 +174,19 @@ unit_of b a xs (unit.process {xs = ys} {q = q} d p) h g = record { define = g.de
 
 units_of : {xs : List Lexeme} {a : Units} → AreUnits xs a → Told xs → UnitsOfText a
 units_of unit.no_unit h = record { define = tt; macros = tt; mappings = tt; archetypes = tt; globals = tt; processes = tt }
-units_of (unit.unit {xs = xs} {ys = ys} {a = a} {b = b} r u) h = let q = told_parts xs ys h in unit_of b a ys u q.1 (units_of r q.0)
+units_of (unit.unit {xs = xs} {ys = ys} {a = a} {b = b} r u) h = let q = cut _ xs ys h in unit_of b a ys u q.1 (units_of r q.0)
 
 header_of : {xs : List Lexeme} {h : Header} → IsHeader xs h → Told xs → AllByRecursion DefinitionOfText h.definitions
 header_of (spells.title p n d e x) h = tt
-header_of (spells.part {xs = xs} {ys = ys} {a = a} {h = b} r d) h = let q = told_parts xs ys h in part_of d (header_of r q.0) q.1
+header_of (spells.part {xs = xs} {ys = ys} {a = a} {h = b} r d) h = let q = cut _ xs ys h in part_of d (header_of r q.0) q.1
   where
     part_of : {b a : Header} {ys : List Lexeme} → IsPart b ys a → AllByRecursion DefinitionOfText b.definitions → Told ys → AllByRecursion DefinitionOfText a.definitions
     part_of (spells.constants w i) g k = g
     part_of {b = b} {ys = ys} (spells.definition {d = d} i) g k = one_more DefinitionOfText b.definitions d g (definition_of true ys d i (ok_any ys k))
 
-all_joined : {A : Type 0} (P : A → Type 0) (xs ys : List A) → AllByRecursion P xs → AllByRecursion P ys → AllByRecursion P (xs ++ ys)
-all_joined P [] ys h g = g
-all_joined P (x ∷ xs) ys h g = (h.0, all_joined P xs ys h.1 g)
-
 tokens_of_text : (hs as' : List Lexeme) (s : Spec) → SpellsTokens hs as' s → Told hs → Told as' → IsOfText s
 tokens_of_text hs as' s (spells.spec c {hs = ks} {xs = xs} {h = h} {us = us} head plain units shallow some) f g =
-    let u = units_of units (told_parts xs _ g.1.1).0 in
+    let u = units_of units (cut _ xs _ g.1.1).0 in
     record {
       globals = u.globals;
       definitions = all_joined DefinitionOfText h.definitions (defines.define_of us.define) (header_of head f) u.define;

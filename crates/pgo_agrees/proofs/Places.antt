@@ -32,9 +32,10 @@ use Rattle.pgo_uses.specs.Tables.{tables_of}
 use Rattle.pgo_scope.specs.Unknown.{unknown_heads}
 use Rattle.pgo_meaning.specs.Parameters.{place_of, parameter_places, local_places, places_of, own_name, own_variables}
 use Rattle.pgo_meaning.specs.Sect.{is_by_element}
+use Rattle.pgo_meaning.proofs.Traces.{among_is}
 use Rattle.pgo_accept.proofs.Variables.{handed_value}
 use Rattle.pgo_agrees.proofs.Heads.{ref_declared, mapping_found}
-use Rattle.pgo_agrees.proofs.Variables.{is_among_there, among_is}
+use Rattle.pgo_agrees.proofs.Variables.{is_among_there}
 
 -- an entry of the places of a process: a value parameter or a local; or a parameter that is handed a global as a whole
 pub data PlaceFrom (s : Spec) (cs : List MappingClause) (pn : Name) (hs : List Handed) (names : List Name) (q : Name × Place) : Type 0 where
@@ -95,6 +96,15 @@ found_there {A} x v (q ∷ xs) h = go (same_name x q.0) refl h (found_there x v 
     go true e k more = inl (let f = same_name-is x q.0 e in let g : q.1 ≡ v = cc in (λ i. (f i, sym g i)))
     go false e k more = inr (more k)
 
+pub from_filter : {A : Type 0} (f : A → Bool) (x : A) (xs : List A) → IsAmong x (filter f xs) → IsAmong x xs × (f x ≡ true)
+from_filter f x [] m = absurd m
+from_filter {A} f x (y ∷ ys) m = go (f y) refl m (from_filter f x ys)
+  where
+    go : (b : Bool) → f y ≡ b → IsAmong x (cond b (y ∷ filter f ys) (filter f ys)) → (IsAmong x (filter f ys) → IsAmong x ys × (f x ≡ true)) → IsAmong x (y ∷ ys) × (f x ≡ true)
+    go true e (inl q) more = (inl q, ap f q ∙ e)
+    go true e (inr k) more = let r = more k in (inr r.0, r.1)
+    go false e k more = let r = more k in (inr r.0, r.1)
+
 pub handed_among : (n : ℕ) (ps : List Parameter) (es : List Argument) (h : Handed) → IsAmong h (handed_from n ps es) → IsAmong h.argument es
 handed_among n [] es h a = absurd a
 handed_among n (p ∷ ps) [] h a = absurd a
@@ -154,21 +164,12 @@ module _ (s : Spec) (heads : unknown_heads (tables_of s) s.processes ≡ []) (p 
 
   -- ---- an unmapped parameter is of a global as a whole
 
-  from_filter : {A : Type 0} (f : A → Bool) (x : A) (xs : List A) → IsAmong x (filter f xs) → IsAmong x xs
-  from_filter f x [] h = absurd h
-  from_filter f x (y ∷ xs) h = go (f y) h (from_filter f x xs)
-    where
-      go : (b : Bool) → IsAmong x (cond b (y ∷ filter f xs) (filter f xs)) → (IsAmong x (filter f xs) → IsAmong x xs) → IsAmong x (y ∷ xs)
-      go true (inl e) more = inl e
-      go true (inr c) more = inr (more c)
-      go false c more = inr (more c)
-
   speaking_among : (n : ℕ) (g : Name) (c : MappingClause) → IsAmong c (speaking n g p.clauses) → IsAmong c p.clauses
   speaking_among n g c h =
-      go (filter (λ (c : MappingClause). is_of_number n c.target) p.clauses) (λ b. from_filter (λ (c : MappingClause). is_of_number n c.target) c p.clauses b) h
+      go (filter (λ (c : MappingClause). is_of_number n c.target) p.clauses) (λ b. (from_filter (λ (c : MappingClause). is_of_number n c.target) c p.clauses b).0) h
     where
       go : (bs : List MappingClause) → (IsAmong c bs → IsAmong c p.clauses) → IsAmong c (unless_any bs (filter (λ (c : MappingClause). is_of_name g c.target) p.clauses)) → IsAmong c p.clauses
-      go [] f k = from_filter (λ (c : MappingClause). is_of_name g c.target) c p.clauses k
+      go [] f k = (from_filter (λ (c : MappingClause). is_of_name g c.target) c p.clauses k).0
       go (d ∷ ds) f k = f k
 
   pub unmapped_whole : (n : ℕ) (g : Name) (e : Extent) → mapping_by s e (speaking n g p.clauses) ≡ None → e ≡ WholeExtent

@@ -26,6 +26,7 @@ use Rattle.pgo_agrees.proofs.Hoist.{never}
 use Rattle.pgo_agrees.proofs.Replaced as replacing
 use Rattle.pgo_agrees.proofs.Stands.{Stands, Meet, Above, or_first, or_second}
 use Rattle.pgo_agrees.proofs.Weaker.{weaker}
+use Rattle.pgo_agrees.proofs.Names.{one_mark, or_right}
 
 -- ---- ways in which a parameter stands
 abbrev pub reads_so : Usage → Bool → Bool → Bool
@@ -64,24 +65,16 @@ pub marked_bang : (x : Name) → has_bang (marked x) ≡ true
 marked_bang [] = refl
 marked_bang (b ∷ bs) = or_second (nat_eq b 33) (has_bang (marked bs)) (marked_bang bs)
 
-ends_single : (p : Bool) → (p && false) || false ≡ false
-ends_single true = refl
-ends_single false = refl
-
 keeps_single : (p q r : Bool) → p || q ≡ false → r ≡ false → p || r ≡ false
 keeps_single true q r h g = absurd (cc)
 keeps_single false q r h g = g
 
-last_single : (p q : Bool) → p || q ≡ false → q ≡ false
-last_single true q h = absurd (cc)
-last_single false q h = h
-
 pub marked_single : (x : Name) → has_double x ≡ false → has_double (marked x) ≡ false
 marked_single [] h = refl
-marked_single (b ∷ []) h = ends_single (nat_eq b 95)
+marked_single (b ∷ []) h = one_mark (nat_eq b 95)
 marked_single (b ∷ (c ∷ cs)) h =
     let two = nat_eq b 95 && nat_eq c 95 in
-    keeps_single two (has_double (c ∷ cs)) (has_double (marked (c ∷ cs))) h (marked_single (c ∷ cs) (last_single two (has_double (c ∷ cs)) h))
+    keeps_single two (has_double (c ∷ cs)) (has_double (marked (c ∷ cs))) h (marked_single (c ∷ cs) (or_right two (has_double (c ∷ cs)) h))
 
 pub bang_apart : (x y : Name) → has_bang x ≡ true → has_bang y ≡ false → same_name y x ≡ false
 bang_apart x y h g = go (same_name y x) refl

@@ -2,6 +2,7 @@
 use Rattle.std.proofs.Common.{◌≡◌, ℕ, List, [], map, length, Some, ap, sym, ◌∙◌, subst}
 use Rattle.std.specs.Prelude.{slice_get}
 use Rattle.std.specs.List.{AllByRecursion}
+use Rattle.std.proofs.lemmas.Option.{same_Some}
 use Rattle.pgo_base.specs.Data.{Data}
 use Rattle.pgo_base.specs.Lookup.{Name, Vars, find}
 use Rattle.pgo_model.specs.Machine.{nth}
@@ -15,7 +16,7 @@ use Rattle.pgo_syntax.specs.declared.spec.Spec.{Spec}
 use Rattle.pgo_uses.specs.AllUses.{archetype_uses}
 use Rattle.pgo_uses.specs.declared.uses.Use.{Use}
 use Rattle.pgo_labels.specs.Rules.{label_in_with, reserved_done}
-use Rattle.pgo_bound.specs.Among.{IsAmong, among_nth, nth_among, none_flat_map, some_is}
+use Rattle.pgo_bound.specs.Among.{IsAmong, among_nth, nth_among, none_flat_map}
 use Rattle.pgo_bound.specs.BoundOf.{bound_of, instance_at}
 use Rattle.pgo_bound.specs.Runs.{archetype_named, run_with}
 use Rattle.pgo_bound.specs.Sound.{WellNamed}
@@ -76,11 +77,11 @@ module _ (s : Spec) (consts : List (Name × Data)) (h : IsAccepted s consts) whe
       let r = runs_as s consts k i at_k in
       subst NoneIsDone (sym r.is) (none_is_done r.archetype (none_flat_map reserved_done r.archetype s.archetypes labels.dones r.declared))
 
-  parameters_number : (p : Process) (a : Archetype) → IsAmong p s.processes → archetype_named p.archetype.name s.archetypes ≡ Some a → length a.params ≡ length p.arguments
+  pub parameters_number : (p : Process) (a : Archetype) → IsAmong p s.processes → archetype_named p.archetype.name s.archetypes ≡ Some a → length a.params ≡ length p.arguments
   parameters_number p a among named =
       let n = nth_among p s.processes among in
       let r = well.archetypes n.0 p n.1 in
-      let same : r.0 ≡ a = some_is r.0 a (sym r.1 ∙ named) in
+      let same : r.0 ≡ a = same_Some r.0 a (sym r.1 ∙ named) in
       ap (λ (z : Archetype). length z.params) (sym same) ∙ r.2
 
   -- ---- an instance

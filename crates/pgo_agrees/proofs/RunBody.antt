@@ -33,17 +33,19 @@ use Rattle.pgo_scope.specs.declared.finding.Finding.{Finding}
 use Rattle.pgo_scope.specs.declared.usage.Usage.{Usage}
 use Rattle.pgo_bound.specs.Among.{IsAmong, among_right, all_at, none_left, none_right}
 use Rattle.pgo_bound.specs.Runs.{archetype_named}
+use Rattle.pgo_bound.specs.Different.{all_from}
 use Rattle.pgo_heads.specs.Refusals.{bind_refusal}
 use Rattle.pgo_accept.proofs.Fitting.{ArgumentsFit}
 use Rattle.pgo_labels.specs.LabelHere.{label_in_with}
 use Rattle.pgo_model.specs.Names.{is_among}
 use Rattle.pgo_meaning.specs.LabelSections.{AreUnlabelled}
 use Rattle.pgo_meaning.specs.MacrosPlaced.{marked as marked', bodies, placed_among}
+use Rattle.pgo_meaning.proofs.Trees.{among_front}
 use Rattle.pgo_agrees.specs.Accepted.{IsOfText, ArchetypeOfText}
 use Rattle.pgo_agrees.specs.Spoken.{ArgumentsSpoken}
 use Rattle.pgo_agrees.proofs.Arguments.{Joins, Given}
 use Rattle.pgo_agrees.proofs.Calls.{rows, InPairs, assigned_at, mapped_at}
-use Rattle.pgo_agrees.proofs.Closed.{all_among, apart}
+use Rattle.pgo_agrees.proofs.Closed.{apart}
 use Rattle.pgo_agrees.proofs.Env.{C, B, Common, D, Known', Inside, applicable_no_bang, UnitRules, tells_all}
 use Rattle.pgo_agrees.proofs.Fine.{LabeledFine}
 use Rattle.pgo_agrees.proofs.FineUses.{Within, labeled_fine}
@@ -51,7 +53,6 @@ use Rattle.pgo_agrees.proofs.FreeWiths.{body_free}
 use Rattle.pgo_agrees.proofs.FromUses.{Known, IsAt}
 use Rattle.pgo_agrees.proofs.InArchetype as run
 use Rattle.pgo_agrees.proofs.InMacro.{all_macros}
-use Rattle.pgo_agrees.proofs.Hoist.{never}
 use Rattle.pgo_agrees.proofs.Kept.{NoFindings}
 use Rattle.pgo_agrees.proofs.MacroCalls.{MacroOk, all_names, called_known, parameters_are, call_ok, assigned_base}
 use Rattle.pgo_agrees.proofs.MacroNames.{there_first}
@@ -84,14 +85,6 @@ ref_parameter x (p ∷ ps) h = go p.kind h (ref_parameter x ps)
         by : (b : Bool) → (b || is_among x (ref_names ps)) ≡ true → (b || is_among x (parameter_names ps)) ≡ true
         by true f = refl
         by false f = more f
-
-member_first : (x : Name) (xs ys : List Name) → is_among x xs ≡ true → is_among x (xs ++ ys) ≡ true
-member_first x [] ys h = never h
-member_first x (z ∷ xs) ys h = go (same_name x z) h (member_first x xs ys)
-  where
-    go : (b : Bool) → (b || is_among x xs) ≡ true → (is_among x xs ≡ true → is_among x (xs ++ ys) ≡ true) → (b || is_among x (xs ++ ys)) ≡ true
-    go true k more = refl
-    go false k more = more k
 
 member_last : (x : Name) (xs ys : List Name) → is_among x ys ≡ true → is_among x (xs ++ ys) ≡ true
 member_last x [] ys h = h
@@ -143,7 +136,7 @@ module _ (s : Spec) (k : NoFindings s) (fit : AllByRecursion (ArgumentsFit s.arc
   mine_of x h = go (or_in (is_among x (ref_names a.params)) (is_among x (variable_names a.locals)) (ap (λ o. assignable_in o x) (sym at_j) ∙ h))
     where
       go : (is_among x (ref_names a.params) ≡ true) ⊎ (is_among x (variable_names a.locals) ≡ true) → is_among x qs ≡ true
-      go (inl e) = member_first x (parameter_names a.params) (variable_names a.locals) (ref_parameter x a.params e)
+      go (inl e) = among_front x (parameter_names a.params) (variable_names a.locals) (ref_parameter x a.params e)
       go (inr e) = member_last x (parameter_names a.params) (variable_names a.locals) e
 
   -- ---- a call
@@ -230,4 +223,4 @@ module _ (s : Spec) (k : NoFindings s) (fit : AllByRecursion (ArgumentsFit s.arc
       let body = uses_of_block qs at' (labeled a.body) in
       let text = all_at ArchetypeOfText a s.archetypes of_text.archetypes declared in
       among_placed (C s k fit of_text) (B s k fit of_text) (Common s k fit of_text) N (D s k fit of_text) A ⊥ target (bodies s.macros) (labeled a.body) true []
-      (labeled_fine (FineUse s) (homes.Body j) qs N (C s k fit of_text) (B s k fit of_text) (D s k fit of_text) A (CallOk (C s k fit of_text) (B s k fit of_text) (Common s k fit of_text) N (D s k fit of_text) A ⊥ target (bodies s.macros)) ⊥ (Known' s k fit of_text qs) (tells_all s k fit of_text (homes.Body j) (λ x. refl) qs (FineUse s) N (D s k fit of_text) A (CallOk (C s k fit of_text) (B s k fit of_text) (Common s k fit of_text) N (D s k fit of_text) A ⊥ target (bodies s.macros)) ⊥ J rules) (labeled a.body) true qs [] at' (body_free a free) (refl, refl) (refl, refl) (record { known = λ x e. inr (inr e); unit = λ x e. e }) text.2 (all_among (FineUse s) body (λ u c. there u (among_right u (ps ++ ls) body c))))
+      (labeled_fine (FineUse s) (homes.Body j) qs N (C s k fit of_text) (B s k fit of_text) (D s k fit of_text) A (CallOk (C s k fit of_text) (B s k fit of_text) (Common s k fit of_text) N (D s k fit of_text) A ⊥ target (bodies s.macros)) ⊥ (Known' s k fit of_text qs) (tells_all s k fit of_text (homes.Body j) (λ x. refl) qs (FineUse s) N (D s k fit of_text) A (CallOk (C s k fit of_text) (B s k fit of_text) (Common s k fit of_text) N (D s k fit of_text) A ⊥ target (bodies s.macros)) ⊥ J rules) (labeled a.body) true qs [] at' (body_free a free) (refl, refl) (refl, refl) (record { known = λ x e. inr (inr e); unit = λ x e. e }) text.2 (all_from (FineUse s) body (λ u c. there u (among_right u (ps ++ ls) body c))))

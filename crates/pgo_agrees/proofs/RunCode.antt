@@ -2,6 +2,7 @@
 use Rattle.std.proofs.Common.{◌≡◌, ℕ, Bool, true, false, if◌then◌else◌, List, [], ◌∷◌, map, length, Some, None, refl, ap, sym, ◌∙◌, subst, inl, inr, arith}
 use Rattle.std.specs.Prelude.{◌⊎◌, slice_get}
 use Rattle.std.specs.List.{AllByRecursion, filter_map, flat_map}
+use Rattle.std.proofs.lemmas.Option.{same_Some}
 use Rattle.pgo_base.specs.Data.{Data}
 use Rattle.pgo_base.specs.Lookup.{Name, same_name, find}
 use Rattle.pgo_model.specs.Names.{same_name-self, same_name-is, is_among}
@@ -28,7 +29,7 @@ use Rattle.pgo_uses.specs.declared.uses.Shape.{Shape}
 use Rattle.pgo_uses.specs.declared.uses.Use.{Use}
 use Rattle.pgo_scope.specs.Clash.{itself, own_module_name, shared_module_names}
 use Rattle.pgo_labels.specs.LabelHere.{label_in_mapping}
-use Rattle.pgo_bound.specs.Among.{IsAmong, among_map, from_map, from_flat_map, from_filter_map, nth_among, some_is, mapped_some}
+use Rattle.pgo_bound.specs.Among.{IsAmong, among_map, from_map, from_flat_map, from_filter_map, nth_among, mapped_some}
 use Rattle.pgo_bound.specs.BoundOf.{bound_of}
 use Rattle.pgo_bound.specs.Runs.{Handed, archetype_named, mapping_named, mapping_without, mapping_by, speaking, target_of, binding_of, kind_of_extents}
 use Rattle.pgo_bound.specs.State.{names_with, target_extent, kind_in}
@@ -59,7 +60,7 @@ use Rattle.pgo_agrees.proofs.Placing.{AnyCall}
 use Rattle.pgo_agrees.proofs.Places.{PlaceFrom, is_own, is_whole, hands, binds, place_from, found_there, handed_among, handed_global, unmapped_whole, bound_whole, target_whole}
 use Rattle.pgo_agrees.proofs.WrittenNames.{writes_some, counted, shared_among, written_by}
 use Rattle.pgo_agrees.proofs.Uses.{FineUse}
-use Rattle.pgo_agrees.proofs.Variables.{own_there}
+use Rattle.pgo_agrees.proofs.Variables.{own_there, declared_there}
 
 -- ---- a variable of a process is bound by none
 
@@ -82,11 +83,6 @@ module _ (s : Spec) (consts : List (Name × Data)) (k : NoFindings s) (fit : All
               by : (v : Bool) → same_name g z.name ≡ v → (if v then Some t else None) ≡ Some e → (d : Declaration) × IsAmong d s.globals × (d.name.name ≡ g)
               by true o q = let d = ref_declared s k.heads p b z t c in (d.0, d.1, d.2 ∙ sym (same_name-is g z.name o))
               by false o q = absurd (cc)
-
-  declared_there : (d : Declaration) (ds : List Declaration) → IsAmong d ds → IsAmong d.name (declared_names ds)
-  declared_there d [] a = absurd a
-  declared_there d (e ∷ ds) (inl q) = inl (ap (λ (z : Declaration). z.name) q)
-  declared_there d (e ∷ ds) (inr a) = inr (declared_there d ds a)
 
   own_not_global : (p : Process) (a : Archetype) (y : Name) → IsAmong p s.processes → archetype_named p.archetype.name s.archetypes ≡ Some a → IsAmong y (names_with p a) → (d : Declaration) → IsAmong d s.globals → d.name.name ≡ written p.name.name y → ⊥
   own_not_global p a y b e c d f g =
@@ -115,7 +111,7 @@ module _ (s : Spec) (consts : List (Name × Data)) (k : NoFindings s) (fit : All
   mapping_among x (n ∷ ms) m h = go (same_name x n.name.name) h (mapping_among x ms m)
     where
       go : (c : Bool) → (if c then Some n else mapping_named x ms) ≡ Some m → (mapping_named x ms ≡ Some m → IsAmong m ms) → IsAmong m (n ∷ ms)
-      go true e more = inl (some_is m n (sym e))
+      go true e more = inl (same_Some m n (sym e))
       go false e more = inr (more e)
 
   mapping_of : (e : Extent) (cs : List MappingClause) (q : Mapping) → mapping_by s e cs ≡ Some q → (m : MappingMacro) → q ≡ Macro m → IsAmong m s.mappings
@@ -123,7 +119,7 @@ module _ (s : Spec) (consts : List (Name × Data)) (k : NoFindings s) (fit : All
     where
       go : (e : Extent) → mapping_without e ≡ Some q → IsAmong m s.mappings
       go WholeExtent h = absurd (cc)
-      go Element h = absurd (let z : Identity ≡ Macro m = some_is Identity q h ∙ f in cc)
+      go Element h = absurd (let z : Identity ≡ Macro m = same_Some Identity q h ∙ f in cc)
   mapping_of e (c ∷ cs) q h m f =
       let r = mapped_some Macro (mapping_named c.mapping.name s.mappings) q h in
       let same : r.0 ≡ m = inner r.0 m (sym r.2 ∙ f) in
@@ -180,7 +176,7 @@ module _ (s : Spec) (consts : List (Name × Data)) (k : NoFindings s) (fit : All
         element x m (inr (inl e)) f g = inr (inl e)
         element x m (inr (inr (inl e))) f g = inr (inr e)
         element x m (inr (inr (inr e))) f g =
-            let same : e.0 ≡ m = some_is e.0 m (sym e.1 ∙ f) in never (e.2 (ap (λ (z : Mapped). z.by_element) same ∙ g))
+            let same : e.0 ≡ m = same_Some e.0 m (sym e.1 ∙ f) in never (e.2 (ap (λ (z : Mapped). z.by_element) same ∙ g))
 
     whole_extent : (e : Extent) → by_element e ≡ false → e ≡ WholeExtent
     whole_extent WholeExtent h = refl

@@ -12,7 +12,7 @@ use Rattle.pgo_expr_read.specs.declared.table.Operator.{Operator}
 use Rattle.pgo_expr_read.specs.declared.table.Operator.TheVariants as operator
 use Rattle.pgo_expr_read.specs.declared.read.Ending.{Ending}
 use Rattle.pgo_expr_read.specs.Kinds as kind
-use Rattle.pgo_expr_read.specs.Kinds.{Kind, Thing, between}
+use Rattle.pgo_expr_read.specs.Kinds.{Kind, ItemOf, between}
 use Rattle.pgo_expr_read.specs.Spells.{Spelled, Range, Item, Behind, Items, names, applied, extended, product_of_two, appended, joined, infix_of}
 use Rattle.pgo_expr_read.specs.Spells as s
 use Rattle.pgo_agrees.specs.Spoken.{HasSome, Spoken, AllSpoken, ArmsSpoken, NamedSpoken, BoundSpoken, PathsSpoken}
@@ -24,7 +24,7 @@ parts (k ∷ xs) ys h = let q = parts xs ys h.1 in ((h.0, q.0), q.1)
 
 -- ---- items
 
-abbrev Formed : (k : Kind) → Thing k → Type 0
+abbrev Formed : (k : Kind) → ItemOf k → Type 0
 Formed kind.tree a = Spoken a
 Formed kind.item a = Spoken a
 Formed kind.binder p = Spoken p.1
@@ -34,7 +34,7 @@ Formed kind.arm p = Spoken p.0 × Spoken p.1
 Formed kind.step a = Spoken a
 Formed kind.update p = AllSpoken (trees p.0) × Spoken p.1
 
-abbrev AllFormed : (k : Kind) → List (Thing k) → Type 0
+abbrev AllFormed : (k : Kind) → List (ItemOf k) → Type 0
 AllFormed k [] = Unit {0}
 AllFormed k (a ∷ as') = Formed k a × AllFormed k as'
 
@@ -94,7 +94,7 @@ joined_formed o a (b ∷ bs) h k = joined_formed o (e.binary (infix_of o) a b) b
 
 -- ---- all forms
 
-some_items : {k : Kind} {u : Ending} {ts : List Token} {as' : List (Thing k)} → Items k u ts as' → (as' ≡ [] → ⊥)
+some_items : {k : Kind} {u : Ending} {ts : List Token} {as' : List (ItemOf k)} → Items k u ts as' → (as' ≡ [] → ⊥)
 some_items (s.items d b) = λ e. cc
 
 has_some : (as' : List Tree) → (as' ≡ [] → ⊥) → HasSome (trees as')
@@ -144,7 +144,7 @@ mutual
   formed_range (s.any d) h = formed d h
   formed_range (s.endless is) h = tt
 
-  formed_item : {k : Kind} {o : Ending} {ts : List Token} {a : Thing k} → Item k o ts a → AllAllowed ts → Formed k a
+  formed_item : {k : Kind} {o : Ending} {ts : List Token} {a : ItemOf k} → Item k o ts a → AllAllowed ts → Formed k a
   formed_item (s.tree d) h = formed d h
   formed_item (s.item d) h = formed d h
   formed_item (s.binder {x = x} {xs = xs} r) h = let q = parts (names x xs) _ h in formed_range r q.1.1
@@ -155,9 +155,9 @@ mutual
   formed_item (s.field_step {x = x}) h = tt
   formed_item (s.update {xs = xs} {as' = as'} m d) h = let q = parts xs _ h.1 in (all_steps as' (formed_items m q.0), formed d q.1.1)
 
-  formed_behind : {k : Kind} {o u : Ending} {ts : List Token} {as' : List (Thing k)} → Behind k o u ts as' → AllAllowed ts → AllFormed k as'
+  formed_behind : {k : Kind} {o u : Ending} {ts : List Token} {as' : List (ItemOf k)} → Behind k o u ts as' → AllAllowed ts → AllFormed k as'
   formed_behind s.none h = tt
   formed_behind (s.one_more {k = k} {xs = xs} may d b) h = let q = parts xs _ (parts (between k) _ h).1 in (formed_item d q.0, formed_behind b q.1)
 
-  formed_items : {k : Kind} {u : Ending} {ts : List Token} {as' : List (Thing k)} → Items k u ts as' → AllAllowed ts → AllFormed k as'
+  formed_items : {k : Kind} {u : Ending} {ts : List Token} {as' : List (ItemOf k)} → Items k u ts as' → AllAllowed ts → AllFormed k as'
   formed_items (s.items {xs = xs} d b) h = let q = parts xs _ h in (formed_item d q.0, formed_behind b q.1)

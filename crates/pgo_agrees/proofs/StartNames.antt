@@ -21,13 +21,14 @@ use Rattle.pgo_bound.specs.Instances.{archetype_among}
 use Rattle.pgo_bound.specs.Sound.{labels_among}
 use Rattle.pgo_bound.specs.State.{variables_of}
 use Rattle.pgo_bound.specs.Values.{define_of, defs_of}
+use Rattle.pgo_bound.specs.Different.{all_from}
 use Rattle.pgo_accept.proofs.Heads.{nothing_if}
 use Rattle.pgo_accept.proofs.Fitting.{ArgumentsFit}
 use Rattle.pgo_model.specs.Names.{is_among}
 use Rattle.pgo_translate.specs.Premises.{OriginAvoids, ProcessAvoids, StartsAtLabel, StartNames, definition_names, further_names, taken_names, is_taken}
 use Rattle.pgo_agrees.specs.Accepted.{IsOfText}
 use Rattle.pgo_agrees.proofs.Avoided.{taken_apart, global_avoids, archetype_avoids, process_avoids}
-use Rattle.pgo_agrees.proofs.Closed.{all_among, definitions_closed}
+use Rattle.pgo_agrees.proofs.Closed.{definitions_closed}
 use Rattle.pgo_agrees.proofs.Fewer.{closed_fewer}
 use Rattle.pgo_agrees.proofs.Further.{names_written, further_written, further_among}
 use Rattle.pgo_agrees.proofs.FurtherNames.{name_of, named_further, not_done}
@@ -82,10 +83,10 @@ module _ (s : Spec) (k : NoFindings s) (labels : NoLabelFindings s) (fit : AllBy
   pub start_names : (consts : List (Name × Data)) → StartNames s consts
   start_names consts = record {
     bodies = closed_fewer (names_written s) (taken_names s) taken_written (map defined_view (defs_of s consts)) (definitions_closed s k fit of_text consts);
-    globals = all_among (λ (d : Declaration). OriginAvoids (is_taken s) d.initial) s.globals (global_avoids s k labels fit of_text);
-    processes = all_among (ProcessAvoids s) s.processes (process_avoids s k labels fit of_text);
-    archetypes = all_among (λ (a : Archetype). AllByRecursion (λ d. OriginAvoids (is_taken s) d.initial) a.locals) s.archetypes (archetype_avoids s k labels fit of_text);
+    globals = all_from (λ (d : Declaration). OriginAvoids (is_taken s) d.initial) s.globals (global_avoids s k labels fit of_text);
+    processes = all_from (ProcessAvoids s) s.processes (process_avoids s k labels fit of_text);
+    archetypes = all_from (λ (a : Archetype). AllByRecursion (λ d. OriginAvoids (is_taken s) d.initial) a.locals) s.archetypes (archetype_avoids s k labels fit of_text);
     default = taken_apart s k labels fit of_text default_init_value (reserved_apart s k fit of_text default_init_value refl refl);
     default_defined = not_defined;
-    places = all_among (StartsAtLabel s) s.processes (λ p a. starts_at p);
+    places = all_from (StartsAtLabel s) s.processes (λ p a. starts_at p);
   }

@@ -103,11 +103,6 @@ module _ (s : Spec) where
       let r = from_start archetype_uses archetypes_uses (λ n x xs. refl) a s.archetypes h in
       (r.0, r.1, λ u b. among_left u (ds ++ gs ++ ms ++ ps ++ rs) qs (among_right u (ds ++ gs ++ ms ++ ps) rs (r.2 u b)))
 
-  pub of_macro : (m : Macro) → IsAmong m s.macros → (j : ℕ) × (slice_get s.macros j ≡ Some m) × Within (macro_uses j m) (all_uses s)
-  of_macro m h =
-      let r = from_start macro_uses macros_uses (λ n x xs. refl) m s.macros h in
-      (r.0, r.1, λ u b. among_left u (ds ++ gs ++ ms ++ ps ++ rs) qs (among_left u (ds ++ gs ++ ms ++ ps) rs (among_left u (ds ++ gs ++ ms) ps (among_right u (ds ++ gs) ms (r.2 u b)))))
-
   -- the uses of the macro at this number
   pub of_macro_at : (m : Macro) (i : ℕ) → slice_get s.macros i ≡ Some m → Within (macro_uses i m) (all_uses s)
   of_macro_at m i h u b = among_left u (ds ++ gs ++ ms ++ ps ++ rs) qs (among_left u (ds ++ gs ++ ms ++ ps) rs (among_left u (ds ++ gs ++ ms) ps (among_right u (ds ++ gs) ms (within 0 s.macros i h (let z : 0 + i ≡ i = omega arith in z)))))

@@ -3,7 +3,7 @@ use Rattle.std.proofs.Common.{◌≡◌, ℕ, suc, ◌+◌, Bool, true, false, �
 use Rattle.std.specs.Prelude.{◌⊎◌}
 use Rattle.std.specs.List.{AllByRecursion, filter_map, flat_map, cons_option}
 use Rattle.pgo_base.specs.Lookup.{Name, same_name}
-use Rattle.pgo_model.specs.Names.{same_name-self, same_name-is, same_name-not, is_among}
+use Rattle.pgo_model.specs.Names.{same_name-self, same_name-not, is_among}
 use Rattle.pgo_model.specs.Written.{pc, self_name, written}
 use Rattle.pgo_syntax.specs.Statement.{labeled}
 use Rattle.pgo_syntax.specs.declared.name.PlacedName.{PlacedName}
@@ -43,16 +43,9 @@ use Rattle.pgo_agrees.proofs.Names.{single, written_single, written_marked, has_
 use Rattle.pgo_agrees.proofs.WrittenNames.{writes_some, counted, shared_among, process_among, bound_apart, bound_not_fixed, written_by, rows_of}
 use Rattle.pgo_agrees.proofs.Uses.{FineUse, fine_use, of_archetype}
 use Rattle.pgo_model.specs.ValueText.{has_letter, is_identifier}
+use Rattle.pgo_meaning.proofs.Traces.{among_is}
 
 -- ---- membership by tests
-
-pub among_is : (x : Name) (xs : List Name) → is_among x xs ≡ true → IsAmong x xs
-among_is x [] h = absurd (cc)
-among_is x (y ∷ xs) h = go (same_name x y) refl h (among_is x xs)
-  where
-    go : (b : Bool) → same_name x y ≡ b → b || is_among x xs ≡ true → (is_among x xs ≡ true → IsAmong x xs) → IsAmong x (y ∷ xs)
-    go true e k more = inl (same_name-is x y e)
-    go false e k more = inr (more k)
 
 pub is_among_there : (x : Name) (xs : List Name) → IsAmong x xs → is_among x xs ≡ true
 is_among_there x [] h = absurd h
@@ -152,7 +145,7 @@ module _ (s : Spec) (fit : AllByRecursion (ArgumentsFit s.archetypes) s.processe
 
 -- ---- no variable has the name of another thing
 
-declared_there : (d : Declaration) (ds : List Declaration) → IsAmong d ds → IsAmong d.name (declared_names ds)
+pub declared_there : (d : Declaration) (ds : List Declaration) → IsAmong d ds → IsAmong d.name (declared_names ds)
 declared_there d [] a = absurd a
 declared_there d (e ∷ ds) (inl q) = inl (ap (λ (z : Declaration). z.name) q)
 declared_there d (e ∷ ds) (inr a) = inr (declared_there d ds a)

@@ -224,7 +224,7 @@ items_back : (xs : Items) → items (members xs) ≡ xs
 items_back no_items = refl
 items_back (item x xs) = ap (item x) (items_back xs)
 
-pairs_back : (ps : Pairs) → pairs (graph ps) ≡ ps
+pub pairs_back : (ps : Pairs) → pairs (graph ps) ≡ ps
 pairs_back no_pairs = refl
 pairs_back (pair k v ps) = ap (pair k v) (pairs_back ps)
 

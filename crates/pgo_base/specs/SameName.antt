@@ -1,5 +1,5 @@
 -- When two names are one.
-use Rattle.std.specs.Prelude.{◌≡◌, ℕ, Bool, true, false, refl}
+use Rattle.std.specs.Prelude.{◌≡◌, Bool, true, false, refl}
 use Rattle.std.proofs.Common.{ap, arith, ◌∙◌}
 use Rattle.std.specs.declared.cmp.Ordering.{Ordering}
 use Rattle.std.specs.declared.cmp.Ordering.TheVariants.{Less, Equal, Greater}
@@ -12,7 +12,7 @@ use Rattle.pgo_base.specs.Lookup.{Name, same_name}
 pub same_name-self : (x : Name) → same_name x x ≡ true
 same_name-self x = ap is_eq (data_itself (string x))
 
-equal_is : (o : Ordering) → is_eq o ≡ true → o ≡ Equal
+pub equal_is : (o : Ordering) → is_eq o ≡ true → o ≡ Equal
 equal_is Less h = absurd (grind (arith, h))
 equal_is Equal h = refl
 equal_is Greater h = absurd (grind (arith, h))
@@ -42,3 +42,6 @@ both_ways x y false true h k = let t : same_name x y ≡ true = one_way y x k in
 -- whether two names are one doesn't depend on their order
 pub same_name_back : (x y : Name) → same_name x y ≡ same_name y x
 same_name_back x y = both_ways x y (same_name x y) (same_name y x) refl refl
+
+pub turned : (x y : Name) → same_name x y ≡ false → same_name y x ≡ false
+turned x y h = same_name_back y x ∙ h

@@ -7,6 +7,7 @@ pub mod consts;
 pub mod depth;
 pub mod expr;
 pub mod items;
+pub mod last_place;
 pub mod log;
 pub mod module;
 pub mod name_map;

@@ -5,6 +5,7 @@ ghost use Rattle.pgo_base.specs.LastPlace.{defined_name, last_place};
 
 use crate::expr::{Names, Sub};
 use crate::items::Items;
+use crate::last_place::{Named, first, last_among};
 use crate::name_map::NameMap;
 use crate::text::Text;
 use crate::value::Value;
@@ -96,11 +97,11 @@ pub enum Defined {
     },
 }
 
-impl Defined {
+impl Named for Defined {
+    ghost name_of = { defined_name };
+
     /// The name that is defined.
-    pub fn name(&self) -> &Text
-        ensures { result.now ≡ defined_name self.now }
-    {
+    fn name(&self) -> &Text {
         match self {
             Defined::Given { name, .. } => name,
             Defined::Means { name, .. } => name,
@@ -179,31 +180,6 @@ impl Defs {
             None => None,
         }
     }
-}
-
-/// The first definitions, at most so many.
-fn first(list: &[Defined], count: usize) -> &[Defined]
-    ensures { result.now ≡ take count list.now }
-{
-    if count < list.len() {
-        &list[..count]
-    } else {
-        list
-    }
-}
-
-/// The place of the last definition of the name.
-fn last_among(list: &[Defined], name: &Text) -> Option<usize>
-    ensures { result ≡ last_place defined_name name.now list.now }
-{
-    let mut i = list.len();
-    while i > 0 {
-        i -= 1;
-        if name.is(list[i].name()) {
-            return Some(i);
-        }
-    }
-    None
 }
 
 /// A written module, in the order of its lines.

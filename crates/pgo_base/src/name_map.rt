@@ -1,6 +1,6 @@
 // What names stand for, found without going over a list.
-ghost use Rattle.std.specs.Prelude.{◌≡◌, None, Some, false, cond, option_map, IfOk, OnErr};
-ghost use Rattle.pgo_base.specs.Lookup.{Name, same_name};
+ghost use Rattle.std.specs.Prelude.{◌≡◌, None, Some, false, cond, if◌then◌else◌, option_map, IfOk, OnErr};
+ghost use Rattle.pgo_base.specs.Lookup.{Name, same_name, or_that};
 
 use crate::text::Text;
 use std::alloc::{AllocError, Global};
@@ -54,5 +54,17 @@ impl<V: Drop> NameMap<V> {
         let key = Vec::from_slice(alloc, name.as_bytes())?;
         self.map.insert(key, value)?;
         Ok(())
+    }
+
+    /// The name stands for this from now on, where it stood for nothing. Where there is no memory for it, all names stand for
+    /// what they did.
+    pub fn set_first(&mut self, alloc: Global, name: &Text, value: V) -> Result<(), AllocError>
+        ensures noted { IfOk result (λ _. (n : Name) → found self.new n ≡ or_that (found self.old n) (if same_name n name.now then Some value else None)) }
+        ensures kept { OnErr result ((n : Name) → found self.new n ≡ found self.old n) }
+    {
+        if self.contains(name) {
+            return Ok(());
+        }
+        self.set(alloc, name, value)
     }
 }

@@ -1,5 +1,5 @@
 -- The first finding in the text, of findings that may be there and of lists of them.
-use Rattle.std.proofs.Common.{◌≡◌, ℕ, List, ◌∷◌, ◌++◌, Option, Some, None, ap, sym, ◌∙◌}
+use Rattle.std.proofs.Common.{◌≡◌, ℕ, List, ◌++◌, Option, Some, None, ap, sym, ◌∙◌}
 use Rattle.std.specs.List.{cons_option}
 use Rattle.pgo_base.specs.Lookup.{Name}
 use Rattle.pgo_syntax.proofs.Leasts.{sooner_assoc, sooner_none, least-append}

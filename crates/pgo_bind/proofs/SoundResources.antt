@@ -3,6 +3,7 @@ use Rattle.std.proofs.Common.{◌≡◌, ◌⊎◌, ℕ, zero, suc, false, List,
 use Rattle.std.specs.declared.cmp.Ordering.TheVariants.{Less}
 use Rattle.std.specs.List.{AllByRecursion, flat_map}
 use Rattle.std.specs.List.Sorted.{IsStrictlySortedBy}
+use Rattle.std.proofs.lemmas.Option.{same_Some}
 use Rattle.pgo_base.specs.Data.{Data, boolean, integer, string, model, set, function, Pairs, graph, keys}
 use Rattle.pgo_base.specs.Exact.{data_itself}
 use Rattle.pgo_base.specs.Lookup.{Name, Vars, same_name, find}
@@ -23,7 +24,7 @@ use Rattle.pgo_bound.specs.Runs.{Run, runs_of}
 use Rattle.pgo_bound.specs.BoundOf.{GlobalStart, global_of, globals_of, global_value, first_places, locals_of, start_of, numbered, indices, elements_of, parts_with, parts_of, all_parts, resource_at, resources_of, bound_by}
 use Rattle.pgo_bound.specs.State.{AreDifferent, kind_in, own_names}
 use Rattle.pgo_bound.specs.Sound.{WellNamed, index_in, IsIndex, HasDomain, IsGlobal}
-use Rattle.pgo_bound.specs.Among.{IsAmong, among_nth, among_map, among_left, among_flat_map, from_map, from_flat_map, all_at, some_is, nth_from, nth_among, value_at_name}
+use Rattle.pgo_bound.specs.Among.{IsAmong, among_nth, among_map, among_left, among_flat_map, from_map, from_flat_map, all_at, nth_from, nth_among, value_at_name}
 use Rattle.pgo_bound.specs.Different.{all_from, not_one, different_left, different_apart}
 use Rattle.pgo_bound.specs.Lookups.{data_from}
 use Rattle.pgo_bound.specs.Once.{StandOnce}
@@ -58,8 +59,8 @@ apart_joined (p ∷ ps) qs a b f =
 at_places : (ps : List Part) (n m : ℕ) (p q : Part) → AreApart ps → nth ps n ≡ Some p → nth ps m ≡ Some q → (n ≡ m) ⊎ Apart p q
 at_places [] n m p q a h g = absurd (cc)
 at_places (x ∷ xs) zero zero p q a h g = inl refl
-at_places (x ∷ xs) zero (suc m) p q a h g = inr (subst (λ y. Apart y q) (some_is x p h) (all_at (Apart x) q xs a.0 (among_nth q xs m g)))
-at_places (x ∷ xs) (suc n) zero p q a h g = inr (apart_back q p (subst (λ y. Apart y p) (some_is x q g) (all_at (Apart x) p xs a.0 (among_nth p xs n h))))
+at_places (x ∷ xs) zero (suc m) p q a h g = inr (subst (λ y. Apart y q) (same_Some x p h) (all_at (Apart x) q xs a.0 (among_nth q xs m g)))
+at_places (x ∷ xs) (suc n) zero p q a h g = inr (apart_back q p (subst (λ y. Apart y p) (same_Some x q g) (all_at (Apart x) p xs a.0 (among_nth p xs n h))))
 at_places (x ∷ xs) (suc n) (suc m) p q a h g = go (at_places xs n m p q a.1 h g)
   where
     go : (n ≡ m) ⊎ Apart p q → (suc n ≡ suc m) ⊎ Apart p q
@@ -93,7 +94,7 @@ part_index g AsWhole st p i (inl q) e = absurd (let z : None ≡ Some i = sym (a
 part_index g AsWhole st p i (inr h) e = absurd h
 part_index g ByElement st p i h e =
     let o = from_map (λ j. (g, Some j)) p (indices (beginning st)) h in
-    let same : o.0 ≡ i = some_is o.0 i (sym (ap (λ (r : Part). r.1) o.2) ∙ e) in
+    let same : o.0 ≡ i = same_Some o.0 i (sym (ap (λ (r : Part). r.1) o.2) ∙ e) in
     (refl, subst (λ j. IsAmong j (indices (beginning st))) same o.1)
 
 parts_all_apart : (gs : List GlobalStart) → AreDifferent (map global_name gs) → ((g : GlobalStart) → IsAmong g gs → StandOnce (indices (beginning g.start))) → AreApart (all_parts gs)
@@ -137,7 +138,7 @@ index_back n p = go p.0 p.1
 
 nth_numbered : {A B : Type 0} (f : ℕ → A → B) (k n : ℕ) (xs : List A) (x : A) → nth xs n ≡ Some x → (m : ℕ) × (nth (numbered f k xs) n ≡ Some (f m x))
 nth_numbered f k n [] x h = absurd (cc)
-nth_numbered f k zero (y ∷ ys) x h = (k, ap (λ z. Some (f k z)) (some_is y x h))
+nth_numbered f k zero (y ∷ ys) x h = (k, ap (λ z. Some (f k z)) (same_Some y x h))
 nth_numbered f k (suc n) (y ∷ ys) x h = nth_numbered f (suc k) n ys x h
 
 function_from : (v i : Data) → IsAmong i (indices v) → (ps : Pairs) × (v ≡ function ps)
@@ -227,7 +228,7 @@ module _ (s : Spec) (ds : List Defined) (w : WellNamed s) (h : heads_refused s.a
       let c = element_at x.0 x.1 v x.2 x.4 in
       let same : c.0.name.name ≡ d.name.name = sym c.2 ∙ x.3 in
       let starts : beginning (global_of ds rs c.0).start ≡ beginning (global_of ds rs d).start =
-      some_is (beginning (global_of ds rs c.0).start) (beginning (global_of ds rs d).start) (sym (at_global s ds w h c.0 c.1) ∙ ap (λ y. find y start) same ∙ at_global s ds w h d a) in
+      same_Some (beginning (global_of ds rs c.0).start) (beginning (global_of ds rs d).start) (sym (at_global s ds w h c.0 c.1) ∙ ap (λ y. find y start) same ∙ at_global s ds w h d a) in
       subst (λ y. IsAmong v (indices y)) starts c.4
 
   -- a global by element that starts as a function has its resources at the function's domain
@@ -244,7 +245,7 @@ module _ (s : Spec) (ds : List Defined) (w : WellNamed s) (h : heads_refused s.a
   element_domain n d q k =
       let a = among_nth d s.globals n q in
       let o = elements_are s ds w h n d q k in
-      at_function d o.0 a (by_element_there s rs d.name.name k) (some_is (beginning (global_of ds rs d).start) (function o.0) (sym (at_global s ds w h d a) ∙ o.1))
+      at_function d o.0 a (by_element_there s rs d.name.name k) (same_Some (beginning (global_of ds rs d).start) (function o.0) (sym (at_global s ds w h d a) ∙ o.1))
 
   pub has_domain : (n : ℕ) (r : Resource) (i : Data) → nth (resources_of gs) n ≡ Some r → index_in r ≡ Some i → HasDomain (bound_by s ds rs) start r.global
   has_domain n r i q e =

@@ -3,7 +3,6 @@ ghost use Rattle.std.specs.Prelude.{◌≡◌, ◌++◌, map, option_map, IfOk};
 ghost use Rattle.std.specs.List.{flat_map, filter_map};
 ghost use Rattle.pgo_base.specs.View.{data_of, named_data, pair_of};
 ghost use Rattle.pgo_base.specs.ExprView.{tree};
-ghost use Rattle.pgo_model.specs.Written as names;
 ghost use Rattle.pgo_bound.specs.BoundOf as specs;
 ghost use Rattle.pgo_bound.specs.Values as values;
 ghost use Rattle.pgo_heads.specs.Views.{start_view, handed_view, run_view, global_view};
@@ -19,19 +18,10 @@ use pgo_heads::runs::{Handed, Run};
 use pgo_heads::start_values::{Start, beginning, default_value};
 use pgo_syntax::binding::Origin;
 use pgo_syntax::declaration::Declaration;
+use pgo_syntax::name::written_name;
 use pgo_syntax::process::Argument;
 use pgo_syntax::statement::Labeled;
 use std::alloc::{AllocError, Global};
-
-/// The written name of a label or a local of a process.
-fn written(alloc: Global, process: &Text, name: &Text) -> Result<Text, AllocError>
-    ensures { IfOk result (λ t. t ≡ names.written process.now name.now) }
-{
-    let mut bytes = Vec::from_slice(alloc, process.as_bytes())?;
-    bytes.push(b'_')?;
-    bytes.extend_from_slice(name.as_bytes())?;
-    Ok(Text::from_bytes(bytes))
-}
 
 /// The written name of a label; `Done` where there is none.
 fn written_label(alloc: Global, process: &Text, label: &Labeled) -> Result<Text, AllocError>
@@ -39,7 +29,7 @@ fn written_label(alloc: Global, process: &Text, label: &Labeled) -> Result<Text,
 {
     match &label.label {
         None => Text::from_slice(alloc, b"Done"),
-        Some(l) => written(alloc, process, &l.name),
+        Some(l) => written_name(alloc, process.as_bytes(), &l.name),
     }
 }
 
@@ -138,7 +128,11 @@ fn add_argument(
     match h.argument {
         Argument::Ref(..) => Ok(()),
         Argument::Value(_, e) => {
-            let name = written(alloc, &run.process.name.name, &h.parameter.name.name)?;
+            let name = written_name(
+                alloc,
+                run.process.name.name.as_bytes(),
+                &h.parameter.name.name,
+            )?;
             let value = values_at(alloc, defs, e.get(), run.run_ids())?;
             list.push((name, value))?;
             Ok(())
@@ -170,7 +164,7 @@ fn own_start(
 ) -> Result<(Text, Value), AllocError>
     ensures { IfOk result (λ p. named_data p ≡ specs.own_start defs.now (run_view run.now) d.now) }
 {
-    let name = written(alloc, &run.process.name.name, &d.name.name)?;
+    let name = written_name(alloc, run.process.name.name.as_bytes(), &d.name.name)?;
     let value = local_at(alloc, defs, &d.initial, run.run_ids())?;
     Ok((name, value))
 }

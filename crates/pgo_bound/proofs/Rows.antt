@@ -2,6 +2,7 @@
 use Rattle.std.proofs.Common.{◌≡◌, ℕ, zero, suc, List, [], ◌∷◌, Option, Some, None, refl, ap, sym, ◌∙◌, subst}
 use Rattle.std.specs.Prelude.{pos, codes}
 use Rattle.std.specs.List.Sorted.{IsStrictlySortedBy}
+use Rattle.std.proofs.lemmas.Option.{same_Some}
 use Rattle.pgo_base.specs.Data.{Data, integer, string, function, Pairs, pair, no_pairs}
 use Rattle.pgo_base.specs.Lookup.{Name, Vars, find}
 use Rattle.pgo_base.specs.Sets.{IsSorted}
@@ -23,7 +24,6 @@ use Rattle.pgo_bound.specs.declared.kinds.Kind.TheVariants.{ByElement}
 use Rattle.pgo_bound.specs.BoundOf.{bound_of, indices}
 use Rattle.pgo_model.specs.Variables.{IsFunctionOn, HasOneDomain}
 use Rattle.pgo_bound.specs.State.{IsState, IsStateOnDomains, identifiers_of, kind_in, own_names}
-use Rattle.pgo_bound.specs.Among.{some_is}
 
 abbrev placed : ℕ → Name → PlacedName
 placed p n = record { name = n; place = p }
@@ -93,11 +93,11 @@ unfolding IsStrictlySortedBy
 sorted k = (tt, tt)
 
 no_locals : (s : Vars) (n m : ℕ) (p : Process) (x : Name) → nth system.spec.processes n ≡ Some p → nth (own_names system.spec p) m ≡ Some x → IsFunctionOn (identifiers_of system p.name.name) (find (written p.name.name x) s)
-no_locals s zero m p x h g = absurd (let e : nth (own_names system.spec process) m ≡ Some x = ap (λ q. nth (own_names system.spec q) m) (some_is process p h) ∙ g in let z : None ≡ Some x = e in cc)
+no_locals s zero m p x h g = absurd (let e : nth (own_names system.spec process) m ≡ Some x = ap (λ q. nth (own_names system.spec q) m) (same_Some process p h) ∙ g in let z : None ≡ Some x = e in cc)
 no_locals s (suc n) m p x h g = absurd (cc)
 
 is_function : (k v : Data) (n : ℕ) (d : Declaration) → nth system.spec.globals n ≡ Some d → (ps : Pairs) × (find d.name.name (state k v) ≡ Some (function ps))
-is_function k v zero d h = subst (λ (c : Declaration). (ps : Pairs) × (find c.name.name (state k v) ≡ Some (function ps))) (some_is global d h) (pair k v no_pairs, refl)
+is_function k v zero d h = subst (λ (c : Declaration). (ps : Pairs) × (find c.name.name (state k v) ≡ Some (function ps))) (same_Some global d h) (pair k v no_pairs, refl)
 is_function k v (suc n) d h = absurd (cc)
 
 abbrev here : Data
@@ -133,7 +133,7 @@ moved_is_state = record {
 
 same_domain : (n : ℕ) (d : Declaration) → nth system.spec.globals n ≡ Some d → HasOneDomain system.start changed d.name.name
 same_domain zero d h =
-    subst (λ (c : Declaration). HasOneDomain system.start changed c.name.name) (some_is global d h)
+    subst (λ (c : Declaration). HasOneDomain system.start changed c.name.name) (same_Some global d h)
     (one ∷ [], (pair one (integer (pos 7)) no_pairs, refl, refl), (pair one (integer (pos 8)) no_pairs, refl, refl))
 same_domain (suc n) d h = absurd (cc)
 

@@ -2,10 +2,12 @@
 use Rattle.std.proofs.Common.{◌≡◌, ◌⊎◌, ℕ, zero, suc, ◌+◌, Bool, true, false, ◌||◌, if◌then◌else◌, List, [], ◌∷◌, ◌++◌, map, cond, Option, Some, None, option_map, refl, ap, sym, ◌∙◌, subst, inl, inr, arith}
 use Rattle.std.specs.Prelude.{filter}
 use Rattle.std.specs.List.{AllByRecursion, filter_map, flat_map, list_any, cons_option}
+use Rattle.std.proofs.lemmas.Option.{same_Some}
 use Rattle.pgo_base.specs.Data.{Data}
 use Rattle.pgo_base.specs.Lookup.{Name, Vars, same_name, find}
 use Rattle.pgo_model.specs.Machine.{nth}
-use Rattle.pgo_model.specs.Names.{same_name-self, same_name-is}
+use Rattle.pgo_model.specs.Names.{same_name-self}
+pub use Rattle.pgo_model.specs.Names.{turned}
 use Rattle.pgo_model.specs.State.{AllValues}
 use Rattle.pgo_model.specs.Value.{IsValue}
 use Rattle.pgo_bound.specs.BoundOf.{numbered}
@@ -89,12 +91,9 @@ pub mapped_some : {A B : Type 0} (f : A → B) (o : Option A) (y : B) → option
 mapped_some f None y h = absurd (cc)
 mapped_some f (Some x) y h = (x, refl, let e : y ≡ f x = cc in e)
 
-pub some_is : {A : Type 0} (x y : A) → Some x ≡ Some y → x ≡ y
-some_is x y e = cc
-
 pub among_nth : {A : Type 0} (x : A) (xs : List A) (n : ℕ) → nth xs n ≡ Some x → IsAmong x xs
 among_nth x [] n h = absurd (cc)
-among_nth x (y ∷ ys) zero h = inl (sym (some_is y x h))
+among_nth x (y ∷ ys) zero h = inl (sym (same_Some y x h))
 among_nth x (y ∷ ys) (suc n) h = inr (among_nth x ys n h)
 
 pub nth_among : {A : Type 0} (x : A) (xs : List A) → IsAmong x xs → (n : ℕ) × (nth xs n ≡ Some x)
@@ -104,7 +103,7 @@ nth_among x (y ∷ ys) (inr h) = let r = nth_among x ys h in (suc r.0, r.1)
 
 pub nth_map : {A B : Type 0} (f : A → B) (n : ℕ) (xs : List A) (x : A) → nth xs n ≡ Some x → nth (map f xs) n ≡ Some (f x)
 nth_map f n [] x h = absurd (cc)
-nth_map f zero (y ∷ ys) x h = ap (λ z. Some (f z)) (some_is y x h)
+nth_map f zero (y ∷ ys) x h = ap (λ z. Some (f z)) (same_Some y x h)
 nth_map f (suc n) (y ∷ ys) x h = nth_map f n ys x h
 
 pub from_numbered : {A B : Type 0} (f : ℕ → A → B) (n : ℕ) (y : B) (xs : List A) → IsAmong y (numbered f n xs) → (x : A) × IsAmong x xs × ((m : ℕ) × (y ≡ f m x))
@@ -115,7 +114,7 @@ from_numbered f n y (z ∷ zs) (inr h) = let r = from_numbered f (suc n) y zs h 
 -- the item of a numbered list at a place is the item there, with the place as its number
 pub nth_from : {A B : Type 0} (f : ℕ → A → B) (k n : ℕ) (xs : List A) (y : B) → nth (numbered f k xs) n ≡ Some y → (x : A) × (nth xs n ≡ Some x) × ((m : ℕ) × (m ≡ k + n) × (y ≡ f m x))
 nth_from f k n [] y h = absurd (cc)
-nth_from f k zero (x ∷ xs) y h = (x, refl, (k, let e : k ≡ k + 0 = omega arith in e, sym (some_is (f k x) y h)))
+nth_from f k zero (x ∷ xs) y h = (x, refl, (k, let e : k ≡ k + 0 = omega arith in e, sym (same_Some (f k x) y h)))
 nth_from f k (suc n) (x ∷ xs) y h =
     let r = nth_from f (suc k) n xs y h in
     (r.0, r.1, (r.2.0, let e : r.2.0 ≡ k + suc n = omega (arith, r.2.1) in e, r.2.2))
@@ -176,13 +175,6 @@ pub all_at : {A : Type 0} (P : A → Type 0) (x : A) (xs : List A) → AllByRecu
 all_at P x [] a h = absurd h
 all_at P x (y ∷ ys) a (inl e) = subst P (sym e) a.0
 all_at P x (y ∷ ys) a (inr h) = all_at P x ys a.1 h
-
-pub turned : (x y : Name) → same_name x y ≡ false → same_name y x ≡ false
-turned x y h = go (same_name y x) refl
-  where
-    go : (b : Bool) → same_name y x ≡ b → same_name y x ≡ false
-    go false e = e
-    go true e = absurd (let s = same_name-is y x e in let t : same_name x y ≡ true = ap (same_name x) s ∙ same_name-self x in cc)
 
 -- names that differ are found
 pub found_among : {A : Type 0} (x : Name) (v : A) (s : List (Name × A)) → AreDifferent (map (λ p. p.0) s) → IsAmong (x, v) s → find x s ≡ Some v

@@ -1,5 +1,6 @@
 -- Where a run and an instance come from, and what a binding stands for.
 use Rattle.std.proofs.Common.{◌≡◌, ℕ, Bool, true, false, if◌then◌else◌, List, [], ◌∷◌, Option, Some, None, refl, ap, sym, ◌∙◌, subst, inl, inr}
+use Rattle.std.proofs.lemmas.Option.{same_Some}
 use Rattle.pgo_base.specs.Data.{Data}
 use Rattle.pgo_base.specs.Lookup.{Name, same_name}
 use Rattle.pgo_base.specs.Tree.{Tree}
@@ -14,14 +15,14 @@ use Rattle.pgo_syntax.specs.declared.process.MappingClause.{MappingClause}
 use Rattle.pgo_syntax.specs.declared.spec.Spec.{Spec}
 use Rattle.pgo_bound.specs.Runs.{Run, archetype_named, run_ids, target_of}
 use Rattle.pgo_bound.specs.BoundOf.{places_of, places_of_run, instance_at, instances_of, expression_of}
-use Rattle.pgo_bound.specs.Among.{IsAmong, some_is, from_map, from_flat_map, from_numbered, among_nth}
+use Rattle.pgo_bound.specs.Among.{IsAmong, from_map, from_flat_map, from_numbered, among_nth}
 
 pub archetype_among : (x : Name) (as' : List Archetype) (a : Archetype) → archetype_named x as' ≡ Some a → IsAmong a as'
 archetype_among x [] a h = absurd (cc)
 archetype_among x (b ∷ bs) a h = go (same_name x b.name.name) h (archetype_among x bs a)
   where
     go : (t : Bool) → (if t then Some b else archetype_named x bs) ≡ Some a → (archetype_named x bs ≡ Some a → IsAmong a bs) → IsAmong a (b ∷ bs)
-    go true g r = inl (sym (some_is b a g))
+    go true g r = inl (sym (same_Some b a g))
     go false g r = inr (r g)
 
 -- an identifier of a process that runs

@@ -3,7 +3,8 @@ use Rattle.std.proofs.Common.{◌≡◌, Bool, true, false, if◌then◌else◌,
 use Rattle.std.specs.declared.cmp.Ordering.{Ordering}
 use Rattle.std.specs.declared.cmp.Ordering.TheVariants.{Less, Equal, Greater}
 use Rattle.std.specs.Ordering.{is_eq, match_ordering}
-use Rattle.pgo_base.specs.Data.{Data, Items, no_items, item, items, members, Pairs, no_pairs, pair, pairs, graph, boolean, integer, string, model, set, function, graph-pairs}
+use Rattle.pgo_base.proofs.Keyed.{pairs_back}
+use Rattle.pgo_base.specs.Data.{Data, Items, no_items, item, items, members, boolean, integer, string, model, set, function, graph-pairs}
 use Rattle.pgo_base.specs.View.{data_of}
 use Rattle.pgo_base.specs.ValueCode.{value_from}
 use Rattle.pgo_base.specs.Order.{data_cmp}
@@ -71,14 +72,10 @@ items-members : (xs : Items) → items (members xs) ≡ xs
 items-members no_items = refl
 items-members (item x xs) = ap (item x) (items-members xs)
 
-pairs-graph : (ps : Pairs) → pairs (graph ps) ≡ ps
-pairs-graph no_pairs = refl
-pairs-graph (pair k v ps) = ap (pair k v) (pairs-graph ps)
-
 pub data_from : (d : Data) → data_of (value_from d) ≡ d
 data_from (boolean b) = refl
 data_from (integer z) = refl
 data_from (string t) = refl
 data_from (model t) = refl
 data_from (set xs) = ap set (items-members xs)
-data_from (function ps) = ap function (pairs-graph ps)
+data_from (function ps) = ap function (pairs_back ps)

@@ -1,11 +1,12 @@
 -- Values that stand once in a list, and the identifiers of the instances.
 use Rattle.std.proofs.Common.{◌≡◌, ℕ, zero, suc, Bool, true, false, if◌then◌else◌, List, [], ◌∷◌, ◌++◌, map, Some, refl, ap, sym, ◌∙◌, subst, inl, inr}
+use Rattle.std.proofs.lemmas.Option.{same_Some}
 use Rattle.pgo_base.specs.Data.{Data, string}
 use Rattle.pgo_model.specs.Machine.{nth}
 use Rattle.pgo_model.specs.Operators.{same_data, lookup}
 use Rattle.pgo_bound.specs.Runs.{Run, run_ids, all_ids}
 use Rattle.pgo_bound.specs.BoundOf.{places_of, places_of_run, first_place, first_label}
-use Rattle.pgo_bound.specs.Among.{IsAmong, some_is, among_map, among_nth}
+use Rattle.pgo_bound.specs.Among.{IsAmong, among_map, among_nth}
 use Rattle.pgo_bound.specs.Lookups.{same_of, same_equal}
 use Rattle.pgo_bound.specs.StartNames.{map-append}
 
@@ -17,8 +18,8 @@ StandOnce (x ∷ xs) = (IsAmong x xs → ⊥) × StandOnce xs
 pub once_nth : (xs : List Data) (n m : ℕ) (a b : Data) → StandOnce xs → nth xs n ≡ Some a → nth xs m ≡ Some b → a ≡ b → n ≡ m
 once_nth [] n m a b s h g e = absurd (cc)
 once_nth (x ∷ xs) zero zero a b s h g e = refl
-once_nth (x ∷ xs) zero (suc m) a b s h g e = absurd (s.0 (subst (λ z. IsAmong z xs) (sym (some_is x a h ∙ e)) (among_nth b xs m g)))
-once_nth (x ∷ xs) (suc n) zero a b s h g e = absurd (s.0 (subst (λ z. IsAmong z xs) (e ∙ sym (some_is x b g)) (among_nth a xs n h)))
+once_nth (x ∷ xs) zero (suc m) a b s h g e = absurd (s.0 (subst (λ z. IsAmong z xs) (sym (same_Some x a h ∙ e)) (among_nth b xs m g)))
+once_nth (x ∷ xs) (suc n) zero a b s h g e = absurd (s.0 (subst (λ z. IsAmong z xs) (e ∙ sym (same_Some x b g)) (among_nth a xs n h)))
 once_nth (x ∷ xs) (suc n) (suc m) a b s h g e = ap suc (once_nth xs n m a b s.1 h g e)
 
 abbrev pub id_in : Run × Data → Data

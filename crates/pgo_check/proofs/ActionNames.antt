@@ -1,17 +1,13 @@
 -- The actions of a module by name, from the last one down.
 use Rattle.std.proofs.Common.{◌≡◌, List, [], ◌∷◌, ◌++◌, map, refl, ap, sym, ◌∙◌, arith, append_assoc}
 use Rattle.std.specs.Prelude.{true, false, reverse, Option, Some, None, is_some, option_map}
-use Rattle.std.proofs.lemmas.List.{append-nil, reverse-append}
+use Rattle.std.proofs.lemmas.List.{append-nil, reverse-append, map_push}
 use Rattle.pgo_base.specs.declared.module.WrittenProcess as base_process
 use Rattle.pgo_base.specs.Lookup.{Name, find}
 use Rattle.pgo_base.specs.Tree.{Tree}
 use Rattle.pgo_model.specs.Names.{or_that, find_append}
 use Rattle.pgo_model.specs.Module.{WrittenProcess, actions_in}
 use Rattle.pgo_model.specs.ModuleView.{process_view}
-
-pushed : {A B : Type 0} (f : A → B) (xs : List A) (y : A) → map f (xs ++ y ∷ []) ≡ map f xs ++ f y ∷ []
-pushed f [] y = refl
-pushed f (x ∷ xs) y = ap (λ zs. f x ∷ zs) (pushed f xs y)
 
 abbrev pub search_in : Name → List base_process.WrittenProcess → Option Tree
 search_in x ps = find x (reverse (actions_in (map process_view ps)))
@@ -23,7 +19,7 @@ actions_pushed (q ∷ ps) p = ap (λ l. q.actions ++ l) (actions_pushed ps p) �
 search_last_in : (x : Name) (left before : List base_process.WrittenProcess) (p : base_process.WrittenProcess) → left ≡ before ++ p ∷ []
     → search_in x left ≡ or_that (find x (reverse p.actions)) (search_in x before)
 search_last_in x left before p e =
-    ap (search_in x) e ∙ ap (λ l. find x (reverse (actions_in l))) (pushed process_view before p)
+    ap (search_in x) e ∙ ap (λ l. find x (reverse (actions_in l))) (map_push process_view before p)
     ∙ ap (λ l. find x (reverse l)) (actions_pushed (map process_view before) (process_view p))
     ∙ ap (find x) (reverse-append (actions_in (map process_view before)) p.actions)
     ∙ find_append x (reverse p.actions) (reverse (actions_in (map process_view before)))

@@ -11,6 +11,7 @@ use Rattle.pgo_model.specs.LogView.{entry_view}
 use Rattle.pgo_model.specs.Machine.{Entry, nth}
 use Rattle.pgo_model.specs.Module.{Module}
 use Rattle.pgo_model.specs.Steps.{Leads}
+use Rattle.pgo_model.specs.MachineLists.{nth_below}
 use Rattle.pgo_check.specs.Verdict.{IsFirstBad, Finds}
 
 -- the first n entries are steps, and t is the state after them
@@ -68,12 +69,6 @@ entry_at [] i e h g = absurd (omega (arith, h))
 entry_at (d ∷ es) zero e h g = ap (λ x. Some (entry_view x)) (sym g)
 entry_at (d ∷ es) (suc i) e h g = entry_at es i e (omega (arith, h)) g
 
--- an entry stands below the number of entries
-pub entry_below : (l : List (Entry Effect)) (p : ℕ) (e : Entry Effect) → nth l p ≡ Some e → p < length l
-entry_below [] p e h = absurd (cc)
-entry_below (d ∷ l) zero e h = omega arith
-entry_below (d ∷ l) (suc p) e h = let k = entry_below l p e h in omega (arith, k)
-
 -- where all entries are behind, each is a step
 pub all_steps : (m : Module) (consts : List (Name × Data)) (ids : List Data) (s t : Vars) (l : List (Entry Effect)) (n : ℕ) → IsReached m consts ids s l n t → n ≡ length l → Finds m consts ids s l None
-all_steps m consts ids s t l n r h p e g = let k = entry_below l p e g in r.steps p (omega (arith, k, h)) e g
+all_steps m consts ids s t l n r h p e g = let k = nth_below l p e g in r.steps p (omega (arith, k, h)) e g

@@ -1,7 +1,7 @@
 // The state that an entry of a log leads to.
-ghost use Rattle.std.specs.Prelude.{◌≡◌, ◌<◌, ◌↔◌, ◌&&◌, ◌∷◌, [], ℕ, if◌then◌else◌, length, IsTrue, map, Option, Some, None, option_map, IfOk};
+ghost use Rattle.std.specs.Prelude.{◌≡◌, ◌<◌, ◌↔◌, ◌&&◌, ◌∷◌, [], ℕ, if◌then◌else◌, IsTrue, map, Option, Some, None, option_map, IfOk};
 ghost use Rattle.pgo_base.specs.Lookup.{find};
-ghost use Rattle.pgo_base.specs.View.{data_of, named_data, pair_of};
+ghost use Rattle.pgo_base.specs.View.{data_of, pair_of};
 ghost use Rattle.pgo_model.specs.Operators.{lookup};
 ghost use Rattle.pgo_base.specs.Data.{string};
 ghost use Rattle.pgo_model.specs.Acts.{Acts};
@@ -13,7 +13,7 @@ ghost use Rattle.pgo_model.specs.ModuleView.{module_view};
 ghost use Rattle.pgo_model.specs.Options.{on};
 ghost use Rattle.pgo_check.specs.Assigned.{SeesItsDefinitions};
 ghost use Rattle.pgo_model.specs.Variables.{store};
-ghost use Rattle.pgo_model.specs.Steps.{place_in, LeadsTo, IsPlaced};
+ghost use Rattle.pgo_model.specs.Steps.{LeadsTo};
 
 use crate::actions::acts;
 use crate::definitions::Assigned;
@@ -23,6 +23,7 @@ use pgo_base::scope::State;
 use pgo_base::text::Text;
 use pgo_base::value::{Fun, Value};
 use pgo_sets::functions::replaced;
+use pgo_sets::lookup::place_in;
 use std::alloc::{AllocError, Global};
 
 /// A function with another value at an index in its domain.
@@ -59,19 +60,6 @@ fn new_value(
         None => Ok(Some(value.copy(alloc)?)),
         Some(index) => with_part(alloc, old, index, value),
     }
-}
-
-/// The place of the first variable of the name.
-fn place_in(name: &Text, list: &[(Text, Value)]) -> Option<usize>
-    ensures place { result ≡ place_in name.now (map named_data list.now) }
-    ensures within { IsPlaced result (length list.now) }
-{
-    for (i, p) in list.iter().enumerate() {
-        if name.is(&p.0) {
-            return Some(i);
-        }
-    }
-    None
 }
 
 /// The state with one component changed, where the component is in it.

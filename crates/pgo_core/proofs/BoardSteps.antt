@@ -9,7 +9,7 @@ use Rattle.pgo_sections.proofs.Domains.{same_of}
 use Rattle.pgo_syntax.specs.declared.records.Refusal.{Refusal}
 use Rattle.pgo_syntax.specs.declared.records.Refusal.TheVariants as refusals
 use Rattle.pgo_workers.specs.View as view
-use Rattle.pgo_workers.specs.View.{Shown, Hold, View, EachHold, IsSteady, Grows, Takes, TakeHeld, Commits, Notes, JournalFull, Gives, MayCommit, MayNote, MayGive, hold_at, resources_of, positioned, notes_of, renewed}
+use Rattle.pgo_workers.specs.View.{Shown, View, Grows, Takes, TakeHeld, Commits, Notes, JournalFull, Gives, MayCommit, MayNote, MayGive, hold_at, resources_of}
 use Rattle.pgo_workers.specs.Worlds.{Layout, world_of}
 use Rattle.pgo_resource.specs.declared.resource.Resource.{Ghosts}
 use Rattle.pgo_resource.specs.PlainRows.{taken_of, apart, shown_at, rows, FreeStands}

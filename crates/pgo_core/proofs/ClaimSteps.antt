@@ -2,9 +2,9 @@
 use Rattle.std.proofs.Common.{◌≡◌, ◌<◌, ◌≤◌, ◌-◌, ℕ, zero, suc, Bool, true, false, List, [], ◌∷◌, ◌++◌, length, get_or, Some, None, refl, sym, ap, ◌∙◌, subst, arith}
 use Rattle.std.specs.Prelude.{if◌then◌else◌, nat_eq, nat_le, ◌&&◌}
 use Rattle.std.specs.List.{remove}
+use Rattle.std.proofs.lemmas.Bool.{and_parts}
 use Rattle.pgo_model.specs.Machine.{among}
 use Rattle.pgo_model.specs.MachineAccounts.{equal_or}
-use Rattle.pgo_workers.proofs.Components.{and_parts}
 use Rattle.pgo_resource.specs.declared.taken.Taken.{Taken}
 use Rattle.pgo_resource.specs.PlainRows.{taken_of, apart, without_taken}
 use Rattle.pgo_resource.specs.PlainSets.{eq_turned}

@@ -3,10 +3,10 @@ use Rattle.std.proofs.Common.{◌≡◌, ◌≤◌, ◌<◌, ℕ, zero, suc, Boo
 use Rattle.std.proofs.lemmas.Bool.{ltb-true}
 use Rattle.std.specs.Prelude.{if◌then◌else◌, nat_eq, nat_lt, IsSome}
 use Rattle.pgo_base.specs.Lookup.{Vars}
-use Rattle.pgo_model.specs.Accounts.{journal, Contended, JointAccounts}
+use Rattle.pgo_model.specs.Accounts.{journal, Contended}
 use Rattle.pgo_model.specs.Core.{Settings, Reaches, Core, rules_of, is_listed}
 use Rattle.pgo_model.specs.Log.{Effect}
-use Rattle.pgo_model.specs.Machine.{Machine, Rules, Finished, nth, is_under_way, opened, finished_of}
+use Rattle.pgo_model.specs.Machine.{Machine, nth, is_under_way, opened, finished_of}
 use Rattle.pgo_model.specs.System.{System}
 use Rattle.pgo_syntax.specs.declared.records.End.TheVariants as ends
 use Rattle.pgo_workers.specs.View.{World}

@@ -2,6 +2,7 @@
 use Rattle.std.proofs.Common.{◌≡◌, ◌<◌, ◌≤◌, ℕ, suc, Bool, true, false, List, [], ◌∷◌, ◌++◌, length, Some, refl, sym, ap, ◌∙◌, subst, arith}
 use Rattle.std.proofs.lemmas.List.{append-nil}
 use Rattle.std.specs.Prelude.{if◌then◌else◌, nat_eq, nat_lt, ◌&&◌, option_and_then}
+use Rattle.std.proofs.lemmas.Bool.{and_parts}
 use Rattle.pgo_base.specs.Lookup.{Vars}
 use Rattle.pgo_journal.specs.Journal.{JournalView, MayAppend}
 use Rattle.pgo_model.specs.Log.{Effect, StateAt}
@@ -9,7 +10,6 @@ use Rattle.pgo_model.specs.Machine.{Entry}
 use Rattle.pgo_model.specs.MachineAccounts.{equal_or}
 use Rattle.pgo_workers.specs.View.{View, Hold, EachHold, IsSteady, StandsAt, along, own_left, changed}
 use Rattle.pgo_workers.specs.Worlds.{Layout, IsLayout, HasAll, value_in, own_in, are_components_of, world_of}
-use Rattle.pgo_workers.proofs.Components.{and_parts}
 use Rattle.pgo_workers.proofs.Patched.{after_is, patched_has, patched_value, patched_own, patched_else}
 use Rattle.pgo_core.specs.ExclusiveRows.{state_behind, values_behind, are_own}
 

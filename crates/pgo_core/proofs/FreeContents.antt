@@ -1,8 +1,8 @@
 -- What nobody holds has the value of its component in the last state.
 use Rattle.std.proofs.Common.{◌≡◌, ◌≤◌, ◌<◌, ℕ, zero, suc, Bool, true, false, List, [], ◌∷◌, length, map, Some, None, refl, sym, ap, ◌∙◌, subst, arith, lt-ltb}
-use Rattle.std.proofs.lemmas.Bool.{ltb-true}
+use Rattle.std.proofs.lemmas.Bool.{ltb-true, and_parts}
 use Rattle.std.proofs.lemmas.List.{length-map}
-use Rattle.std.specs.Prelude.{◌-◌, ◌&&◌, if◌then◌else◌, nat_eq, nat_le, nat_lt}
+use Rattle.std.specs.Prelude.{◌-◌, if◌then◌else◌, nat_eq, nat_le, nat_lt}
 use Rattle.pgo_base.specs.Lookup.{Vars}
 use Rattle.pgo_model.specs.Core.{Settings, Reaches, rules_of}
 use Rattle.pgo_model.specs.Log.{Effect}
@@ -34,14 +34,10 @@ not_claimed r (c ∷ cs) none = among_made r c.resource (claimed cs) (here (nat_
     behind i true h = (among_there r c.resource (taken_of (taken_by i cs)) h).1
     behind i false h = h
 
-both : (a b : Bool) → (a && b) ≡ true → (a ≡ true) × (b ≡ true)
-both true b e = (refl, e)
-both false b e = absurd (grind (arith, e))
-
 -- who holds something is within
 pub holder_within : (m j r : ℕ) (cs : List Claim) → are_within m cs ≡ true → among r (taken_of (taken_by j cs)) ≡ true → j ≤ m
 holder_within m j r [] h a = absurd (grind (arith, a))
-holder_within m j r (c ∷ cs) h a = let p = both (nat_le c.holder m) (are_within m cs) h in go (nat_eq c.holder j) refl p.0 a (holder_within m j r cs p.1)
+holder_within m j r (c ∷ cs) h a = let p = and_parts (nat_le c.holder m) (are_within m cs) h in go (nat_eq c.holder j) refl p.0 a (holder_within m j r cs p.1)
   where
     go : (b : Bool) → nat_eq c.holder j ≡ b → nat_le c.holder m ≡ true → among r (taken_of (if b then taken_in c ∷ taken_by j cs else taken_by j cs)) ≡ true → (among r (taken_of (taken_by j cs)) ≡ true → j ≤ m) → j ≤ m
     go true e w a ih = grind (arith, e, w)

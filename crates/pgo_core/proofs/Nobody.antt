@@ -3,7 +3,7 @@ use Rattle.std.proofs.Common.{◌≡◌, ◌≤◌, ℕ, true, false, None, List
 use Rattle.std.specs.Prelude.{if◌then◌else◌, nat_lt}
 use Rattle.pgo_model.specs.Core.{Settings, Reaches, rules_of}
 use Rattle.pgo_model.specs.Log.{Effect}
-use Rattle.pgo_model.specs.Machine.{Machine, Record, step, opened, last_state}
+use Rattle.pgo_model.specs.Machine.{Machine, opened, last_state}
 use Rattle.pgo_model.specs.MachineAccounts.{append_none}
 use Rattle.pgo_model.specs.System.{System}
 use Rattle.pgo_workers.specs.CoreTurns.{IsCore}

@@ -1,9 +1,9 @@
 -- Notes of all instances, each with its share.
 use Rattle.std.proofs.Common.{◌≡◌, ◌≤◌, ◌<◌, ◌+◌, ◌*◌, ℕ, zero, suc, Bool, true, false, List, [], ◌∷◌, ◌++◌, length, refl, ap, ◌∙◌, subst, arith}
 use Rattle.std.specs.Prelude.{if◌then◌else◌, nat_eq, nat_le, nat_lt, ◌&&◌}
+use Rattle.std.proofs.lemmas.Bool.{and_parts}
 use Rattle.pgo_model.specs.Machine.{Note}
 use Rattle.pgo_workers.specs.View.{notes_of}
-use Rattle.pgo_workers.proofs.Components.{and_parts}
 use Rattle.pgo_core.specs.ExclusiveRows.{are_of_all}
 
 -- how many are of instances below m

@@ -1,7 +1,7 @@
 -- What a turn answers, by the machine.
 use Rattle.std.proofs.Common.{◌≡◌, ℕ, Bool, true, false, List, length, Option, Some, None, option_map, refl, sym, ap, ◌∙◌, subst, arith}
 use Rattle.std.specs.Prelude.{if◌then◌else◌, nat_lt}
-use Rattle.pgo_model.specs.Core.{Settings, Core, rules_of}
+use Rattle.pgo_model.specs.Core.{Settings, rules_of}
 use Rattle.pgo_model.specs.Core as core
 use Rattle.pgo_model.specs.Log.{Effect}
 use Rattle.pgo_model.specs.Machine.{Machine, nth, finished_of}

@@ -4,7 +4,7 @@ use Rattle.std.proofs.lemmas.Bool.{ltb-true}
 use Rattle.std.specs.Prelude.{if◌then◌else◌, nat_eq, nat_lt}
 use Rattle.pgo_base.specs.Data.{Data}
 use Rattle.pgo_model.specs.Outcome.{Kind}
-use Rattle.pgo_model.specs.Machine.{Entry, Note, Record, Step, Noted, Held, Down, Full, Machine, among, put, nth, last_state, step, pre_committing}
+use Rattle.pgo_model.specs.Machine.{Entry, Note, Step, Noted, Held, Down, Full, Machine, among, nth, last_state, step, pre_committing}
 use Rattle.pgo_model.specs.MachineAccounts.{equal_or, append_none}
 use Rattle.pgo_workers.specs.Walk.{Walk, Stop, Touch, Goes, Sticks, Own, Agrees}
 use Rattle.pgo_workers.specs.View.{Shown, raised, Hold, Refusal, IsHeld, IsFull, Taking, Told, View, World, EachHold, Grows, StandsAt, untold, answers, refuses, hold_at, without, with_content, aborted, committed, renewed, values_of, passing, own_seen, positioned}

@@ -1,7 +1,7 @@
 -- Definitions that are given by their values mean the same.
-use Rattle.std.proofs.Common.{◌≡◌, ℕ, ◌<◌, ◌≤◌, ◌+◌, List, [], ◌∷◌, ◌++◌, length, map, get_or, drop, refl, ap, sym, ◌∙◌, add-one, drop-cons}
+use Rattle.std.proofs.Common.{◌≡◌, ℕ, ◌<◌, ◌≤◌, ◌+◌, List, [], ◌∷◌, ◌++◌, length, map, get_or, drop, ap, sym, ◌∙◌, add-one, drop-cons}
 use Rattle.std.specs.Prelude.{fold, Option, None}
-use Rattle.std.proofs.lemmas.List.{drop_all}
+use Rattle.std.proofs.lemmas.List.{drop_all, map_push}
 use Rattle.std.proofs.lemmas.List.Sums.{fold-append}
 use Rattle.pgo_base.specs.Data.{Data}
 use Rattle.pgo_base.specs.Lookup.{Name}
@@ -23,12 +23,8 @@ by_body before x e o h = ap (with_value before x) h
 abbrev pub behind : List Meaning → List Defined → List Meaning
 behind before ds = fold (meaning_of [] None) before (map defined_view ds)
 
-pushed : {A B : Type 0} (f : A → B) (xs : List A) (y : A) → map f (xs ++ y ∷ []) ≡ map f xs ++ f y ∷ []
-pushed f [] y = refl
-pushed f (x ∷ xs) y = ap (λ zs. f x ∷ zs) (pushed f xs y)
-
 last_meant : (ds : List Defined) (d : Defined) → meant (ds ++ d ∷ []) ≡ with_meaning (meant ds) d
-last_meant ds d = ap (λ xs. meanings xs [] None) (pushed defined_view ds d) ∙ fold-append (meaning_of [] None) (default_meaning ∷ []) (map defined_view ds) (defined_view d ∷ [])
+last_meant ds d = ap (λ xs. meanings xs [] None) (map_push defined_view ds d) ∙ fold-append (meaning_of [] None) (default_meaning ∷ []) (map defined_view ds) (defined_view d ∷ [])
 
 -- one definition more
 pub one_more : (all : List Meaning) (ds : List Defined) (i : ℕ) (d same : Defined) (done next : List Defined) → i < length ds → d ≡ get_or ds i d → next ≡ done ++ same ∷ [] → with_meaning (meant done) same ≡ with_meaning (meant done) d → all ≡ behind (meant done) (drop i ds) → all ≡ behind (meant next) (drop (i + 1) ds)

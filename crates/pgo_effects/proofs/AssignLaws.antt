@@ -10,7 +10,7 @@ use Rattle.pgo_syntax.specs.declared.assignment.Left.{Left}
 use Rattle.pgo_syntax.specs.declared.assignment.Step.{Step}
 use Rattle.pgo_syntax.specs.declared.assignment.Step.TheVariants as step
 use Rattle.pgo_sections.specs.Access.{MappedNames, place, evaluated}
-use Rattle.pgo_sections.specs.Code.{Code, in_turn, at_base, val_base}
+use Rattle.pgo_sections.specs.Code.{Code, at_base, val_base}
 use Rattle.pgo_sections.specs.Code as codes
 use Rattle.pgo_meaning.specs.Statements.{Setting, Part, Index, steps, assigned, assign_all}
 use Rattle.pgo_effects.specs.declared.assign.PathPart.{PathPart}

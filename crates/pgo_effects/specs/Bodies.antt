@@ -1,6 +1,5 @@
--- Macros found by their names: what each is called, and what the one in a place does.
+-- What the macro in a place does.
 use Rattle.std.specs.Prelude.{ℕ, List, map, Option, Some, None, option_map, slice_get, take}
-use Rattle.pgo_base.specs.Lookup.{Name}
 use Rattle.pgo_syntax.specs.Statement.{block, labeled}
 use Rattle.pgo_syntax.specs.declared.macros.Macro.{Macro}
 use Rattle.pgo_meaning.specs.MacrosPlaced.{Body, Bodies, placed, bodies}
@@ -8,9 +7,6 @@ use Rattle.pgo_meaning.specs.MacrosPlaced.{Body, Bodies, placed, bodies}
 -- what a macro does, where these are the macros before it
 abbrev pub body_after : Bodies → Macro → Body
 body_after ms m = record { parameters = map (λ p. p.name) m.params; statement = placed ms (block 0 (labeled m.body)) }
-
-abbrev pub macro_name : Macro → Name
-macro_name m = m.name.name
 
 -- what the macro in this place does, with those before it in place
 abbrev pub body_at : List Macro → Option ℕ → Option Body

@@ -3,8 +3,9 @@ ghost use Rattle.std.specs.Prelude.{◌≡◌, take, IfOk};
 ghost use Rattle.pgo_base.specs.LastPlace.{last_place};
 ghost use Rattle.pgo_base.specs.Lookup.{Name};
 ghost use Rattle.pgo_base.specs.NameMaps.{found};
-ghost use Rattle.pgo_effects.specs.Bodies.{macro_name};
+ghost use Rattle.pgo_syntax.specs.MacroName.{macro_name};
 
+use pgo_base::last_place::{first, last_among, last_places};
 use pgo_base::name_map::NameMap;
 use pgo_base::text::Text;
 use pgo_syntax::macros::Macro;
@@ -29,7 +30,7 @@ impl<'a> Model for IndexedMacros<'a> {
     ghost use Rattle.pgo_base.specs.NameMaps.{found};
     ghost use Rattle.pgo_syntax.specs.StatementCode.{coded_statement};
     ghost use Rattle.pgo_syntax.specs.declared.macros.Macro.{Macro};
-    ghost use Rattle.pgo_effects.specs.Bodies.{macro_name};
+    ghost use Rattle.pgo_syntax.specs.MacroName.{macro_name};
 
     ghost Value = { List Macro };
 
@@ -106,40 +107,4 @@ impl<'a> IndexedMacros<'a> {
         }
         last_among(self.list, x)
     }
-}
-
-/// The first macros, at most so many.
-fn first<'a>(list: &'a [Macro], count: usize) -> &'a [Macro]
-    ensures { result.now ≡ take count list.now }
-{
-    if count < list.len() {
-        &list[..count]
-    } else {
-        list
-    }
-}
-
-/// The place of the last macro of the name.
-fn last_among(list: &[Macro], x: &Text) -> Option<usize>
-    ensures { result ≡ last_place macro_name x.now list.now }
-{
-    let mut i = list.len();
-    while i > 0 {
-        i -= 1;
-        if x.is(&list[i].name.name) {
-            return Some(i);
-        }
-    }
-    None
-}
-
-/// The place of the last macro of each name.
-fn last_places(alloc: Global, list: &[Macro]) -> Result<NameMap<usize>, AllocError>
-    ensures { IfOk result (λ m. (x : Name) → found m x ≡ last_place macro_name x list.now) }
-{
-    let mut places = NameMap::new(alloc);
-    for i in 0..list.len() {
-        places.set(alloc, &list[i].name.name, i)?;
-    }
-    Ok(places)
 }

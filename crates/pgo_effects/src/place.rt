@@ -8,10 +8,10 @@ ghost use Rattle.pgo_sections.specs.Code.{content_places};
 
 use crate::indexed_archetype::IndexedArchetype;
 use crate::setting::Setting;
-use crate::written::written_name;
 use pgo_base::text::Text;
 use pgo_rewrite::indexed_bindings::IndexedBindings;
 use pgo_syntax::bound::Target;
+use pgo_syntax::name::written_name;
 use std::alloc::{AllocError, Global};
 
 /// A variable as a whole, or its part at `self`.

@@ -1,6 +1,7 @@
 -- Parameters with their arguments, as names in scope.
 use Rattle.std.proofs.Common.{◌≡◌, ℕ, suc, ◌<◌, ◌+◌, List, [], ◌∷◌, ◌++◌, length, map, get_or, drop, refl, ap, sym, ◌∙◌, arith, add-one, drop-cons}
 use Rattle.std.specs.Prelude.{Some}
+use Rattle.std.proofs.lemmas.List.{map_push}
 use Rattle.pgo_base.specs.BindingsView.{onto, named_view}
 use Rattle.pgo_base.specs.declared.bindings.NamedValue.{NamedValue}
 use Rattle.pgo_base.specs.declared.value.Value.{Value}
@@ -13,13 +14,9 @@ pub onto_more : {A : Type 0} (xs : List A) (y : A) (ys : List A) → onto (xs ++
 onto_more [] y ys = refl
 onto_more (x ∷ xs) y ys = onto_more xs y (x ∷ ys)
 
-pushed : {A B : Type 0} (f : A → B) (xs : List A) (y : A) → map f (xs ++ y ∷ []) ≡ map f xs ++ f y ∷ []
-pushed f [] y = refl
-pushed f (x ∷ xs) y = ap (λ zs. f x ∷ zs) (pushed f xs y)
-
 -- the names of a list with one more
 pub names_more : (list : List NamedValue) (n : NamedValue) (ns : Names) → onto (map named_view (list ++ n ∷ [])) ns ≡ named_view n ∷ onto (map named_view list) ns
-names_more list n ns = ap (λ bs. onto bs ns) (pushed named_view list n) ∙ onto_more (map named_view list) (named_view n) ns
+names_more list n ns = ap (λ bs. onto bs ns) (map_push named_view list n) ∙ onto_more (map named_view list) (named_view n) ns
 
 -- as many names as arguments so far, and the others are to come
 pub record AreNamed (params : List Name) (args : List Value) (list : List NamedValue) (left : List Value) : Type 0 where

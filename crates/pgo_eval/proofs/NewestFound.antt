@@ -1,7 +1,7 @@
 -- What a name means among definitions, from the last one down.
-use Rattle.std.proofs.Common.{◌≡◌, ◌<◌, ◌≤◌, ℕ, zero, suc, List, [], ◌∷◌, ◌++◌, length, length-take, map, take, drop, get_or, refl, ap, sym, subst, ◌∙◌, arith}
+use Rattle.std.proofs.Common.{◌≡◌, ◌<◌, ℕ, List, [], ◌∷◌, ◌++◌, length, length-take, map, take, drop, get_or, refl, ap, sym, subst, ◌∙◌, arith}
 use Rattle.std.specs.Prelude.{Bool, true, false, ◌==◌, if◌then◌else◌, Option, Some, None, reverse, slice_get, unwrap_or}
-use Rattle.std.proofs.lemmas.List.{reverse-append, reverse-reverse, length-reverse, take-append-drop, take-append-le}
+use Rattle.std.proofs.lemmas.List.{reverse-append, reverse-reverse, length-reverse, take-append-drop, take-append-le, map_push}
 use Rattle.std.proofs.lemmas.List.Sums.{fold-append}
 use Rattle.std.proofs.lemmas.Option.{slice_get_read}
 use Rattle.std.proofs.Math.Seq.{take-append_seam}
@@ -22,14 +22,10 @@ views ds = map defined_view ds
 record Reaches (x : Name) (ds left : List base_defined.Defined) : Type 0 where
   means : (args : List Data) (now : Vars) (next : Option Vars) → call_def x args (meanings (views ds) now next) ≡ call_def x args (meanings (views left) now next)
 
-pushed : {A B : Type 0} (f : A → B) (xs : List A) (y : A) → map f (xs ++ y ∷ []) ≡ map f xs ++ f y ∷ []
-pushed f [] y = refl
-pushed f (x ∷ xs) y = ap (λ zs. f x ∷ zs) (pushed f xs y)
-
 -- the last definition is given a meaning behind those before it
 last_meaning : (before : List base_defined.Defined) (d : base_defined.Defined) (now : Vars) (next : Option Vars) → meanings (views (before ++ d ∷ [])) now next ≡ meaning_of now next (meanings (views before) now next) (defined_view d)
 last_meaning before d now next =
-    ap (λ ds. meanings ds now next) (pushed defined_view before d) ∙ fold-append (meaning_of now next) (default_meaning ∷ []) (views before) (defined_view d ∷ [])
+    ap (λ ds. meanings ds now next) (map_push defined_view before d) ∙ fold-append (meaning_of now next) (default_meaning ∷ []) (views before) (defined_view d ∷ [])
 
 -- a definition of another name is passed over
 passed_over : (x : Name) (args : List Data) (d : Defined) (now : Vars) (next : Option Vars) (before : List Meaning) → same_name x (name_of d) ≡ false → call_def x args (meaning_of now next before d) ≡ call_def x args before

@@ -51,15 +51,7 @@ fn value_bound<'a>(
     ensures { IfOk result (λ o. option_map data_of o ≡ val (tree e.now) (with_names (name_values (names_over (over_bound names.now)) (chosen names.now) s.now.names.now) (scope_view s.now))) }
 {
     let all = Bindings::with_bound(&*names, &*s.names);
-    let inner = Scope {
-        names: &all,
-        part: s.part,
-        state: s.state,
-        next: s.next,
-        defs: s.defs,
-        seen: s.seen,
-        left: s.left,
-    };
+    let inner = Scope { names: &all, ..*s };
     owned(alloc, held(alloc, e, &inner)?)
 }
 

@@ -5,6 +5,7 @@ ghost use Rattle.pgo_model.specs.Operators.{most_members, choices};
 ghost use Rattle.pgo_eval.specs.Choices.{over_bound, sets_of, AreAt, has_empty, chosen, left, still_left, at_place};
 
 use pgo_base::bindings::BoundName;
+use pgo_sets::build::MOST_MEMBERS;
 
 /// Goes to the first choice, if there is one: where each set has a member.
 pub fn start(bound: &mut Vec<BoundName>) -> bool
@@ -81,9 +82,6 @@ fn step(b: &mut BoundName) -> bool
         false
     }
 }
-
-/// The most members that a function may have.
-const MOST_MEMBERS: usize = 65536;
 
 /// Whether there are at most 65,536 choices.
 pub fn are_few(bound: &[BoundName]) -> bool

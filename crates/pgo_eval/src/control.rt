@@ -93,12 +93,7 @@ pub fn value_with(
     let names = Bindings::with_values(&*list, &*s.names);
     let inner = Scope {
         names: &names,
-        part: s.part,
-        state: s.state,
-        next: s.next,
-        defs: s.defs,
-        seen: s.seen,
-        left: s.left,
+        ..*s
     };
     owned(alloc, held(alloc, e, &inner)?)
 }

@@ -38,13 +38,8 @@ pub fn held<'a>(
         return Err(AllocError);
     }
     let inner = Scope {
-        names: s.names,
-        part: s.part,
-        state: s.state,
-        next: s.next,
-        defs: s.defs,
-        seen: s.seen,
         left: s.left - 1,
+        ..*s
     };
     match evaluated(alloc, e, &inner)? {
         Some(v) => v.into_held(alloc),
@@ -142,13 +137,8 @@ fn membership<'a>(
         return Err(AllocError);
     }
     let inner = Scope {
-        names: s.names,
-        part: s.part,
-        state: s.state,
-        next: s.next,
-        defs: s.defs,
-        seen: s.seen,
         left: s.left - 1,
+        ..*s
     };
     match evaluated(alloc, e, &inner)? {
         Some(set) => set.holds(alloc, x.get()),

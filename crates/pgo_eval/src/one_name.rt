@@ -32,12 +32,7 @@ fn value_named<'a>(
     let names = Bindings::with(&*x, Some(&*m), &*s.names);
     let inner = Scope {
         names: &names,
-        part: s.part,
-        state: s.state,
-        next: s.next,
-        defs: s.defs,
-        seen: s.seen,
-        left: s.left,
+        ..*s
     };
     owned(alloc, held(alloc, e, &inner)?)
 }

@@ -67,15 +67,7 @@ fn updated_at<'a>(
         Some(part) => part,
         None => return Ok(None),
     };
-    let inner = Scope {
-        names: s.names,
-        part,
-        state: s.state,
-        next: s.next,
-        defs: s.defs,
-        seen: s.seen,
-        left: s.left,
-    };
+    let inner = Scope { part, ..*s };
     match owned(alloc, held(alloc, e, &inner)?)? {
         Some(v) => put_on(alloc, f, path, v),
         None => Ok(None),

@@ -3,7 +3,7 @@ use Rattle.std.proofs.Common.{◌≡◌, ℕ, List, None, Result, Ok, Err, IfOk,
 use Rattle.pgo_base.specs.Data.{Data}
 use Rattle.pgo_base.specs.Lookup.{Name}
 use Rattle.pgo_accept.specs.Answers as answers
-use Rattle.pgo_accept.specs.Answers.{Answers, Expands, GivesExpansion, Judges, NothingRefuses, OfText, PassesRules}
+use Rattle.pgo_accept.specs.Answers.{Answers, Expands, GivesExpansion, NothingRefuses, PassesRules}
 use Rattle.pgo_accept.specs.declared.errors.Rejection.{Rejection}
 use Rattle.pgo_accept.specs.declared.errors.Rejection.TheVariants as rejections
 use Rattle.pgo_bound.specs.BoundOf.{bound_of}

@@ -1,10 +1,10 @@
 -- What is asked of a specification is so of its program.
-use Rattle.std.proofs.Common.{◌≡◌, ℕ, Option, [], Result, Ok, Err, IfOk, inr, sym, ap, subst}
+use Rattle.std.proofs.Common.{◌≡◌, ℕ, Result, Ok, Err, IfOk, sym, subst}
 use Rattle.pgo_accesses.specs.Programs.{tree_of}
 use Rattle.pgo_code.specs.declared.program.Program.{Program}
-use Rattle.pgo_core.specs.Cores.{CoreFits, MayFail}
+use Rattle.pgo_core.specs.Cores.{CoreFits}
 use Rattle.pgo_meaning.specs.System.{system_of}
-use Rattle.pgo_model.specs.Core.{Settings, is_listed}
+use Rattle.pgo_model.specs.Core.{Settings}
 use Rattle.pgo_places.specs.Trees.{tree_in}
 use Rattle.pgo_section.specs.Programs.{Trees}
 use Rattle.pgo_syntax.specs.declared.bound.Bound.{Bound}

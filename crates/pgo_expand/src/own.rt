@@ -4,7 +4,6 @@ ghost use Rattle.std.specs.List.{filter_map};
 ghost use Rattle.pgo_bound.specs.BoundOf.{optional};
 ghost use Rattle.pgo_expand.specs.Module.{own_in};
 ghost use Rattle.pgo_heads.specs.Views.{handed_view};
-ghost use Rattle.pgo_model.specs.Written.{written};
 ghost use Rattle.pgo_pluscal.specs.PlusCalOf.{local_declaration, own_declarations, parameter_declaration, written_name as expected_name};
 
 use pgo_base::items::Items;
@@ -13,27 +12,16 @@ use pgo_heads::runs::{Handed, archetype_named, matched};
 use pgo_syntax::archetype::Archetype;
 use pgo_syntax::binding::Origin;
 use pgo_syntax::declaration::{Declaration, Declarations};
-use pgo_syntax::name::PlacedName;
+use pgo_syntax::name::{PlacedName, written_name};
 use pgo_syntax::process::{Argument, Process};
 use std::alloc::{AllocError, Global};
 
-/// The written name of a value parameter or a local: the process's name, `_` and its own.
-fn written_text(alloc: Global, process: &Text, name: &Text) -> Result<Text, AllocError>
-    ensures { IfOk result (λ x. x ≡ written process.now name.now) }
-{
-    let mut bytes = Vec::new(alloc);
-    bytes.extend_from_slice(process.as_bytes())?;
-    bytes.push(b'_')?;
-    bytes.extend_from_slice(name.as_bytes())?;
-    Ok(Text::from_bytes(bytes))
-}
-
-/// The same, with the place of the name.
-fn written_name(alloc: Global, process: &Text, name: &PlacedName) -> Result<PlacedName, AllocError>
+/// The written name of a value parameter or a local, with the place of the name.
+fn placed_name(alloc: Global, process: &Text, name: &PlacedName) -> Result<PlacedName, AllocError>
     ensures { IfOk result (λ x. x ≡ expected_name process.now name.now) }
 {
     Ok(PlacedName {
-        name: written_text(alloc, process, &name.name)?,
+        name: written_name(alloc, process.as_bytes(), &name.name)?,
         place: name.place,
     })
 }
@@ -50,7 +38,7 @@ fn add_parameter(
     match handed.argument {
         Argument::Ref(_, _) => Ok(()),
         Argument::Value(_, e) => {
-            let name = written_name(alloc, process, &handed.parameter.name)?;
+            let name = placed_name(alloc, process, &handed.parameter.name)?;
             let initial = Some(Origin::Equals(e.copy(alloc)?));
             list.push(Declaration { name, initial })?;
             Ok(())
@@ -93,7 +81,7 @@ fn add_locals(
     ensures { IfOk result (λ _. list.new.items ≡ list.old.items ++ map (local_declaration process.now) locals.now) }
 {
     for d in locals {
-        let name = written_name(alloc, process, &d.name)?;
+        let name = placed_name(alloc, process, &d.name)?;
         let initial = copy_start(alloc, &d.initial)?;
         list.push(Declaration { name, initial })?;
     }

@@ -4,9 +4,9 @@ use Rattle.pgo_base.specs.Tree.{Tree}
 use Rattle.pgo_lexer.specs.declared.token.Token.{Token}
 use Rattle.pgo_expr_read.specs.declared.table.Form.{Form}
 use Rattle.pgo_expr_read.specs.declared.read.Ending.{Ending}
-use Rattle.pgo_expr_read.specs.Kinds.{Kind, Thing, Name, between, may_follow, is_case}
+use Rattle.pgo_expr_read.specs.Kinds.{Kind, ItemOf}
 use Rattle.pgo_expr_read.specs.Kinds as kind
-use Rattle.pgo_expr_read.specs.Spells.{Spelled, Range, Item, Behind, Items, prefix_token, operator_token, more_names, applied, extended, product_of_two, infix_of, joined, opened}
+use Rattle.pgo_expr_read.specs.Spells.{Spelled, Range, Item, Behind, Items}
 use Rattle.pgo_expr_read.specs.Spells as s
 use Rattle.pgo_expr_read.proofs.Reach.{Reaches}
 use Rattle.pgo_expr_read.proofs.ReachLists.{ReachesRange, ReachesItem, ReachesBehind, ReachesItems, ReachesJoined, reach_any, reach_endless, reach_tree, reach_item, reach_binder, reach_field, reach_definition, reach_arm, reach_index_step, reach_field_step, reach_update, reach_none, reach_one_more, reach_items, reach_joined_none, reach_joined_more, reach_junction, reach_parens}
@@ -55,7 +55,7 @@ mutual
   reach_range (s.any d) = reach_any d (reach d)
   reach_range (s.endless {k} {w = v} is) = reach_endless k v is
 
-  reach_thing : {k : Kind} {o : Ending} {ts : List Token} {a : Thing k} → Item k o ts a → ReachesItem k o ts a
+  reach_thing : {k : Kind} {o : Ending} {ts : List Token} {a : ItemOf k} → Item k o ts a → ReachesItem k o ts a
   reach_thing (s.tree d) = reach_tree (reach d)
   reach_thing (s.item d) = reach_item (reach d)
   reach_thing (s.binder r) = reach_binder r (reach_range r)
@@ -66,11 +66,11 @@ mutual
   reach_thing s.field_step = reach_field_step
   reach_thing (s.update m d) = reach_update m (reach_list m) (reach d)
 
-  reach_behind : {k : Kind} {o u : Ending} {ts : List Token} {as' : List (Thing k)} → Behind k o u ts as' → ReachesBehind k o u ts as'
+  reach_behind : {k : Kind} {o u : Ending} {ts : List Token} {as' : List (ItemOf k)} → Behind k o u ts as' → ReachesBehind k o u ts as'
   reach_behind (s.none {k} {o}) = reach_none k o
   reach_behind (s.one_more {o = o} may d b) = reach_one_more o may d b (reach_thing d) (reach_behind b)
 
-  reach_list : {k : Kind} {u : Ending} {ts : List Token} {as' : List (Thing k)} → Items k u ts as' → ReachesItems k u ts as'
+  reach_list : {k : Kind} {u : Ending} {ts : List Token} {as' : List (ItemOf k)} → Items k u ts as' → ReachesItems k u ts as'
   reach_list (s.items d b) = reach_items d b (reach_thing d) (reach_behind b)
 
   reach_joined : {o u : Ending} {ts : List Token} {bs : List Tree} → Behind kind.item o u ts bs → ReachesJoined ts bs

@@ -12,10 +12,10 @@ use Rattle.pgo_expr_read.specs.declared.read.Ending.{Ending}
 use Rattle.pgo_expr_read.specs.declared.read.Read.{Read}
 use Rattle.pgo_expr_read.specs.Lookahead.{sees}
 use Rattle.pgo_expr_read.specs.Heights.{height}
-use Rattle.pgo_expr_read.specs.Kinds.{Kind, Thing, Name, between, between_of, tokens_between, may_follow, is_case}
+use Rattle.pgo_expr_read.specs.Kinds.{Kind, ItemOf, Name, between, between_of, tokens_between, may_follow}
 use Rattle.pgo_expr_read.specs.Kinds as kind
 use Rattle.pgo_expr_read.specs.Table.{form_low}
-use Rattle.pgo_expr_read.specs.Spells.{Spelled, Range, Item, Behind, Items, prefix_token, operator_token, more_names, applied, extended, product_of_two, infix_of, joined, opened}
+use Rattle.pgo_expr_read.specs.Spells.{Spelled, Range, Item, Behind, Items, more_names}
 use Rattle.pgo_expr_read.specs.Spells as s
 use Rattle.pgo_expr_read.specs.Reading.{◌>>=◌, ◌>>◌, Parser, Outcome, and_then, pure, give_at, expect, name, raised, pushed, one_of, folded, goes, pass, pass_at, more_at, one_more, listed_at, listed, one_more_name, names}
 use Rattle.pgo_expr_read.proofs.Measures.{thing_height, things_height}
@@ -45,23 +45,23 @@ pub record GoodNames (i : List Token) (xs : List Name) (rest : List Token) : Typ
   pub is : xs ≡ first ∷ others
 
 -- of an item of a list
-pub record GoodItem (k : Kind) (i : List Token) (r : Read (Thing k)) (rest : List Token) : Type 0 where
+pub record GoodItem (k : Kind) (i : List Token) (r : Read (ItemOf k)) (rest : List Token) : Type 0 where
   pub front : List Token
   pub split : i ≡ front ++ rest
   pub item : Item k r.ending front r.tree
   pub height : r.height ≡ thing_height k r.tree
 
 -- of a list
-pub record GoodItems (k : Kind) (i : List Token) (r : Read (List (Thing k))) (rest : List Token) : Type 0 where
+pub record GoodItems (k : Kind) (i : List Token) (r : Read (List (ItemOf k))) (rest : List Token) : Type 0 where
   pub front : List Token
   pub split : i ≡ front ++ rest
   pub items : Items k r.ending front r.tree
   pub height : r.height ≡ things_height k r.tree
 
 -- of further items behind those of a list
-pub record GoodBehind (k : Kind) (i : List Token) (acc res : Read (List (Thing k))) (rest : List Token) : Type 0 where
+pub record GoodBehind (k : Kind) (i : List Token) (acc res : Read (List (ItemOf k))) (rest : List Token) : Type 0 where
   pub front : List Token
-  pub others : List (Thing k)
+  pub others : List (ItemOf k)
   pub split : i ≡ front ++ rest
   pub behind : Behind k acc.ending res.ending front others
   pub tree : res.tree ≡ acc.tree ++ others
@@ -125,11 +125,11 @@ passed separator.Step i u j got = (some_pair _ _ _ _ got).1
 
 -- ---- lists, of items that are spelled
 
-module _ (k : Kind) (it : Parser (Read (Thing k))) (sound_it : (i : List Token) (r : Read (Thing k)) (rest : List Token) → it i ≡ Some (r, rest) → GoodItem k i r rest) where
-  record NextItem (i : List Token) (acc next : Read (List (Thing k))) (rest : List Token) : Type 0 where
+module _ (k : Kind) (it : Parser (Read (ItemOf k))) (sound_it : (i : List Token) (r : Read (ItemOf k)) (rest : List Token) → it i ≡ Some (r, rest) → GoodItem k i r rest) where
+  record NextItem (i : List Token) (acc next : Read (List (ItemOf k))) (rest : List Token) : Type 0 where
     may : may_follow k acc.ending ≡ true
     front : List Token
-    thing : Thing k
+    thing : ItemOf k
     last : Ending
     split : i ≡ between k ++ (front ++ rest)
     item : Item k last front thing
@@ -137,8 +137,8 @@ module _ (k : Kind) (it : Parser (Read (Thing k))) (sound_it : (i : List Token) 
     tree : next.tree ≡ acc.tree ++ thing ∷ []
     height : next.height ≡ max acc.height (thing_height k thing)
 
-  one_more_by : (b : Bool) (acc : Read (List (Thing k))) (i : List Token) (next : Read (List (Thing k))) (rest : List Token) → may_follow k acc.ending ≡ b
-      → (cond {A = Parser (Read (List (Thing k)))} b (pass k >> (it >>= (λ r. pure (pushed acc r)))) (λ i. None)) i ≡ Some (next, rest) → NextItem i acc next rest
+  one_more_by : (b : Bool) (acc : Read (List (ItemOf k))) (i : List Token) (next : Read (List (ItemOf k))) (rest : List Token) → may_follow k acc.ending ≡ b
+      → (cond {A = Parser (Read (List (ItemOf k)))} b (pass k >> (it >>= (λ r. pure (pushed acc r)))) (λ i. None)) i ≡ Some (next, rest) → NextItem i acc next rest
   one_more_by true acc i next rest may got =
       bind_then (pass k i) _ _ _ got (λ u i1 hp got.
       bind_then (it i1) _ _ _ got (λ r i2 hr got.
@@ -151,24 +151,24 @@ module _ (k : Kind) (it : Parser (Read (Thing k))) (sound_it : (i : List Token) 
         last = r.ending;
         split = passed (between_of k) i u i1 hp ∙ ap (λ j. between k ++ j) (g.split ∙ ap (λ j. g.front ++ j) q.1);
         item = g.item;
-        ending = sym (ap (λ (x : Read (List (Thing k))). x.ending) q.0);
-        tree = sym (ap (λ (x : Read (List (Thing k))). x.tree) q.0);
-        height = sym (ap (λ (x : Read (List (Thing k))). x.height) q.0) ∙ ap (λ h. max acc.height h) g.height;
+        ending = sym (ap (λ (x : Read (List (ItemOf k))). x.ending) q.0);
+        tree = sym (ap (λ (x : Read (List (ItemOf k))). x.tree) q.0);
+        height = sym (ap (λ (x : Read (List (ItemOf k))). x.height) q.0) ∙ ap (λ h. max acc.height h) g.height;
       }))
   one_more_by false acc i next rest may got = cc
 
-  sound_one_more : (acc : Read (List (Thing k))) (i : List Token) (next : Read (List (Thing k))) (rest : List Token) → one_more k it acc i ≡ Some (next, rest) → NextItem i acc next rest
+  sound_one_more : (acc : Read (List (ItemOf k))) (i : List Token) (next : Read (List (ItemOf k))) (rest : List Token) → one_more k it acc i ≡ Some (next, rest) → NextItem i acc next rest
   unfolding more_at
   sound_one_more acc i next rest got = one_more_by (may_follow k acc.ending) acc i next rest refl got
 
-  behind_end : (acc res : Read (List (Thing k))) (i rest : List Token) → ◌≡◌ {A = Outcome (Read (List (Thing k)))} (Some (acc, i)) (Some (res, rest)) → GoodBehind k i acc res rest
+  behind_end : (acc res : Read (List (ItemOf k))) (i rest : List Token) → ◌≡◌ {A = Outcome (Read (List (ItemOf k)))} (Some (acc, i)) (Some (res, rest)) → GoodBehind k i acc res rest
   behind_end acc res i rest got =
       let q = some_pair _ _ _ _ got in
-      let P : Read (List (Thing k)) → Type 0 = λ x. GoodBehind k i acc x rest in
+      let P : Read (List (ItemOf k)) → Type 0 = λ x. GoodBehind k i acc x rest in
       subst P q.0 (record { front = []; others = []; split = q.1; behind = s.none; tree = sym (append-nil acc.tree); height = omega arith })
 
-  behind_by : (b : Bool) (n : ℕ) (acc : Read (List (Thing k))) (i : List Token) (res : Read (List (Thing k))) (rest : List Token)
-      → ((next : Read (List (Thing k))) (j : List Token) → folded (goes k) (one_more k it) n next j ≡ Some (res, rest) → GoodBehind k j next res rest)
+  behind_by : (b : Bool) (n : ℕ) (acc : Read (List (ItemOf k))) (i : List Token) (res : Read (List (ItemOf k))) (rest : List Token)
+      → ((next : Read (List (ItemOf k))) (j : List Token) → folded (goes k) (one_more k it) n next j ≡ Some (res, rest) → GoodBehind k j next res rest)
       → cond b (and_then (one_more k it acc i) (folded (goes k) (one_more k it) n)) (Some (acc, i)) ≡ Some (res, rest) → GoodBehind k i acc res rest
   behind_by true n acc i res rest go got =
       bind_then (one_more k it acc i) _ _ _ got (λ next j is got.
@@ -185,21 +185,21 @@ module _ (k : Kind) (it : Parser (Read (Thing k))) (sound_it : (i : List Token) 
       })
   behind_by false n acc i res rest go got = behind_end acc res i rest got
 
-  pub sound_behind : (n : ℕ) (acc : Read (List (Thing k))) (i : List Token) (res : Read (List (Thing k))) (rest : List Token) → folded (goes k) (one_more k it) n acc i ≡ Some (res, rest) → GoodBehind k i acc res rest
+  pub sound_behind : (n : ℕ) (acc : Read (List (ItemOf k))) (i : List Token) (res : Read (List (ItemOf k))) (rest : List Token) → folded (goes k) (one_more k it) n acc i ≡ Some (res, rest) → GoodBehind k i acc res rest
   unfolding folded
   sound_behind zero acc i res rest got = behind_end acc res i rest got
   sound_behind (suc n) acc i res rest got = behind_by (goes k i) n acc i res rest (λ next j got. sound_behind n next j res rest got) got
 
-  listed_height : (h m : ℕ) (a : Thing k) (others all : List (Thing k)) → h ≡ thing_height k a → m ≡ max (max 0 h) (things_height k others) → all ≡ a ∷ others → m ≡ things_height k all
+  listed_height : (h m : ℕ) (a : ItemOf k) (others all : List (ItemOf k)) → h ≡ thing_height k a → m ≡ max (max 0 h) (things_height k others) → all ≡ a ∷ others → m ≡ things_height k all
   listed_height h m a others all x y z = y ∙ (let P : ℕ → Type 0 = λ n. max (max 0 n) (things_height k others) ≡ max (thing_height k a) (things_height k others) in subst P (sym x) (omega arith)) ∙ ap (λ n. things_height k n) (sym z)
 
-  pub sound_listed : (i : List Token) (res : Read (List (Thing k))) (rest : List Token) → listed k it i ≡ Some (res, rest) → GoodItems k i res rest
+  pub sound_listed : (i : List Token) (res : Read (List (ItemOf k))) (rest : List Token) → listed k it i ≡ Some (res, rest) → GoodItems k i res rest
   unfolding listed_at
   sound_listed i res rest got =
       bind_then (it i) _ _ _ got (λ r i1 hr got.
       let g = sound_it i r i1 hr in
       let m = sound_behind (length i1) (one_of r) i1 res rest got in
-      let P : List (Thing k) → Type 0 = λ x. Items k res.ending (g.front ++ m.front) x in
+      let P : List (ItemOf k) → Type 0 = λ x. Items k res.ending (g.front ++ m.front) x in
       record {
         front = g.front ++ m.front;
         split = g.split ∙ ap (λ x. g.front ++ x) m.split ∙ sym (append_assoc g.front m.front rest);

@@ -16,7 +16,7 @@ use Rattle.pgo_expr_read.specs.declared.lookahead.Square.TheVariants as square
 use Rattle.pgo_expr_read.specs.declared.read.Ending.{Ending}
 use Rattle.pgo_expr_read.specs.Lookahead.{sees, begins_binder, form_of_square, form_of_second, square_of, is_name, endless, endless_of}
 use Rattle.pgo_expr_read.specs.Kinds.{Name}
-use Rattle.pgo_expr_read.specs.Spells.{Spelled, Range, Item, Behind, Items, prefix_token, operator_token, more_names, applied, extended, product_of_two, infix_of, joined, opened}
+use Rattle.pgo_expr_read.specs.Spells.{Spelled, prefix_token, operator_token}
 use Rattle.pgo_expr_read.specs.Spells as s
 use Rattle.pgo_expr_read.specs.Signs.{is_sign}
 

@@ -4,11 +4,11 @@ use Rattle.pgo_base.specs.Tree.{Tree, Trees, no_trees, more_trees, trees, bound,
 use Rattle.pgo_base.specs.Tree as e
 use Rattle.pgo_lexer.specs.declared.symbol.Symbol.{Symbol}
 use Rattle.pgo_expr_read.specs.Heights.{height, trees_height, named_height, arms_height, bound_height, paths_height}
-use Rattle.pgo_expr_read.specs.Kinds.{Kind, Thing, Name}
+use Rattle.pgo_expr_read.specs.Kinds.{Kind, ItemOf, Name}
 use Rattle.pgo_expr_read.specs.Kinds as kind
 use Rattle.pgo_expr_read.specs.Spells.{appended, extended, product_of_two}
 
-abbrev pub thing_height : (k : Kind) → Thing k → ℕ
+abbrev pub thing_height : (k : Kind) → ItemOf k → ℕ
 thing_height kind.tree a = height a
 thing_height kind.item a = height a
 thing_height kind.binder p = height p.1
@@ -19,7 +19,7 @@ thing_height kind.step a = height a
 thing_height kind.update p = max (trees_height (trees p.0)) (height p.1)
 
 -- the height of the highest
-abbrev pub things_height : (k : Kind) → List (Thing k) → ℕ
+abbrev pub things_height : (k : Kind) → List (ItemOf k) → ℕ
 things_height k [] = 0
 things_height k (a ∷ as') = max (thing_height k a) (things_height k as')
 

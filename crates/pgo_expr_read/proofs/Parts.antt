@@ -1,5 +1,5 @@
 -- Taking a reader's steps apart.
-use Rattle.std.proofs.Common.{◌≡◌, ℕ, ◌+◌, ◌<◌, Bool, true, false, ◌&&◌, List, [], ◌∷◌, Option, Some, None, refl, ap, sym, ◌∙◌, cond, nat_lt}
+use Rattle.std.proofs.Common.{◌≡◌, ℕ, ◌+◌, ◌<◌, true, false, List, [], ◌∷◌, Option, Some, None, refl, ap, sym, ◌∙◌, cond, nat_lt}
 use Rattle.std.proofs.lemmas.Bool.{ltb-true}
 use Rattle.pgo_base.specs.Tree.{Tree}
 use Rattle.pgo_lexer.specs.declared.symbol.Symbol.{Symbol}
@@ -22,11 +22,6 @@ bind_some None f y e = cc
 pub give_some : {A : Type 0} (o : Option A) (i : List Token) (a : A) (rest : List Token) → give_at o i ≡ Some (a, rest) → (o ≡ Some a) × (i ≡ rest)
 give_some (Some b) i a rest e = let p = some_pair b a i rest e in (ap Some p.0, p.1)
 give_some None i a rest e = cc
-
-pub both : (a b : Bool) → (a && b) ≡ true → (a ≡ true) × (b ≡ true)
-both true true e = (refl, refl)
-both true false e = cc
-both false b e = cc
 
 pub closed_ending : (o : Ending) → is_closed o ≡ true → o ≡ ending.Closed
 closed_ending ending.Closed e = refl

@@ -1,5 +1,5 @@
 -- What a text of its own spells, by what was read of it.
-use Rattle.std.proofs.Common.{◌≡◌, ℕ, Bool, true, false, not, cond, List, Option, Some, None, Result, Ok, Err, IsErrAnd, refl, sym, subst}
+use Rattle.std.proofs.Common.{◌≡◌, ℕ, Bool, true, false, not, cond, List, Option, None, Result, Ok, Err, IsErrAnd, refl, sym, subst}
 use Rattle.pgo_base.specs.Tree.{Tree}
 use Rattle.pgo_base.specs.declared.expr.Expr.{Expr}
 use Rattle.pgo_base.specs.ExprView.{tree}

@@ -3,7 +3,7 @@ use Rattle.std.proofs.Common.{inl, inr, ◌≡◌, ℕ, zero, suc, ◌+◌, ◌<
 use Rattle.std.proofs.lemmas.Bool.{lt-ltb, le-leb}
 use Rattle.std.proofs.lemmas.Bool.Decides.{leb_tells}
 use Rattle.std.proofs.lemmas.List.{append_assoc, append-nil, length-append}
-use Rattle.pgo_base.specs.Tree.{Tree, no_trees, trees, bound, named, arms, paths}
+use Rattle.pgo_base.specs.Tree.{Tree, no_trees}
 use Rattle.pgo_base.specs.Tree as e
 use Rattle.pgo_lexer.specs.declared.symbol.Bracket.TheVariants as b
 use Rattle.pgo_lexer.specs.declared.symbol.Symbol.TheVariants as y
@@ -24,12 +24,12 @@ use Rattle.pgo_expr_read.specs.declared.read.Ending.{Ending}
 use Rattle.pgo_expr_read.specs.declared.read.Ending.TheVariants as ending
 use Rattle.pgo_expr_read.specs.declared.read.Read.{Read}
 use Rattle.pgo_expr_read.specs.Lookahead as look
-use Rattle.pgo_expr_read.specs.Lookahead.{sees, sees_name, sees_arm, begins_binder, form_of_square, form_of_second, square_of, is_name, endless, endless_of, opener_of, next_of}
+use Rattle.pgo_expr_read.specs.Lookahead.{sees}
 use Rattle.pgo_expr_read.specs.Heights.{height}
-use Rattle.pgo_expr_read.specs.Kinds.{Kind, Name, tokens_between, is_case}
+use Rattle.pgo_expr_read.specs.Kinds.{Name, tokens_between, is_case}
 use Rattle.pgo_expr_read.specs.Kinds as kind
 use Rattle.pgo_expr_read.specs.Table.{low, takes_left, form_low}
-use Rattle.pgo_expr_read.specs.Spells.{Spelled, Range, Item, Behind, Items, prefix_token, operator_token, more_names, applied, extended, product_of_two, infix_of, joined, opened}
+use Rattle.pgo_expr_read.specs.Spells.{more_names, opened}
 use Rattle.pgo_expr_read.specs.Spells as s
 use Rattle.pgo_expr_read.specs.Reading.{Parser, Outcome, and_then, pure, give_at, skip, past, expect, made, raised, is_closed, goes_on, on_opener, openers, folded, pass_at, one_more_name, names, primary, operation, turn, more, all_more, close_by, close, closes, level, expr}
 use Rattle.pgo_expr_read.specs.Fronts.{Ended}

@@ -19,12 +19,12 @@ use Rattle.pgo_expr_read.specs.declared.read.Ending.{Ending}
 use Rattle.pgo_expr_read.specs.declared.read.Ending.TheVariants as ending
 use Rattle.pgo_expr_read.specs.declared.read.Read.{Read}
 use Rattle.pgo_expr_read.specs.Lookahead as look
-use Rattle.pgo_expr_read.specs.Lookahead.{sees, sees_name, sees_arm, begins_binder, form_of_square, form_of_second, square_of, is_name, endless, endless_of, opener_of, next_of}
+use Rattle.pgo_expr_read.specs.Lookahead.{sees, sees_arm, begins_binder, form_of_square, square_of, next_of}
 use Rattle.pgo_expr_read.specs.Heights.{height}
-use Rattle.pgo_expr_read.specs.Kinds.{Kind, Thing, Name, between, may_follow, is_case}
+use Rattle.pgo_expr_read.specs.Kinds.{Name, is_case}
 use Rattle.pgo_expr_read.specs.Kinds as kind
 use Rattle.pgo_expr_read.specs.Table.{low}
-use Rattle.pgo_expr_read.specs.Spells.{Spelled, Range, Item, Behind, Items, prefix_token, operator_token, more_names, applied, extended, product_of_two, infix_of, joined, opened}
+use Rattle.pgo_expr_read.specs.Spells.{Spelled, Range, Behind, Items, opened}
 use Rattle.pgo_expr_read.specs.Spells as s
 use Rattle.pgo_expr_read.specs.Reading.{Parser, past, part, node, leaf, some_tuple, some_set, last_arm, tuple, filter, image, members, other_set, set, fun_of, record_of, record_set, fun_set, except, other_square, square_by, square_form, quantified, choose, cond_of, case_other, case_form, let_in, unchanged, primary, expr}
 use Rattle.pgo_expr_read.specs.Fronts.{Ended}

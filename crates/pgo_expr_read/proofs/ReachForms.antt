@@ -7,7 +7,7 @@ use Rattle.pgo_base.specs.declared.expr.Prefix.{Prefix}
 use Rattle.pgo_base.specs.declared.expr.Prefix.TheVariants as pre
 use Rattle.pgo_base.specs.declared.expr.Word.{Word}
 use Rattle.pgo_base.specs.declared.expr.Word.TheVariants as w
-use Rattle.pgo_base.specs.Tree.{Tree, no_trees, trees, bound, named, arms, paths}
+use Rattle.pgo_base.specs.Tree.{Tree, trees}
 use Rattle.pgo_base.specs.Tree as e
 use Rattle.pgo_lexer.specs.declared.symbol.Bracket.TheVariants as bracket
 use Rattle.pgo_lexer.specs.declared.symbol.Symbol.TheVariants as y
@@ -24,9 +24,9 @@ use Rattle.pgo_expr_read.specs.declared.read.Ending.{Ending}
 use Rattle.pgo_expr_read.specs.declared.read.Ending.TheVariants as ending
 use Rattle.pgo_expr_read.specs.declared.read.Read.{Read}
 use Rattle.pgo_expr_read.specs.Lookahead as look
-use Rattle.pgo_expr_read.specs.Lookahead.{sees, sees_name, sees_arm, begins_binder, form_of_square, form_of_second, square_of, is_name, endless, endless_of, opener_of, next_of}
+use Rattle.pgo_expr_read.specs.Lookahead.{sees, endless, endless_of, next_of}
 use Rattle.pgo_expr_read.specs.Heights.{height}
-use Rattle.pgo_expr_read.specs.Kinds.{Kind, Thing, Name, variable_name, value_name, between, may_follow, is_case}
+use Rattle.pgo_expr_read.specs.Kinds.{Name, variable_name, value_name}
 use Rattle.pgo_expr_read.specs.Kinds as kind
 use Rattle.pgo_expr_read.specs.Table.{low, takes_left, form_low, right_least, prefix_least}
 use Rattle.pgo_expr_read.specs.Spells.{Spelled, Items, prefix_token, operator_token, applied}

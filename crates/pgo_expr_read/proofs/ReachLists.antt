@@ -3,7 +3,7 @@ use Rattle.std.proofs.Common.{◌≡◌, ℕ, zero, suc, ◌+◌, ◌<◌, ◌�
 use Rattle.std.proofs.lemmas.List.{append_assoc, append-nil, length-append}
 use Rattle.pgo_base.specs.declared.expr.Infix.TheVariants as op
 use Rattle.pgo_base.specs.declared.expr.Word.{Word}
-use Rattle.pgo_base.specs.Tree.{Tree, no_trees, trees, bound, named, arms, paths}
+use Rattle.pgo_base.specs.Tree.{Tree}
 use Rattle.pgo_base.specs.Tree as e
 use Rattle.pgo_lexer.specs.declared.symbol.Bracket.TheVariants as bracket
 use Rattle.pgo_lexer.specs.declared.symbol.Junction.{Junction}
@@ -20,12 +20,12 @@ use Rattle.pgo_expr_read.specs.declared.read.Ending.{Ending}
 use Rattle.pgo_expr_read.specs.declared.read.Ending.TheVariants as ending
 use Rattle.pgo_expr_read.specs.declared.read.Read.{Read}
 use Rattle.pgo_expr_read.specs.Lookahead as look
-use Rattle.pgo_expr_read.specs.Lookahead.{sees, sees_list_next, sees_name, sees_arm, begins_binder, form_of_square, form_of_second, square_of, is_name, endless, endless_of, opener_of, next_of}
+use Rattle.pgo_expr_read.specs.Lookahead.{sees, sees_list_next, endless, endless_of}
 use Rattle.pgo_expr_read.specs.Heights.{height}
-use Rattle.pgo_expr_read.specs.Kinds.{Kind, Thing, Name, between, between_of, may_follow}
+use Rattle.pgo_expr_read.specs.Kinds.{Kind, ItemOf, Name, between, between_of, may_follow}
 use Rattle.pgo_expr_read.specs.Kinds as kind
 use Rattle.pgo_expr_read.specs.Table.{low}
-use Rattle.pgo_expr_read.specs.Spells.{Spelled, Range, Item, Behind, Items, prefix_token, operator_token, more_names, applied, extended, product_of_two, infix_of, joined, opened}
+use Rattle.pgo_expr_read.specs.Spells.{Spelled, Range, Item, Behind, Items, infix_of, joined}
 use Rattle.pgo_expr_read.specs.Spells as s
 use Rattle.pgo_expr_read.specs.Reading.{◌>>=◌, ◌>>◌, Parser, Outcome, pure, past, made, part, pushed, joins, folded, goes, pass, more_at, one_more, listed_at, leaf, field_step, index_step, range_by, range, binder, field, arm, step, update, item, items, one_more_joined, close_by, level, expr}
 use Rattle.pgo_expr_read.specs.Fronts.{Ended}
@@ -43,14 +43,14 @@ Follows k o rest = Ended o (look.after rest)
 abbrev pub ReachesRange : List Token → Tree → Type 0
 ReachesRange front a = (l : ℕ) (rest : List Token) → height a ≤ l → look.after rest ≡ next.End → (f : Form) × (o : Ending) × (range (suc l) (expr l) 0 (front ++ rest) ≡ Some (read f o a, rest))
 
-abbrev pub ReachesItem : (k : Kind) → Ending → List Token → Thing k → Type 0
+abbrev pub ReachesItem : (k : Kind) → Ending → List Token → ItemOf k → Type 0
 ReachesItem k o front a = (l : ℕ) (rest : List Token) → thing_height k a ≤ l → Follows k o rest → (f : Form) × (item (suc l) (expr l) k (front ++ rest) ≡ Some (made f o (thing_height k a) a, rest))
 
-abbrev pub ReachesBehind : (k : Kind) → Ending → Ending → List Token → List (Thing k) → Type 0
-ReachesBehind k o u front as' = (l n h : ℕ) (xs : List (Thing k)) (rest : List Token) → things_height k as' ≤ l → length front ≤ n → goes k rest ≡ false → Follows k u rest
+abbrev pub ReachesBehind : (k : Kind) → Ending → Ending → List Token → List (ItemOf k) → Type 0
+ReachesBehind k o u front as' = (l n h : ℕ) (xs : List (ItemOf k)) (rest : List Token) → things_height k as' ≤ l → length front ≤ n → goes k rest ≡ false → Follows k u rest
     → folded (goes k) (one_more k (item (suc l) (expr l) k)) n (part o h xs) (front ++ rest) ≡ Some (part u (max h (things_height k as')) (xs ++ as'), rest)
 
-abbrev pub ReachesItems : (k : Kind) → Ending → List Token → List (Thing k) → Type 0
+abbrev pub ReachesItems : (k : Kind) → Ending → List Token → List (ItemOf k) → Type 0
 ReachesItems k u front as' = (l : ℕ) (rest : List Token) → things_height k as' ≤ l → goes k rest ≡ false → Follows k u rest → items (suc l) (expr l) k (front ++ rest) ≡ Some (part u (things_height k as') as', rest)
 
 -- further items of a junction list
@@ -148,7 +148,7 @@ reach_update {f} {o} {u} {xs} {ys} {as'} {a} d m r l rest h ends =
 -- ---- lists
 
 -- an item has tokens, with what stands before it
-pub some_item : {k : Kind} {o : Ending} {ts : List Token} {a : Thing k} → Item k o ts a → 0 < length (between k) + length ts
+pub some_item : {k : Kind} {o : Ending} {ts : List Token} {a : ItemOf k} → Item k o ts a → 0 < length (between k) + length ts
 some_item (s.tree d) = omega arith
 some_item (s.item d) = omega arith
 some_item (s.binder r) = omega arith
@@ -160,7 +160,7 @@ some_item s.field_step = omega arith
 some_item (s.update m d) = omega arith
 
 -- a list goes on before an item of it
-pub goes_item : {k : Kind} {o : Ending} {ts : List Token} {a : Thing k} (rest : List Token) → Item k o ts a → goes k (between k ++ (ts ++ rest)) ≡ true
+pub goes_item : {k : Kind} {o : Ending} {ts : List Token} {a : ItemOf k} (rest : List Token) → Item k o ts a → goes k (between k ++ (ts ++ rest)) ≡ true
 goes_item rest (s.tree d) = refl
 goes_item rest (s.item d) = refl
 goes_item rest (s.binder r) = refl
@@ -172,7 +172,7 @@ goes_item rest s.field_step = refl
 goes_item rest (s.update m d) = refl
 
 -- what follows an item before an item
-follows_item : {k : Kind} (o : Ending) {u : Ending} {ts : List Token} {a : Thing k} (rest : List Token) → may_follow k o ≡ true → Item k u ts a → Follows k o (between k ++ (ts ++ rest))
+follows_item : {k : Kind} (o : Ending) {u : Ending} {ts : List Token} {a : ItemOf k} (rest : List Token) → may_follow k o ≡ true → Item k u ts a → Follows k o (between k ++ (ts ++ rest))
 follows_item o rest m (s.tree d) = tt
 follows_item o rest m (s.item d) = tt
 follows_item o rest m (s.binder r) = refl
@@ -185,18 +185,18 @@ follows_item o rest m (s.index_step d) = tt
 follows_item o rest m s.field_step = tt
 follows_item o rest m (s.update m' d) = tt
 
-pub follows_behind : {k : Kind} {o u : Ending} {ts : List Token} {as' : List (Thing k)} (rest : List Token) → Behind k o u ts as' → Follows k u rest → Follows k o (ts ++ rest)
+pub follows_behind : {k : Kind} {o u : Ending} {ts : List Token} {as' : List (ItemOf k)} (rest : List Token) → Behind k o u ts as' → Follows k u rest → Follows k o (ts ++ rest)
 follows_behind rest s.none h = h
 follows_behind {k} {o} rest (s.one_more {xs = xs} {ys = ys} m d b) h =
     let P : List Token → Type 0 = λ i. Follows k o i in
     let flat : (between k ++ (xs ++ ys)) ++ rest ≡ between k ++ (xs ++ (ys ++ rest)) = append_assoc (between k) (xs ++ ys) rest ∙ ap (λ i. between k ++ i) (append_assoc xs ys rest) in
     subst P (sym flat) (follows_item o (ys ++ rest) m d)
 
-one_more_gives : (k : Kind) (it : Parser (Read (Thing k))) (o u : Ending) (f : Form) (h m : ℕ) (xs : List (Thing k)) (a : Thing k) (i rest : List Token) → may_follow k o ≡ true → it i ≡ Some (made f u m a, rest)
+one_more_gives : (k : Kind) (it : Parser (Read (ItemOf k))) (o u : Ending) (f : Form) (h m : ℕ) (xs : List (ItemOf k)) (a : ItemOf k) (i rest : List Token) → may_follow k o ≡ true → it i ≡ Some (made f u m a, rest)
     → one_more k it (part o h xs) (between k ++ i) ≡ Some (part u (max h m) (xs ++ a ∷ []), rest)
 unfolding more_at
 one_more_gives k it o u f h m xs a i rest may got =
-    ap (λ b. (cond {A = Parser (Read (List (Thing k)))} b (pass k >> (it >>= (λ r. pure (pushed (part o h xs) r)))) (λ i. None)) (between k ++ i)) may
+    ap (λ b. (cond {A = Parser (Read (List (ItemOf k)))} b (pass k >> (it >>= (λ r. pure (pushed (part o h xs) r)))) (λ i. None)) (between k ++ i)) may
     ∙ next_step _ _ _ _ _ (pass_gives (between_of k) i) (next_step _ _ _ _ _ got refl)
 
 pub reach_none : (k : Kind) (o : Ending) → ReachesBehind k o o [] []
@@ -204,7 +204,7 @@ reach_none k o l n h xs rest hs ln g ends =
     fold_ends (goes k) (one_more k (item (suc l) (expr l) k)) n (part o h xs) rest g
     ∙ ap (λ z. Some (part o z xs, rest)) (let z : h ≡ max h 0 = omega arith in z) ∙ ap (λ z. Some (part o (max h 0) z, rest)) (sym (append-nil xs))
 
-pub reach_one_more : {k : Kind} (o : Ending) {u v : Ending} {xs ys : List Token} {a : Thing k} {as' : List (Thing k)} → may_follow k o ≡ true → Item k u xs a → Behind k u v ys as' → ReachesItem k u xs a → ReachesBehind k u v ys as' → ReachesBehind k o v (between k ++ (xs ++ ys)) (a ∷ as')
+pub reach_one_more : {k : Kind} (o : Ending) {u v : Ending} {xs ys : List Token} {a : ItemOf k} {as' : List (ItemOf k)} → may_follow k o ≡ true → Item k u xs a → Behind k u v ys as' → ReachesItem k u xs a → ReachesBehind k u v ys as' → ReachesBehind k o v (between k ++ (xs ++ ys)) (a ∷ as')
 reach_one_more {k} o {u} {v} {xs} {ys} {a} {as'} may d b r m l zero h done rest hs ln g ends = absurd (let some = some_item d in omega (arith, some, ln, length-append (between k) (xs ++ ys), length-append xs ys))
 reach_one_more {k} o {u} {v} {xs} {ys} {a} {as'} may d b r m l (suc n) h done rest hs ln g ends =
     let some = some_item d in
@@ -221,7 +221,7 @@ reach_one_more {k} o {u} {v} {xs} {ys} {a} {as'} may d b r m l (suc n) h done re
     ∙ ap (λ z. Some (part v z ((done ++ a ∷ []) ++ as'), rest)) high
     ∙ ap (λ z. Some (part v (max h (max (thing_height k a) (things_height k as'))) z, rest)) (append_assoc done (a ∷ []) as')
 
-pub reach_items : {k : Kind} {o u : Ending} {xs ys : List Token} {a : Thing k} {as' : List (Thing k)} → Item k o xs a → Behind k o u ys as' → ReachesItem k o xs a → ReachesBehind k o u ys as' → ReachesItems k u (xs ++ ys) (a ∷ as')
+pub reach_items : {k : Kind} {o u : Ending} {xs ys : List Token} {a : ItemOf k} {as' : List (ItemOf k)} → Item k o xs a → Behind k o u ys as' → ReachesItem k o xs a → ReachesBehind k o u ys as' → ReachesItems k u (xs ++ ys) (a ∷ as')
 unfolding listed_at
 reach_items {k} {o} {u} {xs} {ys} {a} {as'} d b r m l rest hs g ends =
     let ha : thing_height k a ≤ l = omega (arith, hs) in

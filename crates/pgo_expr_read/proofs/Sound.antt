@@ -1,10 +1,10 @@
 -- What the reader reads is spelled so: operators, and what opens without a node.
 use Rattle.std.proofs.Common.{◌≡◌, ℕ, zero, suc, ◌+◌, ◌-◌, ◌<◌, ◌≤◌, max, Bool, true, false, List, [], ◌∷◌, ◌++◌, length, Option, Some, None, refl, ap, sym, ◌∙◌, subst, arith, cond, nat_le, nat_lt, nat_eq}
-use Rattle.std.proofs.lemmas.Bool.{ltb-true, leb-true}
+use Rattle.std.proofs.lemmas.Bool.{ltb-true, leb-true, and_parts}
 use Rattle.std.proofs.lemmas.List.{append_assoc}
 use Rattle.pgo_base.specs.declared.expr.Infix.TheVariants as op
 use Rattle.pgo_base.specs.declared.expr.Word.{Word}
-use Rattle.pgo_base.specs.Tree.{Tree, no_trees, trees, bound, named, arms, paths}
+use Rattle.pgo_base.specs.Tree.{Tree, trees}
 use Rattle.pgo_base.specs.Tree as e
 use Rattle.pgo_lexer.specs.declared.symbol.Bracket.TheVariants as b
 use Rattle.pgo_lexer.specs.declared.symbol.Junction.{Junction}
@@ -22,15 +22,15 @@ use Rattle.pgo_expr_read.specs.declared.read.Ending.TheVariants as ending
 use Rattle.pgo_expr_read.specs.declared.read.Read.{Read}
 use Rattle.pgo_expr_read.specs.Lookahead.{sees_list_next, endless_of, opener_of}
 use Rattle.pgo_expr_read.specs.Heights.{height}
-use Rattle.pgo_expr_read.specs.Kinds.{Kind, Thing, Name, between, may_follow, is_case}
+use Rattle.pgo_expr_read.specs.Kinds.{Name}
 use Rattle.pgo_expr_read.specs.Kinds as kind
 use Rattle.pgo_expr_read.specs.Table.{low, takes_left, form_low, right_least}
-use Rattle.pgo_expr_read.specs.Spells.{Spelled, Range, Item, Behind, Items, prefix_token, operator_token, more_names, applied, extended, product_of_two, infix_of, joined, opened}
+use Rattle.pgo_expr_read.specs.Spells.{Spelled, Behind, operator_token, applied, extended, product_of_two, infix_of, joined}
 use Rattle.pgo_expr_read.specs.Spells as s
 use Rattle.pgo_expr_read.specs.Reading.{Parser, Outcome, and_then, pure, give_at, expect, list_next, list_close, name, text, raised, closed, ends_closed, goes_on, joins, left_height, index_height, on_opener, openers, folded, goes, leaf, range_by, range, items, primary, right, operation, indexed, selected, turn, more, all_more, one_more_joined, close_by, close, closes, level, expr}
 use Rattle.pgo_expr_read.proofs.Measures.{things_height, of_trees}
 use Rattle.pgo_expr_read.proofs.Steps.{bind_then, some_pair, if_some}
-use Rattle.pgo_expr_read.proofs.Parts.{give_some, both, closed_ending, raised_some, expect_some, list_next_some, list_close_some, name_some}
+use Rattle.pgo_expr_read.proofs.Parts.{give_some, closed_ending, raised_some, expect_some, list_next_some, list_close_some, name_some}
 use Rattle.std.proofs.lemmas.Bool.{eqb-true, eq-eqb}
 use Rattle.pgo_expr_read.proofs.Measures.{two_high, extended_high}
 use Rattle.pgo_expr_read.proofs.Laws.{low-high, high-small, prefix-small}
@@ -190,13 +190,13 @@ module _ (limit below : ℕ) (ex : ℕ → Parser (Read Tree)) (S : Sound below 
   goes_on_true : (least : ℕ) (r : Read Tree) (op : Operator) → goes_on least r op ≡ true → (r.ending ≡ ending.Closed) × (least ≤ low op) × (takes_left op r.form ≡ true)
   unfolding goes_on
   goes_on_true least r op h =
-      let a = both _ _ h in
-      let c = both _ _ a.1 in
+      let a = and_parts _ _ h in
+      let c = and_parts _ _ a.1 in
       (closed_ending r.ending a.0, leb-true _ _ c.0, c.1)
 
   ends_closed_true : (r : Read Tree) → ends_closed r ≡ true → (r.ending ≡ ending.Closed) × (32 ≤ form_low r.form)
   unfolding ends_closed
-  ends_closed_true r h = let a = both _ _ h in (closed_ending r.ending a.0, let f : 31 < form_low r.form = ltb-true 31 (form_low r.form) a.1 in omega arith)
+  ends_closed_true r h = let a = and_parts _ _ h in (closed_ending r.ending a.0, let f : 31 < form_low r.form = ltb-true 31 (form_low r.form) a.1 in omega arith)
 
   -- what is on the left after a turn
   abbrev Left : List Token → ℕ → Read Tree → List Token → Type 0

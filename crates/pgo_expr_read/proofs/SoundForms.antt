@@ -7,7 +7,7 @@ use Rattle.pgo_base.specs.declared.expr.Prefix.TheVariants as pre
 use Rattle.pgo_base.specs.declared.expr.Quantifier.{Quantifier}
 use Rattle.pgo_base.specs.declared.expr.Word.{Word}
 use Rattle.pgo_base.specs.declared.expr.Word.TheVariants as w
-use Rattle.pgo_base.specs.Tree.{Tree, no_trees, trees, bound, named, arms, paths}
+use Rattle.pgo_base.specs.Tree.{Tree, no_trees, trees, arms}
 use Rattle.pgo_base.specs.Tree as e
 use Rattle.pgo_lexer.specs.declared.symbol.Bracket.TheVariants as bracket
 use Rattle.pgo_lexer.specs.declared.symbol.Symbol.TheVariants as y
@@ -21,10 +21,10 @@ use Rattle.pgo_expr_read.specs.declared.read.Ending.TheVariants as ending
 use Rattle.pgo_expr_read.specs.declared.read.Read.{Read}
 use Rattle.pgo_expr_read.specs.Lookahead.{sees, begins_binder, form_of_square, square_of, is_name, endless_of}
 use Rattle.pgo_expr_read.specs.Heights.{height}
-use Rattle.pgo_expr_read.specs.Kinds.{Kind, Thing, Name, variable_name, value_name, between, may_follow, is_case}
+use Rattle.pgo_expr_read.specs.Kinds.{Kind, ItemOf, Name, variable_name, value_name, is_case}
 use Rattle.pgo_expr_read.specs.Kinds as kind
 use Rattle.pgo_expr_read.specs.Table.{prefix_least}
-use Rattle.pgo_expr_read.specs.Spells.{Spelled, Range, Item, Behind, Items, prefix_token, operator_token, more_names, applied, extended, product_of_two, infix_of, joined, opened}
+use Rattle.pgo_expr_read.specs.Spells.{Spelled, Item, prefix_token, opened}
 use Rattle.pgo_expr_read.specs.Spells as s
 use Rattle.pgo_expr_read.specs.Reading.{Parser, past, expect, name, text, one_of, folded, one_more, listed, names, node, leaf, field_step, index_step, some_tuple, plain_name, some_set, last_arm, range_by, range, binder, field, arm, step, update, item, items, prefixed, call, named_form, tuple, filter, image, members, other_set, set, fun_of, record_of, record_set, fun_set, except, other_square, square_by, square_form, quantified, choose, cond_of, case_other, case_form, let_in, unchanged, leaf_at, text_form, primary}
 use Rattle.pgo_expr_read.specs.Signs.{is_sign}
@@ -171,7 +171,7 @@ module _ (limit below : ℕ) (ex : ℕ → Parser (Read Tree)) (S : Sound below 
       let P : Read (List Tree × Tree) → Type 0 = λ x. GoodItem kind.update i1 x rest in
       subst P q.0 (record { front = (t.Symbol y.Bang ∷ (gp.front ++ (t.Symbol (y.Infix op.Equal) ∷ ga.0.front))); split = ((expect_some y.Bang i1 _ i2 h1) ∙ ap (λ z. t.Symbol y.Bang ∷ z) (gp.split ∙ ap (λ z. gp.front ++ z) ((expect_some (y.Infix op.Equal) i3 _ i4 h3) ∙ ap (λ z. t.Symbol (y.Infix op.Equal) ∷ z) (ga.0.split ∙ ap (λ z. ga.0.front ++ z) q.1)))) ∙ simp append_assoc; item = s.update gp.items ga.0.spelled; height = let up = of_steps p.tree in omega (arith, gp.height, ga.0.height, up) })))))
 
-  sound_item : (k : Kind) (i : List Token) (r : Read (Thing k)) (rest : List Token) → item limit ex k i ≡ Some (r, rest) → GoodItem k i r rest
+  sound_item : (k : Kind) (i : List Token) (r : Read (ItemOf k)) (rest : List Token) → item limit ex k i ≡ Some (r, rest) → GoodItem k i r rest
   sound_item kind.tree i r rest got = sound_tree i r rest got
   sound_item kind.item i r rest got = sound_one i r rest got
   sound_item kind.binder i r rest got = sound_binder i r rest got
@@ -181,7 +181,7 @@ module _ (limit below : ℕ) (ex : ℕ → Parser (Read Tree)) (S : Sound below 
   sound_item kind.step i r rest got = sound_step i r rest got
   sound_item kind.update i r rest got = sound_update i r rest got
 
-  pub sound_items : (k : Kind) (i : List Token) (r : Read (List (Thing k))) (rest : List Token) → items limit ex k i ≡ Some (r, rest) → GoodItems k i r rest
+  pub sound_items : (k : Kind) (i : List Token) (r : Read (List (ItemOf k))) (rest : List Token) → items limit ex k i ≡ Some (r, rest) → GoodItems k i r rest
   sound_items k i r rest got = sound_listed k (item limit ex k) (sound_item k) i r rest got
 
   -- ---- forms

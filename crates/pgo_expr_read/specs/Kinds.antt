@@ -1,6 +1,9 @@
 -- The lists of the grammar: what their items stand for, and what stands between them.
-use Rattle.std.specs.Prelude.{ℕ, Bool, true, false, not, List, [], ◌∷◌, codes}
+use Rattle.std.specs.Prelude.{Bool, true, false, not, List, [], ◌∷◌}
+pub use Rattle.pgo_base.specs.Lookup.{Name}
 use Rattle.pgo_base.specs.Tree.{Tree}
+-- the names that `$variable` and `$value` stand for in a tree: no identifier holds a `$`
+pub use Rattle.pgo_model.specs.Written.{content_name as variable_name, value_name}
 use Rattle.pgo_lexer.specs.declared.symbol.Symbol.TheVariants as sign
 use Rattle.pgo_lexer.specs.declared.symbol.Symbol.{Symbol}
 use Rattle.pgo_lexer.specs.declared.token.Token.TheVariants as t
@@ -9,16 +12,6 @@ use Rattle.pgo_expr_read.specs.declared.lists.Between.{Between}
 use Rattle.pgo_expr_read.specs.declared.lists.Between.TheVariants as separator
 use Rattle.pgo_expr_read.specs.declared.read.Ending.{Ending}
 use Rattle.pgo_expr_read.specs.declared.read.Ending.TheVariants as ending
-
-abbrev pub Name : Type 0
-Name = List ℕ
-
--- the names that `$variable` and `$value` stand for in a tree: no identifier holds a `$`
-abbrev pub variable_name : Name
-variable_name = codes "$variable"
-
-abbrev pub value_name : Name
-value_name = codes "$value"
 
 -- what lists have: expressions, items of a junction list, binders, names with an expression behind this sign (fields,
 -- or the definitions of a LET), arms of a CASE, steps of a path and updates of an EXCEPT
@@ -33,15 +26,15 @@ pub data Kind : Type 0 where
   update : Kind
 
 -- what an item stands for
-abbrev pub Thing : Kind → Type 0
-Thing tree = Tree
-Thing item = Tree
-Thing binder = List Name × Tree
-Thing (field sign) = Name × Tree
-Thing definition = Name × Tree
-Thing arm = Tree × Tree
-Thing step = Tree
-Thing update = List Tree × Tree
+abbrev pub ItemOf : Kind → Type 0
+ItemOf tree = Tree
+ItemOf item = Tree
+ItemOf binder = List Name × Tree
+ItemOf (field sign) = Name × Tree
+ItemOf definition = Name × Tree
+ItemOf arm = Tree × Tree
+ItemOf step = Tree
+ItemOf update = List Tree × Tree
 
 -- what stands between two items, or else what a further item begins with
 abbrev pub between_of : Kind → Between

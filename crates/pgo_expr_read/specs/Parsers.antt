@@ -20,11 +20,12 @@ use Rattle.pgo_expr_read.specs.declared.read.Ending.{Ending}
 use Rattle.pgo_expr_read.specs.declared.read.Ending.TheVariants as ending
 use Rattle.pgo_expr_read.specs.declared.read.Read.{Read}
 use Rattle.pgo_expr_read.specs.Lookahead.{sees, sees_list_next, sees_name, sees_arm}
-use Rattle.pgo_expr_read.specs.Kinds.{Kind, Thing, Name, between_of, may_follow}
+use Rattle.pgo_expr_read.specs.Kinds.{Kind, ItemOf, Name, between_of, may_follow}
 use Rattle.pgo_expr_read.specs.Spells.{infix_of}
 use Rattle.pgo_expr_read.specs.Table.{low, takes_left, form_low}
 use Rattle.pgo_expr_read.specs.Steps as steps
-unfoldable pub use Rattle.pgo_expr_read.specs.Steps.{and_then, ◌>>=◌, ◌>>◌, pure, IsSyntax, Reads, Makes, skip, folded, all_folded}
+unfoldable pub use Rattle.pgo_expr_read.specs.Steps.{and_then, ◌>>=◌, ◌>>◌, pure, Reads, skip, folded, all_folded}
+pub use Rattle.pgo_expr_read.specs.Steps.{IsSyntax, Makes}
 
 -- ---- parsers
 
@@ -161,10 +162,10 @@ more_at join may pass item all =
       r ← item
       pure (added join all r)) else (λ i. None)
 
-abbrev pub one_more : (k : Kind) → Parser (Read (Thing k)) → Read (List (Thing k)) → Parser (Read (List (Thing k)))
+abbrev pub one_more : (k : Kind) → Parser (Read (ItemOf k)) → Read (List (ItemOf k)) → Parser (Read (List (ItemOf k)))
 one_more k item = more_at (λ xs x. xs ++ x ∷ []) (λ o. may_follow k o) (pass k) item
 
-abbrev pub behind : (k : Kind) → Parser (Read (Thing k)) → Read (List (Thing k)) → Parser (Read (List (Thing k)))
+abbrev pub behind : (k : Kind) → Parser (Read (ItemOf k)) → Read (List (ItemOf k)) → Parser (Read (List (ItemOf k)))
 behind k item all = all_folded (goes k) (one_more k item) all
 
 -- a list of one item or more
@@ -173,7 +174,7 @@ listed_at join none goes may pass item = do
   first ← item
   all_folded goes (more_at join may pass item) (added join (part ending.Closed 0 none) first)
 
-abbrev pub listed : (k : Kind) → Parser (Read (Thing k)) → Parser (Read (List (Thing k)))
+abbrev pub listed : (k : Kind) → Parser (Read (ItemOf k)) → Parser (Read (List (ItemOf k)))
 listed k item = listed_at (λ xs x. xs ++ x ∷ []) [] (goes k) (λ o. may_follow k o) (pass k) item
 
 unfoldable pub one_more_name : List Name → Parser (List Name)

@@ -1,11 +1,11 @@
 -- The reader as functions on lists of tokens, in the shape of the code: what it reads, and the tokens behind it.
-use Rattle.std.specs.Prelude.{◌≡◌, ℕ, zero, suc, ◌+◌, ◌-◌, max, Bool, true, false, ◌&&◌, ◌||◌, if◌then◌else◌, nat_lt, nat_le, nat_eq, List, [], ◌∷◌, ◌++◌, length, Option, Some, None, Result, Ok, Err}
+use Rattle.std.specs.Prelude.{ℕ, zero, suc, max, Bool, true, false, if◌then◌else◌, nat_le, nat_eq, List, [], ◌∷◌, length, Option, Some, None}
 use Rattle.pgo_base.specs.declared.expr.Infix.TheVariants as op
 use Rattle.pgo_base.specs.declared.expr.Prefix.{Prefix}
 use Rattle.pgo_base.specs.declared.expr.Quantifier.{Quantifier}
 use Rattle.pgo_base.specs.declared.expr.Word.{Word}
 use Rattle.pgo_base.specs.declared.expr.Word.TheVariants as w
-use Rattle.pgo_base.specs.Tree.{Tree, Trees, no_trees, trees, bound, named, arms, paths}
+use Rattle.pgo_base.specs.Tree.{Tree, no_trees, trees, bound, named, arms, paths}
 use Rattle.pgo_base.specs.Tree as e
 use Rattle.pgo_lexer.specs.declared.symbol.Bracket.TheVariants as bracket
 use Rattle.pgo_lexer.specs.declared.symbol.Junction.{Junction}
@@ -13,11 +13,8 @@ use Rattle.pgo_lexer.specs.declared.symbol.Symbol.TheVariants as sign
 use Rattle.pgo_lexer.specs.declared.symbol.Symbol.{Symbol}
 use Rattle.pgo_lexer.specs.declared.token.Token.{Token}
 use Rattle.pgo_lexer.specs.declared.token.Token.TheVariants as t
-use Rattle.pgo_lexer.specs.declared.errors.TextStop.{TextStop}
-use Rattle.pgo_lexer.specs.declared.errors.TextStop.TheVariants.{Syntax, NoMemory}
 use Rattle.pgo_expr_read.specs.declared.table.Operator.{Operator}
 use Rattle.pgo_expr_read.specs.declared.table.Operator.TheVariants as operator
-use Rattle.pgo_expr_read.specs.declared.table.Form.{Form}
 use Rattle.pgo_expr_read.specs.declared.table.Form.TheVariants as form
 use Rattle.pgo_expr_read.specs.declared.lookahead.PrimaryForm.{PrimaryForm}
 use Rattle.pgo_expr_read.specs.declared.lookahead.PrimaryForm.TheVariants as primaries
@@ -31,12 +28,13 @@ use Rattle.pgo_expr_read.specs.declared.read.Ending.{Ending}
 use Rattle.pgo_expr_read.specs.declared.read.Ending.TheVariants as ending
 use Rattle.pgo_expr_read.specs.declared.read.Read.{Read}
 use Rattle.pgo_expr_read.specs.Lookahead as look
-use Rattle.pgo_expr_read.specs.Lookahead.{sees, sees_list_next, sees_name, sees_arm, begins_binder, form_of_square, endless, has_mapped}
-use Rattle.pgo_expr_read.specs.Kinds.{Kind, Thing, Name, variable_name, value_name, may_follow, is_case}
+use Rattle.pgo_expr_read.specs.Lookahead.{sees_list_next, begins_binder, form_of_square, endless, has_mapped}
+use Rattle.pgo_expr_read.specs.Kinds.{Kind, ItemOf, Name, variable_name, value_name, is_case}
 use Rattle.pgo_expr_read.specs.Kinds as kind
-use Rattle.pgo_expr_read.specs.Spells.{applied, infix_of, opened}
-use Rattle.pgo_expr_read.specs.Table.{low, takes_left, form_low, right_least, prefix_least}
-unfoldable pub use Rattle.pgo_expr_read.specs.Parsers.{Outcome, Parser, and_then, ◌>>=◌, ◌>>◌, pure, give_at, IsSyntax, Reads, Makes, MakesAs, skip, advance, past, eat, expect, list_next, list_close, name, text, made, part, raised, closed, is_closed, ends_closed, goes_on, added, pushed, one_of, joins, left_height, index_height, folded, all_folded, sees_step, goes_at, goes, pass_at, pass, more_at, one_more, behind, listed_at, listed, one_more_name, names}
+use Rattle.pgo_expr_read.specs.Spells.{applied, opened}
+use Rattle.pgo_expr_read.specs.Table.{form_low, right_least, prefix_least}
+unfoldable pub use Rattle.pgo_expr_read.specs.Parsers.{Outcome, Parser, and_then, ◌>>=◌, ◌>>◌, pure, give_at, Reads, MakesAs, skip, advance, past, eat, expect, list_next, list_close, name, text, made, part, raised, closed, is_closed, ends_closed, goes_on, added, pushed, one_of, joins, left_height, index_height, folded, all_folded, sees_step, goes_at, goes, pass_at, pass, more_at, one_more, behind, listed_at, listed, one_more_name, names}
+pub use Rattle.pgo_expr_read.specs.Parsers.{IsSyntax, Makes}
 
 -- ---- what opens without a node
 
@@ -114,7 +112,7 @@ module _ (limit : ℕ) (ex : ℕ → Parser (Read Tree)) where
     a ← ex 0
     pure (part a.ending (max path.height a.height) (path.tree, a.tree))
 
-  abbrev pub item : (k : Kind) → Parser (Read (Thing k))
+  abbrev pub item : (k : Kind) → Parser (Read (ItemOf k))
   item kind.tree = ex 0
   item kind.item = ex 0
   item kind.binder = binder
@@ -124,7 +122,7 @@ module _ (limit : ℕ) (ex : ℕ → Parser (Read Tree)) where
   item kind.step = step
   item kind.update = update
 
-  abbrev pub items : (k : Kind) → Parser (Read (List (Thing k)))
+  abbrev pub items : (k : Kind) → Parser (Read (List (ItemOf k)))
   items k = listed k (item k)
 
   -- ---- forms

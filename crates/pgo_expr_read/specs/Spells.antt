@@ -24,7 +24,7 @@ use Rattle.pgo_expr_read.specs.declared.read.Ending.{Ending}
 use Rattle.pgo_expr_read.specs.declared.read.Ending.TheVariants as ending
 use Rattle.pgo_expr_read.specs.Lookahead.{begins_binder, endless_of}
 use Rattle.pgo_expr_read.specs.Heights.{height}
-use Rattle.pgo_expr_read.specs.Kinds.{Kind, Thing, Name, variable_name, value_name, between, may_follow, is_case}
+use Rattle.pgo_expr_read.specs.Kinds.{Kind, ItemOf, Name, variable_name, value_name, between, may_follow, is_case}
 use Rattle.pgo_expr_read.specs.Kinds as kind
 use Rattle.pgo_expr_read.specs.Table.{takes_left, right_least, prefix_least, form_low}
 
@@ -164,7 +164,7 @@ mutual
     any : {f : Form} {o : Ending} {ts : List Token} {a : Tree} → Spelled f o ts a → Range ts a
     endless : {k : Token} {w : Word} → endless_of k ≡ Some w → Range (k ∷ []) (e.word w)
 
-  pub data Item : (k : Kind) → Ending → List Token → Thing k → Type 0 where
+  pub data Item : (k : Kind) → Ending → List Token → ItemOf k → Type 0 where
     tree : {f : Form} {o : Ending} {ts : List Token} {a : Tree} → Spelled f o ts a → Item kind.tree o ts a
     item : {f : Form} {o : Ending} {ts : List Token} {a : Tree} → Spelled f o ts a → Item kind.item o ts a
     binder : {x : Name} {xs : List Name} {ts : List Token} {a : Tree} → Range ts a → Item kind.binder ending.Closed (names x xs ++ (t.Symbol (s.Infix op.In) ∷ ts)) (x ∷ xs, a)
@@ -176,13 +176,13 @@ mutual
     update : {f : Form} {o u : Ending} {xs ys : List Token} {as' : List Tree} {a : Tree} → Items kind.step u xs as' → Spelled f o ys a
         → Item kind.update o (t.Symbol s.Bang ∷ (xs ++ (t.Symbol (s.Infix op.Equal) ∷ ys))) (as', a)
 
-  pub data Behind : (k : Kind) → Ending → Ending → List Token → List (Thing k) → Type 0 where
+  pub data Behind : (k : Kind) → Ending → Ending → List Token → List (ItemOf k) → Type 0 where
     none : {k : Kind} {o : Ending} → Behind k o o [] []
-    one_more : {k : Kind} {o u v : Ending} {xs ys : List Token} {a : Thing k} {as' : List (Thing k)} → may_follow k o ≡ true → Item k u xs a → Behind k u v ys as'
+    one_more : {k : Kind} {o u v : Ending} {xs ys : List Token} {a : ItemOf k} {as' : List (ItemOf k)} → may_follow k o ≡ true → Item k u xs a → Behind k u v ys as'
         → Behind k o v (between k ++ (xs ++ ys)) (a ∷ as')
 
-  pub data Items : (k : Kind) → Ending → List Token → List (Thing k) → Type 0 where
-    items : {k : Kind} {o u : Ending} {xs ys : List Token} {a : Thing k} {as' : List (Thing k)} → Item k o xs a → Behind k o u ys as' → Items k u (xs ++ ys) (a ∷ as')
+  pub data Items : (k : Kind) → Ending → List Token → List (ItemOf k) → Type 0 where
+    items : {k : Kind} {o u : Ending} {xs ys : List Token} {a : ItemOf k} {as' : List (ItemOf k)} → Item k o xs a → Behind k o u ys as' → Items k u (xs ++ ys) (a ∷ as')
 
 -- the tokens spell the tree, which is no higher than the limit
 abbrev pub Spells : (limit : ℕ) → List Token → Tree → Type 0

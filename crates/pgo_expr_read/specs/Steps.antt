@@ -1,5 +1,6 @@
 -- Readers as functions on lists of tokens of any type: what they give, one behind another, and loops.
 use Rattle.std.specs.Prelude.{◌≡◌, ℕ, zero, suc, Bool, if◌then◌else◌, List, [], ◌∷◌, length, Option, Some, None, Result, Ok, Err}
+pub use Rattle.pgo_lexer.specs.Answers.{IsSyntax, Gives as Makes}
 use Rattle.pgo_lexer.specs.declared.errors.TextStop.{TextStop}
 use Rattle.pgo_lexer.specs.declared.errors.TextStop.TheVariants.{Syntax, NoMemory}
 
@@ -24,20 +25,11 @@ p >> q = p >>= (λ _. q)
 abbrev pub pure : {X A : Type 0} → A → Parser X A
 pure a = λ i. Some (a, i)
 
-abbrev pub IsSyntax : TextStop → Type 0
-IsSyntax (Syntax n) = Unit {0}
-IsSyntax NoMemory = ⊥
-
 -- what a reader returns is what the function gives, unless memory runs out
 abbrev pub Reads : {X A : Type 0} → Outcome X A → Result A TextStop → List X → Type 0
 Reads outcome (Ok a) new = outcome ≡ Some (a, new)
 Reads outcome (Err (Syntax n)) new = outcome ≡ None
 Reads outcome (Err NoMemory) new = Unit {0}
-
-abbrev pub Makes : {A : Type 0} → Option A → Result A TextStop → Type 0
-Makes outcome (Ok a) = outcome ≡ Some a
-Makes outcome (Err (Syntax n)) = outcome ≡ None
-Makes outcome (Err NoMemory) = Unit {0}
 
 abbrev pub skip : {X : Type 0} → List X → List X
 skip [] = []

@@ -1,5 +1,5 @@
 -- What tokens of a text spell is well formed.
-use Rattle.std.proofs.Common.{◌≡◌, ◌≤◌, ℕ, Bool, true, false, ◌&&◌, ◌||◌, ◌⊎◌, inl, inr, List, [], ◌∷◌, ◌++◌, refl, ap, sym, subst, arith, nat_eq, nat_le}
+use Rattle.std.proofs.Common.{◌≡◌, ◌≤◌, ℕ, Bool, true, false, ◌&&◌, ◌||◌, ◌⊎◌, inl, inr, List, [], ◌∷◌, ◌++◌, refl, sym, subst, arith, nat_eq, nat_le}
 use Rattle.std.proofs.lemmas.Bool.{and_parts, eqb-true, leb-true}
 use Rattle.std.proofs.lemmas.Bool.Decides.{nat_tests}
 use Rattle.pgo_base.specs.Lookup.{Name}
@@ -18,7 +18,7 @@ use Rattle.pgo_expr_read.specs.declared.table.Operator.TheVariants as operator
 use Rattle.pgo_expr_read.specs.declared.read.Ending.{Ending}
 use Rattle.pgo_expr_read.specs.Lookahead.{is_mapped}
 use Rattle.pgo_expr_read.specs.Kinds as kind
-use Rattle.pgo_expr_read.specs.Kinds.{Kind, Thing, between}
+use Rattle.pgo_expr_read.specs.Kinds.{Kind, ItemOf, between}
 use Rattle.pgo_expr_read.specs.Spells.{Spelled, Range, Item, Behind, Items, names, more_names, applied, extended, product_of_two, appended, joined, infix_of}
 use Rattle.pgo_expr_read.specs.Spells as s
 use Rattle.pgo_expr_write.specs.WellFormed.{IsWellFormed, IsName, AreNames, AreSomeNames, IsNumber, is_string_byte, is_word, AreAll, AreSome, AreTwo, AreAllNamed, AreNamed, AreAllArms, AreArms, AreAllBinders, AreBinders, AreAllUpdates, AreUpdates}
@@ -76,7 +76,7 @@ words_printed (b ∷ bs) h = let q = and_parts (is_word_byte b) (all_are is_word
 
 -- ---- items
 
-abbrev Formed : (k : Kind) → Thing k → Type 0
+abbrev Formed : (k : Kind) → ItemOf k → Type 0
 Formed kind.tree a = IsWellFormed a
 Formed kind.item a = IsWellFormed a
 Formed kind.binder p = AreSomeNames p.0 × ((is_word p.1 ≡ true) ⊎ IsWellFormed p.1)
@@ -86,11 +86,11 @@ Formed kind.arm p = IsWellFormed p.0 × IsWellFormed p.1
 Formed kind.step a = IsWellFormed a
 Formed kind.update p = AreSome (trees p.0) × IsWellFormed p.1
 
-abbrev AllFormed : (k : Kind) → List (Thing k) → Type 0
+abbrev AllFormed : (k : Kind) → List (ItemOf k) → Type 0
 AllFormed k [] = Unit {0}
 AllFormed k (a ∷ as') = Formed k a × AllFormed k as'
 
-abbrev SomeFormed : (k : Kind) → List (Thing k) → Type 0
+abbrev SomeFormed : (k : Kind) → List (ItemOf k) → Type 0
 SomeFormed k [] = ⊥
 SomeFormed k (a ∷ as') = Formed k a × AllFormed k as'
 
@@ -233,7 +233,7 @@ mutual
   formed_range (s.any d) h = inr (formed d h)
   formed_range (s.endless is) h = inl refl
 
-  formed_item : {k : Kind} {o : Ending} {ts : List Token} {a : Thing k} → Item k o ts a → AllTold ts → Formed k a
+  formed_item : {k : Kind} {o : Ending} {ts : List Token} {a : ItemOf k} → Item k o ts a → AllTold ts → Formed k a
   formed_item (s.tree d) h = formed d h
   formed_item (s.item d) h = formed d h
   formed_item (s.binder {x = x} {xs = xs} r) h = let q = told_parts (names x xs) _ h in ((q.0.0, names_told xs q.0.2), formed_range r q.1.2)
@@ -244,9 +244,9 @@ mutual
   formed_item (s.field_step {x = x}) h = words_printed x (name_bytes x h.2.0.0)
   formed_item (s.update {xs = xs} {as' = as'} m d) h = let q = told_parts xs _ h.2 in (some_steps as' (formed_items m q.0), formed d q.1.2)
 
-  formed_behind : {k : Kind} {o u : Ending} {ts : List Token} {as' : List (Thing k)} → Behind k o u ts as' → AllTold ts → AllFormed k as'
+  formed_behind : {k : Kind} {o u : Ending} {ts : List Token} {as' : List (ItemOf k)} → Behind k o u ts as' → AllTold ts → AllFormed k as'
   formed_behind s.none h = tt
   formed_behind (s.one_more {k = k} {xs = xs} may d b) h = let q = told_parts xs _ (told_parts (between k) _ h).1 in (formed_item d q.0, formed_behind b q.1)
 
-  formed_items : {k : Kind} {u : Ending} {ts : List Token} {as' : List (Thing k)} → Items k u ts as' → AllTold ts → SomeFormed k as'
+  formed_items : {k : Kind} {u : Ending} {ts : List Token} {as' : List (ItemOf k)} → Items k u ts as' → AllTold ts → SomeFormed k as'
   formed_items (s.items {xs = xs} d b) h = let q = told_parts xs _ h in (formed_item d q.0, formed_behind b q.1)

@@ -146,9 +146,6 @@ module _ (words : List (List ℕ)) (consts : List (Name × Data)) (settings : Se
           → record_of (command_to other) others default_settings ≡ record_of (command_to target) consts settings → (other ≡ target) × (others ≡ consts)
       others_are other others e = (sym (target_back other) ∙ ap (λ r. target_of r.command) e ∙ target_back target, ap (λ r. r.consts) e)
 
-  pub check_only : AsksOnly words (record_of Check consts settings) → AsksCheck words
-  check_only h = record { words_are = h.0.words_are; no_consts = refl; settings_are = refl }
-
   pub load_only : (size : ℕ) → AsksOnly words (record_of (Load size) consts settings) → LoadsOnly words size
   load_only size h = (
     record { alone = record { words_are = h.0.alone.words_are; no_consts = refl; settings_are = refl }; some = h.0.some; few = h.0.few },

@@ -1,20 +1,17 @@
 -- Lines that are written one after another.
-use Rattle.std.proofs.Common.{◌≡◌, ◌<◌, ◌+◌, ℕ, suc, List, [], ◌∷◌, ◌++◌, length, take, drop, get_or, Option, refl, ap, sym, ◌∙◌, subst, arith, append_assoc, append-nil}
+use Rattle.std.proofs.Common.{◌≡◌, ◌<◌, ◌+◌, ℕ, suc, List, [], ◌∷◌, ◌++◌, length, take, drop, get_or, Option, ap, sym, ◌∙◌, subst, arith, append_assoc, append-nil}
 use Rattle.std.proofs.Math.Seq.{take-suc, drop-cons, take-append_seam}
 use Rattle.std.proofs.lemmas.List.{take-append-drop}
 use Rattle.pgo_io.specs.Sink.{Grows, GrowsByPrefix}
 use Rattle.pgo_io.proofs.Pieces.{grows_twice}
 use Rattle.pgo_model.specs.ModuleText.{Line, flatten}
-
-flatten-append : (ks ls : List Line) → flatten (ks ++ ls) ≡ flatten ks ++ flatten ls
-flatten-append [] ls = refl
-flatten-append (k ∷ ks) ls = ap (λ t. k ++ t) (flatten-append ks ls) ∙ sym (append_assoc k (flatten ks) (flatten ls))
+use Rattle.pgo_log_text.proofs.LinesEntries.{flatten_append}
 
 -- the lines up to the next one
 pub one_line_more : (ls : List Line) (i : ℕ) (l : Line) → i < length ls → l ≡ get_or ls i l → flatten (take (i + 1) ls) ≡ flatten (take i ls) ++ l
 one_line_more ls i l below l_is =
     ap flatten (ap (λ n. take n ls) (one_more i) ∙ take-suc ls i l below ∙ ap (λ y. take i ls ++ y ∷ []) (sym l_is))
-    ∙ flatten-append (take i ls) (l ∷ []) ∙ ap (λ t. flatten (take i ls) ++ t) (append-nil l)
+    ∙ flatten_append (take i ls) (l ∷ []) ∙ ap (λ t. flatten (take i ls) ++ t) (append-nil l)
   where
     one_more : (k : ℕ) → k + 1 ≡ suc k
     one_more k = omega arith
@@ -22,7 +19,7 @@ one_line_more ls i l below l_is =
 -- all lines, from the next one on
 around : (ls : List Line) (i : ℕ) (l : Line) → i < length ls → l ≡ get_or ls i l → flatten ls ≡ flatten (take i ls) ++ (l ++ flatten (drop (suc i) ls))
 around ls i l below l_is =
-    ap flatten (sym (take-append-drop i ls)) ∙ flatten-append (take i ls) (drop i ls)
+    ap flatten (sym (take-append-drop i ls)) ∙ flatten_append (take i ls) (drop i ls)
     ∙ ap (λ t. flatten (take i ls) ++ flatten t) (drop-cons ls i l below ∙ ap (λ y. y ∷ drop (suc i) ls) (sym l_is))
 
 -- an output that took the first lines and then the next has taken these lines

@@ -305,11 +305,6 @@ made_line words input Q s line m e none h = made h
     made (inr (inr (inl h))) = no_line Q s line 0 (ap number_of (e ∙ h.1)) (λ n. omega (arith, n)) (λ n. omega (arith, n)) none
     made (inr (inr (inr h))) = no_line Q s line 0 (ap number_of (e ∙ h.0)) (λ n. omega (arith, n)) (λ n. omega (arith, n)) none
 
--- nor has a failed output, or an end without its text
-pub other_line : (Q : (line : List ℕ) → Type 0) (s t : Status) (line : Option (List ℕ)) → s ≡ t → (number_of t ≡ 11 → ⊥) → (number_of t ≡ 31 → ⊥) → line ≡ None
-    → HasOwnLine Q s line
-other_line Q s t line e a b none = no_line Q s line (number_of t) (ap number_of e) a b none
-
 -- ---- the command `check`
 
 -- of a text that is no bundle

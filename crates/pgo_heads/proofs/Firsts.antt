@@ -1,5 +1,5 @@
 -- The first of several lists.
-use Rattle.std.proofs.Common.{◌≡◌, Bool, true, false, ◌||◌, List, [], ◌∷◌, ◌++◌, map, Option, Some, None, option_map, refl, ap}
+use Rattle.std.proofs.Common.{◌≡◌, Bool, true, false, List, [], ◌∷◌, ◌++◌, map, Some, None, option_map, refl, ap}
 use Rattle.std.specs.List.{list_any}
 use Rattle.pgo_heads.specs.Refusals.{first}
 

@@ -1,5 +1,5 @@
 -- Parameters with their arguments, and constants with their values.
-use Rattle.std.proofs.Common.{◌≡◌, ℕ, zero, suc, ◌+◌, ◌≤◌, min, List, [], ◌∷◌, ◌++◌, length, drop, Option, Some, option_map, refl, ap, sym, ◌∙◌, append_assoc, arith}
+use Rattle.std.proofs.Common.{◌≡◌, ℕ, zero, suc, ◌+◌, ◌≤◌, min, List, [], ◌∷◌, ◌++◌, length, drop, Some, option_map, refl, ap, sym, ◌∙◌, append_assoc, arith}
 use Rattle.std.specs.List.{filter_map, cons_option}
 use Rattle.pgo_base.specs.Data.{Data}
 use Rattle.pgo_base.specs.View.{data_of}
@@ -11,7 +11,7 @@ use Rattle.pgo_base.specs.declared.module.Defined.TheVariants.{Given}
 use Rattle.pgo_syntax.specs.declared.name.PlacedName.{PlacedName}
 use Rattle.pgo_syntax.specs.declared.archetype.Parameter.{Parameter}
 use Rattle.pgo_syntax.specs.declared.process.Argument.{Argument}
-use Rattle.pgo_bound.specs.Runs.{Handed, handed_from}
+use Rattle.pgo_bound.specs.Runs.{handed_from}
 use Rattle.pgo_bound.specs.Values.{given_value, given_constant}
 
 none_left : (n : ℕ) (ps : List Parameter) → handed_from n ps [] ≡ []

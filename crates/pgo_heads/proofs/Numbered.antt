@@ -1,5 +1,5 @@
 -- Lists whose items are numbered, and what is left of a list.
-use Rattle.std.proofs.Common.{◌≡◌, ℕ, suc, ◌+◌, ◌<◌, ◌≤◌, List, [], ◌∷◌, ◌++◌, length, map, get_or, drop, refl, ap, sym, ◌∙◌, append_assoc, arith, add-one, drop-cons, length-append}
+use Rattle.std.proofs.Common.{◌≡◌, ℕ, suc, ◌+◌, ◌<◌, List, [], ◌∷◌, ◌++◌, length, map, get_or, drop, refl, ap, sym, ◌∙◌, append_assoc, arith, add-one, drop-cons, length-append}
 use Rattle.std.proofs.lemmas.List.{length-map}
 use Rattle.pgo_base.specs.Data.{Data}
 use Rattle.pgo_syntax.specs.declared.spec.Spec.{Spec}

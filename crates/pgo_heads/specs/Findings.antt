@@ -1,9 +1,9 @@
 -- Of what a rule finds: the first, and the first in the text.
 use Rattle.std.specs.Prelude.{ℕ, Bool, if◌then◌else◌, List, [], ◌∷◌, Option, Some, None}
 use Rattle.pgo_base.specs.Lookup.{Name}
+pub use Rattle.pgo_base.specs.Lookup.{or_that as or_next}
 use Rattle.pgo_syntax.specs.declared.name.PlacedName.{PlacedName}
 use Rattle.pgo_syntax.specs.Least.{sooner_of, least}
-use Rattle.pgo_heads.specs.declared.errors.BindError.{BindError}
 
 abbrev pub where_true : {A : Type 0} → Bool → A → Option A
 where_true b x = if b then Some x else None
@@ -23,8 +23,3 @@ earlier = sooner_of (λ p. p.0)
 -- the first in the text; of those at one place the first in the list
 abbrev pub first_placed : List (ℕ × Name) → Option (ℕ × Name)
 first_placed = least (λ p. p.0)
-
--- the first of two that is there
-abbrev pub or_next : Option BindError → Option BindError → Option BindError
-or_next None b = b
-or_next (Some e) b = Some e

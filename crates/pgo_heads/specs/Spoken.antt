@@ -1,5 +1,5 @@
 -- Of the mapping clauses that speak of an argument, the first, and whether there are more.
-use Rattle.std.specs.Prelude.{ℕ, Bool, false, not, ◌||◌, if◌then◌else◌, List, [], ◌∷◌, Option, Some, None, option_map, is_some}
+use Rattle.std.specs.Prelude.{ℕ, Bool, not, ◌||◌, if◌then◌else◌, List, [], ◌∷◌, Option, Some, None, option_map, is_some}
 use Rattle.std.specs.BTreeMap.{BTreeMap}
 use Rattle.pgo_base.specs.Lookup.{Name}
 use Rattle.pgo_syntax.specs.declared.archetype.Extent.{Extent}

@@ -1,9 +1,8 @@
 -- What lies in memory while a specification is bound, as what it stands for.
-use Rattle.std.specs.Prelude.{ℕ, List, map, Option, option_map}
+use Rattle.std.specs.Prelude.{ℕ, map, Option, option_map}
 use Rattle.pgo_base.specs.Data.{Data}
 use Rattle.pgo_base.specs.View.{data_of}
 use Rattle.pgo_base.specs.Lookup.{Name}
-use Rattle.pgo_syntax.specs.declared.declaration.Declaration.{Declaration}
 use Rattle.pgo_heads.specs.declared.start_values.Start as code_start
 use Rattle.pgo_heads.specs.declared.start_values.Start.TheVariants as code_starts
 use Rattle.pgo_heads.specs.declared.runs.Handed as code_handed

@@ -14,7 +14,7 @@ use std::marker::Model;
 #[derive(Drop)]
 pub struct DeclaredNames<'a> {
     list: &'a [PlacedName],
-    known: NameMap<()>,
+    names: NameMap<()>,
 }
 
 impl<'a> Model for DeclaredNames<'a> {
@@ -31,7 +31,7 @@ impl<'a> Model for DeclaredNames<'a> {
 
     ghost view = { λ s. s.list.now };
 
-    ghost invariant = { λ s. (n : Name) → has_name s.known n ≡ is_among n (map (λ d. d.name) s.list.now) };
+    ghost invariant = { λ s. (n : Name) → has_name s.names n ≡ is_among n (map (λ d. d.name) s.list.now) };
 }
 
 impl<'a> DeclaredNames<'a> {
@@ -39,25 +39,25 @@ impl<'a> DeclaredNames<'a> {
     pub fn new(alloc: Global, list: &'a [PlacedName]) -> Result<DeclaredNames<'a>, AllocError>
         ensures { IfOk result (λ d. d ≡ list.now) }
     {
-        let known = known_names(alloc, list)?;
-        Ok(DeclaredNames { list, known })
+        let names = names_in(alloc, list)?;
+        Ok(DeclaredNames { list, names })
     }
 
     /// Whether this is one of them.
     pub fn has(&self, name: &Text) -> bool
         ensures { result ≡ is_among name.now (map (λ d. d.name) self.now) }
     {
-        self.known.contains(name)
+        self.names.contains(name)
     }
 }
 
 /// Their names.
-fn known_names(alloc: Global, list: &[PlacedName]) -> Result<NameMap<()>, AllocError>
+fn names_in(alloc: Global, list: &[PlacedName]) -> Result<NameMap<()>, AllocError>
     ensures { IfOk result (λ m. (n : Name) → has_name m n ≡ is_among n (map (λ d. d.name) list.now)) }
 {
-    let mut known = NameMap::new(alloc);
+    let mut names = NameMap::new(alloc);
     for c in list {
-        known.set(alloc, &c.name, ())?;
+        names.set(alloc, &c.name, ())?;
     }
-    Ok(known)
+    Ok(names)
 }

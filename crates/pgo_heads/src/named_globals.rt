@@ -50,10 +50,10 @@ impl<'l, 'a> NamedGlobals<'l, 'a> {
     ) -> Result<NamedGlobals<'l, 'a>, AllocError>
         ensures { IfOk result (λ g. g ≡ map global_view list.now) }
     {
-        let known = without_elements(alloc, list)?;
+        let map = without_elements(alloc, list)?;
         Ok(NamedGlobals {
             list,
-            without_elements: known,
+            without_elements: map,
         })
     }
 

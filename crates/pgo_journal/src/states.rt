@@ -1,14 +1,14 @@
 // Changes put into a state.
-ghost use Rattle.std.specs.Prelude.{◌≡◌, length, map, option_map, IfOk};
+ghost use Rattle.std.specs.Prelude.{◌≡◌, map, option_map, IfOk};
 ghost use Rattle.pgo_base.specs.View.{data_of, named_data};
 ghost use Rattle.pgo_model.specs.LogView.{change_view};
-ghost use Rattle.pgo_model.specs.Steps.{place_in, IsPlaced};
 ghost use Rattle.pgo_journal.specs.States.{put, put_all, with_new};
 
 use pgo_base::log::Change;
 use pgo_base::text::Text;
 use pgo_base::value::{Fun, Value};
 use pgo_sets::functions::replaced;
+use pgo_sets::lookup::place_in;
 use std::alloc::{AllocError, Global};
 
 /// These changes, one after another.
@@ -35,19 +35,6 @@ fn put(alloc: Global, list: &mut Vec<(Text, Value)>, c: &Change) -> Result<(), A
     let v = with_new(alloc, &c.component.index, &c.value, &list[i].1)?;
     list[i].1 = v;
     Ok(())
-}
-
-/// The place of the first variable of the name.
-fn place_in(name: &Text, list: &[(Text, Value)]) -> Option<usize>
-    ensures place { result ≡ place_in name.now (map named_data list.now) }
-    ensures within { IsPlaced result (length list.now) }
-{
-    for (i, p) in list.iter().enumerate() {
-        if name.is(&p.0) {
-            return Some(i);
-        }
-    }
-    None
 }
 
 /// What a value becomes where it, or its part at an index, becomes this value.

@@ -1,6 +1,6 @@
 -- The marks that are put are those of the rules.
 use Rattle.std.proofs.Common.{◌≡◌, ℕ, suc, ◌+◌, ◌≤◌, Bool, true, false, ◌&&◌, inl, inr, List, [], ◌∷◌, ◌++◌, Option, Some, None, refl, ap, sym, ◌∙◌, subst, arith, cond, nat_lt, nat_eq}
-use Rattle.std.proofs.lemmas.Bool.{eq-eqb, eqb-true}
+use Rattle.std.proofs.lemmas.Bool.{eq-eqb, eqb-true, and_parts}
 use Rattle.std.proofs.lemmas.List.{append_assoc, append-nil}
 use Rattle.std.proofs.lemmas.Bool.Decides.{leb_tells}
 use Rattle.pgo_lexer.specs.declared.symbol.Junction.{Junction}
@@ -229,10 +229,6 @@ unlisted_nested [] h = h
 unlisted_nested (f.Bracket k b ∷ fs) h = h
 unlisted_nested (f.List op c ∷ fs) h = unlisted_nested fs h.1
 
-both_true : (a b : Bool) → (a && b) ≡ true → (a ≡ true) × (b ≡ true)
-both_true true b e = (refl, e)
-both_true false b e = cc
-
 false_and : (a b : Bool) → (a && b) ≡ false → a ≡ true → b ≡ true → ⊥
 false_and true true e p q = cc
 false_and true false e p q = cc
@@ -247,7 +243,7 @@ settled_tail : (x y : Bool) (op : Junction) (c : ℕ) (fs : List Frame) (s : Set
     → ((settled x y op c fs r s).is_next ≡ true → Tail (settled x y op c fs r s).frames false rs ms → Tail (f.List op c ∷ fs) p (r ∷ rs) ((settled x y op c fs r s).marks ++ ms))
     × ((settled x y op c fs r s).is_next ≡ false → Tail (settled x y op c fs r s).frames p (r ∷ rs) ms → Tail (f.List op c ∷ fs) p (r ∷ rs) ((settled x y op c fs r s).marks ++ ms))
 settled_tail true y op c fs s p r rs ms ex ey ih = (λ e h. cc, λ e h. h)
-settled_tail false true op c fs s p r rs ms ex ey ih = (λ e h. (let b = both_true _ _ ey in tail_next fs op c p r rs ms (sym (eqb-true c r.column b.0)) (junction_is op (kind_of r.token) b.1) h), λ e h. cc)
+settled_tail false true op c fs s p r rs ms ex ey ih = (λ e h. (let b = and_parts _ _ ey in tail_next fs op c p r rs ms (sym (eqb-true c r.column b.0)) (junction_is op (kind_of r.token) b.1) h), λ e h. cc)
 settled_tail false false op c fs s p r rs ms ex ey ih =
     let low = not_lt c r.column ex in
     let leaves : Leaves op c (r ∷ rs) = inl (low, λ same is. false_and _ _ ey (eq-eqb c r.column (sym same)) (is_junction_of op (kind_of r.token) is)) in

@@ -12,7 +12,7 @@ use Rattle.pgo_lexer.specs.declared.piece.Piece.{Piece}
 use Rattle.pgo_lexer.specs.declared.symbol.Symbol.{Symbol}
 use Rattle.pgo_lexer.specs.declared.symbol.Symbol.TheVariants as s
 use Rattle.pgo_lexer.specs.Symbols.{find, reserved, signs, slash_words, dollar_words}
-use Rattle.pgo_lexer.specs.Lexemes.{all_are, Stops, IsRun, IsSign, IsPiece, Closes, Quoted, is_blank, is_in_line, opens, closes, opens_line, opens_word, largest, value}
+use Rattle.pgo_lexer.specs.Lexemes.{all_are, IsRun, IsSign, IsPiece, Closes, Quoted, is_blank, is_in_line, opens, opens_line, opens_word, largest, value}
 use Rattle.pgo_lexer.specs.Lexemes as l
 use Rattle.pgo_lexer.specs.Pieces.{piece_of, token_piece, symbol_piece, begins, is_quote, is_dollar, number_token, named, named_by, word_token, word, chars, string, string_piece, comment, comment_piece, slashed, dollar, sign_of, or_else, sign, first_piece}
 use Rattle.pgo_lexer.proofs.Runs.{cond_true, cond_false, run_found, run_taken}

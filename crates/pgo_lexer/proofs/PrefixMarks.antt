@@ -12,9 +12,9 @@ use Rattle.pgo_lexer.specs.declared.kind.Role.TheVariants as role
 use Rattle.pgo_lexer.specs.declared.stack.Frame.{Frame}
 use Rattle.pgo_lexer.specs.declared.stack.Frame.TheVariants as f
 use Rattle.pgo_lexer.specs.declared.marker.Marker.{Marker}
-use Rattle.pgo_lexer.specs.Kinds.{kind_of, role_of, is_same_bracket, is_junction, ends_operand}
+use Rattle.pgo_lexer.specs.Kinds.{kind_of, role_of, is_same_bracket, is_junction}
 use Rattle.pgo_lexer.specs.Layout.{list_close, Marks}
-use Rattle.pgo_lexer.specs.Marking.{at, start, bound, Settled, stays, closing, next_item, settle, unlisted, close_by, placed, placed_at, step, finish, finish_by, run_by}
+use Rattle.pgo_lexer.specs.Marking.{at, start, bound, Settled, stays, closing, next_item, settle, unlisted, close_by, placed, step, finish, finish_by, run_by}
 use Rattle.pgo_lexer.specs.declared.errors.TextStop.{TextStop}
 use Rattle.pgo_lexer.specs.declared.errors.TextStop.TheVariants.{Syntax}
 use Rattle.pgo_lexer.specs.Answers.{Gives}

@@ -7,7 +7,7 @@ use Rattle.pgo_lexer.specs.declared.token.Lexeme.{Lexeme}
 use Rattle.pgo_lexer.specs.declared.errors.TextStop.{TextStop}
 use Rattle.pgo_lexer.specs.declared.errors.TextStop.TheVariants.{Syntax, NoMemory}
 use Rattle.pgo_lexer.specs.Answers.{Gives}
-use Rattle.pgo_lexer.specs.Lexemes.{Lexes, columns_behind}
+use Rattle.pgo_lexer.specs.Lexemes.{Lexes}
 use Rattle.pgo_lexer.specs.Lexemes as l
 use Rattle.pgo_lexer.specs.Layout.{Marks}
 use Rattle.pgo_lexer.specs.Lexing.{and_then, lexed}

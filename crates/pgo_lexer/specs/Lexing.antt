@@ -1,13 +1,13 @@
 -- The tokens of a text as a function on lists, in the shape of the code.
-use Rattle.std.specs.Prelude.{ℕ, zero, suc, ◌+◌, nat_eq, nat_lt, if◌then◌else◌, List, [], ◌∷◌, ◌++◌, length, take, drop, Option, Some, None}
+use Rattle.std.specs.Prelude.{ℕ, zero, suc, ◌+◌, nat_eq, nat_lt, if◌then◌else◌, List, [], ◌∷◌, ◌++◌, length, take, drop, Option, Some, None, option_and_then}
 use Rattle.pgo_lexer.specs.declared.token.Token.{Token}
 use Rattle.pgo_lexer.specs.declared.token.Lexeme.{Lexeme}
 use Rattle.pgo_lexer.specs.Lexemes.{columns_behind}
 use Rattle.pgo_lexer.specs.Pieces.{first_piece}
 
+-- one step behind another, in the order of the text
 abbrev pub and_then : {A B : Type 0} → Option A → (A → Option B) → Option B
-and_then None f = None
-and_then (Some a) f = f a
+and_then o f = option_and_then f o
 
 -- one more token, if the limit allows it
 abbrev pub added : (limit column start : ℕ) → List Lexeme → ℕ → Option Token → Option (List Lexeme)

@@ -1,30 +1,17 @@
 // A text cut into its tokens.
-ghost use Rattle.std.specs.Prelude.{◌≡◌, ◌≤◌, ◌<◌, ◌+◌, [], length, IfErr, IfOk};
+ghost use Rattle.std.specs.Prelude.{◌≡◌, ◌<◌, ◌+◌, [], length, IfErr};
 ghost use Rattle.pgo_lexer.specs.Answers.{Gives, ok_as};
 ghost use Rattle.pgo_lexer.specs.Offsets.{IsAt, IsWithin};
-ghost use Rattle.pgo_lexer.specs.Pieces as piece;
 ghost use Rattle.pgo_lexer.specs.Lexing as spec;
 
 use crate::bytes::{columns_behind, first, skip};
 use crate::errors::TextStop;
-use crate::piece::{Piece, first_piece};
+use crate::piece::{Piece, next_piece};
 use crate::token::{Lexeme, Tokens};
 use std::alloc::Global;
 
 /// The most bytes of a text whose columns can be counted; no memory holds as many.
 pub const MOST_BYTES: usize = 1152921504606846976;
-
-/// The piece that the rest of a text begins with, which stands at an offset.
-fn next_piece(alloc: Global, rest: &[u8], at: usize) -> Result<Piece, TextStop>
-    ensures value { Gives (piece.first_piece rest.now) result }
-    ensures within { IfOk result (λ p. p.length ≤ length rest.now) }
-    ensures refused { IfErr result (IsAt at) }
-{
-    match first_piece(alloc, rest)? {
-        Some(piece) => Ok(piece),
-        None => Err(TextStop::at(at)),
-    }
-}
 
 /// Adds the token that a piece is, if it is one and the limit allows it.
 fn add(

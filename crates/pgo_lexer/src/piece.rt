@@ -1,5 +1,7 @@
 // The piece that a text begins with: a blank, a comment or a token.
-ghost use Rattle.std.specs.Prelude.{◌≡◌, ◌≤◌, ◌<◌, length, take, IfOk, IfSome};
+ghost use Rattle.std.specs.Prelude.{◌≡◌, ◌≤◌, ◌<◌, length, take, IfErr, IfOk, IfSome};
+ghost use Rattle.pgo_lexer.specs.Answers.{Gives};
+ghost use Rattle.pgo_lexer.specs.Offsets.{IsAt};
 ghost use Rattle.pgo_lexer.specs.Pieces as spec;
 
 use crate::bytes::{
@@ -7,6 +9,7 @@ use crate::bytes::{
     is_same, letters_length, line_length, opens, opens_line, opens_word, skip, word_length,
 };
 use crate::comment::behind_comment;
+use crate::errors::TextStop;
 use crate::number::number_of;
 use crate::string::content;
 use crate::symbol::Symbol;
@@ -208,5 +211,19 @@ pub fn first_piece(alloc: Global, bytes: &[u8]) -> Result<Option<Piece>, AllocEr
         Ok(slashed(bytes))
     } else {
         Ok(sign(bytes))
+    }
+}
+
+/// The piece that the rest of a text begins with, which stands at an offset.
+///
+/// Err at this offset where it begins with no piece, and where there is no memory.
+pub fn next_piece(alloc: Global, rest: &[u8], at: usize) -> Result<Piece, TextStop>
+    ensures value { Gives (spec.first_piece rest.now) result }
+    ensures within { IfOk result (λ p. p.length ≤ length rest.now) }
+    ensures refused { IfErr result (IsAt at) }
+{
+    match first_piece(alloc, rest)? {
+        Some(piece) => Ok(piece),
+        None => Err(TextStop::at(at)),
     }
 }

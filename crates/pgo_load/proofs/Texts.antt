@@ -3,12 +3,9 @@ use Rattle.std.proofs.Common.{◌≡◌, ℕ, zero, suc, List, [], ◌∷◌, �
 use Rattle.std.specs.Prelude.{codes}
 use Rattle.std.proofs.lemmas.List.{append-nil}
 use Rattle.pgo_model.specs.ModuleText.{Line, line, flatten}
+use Rattle.pgo_log_text.proofs.LinesEntries.{flatten_append}
 use Rattle.pgo_load.specs.Load.{head, tail, numbered, ping_line, pong_line, load_text}
 use Rattle.pgo_load.specs.Numbered.{numbered_line}
-
-pub flatten_append : (ls ms : List Line) → flatten (ls ++ ms) ≡ flatten ls ++ flatten ms
-flatten_append [] ms = refl
-flatten_append (l ∷ ls) ms = ap (λ z. l ++ z) (flatten_append ls ms) ∙ sym (append_assoc l (flatten ls) (flatten ms))
 
 -- a line more
 one_more_line : (make : ℕ → Line) (n : ℕ) (before : List ℕ) → before ++ flatten (numbered make n) ++ make (suc n) ≡ before ++ flatten (numbered make (suc n))

@@ -1,70 +1,20 @@
 -- Numbers and names: what the readers give, and what they are given by.
-use Rattle.std.proofs.Common.{◌≡◌, ◌≤◌, ◌<◌, ◌+◌, ◌*◌, ◌-◌, ◌^◌, ℕ, zero, suc, Bool, true, false, not, ◌&&◌, ◌||◌, cond, nat_eq, nat_lt, IsTrue, List, [], ◌∷◌, ◌++◌, length, get_or, decimal, Some, None, refl, sym, ◌∙◌, ap, subst, arith}
+use Rattle.std.proofs.Common.{◌≡◌, ◌≤◌, ◌<◌, ◌+◌, ◌-◌, ◌^◌, ℕ, zero, suc, Bool, true, false, not, ◌||◌, cond, nat_eq, nat_lt, IsTrue, List, [], ◌∷◌, ◌++◌, length, get_or, decimal, Some, None, refl, sym, ◌∙◌, ap, subst, arith}
 use Rattle.std.specs.List.{prefix_len}
-use Rattle.std.proofs.lemmas.Bool.{eq-eqb, ne_eqb, lt-ltb, ltb-true, ltb-false, le-ltb, le-leb, and_parts, and_from, or_parts}
-use Rattle.std.proofs.lemmas.Str.Parse.{IsDigitsTest, FoldsDigits, IsNumeralModel, numerals_by_fold}
+use Rattle.std.proofs.lemmas.Bool.{eq-eqb, ne_eqb, lt-ltb, ltb-true, and_parts, or_parts}
 use Rattle.std.proofs.lemmas.Fmt.{digits_decimal, digits_value-decimal, decimal-digits_value, decimal_nonempty, decimal_digit, first_decimal}
 use Rattle.pgo_base.specs.Lookup.{Name}
-use Rattle.pgo_model.specs.ValueText.{is_digit, is_letter, is_word_byte}
+use Rattle.pgo_model.specs.ValueText.{all_digits, is_digit, is_letter, is_word_byte}
 use Rattle.pgo_model.specs.BundleParts.{count_limit, is_read_name}
-use Rattle.pgo_value_text.specs.IsValueText.{all_digits, number_from, number_of}
-use Rattle.pgo_value_text.proofs.Steps.{if_some, cond_true, cond_false, bind_then, then_at, some_pair, give_some}
+use Rattle.pgo_value_text.specs.IsValueText.{number_from}
+use Rattle.pgo_value_text.proofs.Steps.{if_some, cond_true, bind_then, then_at, some_pair, give_some}
 use Rattle.pgo_value_text.proofs.Runs.{is_apart, Stops, prefix_goes, run_front, run_behind, front_behind, words_run, apart_stops}
-use Rattle.pgo_value_text.proofs.Numbers.{digit_range}
+use Rattle.pgo_value_text.proofs.Numbers.{AreDigits, numerals, digits_sound, digits_complete}
 use Rattle.pgo_value_text.proofs.WordBytes.{name_words}
 use Rattle.pgo_log_text.specs.Parsers.{Outcome}
-use Rattle.pgo_log_text.specs.Bytes.{front, behind, most, natural_from, is_shortest, natural_of, give, natural, number, name}
+use Rattle.pgo_log_text.specs.Bytes.{front, behind, most, is_shortest, natural_of, give, natural, number, name}
 
 -- ---- digits
-
-AreDigits : List ℕ → Type 0
-AreDigits ds = all_digits ds ≡ true
-
-tells : IsDigitsTest AreDigits
-unfolding AreDigits
-tells = record {
-  empty = refl;
-  parts = λ c cs e. let k = and_parts (is_digit c) (all_digits cs) e in (digit_range c k.0, k.1);
-  more = λ c cs k e i. (le-leb 48 c k.0 i && le-leb c 57 k.1 i) && e i;
-}
-
-folds : FoldsDigits number_from
-folds = record { empty = λ n. refl; more = λ n c cs k. refl }
-
-own : IsNumeralModel AreDigits number_of
-own = numerals_by_fold AreDigits tells number_from folds
-
--- ---- numbers
-
--- what digits behind a value were
-record Digits (k : ℕ) (bs : List ℕ) (n : ℕ) : Type 0 where
-  digits : all_digits bs ≡ true
-  value : number_from k bs ≡ n
-  small : k ≤ most → n ≤ most
-
-digits_sound : (k : ℕ) (bs : List ℕ) (n : ℕ) → natural_from k bs ≡ Some n → Digits k bs n
-unfolding natural_from
-digits_sound k [] n e = let same : k ≡ n = cc in record { digits = refl; value = same; small = λ h. subst (λ x. x ≤ most) same h }
-digits_sound k (b ∷ bs) n e =
-    let G : Type 0 = Digits k (b ∷ bs) n in
-    if_some (is_digit b) _ _ n G e
-    (λ d e. if_some (nat_lt most (k * 10 + (b - 48))) _ _ n G e
-    (λ _ e. absurd (cc))
-    (λ s e. let next = digits_sound (k * 10 + (b - 48)) bs n e in
-    record { digits = and_from (is_digit b) (all_digits bs) d next.digits; value = next.value; small = λ _. next.small (ltb-false most (k * 10 + (b - 48)) s) }))
-    (λ _ e. absurd (cc))
-
-number_grows : (k : ℕ) (bs : List ℕ) → k ≤ number_from k bs
-number_grows k [] = omega arith
-number_grows k (b ∷ bs) = let h = number_grows (k * 10 + (b - 48)) bs in omega arith
-
-digits_complete : (k : ℕ) (bs : List ℕ) → all_digits bs ≡ true → number_from k bs ≤ most → natural_from k bs ≡ Some (number_from k bs)
-unfolding natural_from
-digits_complete k [] h s = refl
-digits_complete k (b ∷ bs) h s =
-    let d = and_parts (is_digit b) (all_digits bs) h in
-    let g = number_grows (k * 10 + (b - 48)) bs in
-    cond_true _ _ _ d.0 ∙ cond_false _ _ _ (le-ltb most (k * 10 + (b - 48)) (omega arith)) ∙ digits_complete (k * 10 + (b - 48)) bs d.1 s
 
 shortest_parts : (ds : List ℕ) → is_shortest ds ≡ true → (0 < length ds) × (get_or ds 0 0 ≡ 48 → length ds ≡ 1)
 shortest_parts [] h = absurd (cc)
@@ -88,7 +38,7 @@ decimal_of ds n e =
     (λ s e. let d = digits_sound 0 ds n e in
     let p = shortest_parts ds s in
     let small : n < 2 ^ 64 = let l : n ≤ most = d.small (omega arith) in omega arith in
-    (sym (decimal-digits_value own ds d.digits p.0 p.1 (subst (λ x. x < 2 ^ 64) (sym d.value) small)) ∙ ap decimal d.value, small))
+    (sym (decimal-digits_value numerals ds d.digits p.0 p.1 (subst (λ x. x < 2 ^ 64) (sym d.value) small)) ∙ ap decimal d.value, small))
     (λ _ e. absurd (cc))
 
 decimal_shortest : (n : ℕ) → n < 2 ^ 64 → is_shortest (decimal n) ≡ true
@@ -100,9 +50,9 @@ decimal_shortest (suc n) h =
 of_decimal : (n : ℕ) → n < 2 ^ 64 → natural_of (decimal n) ≡ Some n
 unfolding natural_of AreDigits
 of_decimal n h =
-    let v : number_from 0 (decimal n) ≡ n = digits_value-decimal own n h in
+    let v : number_from 0 (decimal n) ≡ n = digits_value-decimal numerals n h in
     cond_true _ _ _ (decimal_shortest n h)
-    ∙ digits_complete 0 (decimal n) (digits_decimal own n h) (subst (λ x. x ≤ most) (sym v) (omega arith))
+    ∙ digits_complete 0 (decimal n) (digits_decimal numerals n h) (subst (λ x. x ≤ most) (sym v) (omega arith))
     ∙ ap Some v
 
 pub natural_some : (bs : List ℕ) (n : ℕ) (r : List ℕ) → natural bs ≡ Some (n, r) → (bs ≡ decimal n ++ r) × (n < 2 ^ 64)
@@ -128,7 +78,7 @@ digits_stop (b ∷ bs) h = no_digit b h
 pub natural_finds : (n : ℕ) (r : List ℕ) → n < 2 ^ 64 → is_apart r ≡ true → natural (decimal n ++ r) ≡ Some (n, r)
 unfolding natural AreDigits
 natural_finds n r h a =
-    let run = digits_run (decimal n) (digits_decimal own n h) in
+    let run = digits_run (decimal n) (digits_decimal numerals n h) in
     let stop = digits_stop r (apart_stops r a) in
     (λ i. give (natural_of (run_front is_digit (decimal n) r run stop i)) (run_behind is_digit (decimal n) r run stop i))
     ∙ (λ i. give (of_decimal n h i) r)

@@ -2,7 +2,7 @@
 ghost use Rattle.std.specs.Prelude.{◌≡◌};
 ghost use Rattle.pgo_log_text.specs.Bytes as spec;
 
-use pgo_text::bytes::is_digit;
+use pgo_value_text::integer::natural;
 
 /// Whether there is one byte, or some of which the first is no zero.
 fn is_shortest(digits: &[u8]) -> bool
@@ -15,31 +15,13 @@ fn is_shortest(digits: &[u8]) -> bool
     }
 }
 
-/// The number that digits spell, leading zeros among them, where it has 64 bits.
-#[tactic(auto, unfolding(crate::specs::Bytes::natural_from))]
-fn natural_from(digits: &[u8]) -> Option<u64>
-    ensures { result ≡ spec.natural_from 0 digits.now }
-{
-    let mut value: u128 = 0;
-    for b in digits {
-        if !is_digit(*b) {
-            return None;
-        }
-        value = value * 10 + u128::from(*b - b'0');
-        if value > u128::from(u64::MAX) {
-            return None;
-        }
-    }
-    Some(value as u64)
-}
-
 /// The number that digits without leading zeros spell, where it has 64 bits.
 #[tactic(auto, unfolding(crate::specs::Bytes::natural_of))]
 pub fn natural_of(digits: &[u8]) -> Option<u64>
     ensures { result ≡ spec.natural_of digits.now }
 {
     if is_shortest(digits) {
-        natural_from(digits)
+        natural(digits)
     } else {
         None
     }

@@ -1,5 +1,5 @@
 // The status of a run.
-ghost use Rattle.std.specs.Prelude.{◌≡◌, [], ◌∷◌, map, option_map};
+ghost use Rattle.std.specs.Prelude.{◌≡◌, map, option_map};
 ghost use Rattle.pgo_model.specs.Core.{Settings, end_by, status_of};
 ghost use Rattle.pgo_model.specs.Log.{Effect};
 ghost use Rattle.pgo_model.specs.Machine as machine;
@@ -8,24 +8,7 @@ ghost use Rattle.pgo_log_write.specs.IsFinished.{ended, IsFinished, record_of};
 ghost use Rattle.pgo_log_write.specs.Status as spec;
 
 use pgo_journal::finished::{Account, Finished};
-use pgo_syntax::records::{AttemptResult, End, NoteKind, Record, Refusal};
-
-/// The end that an instance's last record shows.
-fn shown_end(r: &Record) -> Option<End>
-    ensures { result ≡ option_map ended (end_by (record_of r.now ∷ [])) }
-{
-    match r.result {
-        AttemptResult::Noted {
-            kind: NoteKind::Blocked,
-            ..
-        } => None,
-        AttemptResult::Noted { .. } => Some(End::Stopped),
-        AttemptResult::Refused {
-            refusal: Refusal::Full { .. },
-        } => Some(End::Full),
-        _ => None,
-    }
-}
+use pgo_syntax::records::{End, Record};
 
 /// The end that the last of these records shows.
 fn last_end(records: &[Record]) -> Option<End>
@@ -36,7 +19,7 @@ fn last_end(records: &[Record]) -> Option<End>
         return None;
     }
     let i = count - 1;
-    shown_end(&records[i])
+    records[i].result.shown_end()
 }
 
 fn is_stopped(end: Option<End>) -> bool

@@ -3,7 +3,7 @@ use Rattle.std.proofs.Common.{◌≡◌, ◌∙◌, ℕ, suc, Bool, true, false,
 use Rattle.std.specs.Prelude.{if◌then◌else◌, ◌||◌}
 use Rattle.std.proofs.lemmas.List.{append-nil, map-append}
 use Rattle.pgo_base.specs.Lookup.{Name, same_name, find}
-use Rattle.pgo_model.specs.Names.{same_name-is, same_name-not, same_name-self, is_among}
+use Rattle.pgo_model.specs.Names.{same_name-is, is_among, same_name_back}
 use Rattle.pgo_model.specs.Occurrences.{first_occurrences, without}
 use Rattle.pgo_code.specs.Steps.{Unmapped, Target, Resource, Own}
 use Rattle.pgo_lower.specs.Lowered.{read_before, reads_among}
@@ -52,19 +52,11 @@ among_more y (r ∷ rs) x = ap (λ b. same_name y r || b) (among_more y rs x) �
     go false true c = refl
     go false false c = refl
 
-turned : (x y : Name) → same_name x y ≡ same_name y x
-turned x y = by (same_name x y)
-    (λ e. e ∙ sym (ap (λ z. same_name y z) (same_name-is x y e) ∙ same_name-self y))
-    (λ e. e ∙ sym (same_name-not y x (λ q. ne e (ap (λ z. same_name z y) (sym q) ∙ same_name-self y))))
-  where
-    ne : same_name x y ≡ false → same_name x y ≡ true → ⊥
-    ne e f = cc
-
 -- one that is read now is left out from now on
 one_more : (rs : List Name) (x : Name) (ys : List Name) → others (rs ++ x ∷ []) ys ≡ others rs (without x ys)
 one_more rs x [] = refl
 one_more rs x (y ∷ ys) =
-    ap (λ b. if b then others (rs ++ x ∷ []) ys else y ∷ others (rs ++ x ∷ []) ys) (among_more y rs x ∙ ap (λ b. if b then true else is_among y rs) (turned y x))
+    ap (λ b. if b then others (rs ++ x ∷ []) ys else y ∷ others (rs ++ x ∷ []) ys) (among_more y rs x ∙ ap (λ b. if b then true else is_among y rs) (same_name_back y x))
     ∙ go (same_name x y) (one_more rs x ys)
   where
     go : (b : Bool) → others (rs ++ x ∷ []) ys ≡ others rs (without x ys)

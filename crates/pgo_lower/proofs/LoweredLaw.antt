@@ -18,7 +18,7 @@ use Rattle.pgo_sections.specs.Exec.{count}
 use Rattle.pgo_sections.specs.FreeNames.{free_names}
 use Rattle.pgo_workers.specs.Walk.{Walk, Stop, Touch, Sticks}
 use Rattle.pgo_accesses.specs.Accesses as trees
-use Rattle.pgo_accesses.specs.Accesses.{Attempt, Progress, begun, printing, using_word, no_value, ended, with_value, if_true, value_of, with_member, accesses, accesses_of, accesses_of_arm}
+use Rattle.pgo_accesses.specs.Accesses.{Attempt, Progress, begun, printing, using_word, with_value, if_true, value_of, with_member, accesses, accesses_of, accesses_of_arm}
 use Rattle.pgo_code.specs.Steps.{Target, Step, Bind, Pick, Unbind, Assign, Set, Await, Assert, Print, Branch, Choose, Jump, End, Read, Write, Fail, evaluating, reads_then, putting, reading, writing, unbound, steps, steps_of}
 use Rattle.pgo_lower.specs.Lowered.{target_of, read_before, reads_among, bare, evaluation, lowered, arms_lowered, arm_starts}
 use Rattle.pgo_lower.specs.Attempts.{tables_at}

@@ -13,11 +13,12 @@ ghost use Rattle.pgo_model.specs.Names.{is_among};
 ghost use Rattle.pgo_sections.specs.FreeNames.{free_names};
 
 use crate::indexed_slots::IndexedSlots;
-use pgo_base::expr::{Expr, Names, Sub};
+use pgo_base::expr::{Expr, Sub};
 use pgo_base::text::Text;
 use pgo_code::instruction::{Evaluation, Target, Unmapped};
 use pgo_operands::operands::operands;
 use pgo_rewrite::bound_names::{count_at, names_by};
+use pgo_rewrite::indexed_names::IndexedNames;
 use pgo_rewrite::scopes::Scope;
 use std::alloc::{AllocError, Global};
 
@@ -123,7 +124,7 @@ fn note_parts(
     slots: &IndexedSlots,
     scope: &Scope<'_>,
     e: &Expr,
-    bound: &Names,
+    bound: &IndexedNames,
     list: &[&Expr],
     reads: &mut Vec<Unmapped>,
 ) -> Result<(), AllocError>

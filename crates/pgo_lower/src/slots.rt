@@ -16,6 +16,7 @@ use pgo_code::program::Variable;
 use pgo_effects::place::Place;
 use pgo_syntax::bound::{Binding, Instance, Target as Handed};
 use pgo_syntax::declaration::Declaration;
+use pgo_syntax::name::written_name;
 use std::alloc::{AllocError, Global};
 
 /// A parameter or a local, and what it stands for.
@@ -23,17 +24,6 @@ use std::alloc::{AllocError, Global};
 pub struct Slot {
     pub name: Text,
     pub target: Target,
-}
-
-/// The written name of a local x of the process p.
-fn written_name(alloc: Global, p: &Text, x: &Text) -> Result<Text, AllocError>
-    ensures { IfOk result (λ t. t ≡ written p.now x.now) }
-{
-    let mut bytes = Vec::new(alloc);
-    bytes.extend_from_slice(p.as_bytes())?;
-    bytes.extend_from_slice(b"_")?;
-    bytes.extend_from_slice(x.as_bytes())?;
-    Ok(Text::from_bytes(bytes))
 }
 
 /// Adds what a name stands for.
@@ -49,7 +39,7 @@ fn add(slots: &mut Vec<Slot>, alloc: Global, name: &Text, target: Target) -> Res
 fn add_own(slots: &mut Vec<Slot>, alloc: Global, process: &Text, x: &Text) -> Result<(), AllocError>
     ensures { IfOk result (λ _. slot_views slots.new.items ≡ slot_views slots.old.items ++ (x.now, steps.Own (written process.now x.now)) ∷ []) }
 {
-    let own = written_name(alloc, process, x)?;
+    let own = written_name(alloc, process.as_bytes(), x)?;
     add(slots, alloc, x, Target::Own(own))
 }
 

@@ -22,9 +22,9 @@ use Rattle.pgo_syntax.specs.declared.name.PlacedName.{PlacedName}
 use Rattle.pgo_sections.specs.Access.{place, evaluated}
 use Rattle.pgo_sections.specs.BoundValues.{bindable}
 use Rattle.pgo_sections.specs.Code as codes
-use Rattle.pgo_sections.specs.Code.{Place, Whole, Code, Codes, Let, Pick, Set, Seq, Goto, Await, Print, Assert, Yield, If, in_turn, content_name, content_places, old_base, val_base, at_base}
+use Rattle.pgo_sections.specs.Code.{Whole, Code, Let, Pick, Set, Seq, Goto, Await, Print, Assert, If, in_turn, content_name, old_base, val_base, at_base}
 use Rattle.pgo_sections.specs.Context as contexts
-use Rattle.pgo_sections.specs.Context.{Context, block_context, new_content, content_state}
+use Rattle.pgo_sections.specs.Context.{Context, block_context, new_content}
 use Rattle.pgo_sections.specs.Exec.{exec_arm_with, read_unmapped, becoming}
 use Rattle.pgo_sections.specs.Exec as execs
 use Rattle.pgo_sections.specs.Macros.{no_reads, no_writes, exec_block}

@@ -2,6 +2,7 @@
 -- processes that have identifiers.
 use Rattle.std.proofs.Common.{◌≡◌, ℕ, suc, Bool, true, false, ◌&&◌, if◌then◌else◌, List, [], ◌∷◌, map, filter, cond, Option, Some, None, option_map, refl, ap, sym, ◌∙◌, subst, inl, inr, arith}
 use Rattle.std.specs.List.{filter_map, flat_map, list_all, cons_option}
+use Rattle.std.proofs.lemmas.Option.{same_Some}
 use Rattle.pgo_base.specs.Data.{Data}
 use Rattle.pgo_base.specs.Lookup.{Name}
 use Rattle.pgo_base.specs.declared.module.Defined.{Defined}
@@ -21,7 +22,7 @@ use Rattle.pgo_syntax.specs.declared.process.Process.{Process}
 use Rattle.pgo_syntax.specs.declared.spec.Spec.{Spec}
 use Rattle.pgo_bound.specs.declared.kinds.Kind.{Kind}
 use Rattle.pgo_bound.specs.declared.kinds.Kind.TheVariants.{Unbound, AsWhole, ByElement}
-use Rattle.pgo_bound.specs.Among.{IsAmong, among_map, among_flat_map, among_filter, from_map, from_flat_map, from_filter_map, from_numbered, among_nth, nth_among, some_is}
+use Rattle.pgo_bound.specs.Among.{IsAmong, among_map, among_flat_map, among_filter, from_map, from_flat_map, from_filter_map, from_numbered, among_nth, nth_among}
 use Rattle.pgo_bound.specs.BoundOf.{numbered, places_of_run, places_of, instance_at, instances_of, GlobalStart, global_of, globals_of, indices, parts_with, parts_of, all_parts, resource_at, resources_of, bound_of}
 use Rattle.pgo_bound.specs.Lookups.{data_from}
 use Rattle.pgo_bound.specs.Runs.{Run, Handed, handed_from, archetype_named, run_with, run_of, runs_of, run_ids, has_ids, is_some_item, target_of, binding_of, bindings_of, extent_of, extents_in, extents_of, is_element, kind_of_extents, kind_of}
@@ -219,12 +220,12 @@ run_process s ds r a = go o.0 o.1 (archetype_named o.0.archetype.name s.archetyp
     go : (p : Process) → IsAmong p s.processes → (q : Option Archetype) → option_map (run_with ds p) q ≡ Some r → (p : Process) × IsAmong p s.processes × ((h : Handed) → IsAmong h r.handed → IsAmong h.argument p.arguments)
     go p there None e = absurd (cc)
     go p there (Some x) e =
-        (p, there, λ h is. handed_argument 1 x.params p.arguments h (subst (λ (r : Run). IsAmong h r.handed) (sym (some_is (run_with ds p x) r e)) is))
+        (p, there, λ h is. handed_argument 1 x.params p.arguments h (subst (λ (r : Run). IsAmong h r.handed) (sym (same_Some (run_with ds p x) r e)) is))
 
 -- a parameter that is bound to a global is handed a `ref`
 ref_handed : (s : Spec) (cs : List MappingClause) (n : ℕ) (a : Argument) (g : Name) → global_in (target_of s cs n a) ≡ Some g → (x : PlacedName) × (e : Extent) × (a ≡ arguments.Ref x e) × (x.name ≡ g)
 ref_handed s cs n (arguments.Value place e) g h = absurd (cc)
-ref_handed s cs n (arguments.Ref x e) g h = (x, e, refl, some_is x.name g h)
+ref_handed s cs n (arguments.Ref x e) g h = (x, e, refl, same_Some x.name g h)
 
 -- a global that a process hands to its archetype
 record RefHanded (p : Process) (g : Name) : Type 0 where

@@ -1,6 +1,7 @@
 -- A state of a bound specification, with the domains of the start, is a state of its system.
 use Rattle.std.proofs.Common.{◌≡◌, ◌↔◌, ℕ, Bool, true, false, if◌then◌else◌, List, [], ◌∷◌, map, Some, None, refl, ap, sym, ◌∙◌, subst, inl, inr, arith}
 use Rattle.std.specs.List.{filter_map, flat_map, list_all}
+use Rattle.std.proofs.lemmas.Option.{same_Some}
 use Rattle.pgo_base.specs.Lookup.{Name, Vars, same_name, find}
 use Rattle.pgo_base.specs.Sets.{in_order}
 use Rattle.pgo_model.specs.Machine.{nth}
@@ -17,7 +18,7 @@ use Rattle.pgo_syntax.specs.declared.bound.Target.{Target}
 use Rattle.pgo_syntax.specs.declared.bound.Target.TheVariants as targets
 use Rattle.pgo_bound.specs.declared.kinds.Kind.{Kind}
 use Rattle.pgo_bound.specs.declared.kinds.Kind.TheVariants.{Unbound, AsWhole, ByElement}
-use Rattle.pgo_bound.specs.Among.{IsAmong, among_map, among_flat_map, among_filter_map, from_map, from_flat_map, from_filter_map, among_nth, nth_among, nth_map, some_is}
+use Rattle.pgo_bound.specs.Among.{IsAmong, among_map, among_flat_map, among_filter_map, from_map, from_flat_map, from_filter_map, among_nth, nth_among, nth_map}
 use Rattle.pgo_bound.specs.Runs.{is_element, kind_of_extents}
 use Rattle.pgo_bound.specs.Sound.{Sound}
 use Rattle.pgo_bound.specs.State.{IsStateOnDomains, id_of, own_names, target_extent, kind_in}
@@ -41,7 +42,7 @@ bound_not (x ∷ es) e h k = go (list_all is_element (x ∷ es)) k
 target_binds : (g : Name) (t : Target) → global_in t ≡ Some g → (e : Extent) × (target_extent g t ≡ Some e)
 target_binds g (targets.Value e) h = absurd (grind (arith, h))
 target_binds g (targets.Global x e m) h =
-    let same = some_is x g h in
+    let same = same_Some x g h in
     (e, ap (λ b. if b then Some e else None) (ap (same_name g) same ∙ same_name-self g))
 
 target_bound : (g : Name) (t : Target) (e : Extent) → target_extent g t ≡ Some e → global_in t ≡ Some g

@@ -45,19 +45,19 @@ use Rattle.pgo_meaning.proofs.SystemStates.{bound_kind}
 abbrev pub TracesAre : Type 0
 TracesAre = (k : Context) (gs : List Name) (c : Code) (d : Words) → UsesOnly k gs c → ByElements k.by_element c → AllByRecursion (IsEvent k gs) (section k c d).trace
 
-or_right : (b c : Bool) → c ≡ true → b || c ≡ true
+pub or_right : (b c : Bool) → c ≡ true → b || c ≡ true
 or_right true c h = refl
 or_right false c h = h
 
 -- ---- parameters are of globals that the instance is bound to
-among_first : (g : Name) (gs : List Name) → is_among g (g ∷ gs) ≡ true
+pub among_first : (g : Name) (gs : List Name) → is_among g (g ∷ gs) ≡ true
 among_first g gs = ap (λ b. b || is_among g gs) (same_name-self g)
 
-target_more : (g : Name) (t : Target) (gs : List Name) → is_among g gs ≡ true → is_among g (cons_option (global_in t) gs) ≡ true
+pub target_more : (g : Name) (t : Target) (gs : List Name) → is_among g gs ≡ true → is_among g (cons_option (global_in t) gs) ≡ true
 target_more g (targets.Value e) gs h = h
 target_more g (targets.Global x e m) gs h = or_right (same_name g x) (is_among g gs) h
 
-place_bound : (p : Name) (bs : List Binding) (ls : List (Name × Place)) (x g : Name) → find x (parameter_places p bs ++ ls) ≡ Some (Whole g) → (find x ls ≡ Some (Whole g) → ⊥) → is_among g (globals_in bs) ≡ true
+pub place_bound : (p : Name) (bs : List Binding) (ls : List (Name × Place)) (x g : Name) → find x (parameter_places p bs ++ ls) ≡ Some (Whole g) → (find x ls ≡ Some (Whole g) → ⊥) → is_among g (globals_in bs) ≡ true
 place_bound p [] ls x g h none = absurd (none h)
 place_bound p (b ∷ bs) ls x g h none = go b.target h (λ k. place_bound p bs ls x g k none)
   where
@@ -87,7 +87,7 @@ no_local p (d ∷ ds) x g h = go (same_name x d.name.name) _ h (λ k. no_local p
     go true z h more = grind (arith, h)
     go false z h more = more h
 
-mapped_bound : (bs : List Binding) (x : Name) (m : Mapped) → find x (all_mapped bs) ≡ Some m → is_among m.global (globals_in bs) ≡ true
+pub mapped_bound : (bs : List Binding) (x : Name) (m : Mapped) → find x (all_mapped bs) ≡ Some m → is_among m.global (globals_in bs) ≡ true
 mapped_bound [] x m h = absurd (cc)
 mapped_bound (b ∷ bs) x m h = go b.target h (λ k. mapped_bound bs x m k)
   where
@@ -146,7 +146,7 @@ module _ (b : Bound) (i : Instance) (s : Vars) (keeps : KeepsElements b i) where
   }
 
 -- ---- each is one of a resource
-number_there : (rs : List Resource) (r : Resource) (g : Name) (j : Option Data) → IsAmong r rs → r.global ≡ g → r.index ≡ j → (n : ℕ) × (number_among rs (g, j) ≡ Some n)
+pub number_there : (rs : List Resource) (r : Resource) (g : Name) (j : Option Data) → IsAmong r rs → r.global ≡ g → r.index ≡ j → (n : ℕ) × (number_among rs (g, j) ≡ Some n)
 number_there [] r g j h e f = absurd h
 number_there (q ∷ rs) r g j h e f = go (same_name q.global g && same_index q.index j) refl h (λ k. number_there rs r g j k e f)
   where
@@ -167,7 +167,7 @@ number_there (q ∷ rs) r g j h e f = go (same_name q.global g && same_index q.i
         absurd (let z : true ≡ false = sym (here (sym (ap (λ (r : Resource). r.global) s) ∙ e) (sym (ap (λ (r : Resource). r.index) s) ∙ f)) ∙ t in cc)
     go false t (inr h) more = more h
 
-among_is : (g : Name) (gs : List Name) → is_among g gs ≡ true → IsAmong g gs
+pub among_is : (g : Name) (gs : List Name) → is_among g gs ≡ true → IsAmong g gs
 among_is g [] h = absurd (cc)
 among_is g (x ∷ gs) h = go (same_name g x) refl h (λ k. among_is g gs k)
   where

@@ -1,10 +1,10 @@
 -- Whether a name is found in rows, by the list that they are of.
-use Rattle.std.proofs.Common.{◌≡◌, ℕ, Bool, true, false, ◌||◌, List, [], ◌∷◌, Option, Some, None, refl, ap, sym, ◌∙◌}
+use Rattle.std.proofs.Common.{◌≡◌, ℕ, Bool, true, false, ◌||◌, List, [], ◌∷◌, Option, Some, None, refl, ap, ◌∙◌}
 use Rattle.std.specs.Prelude.{if◌then◌else◌, is_some, option_map}
 use Rattle.pgo_base.specs.Lookup.{Name, same_name, find}
 use Rattle.pgo_model.specs.Names.{is_among}
 use Rattle.pgo_uses.specs.Names.{has_row}
-use Rattle.pgo_measure.specs.Heights.{assigned_height, change_height, global_change, own_change}
+use Rattle.pgo_measure.specs.Heights.{assigned_height, global_change, own_change}
 use Rattle.pgo_measure.specs.NameRows.{name_rows, changed_rows}
 
 pub among_rows : (x : Name) (xs : List Name) → has_row x (name_rows xs) ≡ is_among x xs

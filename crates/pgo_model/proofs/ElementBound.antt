@@ -9,9 +9,8 @@ use Rattle.pgo_base.specs.Exact.{data_exact}
 use Rattle.pgo_base.specs.Lookup.{Name, Vars, find}
 use Rattle.pgo_base.specs.Order.{data_cmp}
 use Rattle.pgo_base.specs.Sets.{IsSorted, in_order}
-use Rattle.std.specs.declared.cmp.Ordering.{Ordering}
-use Rattle.std.specs.declared.cmp.Ordering.TheVariants.{Less, Equal, Greater}
-use Rattle.std.specs.Ordering.{is_eq}
+use Rattle.std.proofs.lemmas.Option.{same_Some}
+use Rattle.pgo_base.specs.SameName.{equal_is}
 use Rattle.pgo_model.specs.Accounts.{Fits, AllIn}
 use Rattle.pgo_model.specs.Core.{Settings, Reaches, is_place, numbers_of, rules_of}
 use Rattle.pgo_model.specs.Log.{Change, OfResource, OfInstance, After, after_changes, are_in, effect_between}
@@ -124,14 +123,11 @@ by_none : (ps : Pairs) → keys (graph ps) ≡ [] → ps ≡ no_pairs
 by_none no_pairs e = refl
 by_none (pair l w ps) e = absurd (cc)
 
-some_is : {A : Type 0} (a b : A) → Some a ≡ Some b → a ≡ b
-some_is a b h = cc
-
 pairs_are : (ps qs : Pairs) → Some (function ps) ≡ Some (function qs) → ps ≡ qs
 pairs_are ps qs h = cc
 
 only : {A : Type 0} (x y : A) (n : ℕ) → nth (x ∷ []) n ≡ Some y → x ≡ y
-only x y zero e = some_is x y e
+only x y zero e = same_Some x y e
 only x y (suc n) e = absurd (grind (arith, e))
 
 module _ (rs : List Resource) (ps : Pairs) where
@@ -144,11 +140,11 @@ module _ (rs : List Resource) (ps : Pairs) where
     form s h =
         let n = by_names x pc v s h.variables in
         let k = by_key one h.places.0 h.places.2 in
-        let place : n.1 ≡ function (pair one k.0 no_pairs) = some_is _ _ (sym (ap (find pc) n.3) ∙ h.places.1) ∙ ap function k.1 in
+        let place : n.1 ≡ function (pair one k.0 no_pairs) = same_Some _ _ (sym (ap (find pc) n.3) ∙ h.places.1) ∙ ap function k.1 in
         let o = h.own 0 local refl in
-        let none : n.2 ≡ function no_pairs = some_is _ _ (sym (ap (find v) n.3) ∙ o.1) ∙ ap function (by_none o.0 o.2) in
+        let none : n.2 ≡ function no_pairs = same_Some _ _ (sym (ap (find v) n.3) ∙ o.1) ∙ ap function (by_none o.0 o.2) in
         let d = h.domains x bound in
-        let value : n.0 ≡ function d.2.0 = some_is _ _ (sym (ap (find x) n.3) ∙ d.2.1) in
+        let value : n.0 ≡ function d.2.0 = same_Some _ _ (sym (ap (find x) n.3) ∙ d.2.1) in
         let same : ps ≡ d.1.0 = pairs_are ps d.1.0 d.1.1 in
         (d.2.0, k.0, n.3 ∙ (λ i. (x, value i) ∷ (pc, place i) ∷ (v, none i) ∷ []), d.2.2 ∙ sym d.1.2 ∙ ap (λ qs. keys (graph qs)) (sym same))
 
@@ -171,11 +167,6 @@ one_key k = (tt, tt)
 no_key : IsSorted []
 unfolding IsStrictlySortedBy
 no_key = tt
-
-equal_is : (o : Ordering) → is_eq o ≡ true → o ≡ Equal
-equal_is Less h = absurd (grind (arith, h))
-equal_is Equal h = refl
-equal_is Greater h = absurd (grind (arith, h))
 
 same_is : (v w : Data) → same_data v w ≡ true → v ≡ w
 same_is v w h = data_exact v w (equal_is (data_cmp v w) h)
@@ -285,7 +276,7 @@ with_fits = record {
 }
   where
     go : (n : ℕ) (r : Resource) → nth (element ∷ []) n ≡ Some r → r.number ≡ n
-    go zero r e = ap (λ r. r.number) (sym (some_is element r e))
+    go zero r e = ap (λ r. r.number) (sym (same_Some element r e))
     go (suc n) r e = absurd (grind (arith, e))
 
 -- ---- without one

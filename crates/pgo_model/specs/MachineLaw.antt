@@ -2,6 +2,7 @@
 use Rattle.std.proofs.Common.{◌≡◌, ◌≤◌, ◌<◌, ℕ, zero, suc, ◌+◌, Bool, true, false, List, [], ◌∷◌, ◌++◌, length, Option, Some, None, refl, sym, ap, ◌∙◌, subst, arith, ◌⊎◌, inl, inr, length-append}
 use Rattle.std.specs.Prelude.{if◌then◌else◌, nat_eq, nat_lt}
 use Rattle.std.proofs.lemmas.Bool.{ltb-true}
+use Rattle.std.proofs.lemmas.Option.{same_Some}
 use Rattle.pgo_base.specs.Data.{Data}
 use Rattle.pgo_model.specs.Outcome.{Kind, Outcome, Next, Stuck, Nowhere}
 use Rattle.pgo_model.specs.Machine.{Rules, Entry, Note, Record, Step, Noted, Held, Down, Full, Worker, Machine, Event, Take, Operate, PreCommit, Commit, Noting, events, last_ends, nth, put, state_at, last_state, attempt_of, section, has_ended, finished_of, with_record, tells, goes_on, takes, taking, counted, pre_committing, appended, committing, noting, does, gives, step, opened, after_turns, run_turns}
@@ -15,9 +16,6 @@ below_instances k n e = ltb-true k n e
 
 less : (a b : ℕ) → a ≤ b → nat_eq a b ≡ false → a < b
 less a b h e = let d = (equal_or a b false e).1 refl in omega (arith, h, d)
-
-some_same : (a b : ℕ) → Some a ≡ Some b → a ≡ b
-some_same a b h = grind arith
 
 full_is : (n q : ℕ) → Full n ≡ Full q → q ≡ n
 full_is n q h = grind arith
@@ -108,7 +106,7 @@ module _ {S D : Type 0} (R : Rules S D) (Reaches : ℕ → ℕ → Type 0) (Good
   }
     where
       go : (q h : ℕ) (b : Bool) → nat_eq q r ≡ b → (if b then Some k else m.holder q) ≡ Some h → IsHolder h q
-      go q h true e s = subst (λ h. IsHolder h q) (some_same k h s) (subst (Reaches k) (sym ((equal_or q r true e).0 refl)) reach, may.2)
+      go q h true e s = subst (λ h. IsHolder h q) (same_Some k h s) (subst (Reaches k) (sym ((equal_or q r true e).0 refl)) reach, may.2)
       go q h false e s = g.holding q h s
 
   gives_keeps : (m : Machine D) (k : ℕ) (held : List ℕ) → Invariant m → Invariant (gives m k held)

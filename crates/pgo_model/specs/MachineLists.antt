@@ -1,5 +1,6 @@
 -- Lists that grow at their end, and states along a journal.
 use Rattle.std.proofs.Common.{◌≡◌, ◌≤◌, ◌<◌, ℕ, zero, suc, List, [], ◌∷◌, ◌++◌, length, Some, refl, ap, arith, ◌⊎◌, inl, inr}
+use Rattle.std.proofs.lemmas.Option.{same_Some}
 use Rattle.pgo_model.specs.Machine.{Rules, Entry, nth, state_at}
 
 -- a longer list has its members where they were
@@ -19,12 +20,9 @@ nth_below [] n x h = absurd (grind arith)
 nth_below (y ∷ l) zero x h = omega arith
 nth_below (y ∷ l) (suc n) x h = let q = nth_below l n x h in omega (arith, q)
 
-some_same : {A : Type 0} (x y : A) → Some x ≡ Some y → x ≡ y
-some_same x y h = grind arith
-
 -- a member of a list with one more is a former member or the one added
 pub nth_end : {A : Type 0} (l : List A) (y : A) (n : ℕ) (x : A) → nth (l ++ (y ∷ [])) n ≡ Some x → (nth l n ≡ Some x) ⊎ ((n ≡ length l) × (y ≡ x))
-nth_end [] y zero x h = inr (refl, some_same y x h)
+nth_end [] y zero x h = inr (refl, same_Some y x h)
 nth_end [] y (suc n) x h = absurd (grind arith)
 nth_end (z ∷ l) y zero x h = inl h
 nth_end (z ∷ l) y (suc n) x h = go (nth_end l y n x h)

@@ -1,16 +1,12 @@
 -- When two names are one, whether a name is in a list, lists in which no two are one, and what stands under a name in two lists together.
-use Rattle.std.specs.Prelude.{◌≡◌, ℕ, Bool, true, false, ◌&&◌, ◌||◌, nat_eq, if◌then◌else◌, List, [], ◌∷◌, ◌++◌, Option, Some, None, refl}
-use Rattle.std.proofs.Common.{ap, arith, ◌∙◌}
-use Rattle.std.specs.declared.cmp.Ordering.{Ordering}
-use Rattle.std.specs.declared.cmp.Ordering.TheVariants.{Less, Equal, Greater}
+use Rattle.std.specs.Prelude.{◌≡◌, ℕ, Bool, true, false, ◌||◌, nat_eq, if◌then◌else◌, List, [], ◌∷◌, ◌++◌, Some, refl}
+use Rattle.std.proofs.Common.{arith}
 use Rattle.std.specs.List.{AllByRecursion}
-use Rattle.std.specs.Ordering.{nat_cmp, is_eq}
-use Rattle.std.specs.Cmp.Lexicographic.{slice_cmp}
-use Rattle.pgo_base.specs.Data.{string}
-use Rattle.pgo_base.specs.Exact.{data_exact, data_itself}
+use Rattle.std.proofs.lemmas.Bool.{and_parts}
 use Rattle.pgo_base.specs.Lookup.{Name, same_name, find}
 use Rattle.pgo_model.specs.ValueText.{same_bytes}
-pub use Rattle.pgo_base.specs.SameName.{same_name-self, same_name-is, same_name-not, same_name_back}
+pub use Rattle.pgo_base.specs.Lookup.{or_that}
+pub use Rattle.pgo_base.specs.SameName.{same_name-self, same_name-is, same_name-not, same_name_back, turned}
 
 -- the name is one of these
 abbrev pub is_among : Name → List Name → Bool
@@ -26,10 +22,6 @@ pub same_bytes-self : (x : Name) → same_bytes x x ≡ true
 same_bytes-self [] = refl
 same_bytes-self (b ∷ bs) = let r = same_bytes-self bs in grind (arith, r)
 
-both_true : (a b : Bool) → a && b ≡ true → (a ≡ true) × (b ≡ true)
-both_true true b h = (refl, h)
-both_true false b h = absurd (grind (arith, h))
-
 number_is : (m n : ℕ) → nat_eq m n ≡ true → m ≡ n
 number_is m n h = grind arith
 
@@ -38,13 +30,8 @@ same_bytes-is [] [] h = refl
 same_bytes-is [] (y ∷ ys) h = absurd (grind (arith, h))
 same_bytes-is (x ∷ xs) [] h = absurd (grind (arith, h))
 same_bytes-is (x ∷ xs) (y ∷ ys) h =
-    let p = both_true (nat_eq x y) (same_bytes xs ys) h in
+    let p = and_parts (nat_eq x y) (same_bytes xs ys) h in
     let e = number_is x y p.0 in let f = same_bytes-is xs ys p.1 in λ i. e i ∷ f i
-
--- this, or where there is none that
-abbrev pub or_that : {A : Type 0} → Option A → Option A → Option A
-or_that None o = o
-or_that (Some e) o = Some e
 
 pub find_append : {A : Type 0} (x : Name) (xs ys : List (Name × A)) → find x (xs ++ ys) ≡ or_that (find x xs) (find x ys)
 find_append x [] ys = refl

@@ -1,4 +1,4 @@
--- The names that a written module has beside those of its specification.
+-- The names that a written module has beside those of its specification, and those that mapping macros have.
 use Rattle.std.specs.Prelude.{ℕ, ◌++◌, codes, decimal}
 use Rattle.pgo_base.specs.Lookup.{Name}
 
@@ -28,3 +28,10 @@ written p l = p ++ codes "_" ++ l
 -- the n-th name that the translation binds on a path; no identifier of a specification has two underscores
 abbrev pub made : Name → ℕ → Name
 made base n = base ++ codes "__" ++ decimal n
+
+-- in a mapping macro's block: the content, and the value that is written
+abbrev pub content_name : Name
+content_name = codes "$variable"
+
+abbrev pub value_name : Name
+value_name = codes "$value"

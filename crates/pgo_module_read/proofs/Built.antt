@@ -1,5 +1,5 @@
 -- The module that the lines have is the one whose parts they are.
-use Rattle.std.proofs.Common.{◌≡◌, Bool, true, false, ◌&&◌, List, [], ◌∷◌, ◌++◌, map, reverse, Option, Some, None, refl, ap, sym, ◌∙◌, subst, cond, codes}
+use Rattle.std.proofs.Common.{◌≡◌, Bool, true, false, ◌&&◌, List, [], ◌∷◌, ◌++◌, map, reverse, Some, None, refl, ap, sym, ◌∙◌, subst, cond, codes}
 use Rattle.std.specs.List.{AllByRecursion}
 use Rattle.std.proofs.lemmas.Bool.{and_parts}
 use Rattle.std.proofs.lemmas.List.{append-nil, reverse-reverse, reverse-append}
@@ -13,19 +13,19 @@ use Rattle.pgo_lexer.proofs.Runs.{cond_true}
 use Rattle.pgo_model.specs.Module.{Module, WrittenProcess, joined_by, any_of, union_of, process_step, proc_set_of, process_definitions, terminating_body, next_body}
 use Rattle.pgo_model.specs.ModuleView.{module_view, process_view, defined_view}
 use Rattle.pgo_model.specs.Names.{same_bytes-self, same_bytes-is}
-use Rattle.pgo_model.specs.Val.{Defined, Means}
+use Rattle.pgo_model.specs.Val.{Means}
 use Rattle.pgo_model.specs.ValueText.{same_bytes}
 use Rattle.pgo_model.specs.Written.{default_init_value, proc_set, terminating}
 use Rattle.pgo_mpcal_read.specs.ReadingSpec.{if_some}
 use Rattle.pgo_expr_write.specs.WellFormed.{IsWellFormed, IsName, AreSomeNames}
-use Rattle.pgo_module_spells.specs.Parts.{Parts, parts_of, further_of, tuple_of, HasProcesses, HasActions}
+use Rattle.pgo_module_spells.specs.Parts.{parts_of, further_of, tuple_of, HasProcesses, HasActions}
 use Rattle.pgo_module_read.specs.declared.lines.Lines.{Lines}
 use Rattle.pgo_module_read.specs.declared.steps.Step.{Step}
-use Rattle.pgo_module_read.specs.Building.{same_tree, before_default, without_default, or_parts, steps_before, steps_of, processes_from, processes, module_with, candidate, has_bodies, module_of}
+use Rattle.pgo_module_read.specs.Building.{same_tree, before_default, without_default, or_parts, steps_of, processes_from, processes, module_with, candidate, has_bodies, module_of}
 use Rattle.pgo_module_read.proofs.Definitions.{base_of}
 use Rattle.pgo_module_read.proofs.FormedTrees.{union_formed, tuple_formed, ending_formed, next_formed, IsFormedProcess}
 use Rattle.pgo_module_read.proofs.LinesExact.{parts_in, further_in, lines_from, all_actions, processes_defined, defined_action}
-use Rattle.pgo_module_read.proofs.ProcessesExact.{IsFew, IsFormedAction, ProcessesFound, processes_found, base_process, processes_given}
+use Rattle.pgo_module_read.proofs.ProcessesExact.{IsFew, IsFormedAction, processes_found, base_process, processes_given}
 use Rattle.pgo_module_read.proofs.SameTrees.{tree_is, same_self}
 use Rattle.pgo_module_read.proofs.StepsExact.{some_then, or_parts_is, joined_more, StepsFound, steps_found, step_of, steps_given}
 

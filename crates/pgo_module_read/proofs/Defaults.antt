@@ -1,5 +1,5 @@
 -- The last constant.
-use Rattle.std.proofs.Common.{◌≡◌, true, false, List, [], ◌∷◌, ◌++◌, reverse, Option, Some, None, Result, Err, ap, ◌∙◌}
+use Rattle.std.proofs.Common.{◌≡◌, true, false, List, [], ◌∷◌, ◌++◌, reverse, Option, Some, None, Err, ap, ◌∙◌}
 use Rattle.std.proofs.lemmas.List.{reverse-append, reverse-reverse}
 use Rattle.pgo_base.specs.Lookup.{Name}
 use Rattle.pgo_lexer.specs.Answers.{IsSyntax}

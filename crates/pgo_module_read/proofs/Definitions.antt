@@ -1,5 +1,5 @@
 -- Names and definitions: what is read is so, and what is so is read.
-use Rattle.std.proofs.Common.{◌≡◌, ◌≤◌, Bool, true, false, not, ◌&&◌, List, [], ◌∷◌, ◌++◌, length, Some, None, refl, ap, sym, ◌∙◌, subst, arith, codes}
+use Rattle.std.proofs.Common.{◌≡◌, ◌≤◌, Bool, true, false, not, ◌&&◌, List, [], ◌∷◌, ◌++◌, length, refl, ap, sym, ◌∙◌, subst, arith}
 use Rattle.std.proofs.lemmas.List.{append_assoc}
 use Rattle.pgo_base.specs.Lookup.{Name}
 use Rattle.pgo_base.specs.Tree.{Tree}
@@ -13,12 +13,10 @@ use Rattle.pgo_lexer.specs.declared.token.Lexeme.{Lexeme}
 use Rattle.pgo_model.specs.ModuleView.{defined_view}
 use Rattle.pgo_model.specs.Val as model
 use Rattle.pgo_model.specs.Written.{self_name}
-use Rattle.pgo_syntax.specs.declared.name.PlacedName.{PlacedName}
 use Rattle.pgo_mpcal_read.specs.Elements.{Spot, at, word, placed, IsName, Items, Row}
 use Rattle.pgo_mpcal_read.specs.Elements as elements
-use Rattle.pgo_mpcal_read.specs.Reading.{Parser, name, items, row}
+use Rattle.pgo_mpcal_read.specs.Reading.{name, items}
 use Rattle.pgo_mpcal_read.specs.Signs.{sees}
-use Rattle.pgo_mpcal_read.specs.ReadingSpec.{begins_list}
 use Rattle.pgo_mpcal_read.proofs.Expressions.{sound_within, reach_within}
 use Rattle.pgo_mpcal_read.proofs.Lists.{sound_items, reach_items, sound_row, reach_row}
 use Rattle.pgo_expr_read.proofs.Steps.{some_pair, next_step}

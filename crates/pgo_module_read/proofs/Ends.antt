@@ -1,6 +1,6 @@
 -- Where the definitions of a module's processes end.
-use Rattle.std.proofs.Common.{◌≡◌, ◌≢◌, ℕ, List, [], ◌∷◌, ◌++◌, length, reverse, Some, None, refl, ap, sym, ◌∙◌, arith}
-use Rattle.std.proofs.lemmas.List.{reverse-append, length-reverse}
+use Rattle.std.proofs.Common.{◌≡◌, ◌≢◌, List, [], ◌∷◌, length, reverse, Some, None, refl, sym, arith}
+use Rattle.std.proofs.lemmas.List.{length-reverse}
 use Rattle.pgo_base.specs.declared.module.Action.{Action}
 use Rattle.pgo_base.specs.declared.module.WrittenProcess.{WrittenProcess}
 use Rattle.pgo_module_read.specs.Building.{processes_from}

@@ -9,10 +9,10 @@ use Rattle.pgo_model.specs.Names.{same_bytes-self, same_bytes-is}
 use Rattle.pgo_mpcal_read.specs.Elements.{Spot, at, word}
 use Rattle.pgo_mpcal_read.specs.Elements as elements
 use Rattle.pgo_expr_read.specs.Steps.{and_then, skip}
-use Rattle.pgo_mpcal_read.specs.Reading.{Outcome, Parser}
+use Rattle.pgo_mpcal_read.specs.Reading.{Parser}
 use Rattle.pgo_mpcal_read.specs.ReadingSpec.{is_word, sees_word, expect_word}
 use Rattle.pgo_expr_read.proofs.Steps.{some_pair, next_step}
-use Rattle.pgo_mpcal_read.proofs.Parts.{Front, Sound, spot, expect_then, expect_gives}
+use Rattle.pgo_mpcal_read.proofs.Parts.{Sound, spot, expect_then, expect_gives}
 use Rattle.pgo_module_read.specs.Reading.{Fixed, fixed}
 use Rattle.pgo_module_read.specs.Reading as f
 

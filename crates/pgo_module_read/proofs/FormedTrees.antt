@@ -1,10 +1,10 @@
 -- The bodies of a module's further definitions are well formed where what they are made of is.
-use Rattle.std.proofs.Common.{◌≡◌, ◌≤◌, ℕ, true, false, ◌⊎◌, inl, inr, List, [], ◌∷◌, ◌++◌, map, refl, arith, codes}
+use Rattle.std.proofs.Common.{◌≡◌, true, false, inl, inr, List, [], ◌∷◌, ◌++◌, map, refl, arith, codes}
 use Rattle.std.specs.List.{AllByRecursion}
 use Rattle.pgo_base.specs.declared.expr.Infix.TheVariants as infixs
 use Rattle.pgo_base.specs.Lookup.{Name}
-use Rattle.pgo_base.specs.Tree.{Tree, name, binary, tuple, trees}
-use Rattle.pgo_model.specs.Module.{Module, WrittenProcess, joined_by, any_of, self_call, process_body, process_step, proc_set_of, terminating_body, next_body}
+use Rattle.pgo_base.specs.Tree.{Tree, name, binary, trees}
+use Rattle.pgo_model.specs.Module.{Module, WrittenProcess, joined_by, any_of, self_call, process_body, process_step, terminating_body, next_body}
 use Rattle.pgo_model.specs.Written.{terminating}
 use Rattle.pgo_expr_write.specs.WellFormed.{IsWellFormed, IsName, AreNames, AreSomeNames, AreAll}
 use Rattle.pgo_module_spells.specs.Parts.{tuple_of}

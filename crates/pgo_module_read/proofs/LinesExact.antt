@@ -1,5 +1,5 @@
 -- The lines that are read are the parts of a module, and the parts of a module are read.
-use Rattle.std.proofs.Common.{◌≡◌, ℕ, zero, suc, Bool, true, false, nat_eq, List, [], ◌∷◌, ◌++◌, length, map, Option, Some, None, refl, ap, sym, ◌∙◌, subst, arith, cond, codes}
+use Rattle.std.proofs.Common.{◌≡◌, Bool, true, false, nat_eq, List, [], ◌∷◌, ◌++◌, length, map, Some, None, refl, ap, sym, ◌∙◌, subst, arith, cond, codes}
 use Rattle.std.proofs.lemmas.Bool.{eqb-true}
 use Rattle.std.proofs.lemmas.List.{append_assoc, append-nil, map-append}
 use Rattle.pgo_base.specs.Lookup.{Name}
@@ -12,15 +12,13 @@ use Rattle.pgo_lexer.specs.declared.token.Lexeme.{Lexeme}
 use Rattle.pgo_expr_read.specs.Lookahead.{tokens_of, has_mapped}
 use Rattle.pgo_model.specs.Module.{Module, WrittenProcess, proc_set_of, process_body, process_definitions, terminating_body, next_body, action_definition}
 use Rattle.pgo_model.specs.ModuleView.{defined_view}
-use Rattle.pgo_model.specs.Val.{Defined, Means, Given}
+use Rattle.pgo_model.specs.Val.{Defined, Means}
 use Rattle.pgo_model.specs.Written.{self_name, proc_set, terminating, default_init_value}
 use Rattle.pgo_syntax.specs.declared.name.PlacedName.{PlacedName}
-use Rattle.pgo_mpcal_read.specs.Elements.{Spot, at, word, placed, IsName, Items, Row}
+use Rattle.pgo_mpcal_read.specs.Elements.{Spot, at, word, IsName, Items, Row}
 use Rattle.pgo_mpcal_read.specs.Elements as elements
-use Rattle.pgo_expr_read.specs.Steps.{and_then}
 use Rattle.pgo_mpcal_read.specs.Reading.{Outcome}
 use Rattle.pgo_mpcal_read.specs.ReadingSpec.{whole}
-use Rattle.pgo_mpcal_read.proofs.Parts.{Front}
 use Rattle.pgo_syntax.specs.PlacedNames.{names_of}
 use Rattle.pgo_module_spells.specs.Grammar.{IsExpression, IsDefined, IsHeading, AreListed, IsEnding, AreParts}
 use Rattle.pgo_module_spells.specs.Grammar as g
@@ -30,8 +28,8 @@ use Rattle.pgo_module_read.specs.declared.lines.Lines.{Lines}
 use Rattle.pgo_module_read.specs.Reading.{declared_of, further_of, lines_of, read_lines, all_lines}
 use Rattle.pgo_module_read.proofs.Definitions.{IsBase, Written, IsAction, IsBody, base_of}
 use Rattle.pgo_module_read.proofs.Definitions as d
-use Rattle.pgo_module_read.proofs.LinesRead.{AreLines, AreFurther, Before, Behind, sound_lines, reach_lines}
-use Rattle.pgo_module_read.proofs.Pairs.{Both, pair, as_mapped}
+use Rattle.pgo_module_read.proofs.LinesRead.{AreLines, AreFurther, sound_lines, reach_lines}
+use Rattle.pgo_module_read.proofs.Pairs.{pair, as_mapped}
 
 -- ---- the parts that lines have
 

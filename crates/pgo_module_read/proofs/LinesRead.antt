@@ -1,5 +1,5 @@
 -- The lines of a module: what is read is so, and what is so is read.
-use Rattle.std.proofs.Common.{◌≡◌, Bool, true, false, not, List, [], ◌∷◌, ◌++◌, Some, refl, ap, sym, ◌∙◌, subst, codes}
+use Rattle.std.proofs.Common.{◌≡◌, true, false, not, List, [], ◌∷◌, ◌++◌, Some, refl, ap, sym, ◌∙◌, subst, codes}
 use Rattle.std.proofs.lemmas.List.{append_assoc}
 use Rattle.pgo_base.specs.declared.expr.Infix.TheVariants as operator
 use Rattle.pgo_base.specs.Lookup.{Name}
@@ -25,7 +25,7 @@ use Rattle.pgo_module_spells.specs.Grammar as g
 use Rattle.pgo_module_read.specs.declared.lines.Declared.{Declared}
 use Rattle.pgo_module_read.specs.declared.lines.Further.{Further}
 use Rattle.pgo_module_read.specs.declared.lines.Lines.{Lines}
-use Rattle.pgo_module_read.specs.Reading.{Fixed, fixed, both, mapped, first_modules, last_modules, heading, names_behind, spec_begins, all_steps, ending, definitions, is_definition, actions, is_action, body_of, title, definitions_and_variables, declared_of, read_declared, bodies_before, bodies_behind, further_of, read_further, lines_of, read_lines}
+use Rattle.pgo_module_read.specs.Reading.{fixed, both, first_modules, last_modules, heading, names_behind, spec_begins, all_steps, ending, definitions, is_definition, actions, is_action, body_of, title, definitions_and_variables, declared_of, read_declared, bodies_before, bodies_behind, further_of, read_further, lines_of, read_lines}
 use Rattle.pgo_module_read.specs.Reading as reading
 use Rattle.pgo_module_read.proofs.FixedRows.{AreFixed, FixedUnit, word_then, word_gives, sound_fixed, fixed_gives}
 use Rattle.pgo_module_read.proofs.FixedRows as f

@@ -1,5 +1,5 @@
 -- Two parts, one behind the other, and a part in another form: what is read is so, and what is so is read.
-use Rattle.std.proofs.Common.{◌≡◌, List, ◌++◌, Some, refl, ap, sym, ◌∙◌, subst}
+use Rattle.std.proofs.Common.{List, ◌++◌, refl, ap, sym, ◌∙◌, subst}
 use Rattle.std.proofs.lemmas.List.{append_assoc}
 use Rattle.pgo_lexer.specs.declared.token.Lexeme.{Lexeme}
 use Rattle.pgo_mpcal_read.specs.Reading.{Parser}

@@ -1,9 +1,8 @@
 -- Well-formed expressions of one canonical text are the same.
-use Rattle.std.proofs.Common.{◌≡◌, ◌≤◌, ◌+◌, ℕ, Bool, true, false, List, [], ◌∷◌, ◌++◌, refl, ap, sym, ◌∙◌, subst, arith}
+use Rattle.std.proofs.Common.{◌≡◌, ◌+◌, ℕ, true, false, List, [], ap, sym, ◌∙◌, subst, arith}
 use Rattle.std.proofs.lemmas.List.{append-nil}
 use Rattle.pgo_base.specs.Tree.{Tree}
 use Rattle.pgo_lexer.specs.declared.token.Token.{Token}
-use Rattle.pgo_lexer.specs.declared.token.Lexeme.{Lexeme}
 use Rattle.pgo_lexer.proofs.SignEnds.{sign_ends}
 use Rattle.pgo_lexer.proofs.TokensExact.{one_lexed}
 use Rattle.pgo_expr_read.specs.declared.table.Form.{Form}
@@ -12,7 +11,7 @@ use Rattle.pgo_expr_read.specs.declared.read.Ending.{Ending}
 use Rattle.pgo_expr_read.specs.declared.read.Ending.TheVariants as ending
 use Rattle.pgo_expr_read.specs.Heights.{height}
 use Rattle.pgo_expr_read.specs.Lookahead.{tokens_of}
-use Rattle.pgo_expr_read.specs.Spells.{Spelled, Spells}
+use Rattle.pgo_expr_read.specs.Spells.{Spelled}
 use Rattle.pgo_expr_read.proofs.Exact.{one}
 use Rattle.pgo_model.specs.ExprText.{expr_text}
 use Rattle.pgo_model.specs.Names.{same_bytes-self, same_bytes-is}

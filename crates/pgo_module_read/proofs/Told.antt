@@ -1,5 +1,5 @@
 -- What stands in a module's text is well formed.
-use Rattle.std.proofs.Common.{◌≡◌, ◌≤◌, ℕ, false, List, [], ◌∷◌, ◌++◌, map, refl, subst}
+use Rattle.std.proofs.Common.{◌≡◌, ℕ, false, List, [], ◌∷◌, ◌++◌, map}
 use Rattle.std.specs.List.{AllByRecursion}
 use Rattle.pgo_base.specs.Lookup.{Name}
 use Rattle.pgo_base.specs.Tree.{Tree}
@@ -8,9 +8,9 @@ use Rattle.pgo_lexer.specs.declared.symbol.Symbol.{Symbol}
 use Rattle.pgo_lexer.specs.declared.symbol.Symbol.TheVariants as symbol
 use Rattle.pgo_lexer.specs.declared.token.Lexeme.{Lexeme}
 use Rattle.pgo_expr_read.specs.Lookahead.{tokens_of, has_mapped}
-use Rattle.pgo_model.specs.Module.{Module, WrittenProcess, process_body, process_definitions, action_definition, proc_set_of, terminating_body, next_body}
+use Rattle.pgo_model.specs.Module.{Module, WrittenProcess, process_body, process_definitions, action_definition}
 use Rattle.pgo_model.specs.Val.{Defined, Means}
-use Rattle.pgo_model.specs.Written.{self_name, default_init_value, terminating}
+use Rattle.pgo_model.specs.Written.{self_name, default_init_value}
 use Rattle.pgo_spec_text.specs.SpecText.{Cut}
 use Rattle.pgo_spec_text.specs.SpecText as s
 use Rattle.pgo_syntax.specs.declared.name.PlacedName.{PlacedName}

@@ -1,5 +1,5 @@
 -- The turns of the loop over the steps of Next.
-use Rattle.std.proofs.Common.{◌≡◌, List, [], ◌∷◌, ◌++◌, reverse, Option, Some, None, refl, ap, sym, ◌∙◌}
+use Rattle.std.proofs.Common.{◌≡◌, List, [], ◌∷◌, ◌++◌, reverse, Some, None, ap, sym, ◌∙◌}
 use Rattle.pgo_base.specs.Tree.{Tree}
 use Rattle.pgo_mpcal_read.specs.ReadingSpec.{if_some}
 use Rattle.pgo_module_read.specs.declared.steps.Step.{Step}

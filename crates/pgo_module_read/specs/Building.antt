@@ -19,7 +19,6 @@ use Rattle.pgo_module_spells.specs.Parts.{tuple_of}
 use Rattle.pgo_module_read.specs.Cutting.{cut}
 use Rattle.pgo_module_read.specs.Reading.{all_lines}
 use Rattle.pgo_module_read.specs.declared.lines.Declared.{Declared}
-use Rattle.pgo_module_read.specs.declared.lines.Further.{Further}
 use Rattle.pgo_module_read.specs.declared.lines.Lines.{Lines}
 use Rattle.pgo_module_read.specs.declared.steps.Step.{Step}
 

@@ -7,11 +7,10 @@ ghost use Rattle.pgo_module_read.specs.Cutting as spec;
 
 use pgo_lexer::bytes::{columns_behind, first, opens, skip};
 use pgo_lexer::errors::TextStop;
-use pgo_lexer::piece::Piece;
+use pgo_lexer::piece::{Piece, next_piece};
 use pgo_lexer::symbol::Symbol;
 use pgo_lexer::token::{Lexeme, Token, Tokens};
 use pgo_lexer::tokenizer::marked;
-use pgo_spec_text::cut::next_piece;
 use pgo_spec_text::parts::{MOST_BYTES, column_at};
 use pgo_spec_text::search::module_from;
 use std::alloc::Global;

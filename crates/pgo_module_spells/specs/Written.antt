@@ -1,6 +1,6 @@
 -- Which modules have a text of their own. What a text spells has one; and the canonical text of each that is no longer than a text may have
 -- tokens spells it.
-use Rattle.std.specs.Prelude.{◌≡◌, ◌≤◌, List, [], ◌∷◌}
+use Rattle.std.specs.Prelude.{◌≡◌, ◌≤◌, []}
 use Rattle.std.specs.List.{AllByRecursion}
 use Rattle.pgo_base.specs.Lookup.{Name}
 use Rattle.pgo_base.specs.Tree.{Tree}

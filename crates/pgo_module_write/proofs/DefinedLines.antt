@@ -22,7 +22,7 @@ use Rattle.pgo_expr_read.specs.declared.read.Ending.TheVariants as ending
 use Rattle.pgo_expr_read.specs.Heights.{height}
 use Rattle.pgo_expr_read.specs.Lookahead.{tokens_of, has_mapped}
 use Rattle.pgo_expr_read.specs.Spells.{Spelled, joined}
-use Rattle.pgo_spec_text.specs.SpecText.{Cut, Anything, lexeme}
+use Rattle.pgo_spec_text.specs.SpecText.{Cut, Anything}
 use Rattle.pgo_spec_text.specs.SpecText as c
 use Rattle.pgo_mpcal_read.specs.Elements.{Spot, at}
 use Rattle.pgo_expr_write.specs.WellFormed.{IsName, AreNames}

@@ -10,7 +10,6 @@ use Rattle.pgo_model.specs.Val.{Means}
 use Rattle.pgo_model.specs.Written.{default_init_value, proc_set, terminating}
 use Rattle.pgo_lexer.specs.declared.token.Lexeme.{Lexeme}
 use Rattle.pgo_lexer.specs.declared.symbol.Symbol.TheVariants as symbol
-use Rattle.pgo_lexer.specs.Layout.{Marked, Past, Marks}
 use Rattle.pgo_lexer.specs.Layout as layout
 use Rattle.pgo_expr_read.specs.Texts.{most_tokens}
 use Rattle.pgo_spec_text.specs.SpecText.{IsFirst, IsModuleLine}

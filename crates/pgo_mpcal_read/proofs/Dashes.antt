@@ -1,6 +1,6 @@
 -- Headers and specifications: what is read is so, and what is so is read.
 use Rattle.std.proofs.Common.{◌≡◌, ℕ, zero, suc, ◌+◌, ◌≤◌, Bool, true, false, ◌&&◌, nat_le, nat_eq, List, [], ◌∷◌, ◌++◌, length, Some, None, refl, ap, sym, ◌∙◌, arith, cond}
-use Rattle.std.proofs.lemmas.Bool.{eqb-true, eq-eqb, leb-true, le-leb}
+use Rattle.std.proofs.lemmas.Bool.{eqb-true, eq-eqb, leb-true, le-leb, and_parts}
 use Rattle.std.proofs.lemmas.List.{length-append}
 use Rattle.pgo_lexer.specs.declared.token.Lexeme.{Lexeme}
 use Rattle.pgo_base.specs.declared.expr.Infix.TheVariants as operator
@@ -17,10 +17,6 @@ use Rattle.pgo_mpcal_read.specs.ReadingSpec.{sees_minus, stop_of, more_dashes, d
 use Rattle.pgo_expr_read.proofs.Signs.{token_of_sign}
 use Rattle.pgo_expr_read.proofs.Steps.{some_pair, bind_then, next_step}
 use Rattle.pgo_mpcal_read.proofs.Parts.{Front, Sound, Reach, spot}
-
-pub and_both : (a b : Bool) → (a && b) ≡ true → (a ≡ true) × (b ≡ true)
-and_both true b e = (refl, e)
-and_both false b e = cc
 
 pub and_false : (b : Bool) → (b && false) ≡ false
 and_false true = refl
@@ -41,7 +37,7 @@ record GoodDashes (count stop : ℕ) (i : List Lexeme) (c : ℕ) (rest : List Le
 dashes_by : (b : Bool) (n count stop : ℕ) (l : Lexeme) (i : List Lexeme) (c : ℕ) (rest : List Lexeme) → (is_sign (symbol.Infix operator.Subtract) l.token && nat_eq l.start stop) ≡ b → (more_dashes n (count + 1) l.stop i ≡ Some (c, rest) → GoodDashes (count + 1) l.stop i c rest)
     → cond b (more_dashes n (count + 1) l.stop i) (Some (count, l ∷ i)) ≡ Some (c, rest) → GoodDashes count stop (l ∷ i) c rest
 dashes_by true n count stop l i c rest is go got =
-    let k = and_both _ _ is in
+    let k = and_parts _ _ is in
     let g = go got in
     let long = g.long in
     let starts = eqb-true l.start stop k.1 in

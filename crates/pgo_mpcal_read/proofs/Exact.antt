@@ -1,6 +1,6 @@
 -- Headers and specifications: what is read is so, and what is so is read.
 use Rattle.std.proofs.Common.{◌≡◌, ℕ, zero, suc, ◌≤◌, Bool, true, false, ◌&&◌, ◌||◌, nat_eq, List, [], ◌∷◌, ◌++◌, length, Option, Some, None, refl, ap, sym, ◌∙◌, subst, arith, cond, codes}
-use Rattle.std.proofs.lemmas.Bool.{eqb-true, leb-true, le-leb}
+use Rattle.std.proofs.lemmas.Bool.{eqb-true, leb-true, le-leb, and_parts}
 use Rattle.std.proofs.lemmas.List.{append_assoc, append-nil, length-append}
 use Rattle.pgo_lexer.specs.declared.token.Lexeme.{Lexeme}
 use Rattle.pgo_lexer.specs.declared.token.Token.{Token}
@@ -34,7 +34,7 @@ use Rattle.pgo_expr_read.proofs.Steps.{some_pair, bind_then, next_step}
 use Rattle.pgo_mpcal_read.proofs.Parts.{Front, Sound, Reach, Quiet, spot, front_then, name_then, sound_name}
 use Rattle.pgo_mpcal_read.proofs.Lists.{sound_items, sound_behind, reach_items, reach_behind}
 use Rattle.pgo_mpcal_read.proofs.Declared.{sound_definition, reach_definition, reach_name}
-use Rattle.pgo_mpcal_read.proofs.Dashes.{and_both, and_false, IsDashesUnit, sound_dashes, reach_dashes}
+use Rattle.pgo_mpcal_read.proofs.Dashes.{and_false, IsDashesUnit, sound_dashes, reach_dashes}
 use Rattle.pgo_mpcal_read.proofs.Algorithms.{IsAlgorithm, algorithm_of, sound_algorithm, reach_algorithm}
 
 -- ---- words
@@ -70,7 +70,7 @@ word_gives w p i = ap (λ b. cond b (Some (tt, i)) None) (same_bytes-self w)
 
 extends_by : (b : Bool) (i : List Lexeme) (a : List PlacedName) (rest : List Lexeme) → begins_list (codes "EXTENDS") i ≡ b → cond b (items symbol.Comma name (skip i)) (Some ([], i)) ≡ Some (a, rest) → Front IsExtends i a rest
 extends_by true i a rest is got =
-    let k = seen_word (codes "EXTENDS") i (and_both _ _ is).0 in
+    let k = seen_word (codes "EXTENDS") i (and_parts _ _ is).0 in
     let g = sound_items IsName symbol.Comma name sound_name (skip i) a rest got in
     record { front = word k.0 (codes "EXTENDS") ∷ g.front; split = k.1 ∙ ap (λ z. word k.0 (codes "EXTENDS") ∷ z) g.split; holds = h.extends g.holds }
 extends_by false i a rest is got =
@@ -146,7 +146,7 @@ record FrontPart (g : Header) (i : List Lexeme) (a : Header) (rest : List Lexeme
 sound_constants : (g : Header) (w : Name) → IsConstantsWord w → (i : List Lexeme) (a : Header) (rest : List Lexeme) → begins_list w i ≡ true → constants_part g (skip i) ≡ Some (a, rest) → FrontPart g i a rest
 unfolding constants_part
 sound_constants g w is i a rest begins got =
-    let k = seen_word w i (and_both _ _ begins).0 in
+    let k = seen_word w i (and_parts _ _ begins).0 in
     name_then (skip i) _ _ _ got (λ n x i1 e1 got.
     bind_then (behind symbol.Comma name (g.constants ++ placed n x ∷ []) i1) _ _ _ got (λ all i2 hb got.
     let m = sound_behind IsName symbol.Comma name sound_name (length i1) (g.constants ++ placed n x ∷ []) i1 all i2 hb in
@@ -302,7 +302,7 @@ some_then None f b C e k = cc
 
 within_depth_of : (ms : List MacroDepth) (as' : List Archetype) → are_within_depth ms as' ≡ true → AreWithinDepth ms as'
 within_depth_of ms [] e = h.no_archetype
-within_depth_of ms (a ∷ as') e = let k = and_both _ _ e in h.archetype (leb-true _ _ k.0) (within_depth_of ms as' k.1)
+within_depth_of ms (a ∷ as') e = let k = and_parts _ _ e in h.archetype (leb-true _ _ k.0) (within_depth_of ms as' k.1)
 
 within_depth_gives : {ms : List MacroDepth} {as' : List Archetype} → AreWithinDepth ms as' → are_within_depth ms as' ≡ true
 within_depth_gives h.no_archetype = refl
@@ -331,7 +331,7 @@ unfolding all_algorithm
 sound_all_algorithm i a got =
     some_then (whole (algorithm i)) _ _ _ got (λ g is got.
     let q = when (has_process g.1.processes && are_within_depth g.1.depths g.1.archetypes) g a got in
-    let k = and_both _ _ q.0 in
+    let k = and_parts _ _ q.0 in
     let P : PlacedName × Units → Type 0 = λ z. IsAlgorithm i z in
     record { holds = subst P q.1 (whole_some IsAlgorithm algorithm sound_algorithm i (algorithm i) g refl is); process = ap (λ (z : PlacedName × Units). has_process z.1.processes) (sym q.1) ∙ k.0; within_depth = ap (λ (z : PlacedName × Units). are_within_depth z.1.depths z.1.archetypes) (sym q.1) ∙ k.1 })
 

@@ -1,6 +1,7 @@
 -- What is read of a statement is spelled so.
 use Rattle.std.proofs.Common.{◌≡◌, ℕ, zero, suc, ◌+◌, ◌<◌, max, Bool, true, false, ◌&&◌, List, [], ◌∷◌, ◌++◌, length, Some, refl, ap, sym, ◌∙◌, subst, arith, cond}
 use Rattle.std.proofs.lemmas.List.{append_assoc, append-nil}
+use Rattle.std.proofs.lemmas.Bool.{and_parts}
 use Rattle.pgo_base.specs.Tree.{Tree}
 use Rattle.pgo_lexer.specs.declared.token.Lexeme.{Lexeme}
 use Rattle.pgo_syntax.specs.declared.assignment.Assignment.{Assignment}
@@ -30,10 +31,6 @@ use Rattle.pgo_mpcal_read.proofs.Lists.{sound_items, sound_in_brackets}
 use Rattle.pgo_mpcal_read.proofs.Lefts.{sound_assignment, sound_with_name}
 use Rattle.pgo_mpcal_read.proofs.SoundBlocks.{sound_block}
 use Rattle.pgo_mpcal_read.proofs.Good.{Stays, stays_closed, Good, SoundInner, inner_then, good_node, folded_over, shorter, sees_front}
-
-and_both : (a b : Bool) → (a && b) ≡ true → (a ≡ true) × (b ≡ true)
-and_both true b e = (refl, e)
-and_both false b e = cc
 
 and_first : (a b : Bool) → (a && b) ≡ false → a ≡ true → b ≡ false
 and_first true b e h = e
@@ -171,7 +168,7 @@ module _ (ms : List MacroDepth) (limit below : ℕ) (inner : Parser (WithDepth S
       let q = some_pair _ _ _ _ is in
       let Q : List Lexeme → Type 0 = λ z. Stays g.opens_if g.opens_either z in
       let m = go g.opens_if g.opens_either next j (subst Q q.1 g.stays) got in
-      let closed = is_false u (sees (symbol.Keyword keyword.Else) i) stays.no_else (and_both _ _ goes).0 in
+      let closed = is_false u (sees (symbol.Keyword keyword.Else) i) stays.no_else (and_parts _ _ goes).0 in
       let P : Bool → Type 0 = λ z. ElseIfs z v m.opens_if m.opens_either (at p (symbol.Keyword keyword.Else) ∷ (g.front ++ m.front)) (b.part ∷ m.others) in
       record {
         opens_if = m.opens_if;

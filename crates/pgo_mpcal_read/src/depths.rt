@@ -1,10 +1,6 @@
 // The depths of macros.
 ghost use Rattle.std.specs.Prelude.{◌≡◌, [], ◌∷◌, ◌++◌, IfOk, OnErr};
-ghost use Rattle.pgo_base.specs.Lookup.{Name};
-ghost use Rattle.pgo_model.specs.Names.{or_that};
-ghost use Rattle.pgo_base.specs.NameMaps.{found};
 ghost use Rattle.pgo_mpcal_read.specs.Depths as spec;
-ghost use Rattle.pgo_mpcal_read.specs.Depths.{first_depth};
 
 use pgo_base::name_map::NameMap;
 use pgo_base::text::Text;
@@ -56,21 +52,10 @@ impl MacroDepths {
         ensures kept { OnErr result (self.new ≡ self.old) }
     {
         self.list.reserve(1)?;
-        note(alloc, &mut self.first, &depth)?;
+        self.first.set_first(alloc, &depth.name, depth.depth)?;
         self.list.push_reserved(depth);
         Ok(())
     }
-}
-
-/// Notes the depth of this macro, where none is noted of its name.
-fn note(alloc: Global, first: &mut NameMap<u32>, depth: &MacroDepth) -> Result<(), AllocError>
-    ensures noted { IfOk result (λ _. (n : Name) → found first.new n ≡ or_that (found first.old n) (first_depth (depth.now ∷ []) n)) }
-    ensures kept { OnErr result ((n : Name) → found first.new n ≡ found first.old n) }
-{
-    if first.contains(&depth.name) {
-        return Ok(());
-    }
-    first.set(alloc, &depth.name, depth.depth)
 }
 
 /// The depth of the body of the first macro of this name, 0 where there is none.

@@ -1,6 +1,6 @@
 -- What an instruction does that evaluates an expression.
 use Rattle.std.proofs.Common.{◌≡◌, ℕ, zero, suc, List, [], ◌∷◌, Option, Some, None, refl, ap, sym, ◌∙◌, drop}
-use Rattle.std.specs.Prelude.{unwrap_or}
+use Rattle.std.proofs.lemmas.Option.{same_Some}
 use Rattle.pgo_base.specs.Data.{Data}
 use Rattle.pgo_base.specs.Lookup.{Name, Names}
 use Rattle.pgo_model.specs.Options.{on}
@@ -13,9 +13,6 @@ use Rattle.pgo_places.specs.Stands.{Fixed, Stand, onward, cleared, looked, updat
 -- functions that agree everywhere
 pub same_function : {A B : Type 0} (f g : A → B) → ((x : A) → f x ≡ g x) → f ≡ g
 same_function f g h = λ i x. h x i
-
-some_is : {A : Type 0} (x y : A) → Some x ≡ Some y → x ≡ y
-some_is x y h = ap (λ o. unwrap_or o x) h
 
 -- no global is seen, whatever was seen before
 unseen_again : (x : Name) (v : Data) (os : List (Option Name)) (vs : Names) → updated is_global None os (updated (is_global_named x) (Some v) os vs) ≡ updated is_global None os vs
@@ -41,18 +38,18 @@ drop_next (suc n) (u ∷ us) x xs h = drop_next n us x xs h
 -- an instruction that evaluates
 pub resume_evaluates : (a : Attempt) (k : Fixed) (n : ℕ) (is : List Step) (i : Step) (s : Stand) (e : Evaluation)
     → evaluation_in i s.value ≡ Some e → resume a k (suc n) (i ∷ is) s ≡ evaluating a k e s (after a k n is i (cleared k s))
-resume_evaluates a k n is (Bind w x) s e h = ap (λ y. evaluating a k y s (after a k n is (Bind w x) (cleared k s))) (some_is x e h)
-resume_evaluates a k n is (Pick w x) s e h = ap (λ y. evaluating a k y s (after a k n is (Pick w x) (cleared k s))) (some_is x e h)
+resume_evaluates a k n is (Bind w x) s e h = ap (λ y. evaluating a k y s (after a k n is (Bind w x) (cleared k s))) (same_Some x e h)
+resume_evaluates a k n is (Pick w x) s e h = ap (λ y. evaluating a k y s (after a k n is (Pick w x) (cleared k s))) (same_Some x e h)
 resume_evaluates a k n is (Set t x) s e h = go s.value h
   where
     go : (o : Option Data) → on (Some x) o (λ v. None) ≡ Some e
         → on (evaluating a k x s (after a k n is (Set t x) (cleared k s))) o (λ v. putting k t v (onward s) (resume a k n is)) ≡ evaluating a k e s (after a k n is (Set t x) (cleared k s))
-    go None q = ap (λ y. evaluating a k y s (after a k n is (Set t x) (cleared k s))) (some_is x e q)
+    go None q = ap (λ y. evaluating a k y s (after a k n is (Set t x) (cleared k s))) (same_Some x e q)
     go (Some v) q = absurd (cc)
-resume_evaluates a k n is (Await x) s e h = ap (λ y. evaluating a k y s (after a k n is (Await x) (cleared k s))) (some_is x e h)
-resume_evaluates a k n is (Assert x) s e h = ap (λ y. evaluating a k y s (after a k n is (Assert x) (cleared k s))) (some_is x e h)
-resume_evaluates a k n is (Print x) s e h = ap (λ y. evaluating a k y s (after a k n is (Print x) (cleared k s))) (some_is x e h)
-resume_evaluates a k n is (Branch x j) s e h = ap (λ y. evaluating a k y s (after a k n is (Branch x j) (cleared k s))) (some_is x e h)
+resume_evaluates a k n is (Await x) s e h = ap (λ y. evaluating a k y s (after a k n is (Await x) (cleared k s))) (same_Some x e h)
+resume_evaluates a k n is (Assert x) s e h = ap (λ y. evaluating a k y s (after a k n is (Assert x) (cleared k s))) (same_Some x e h)
+resume_evaluates a k n is (Print x) s e h = ap (λ y. evaluating a k y s (after a k n is (Print x) (cleared k s))) (same_Some x e h)
+resume_evaluates a k n is (Branch x j) s e h = ap (λ y. evaluating a k y s (after a k n is (Branch x j) (cleared k s))) (same_Some x e h)
 resume_evaluates a k n is Unbind s e h = absurd (cc)
 resume_evaluates a k n is (Assign t w) s e h = absurd (cc)
 resume_evaluates a k n is (Choose js) s e h = absurd (cc)

@@ -182,17 +182,17 @@ pub fn under<'x>(env: &'x [NamedValue], name: &Text) -> Option<&'x Value>
 /// The resources that are too deep, of which this one is or isn't one now.
 fn marked(
     alloc: Global,
-    deep: &[u32],
+    too_deep: &[u32],
     is_too_deep: bool,
     resource: u32,
 ) -> Result<Vec<u32>, AllocError>
-    ensures { IfOk result (λ qs. qs.items ≡ marked is_too_deep resource deep.now) }
+    ensures { IfOk result (λ qs. qs.items ≡ marked is_too_deep resource too_deep.now) }
 {
     let mut kept = Vec::new(alloc);
     if is_too_deep {
         kept.push(resource)?;
     }
-    for q in deep {
+    for q in too_deep {
         if *q != resource {
             kept.push(*q)?;
         }

@@ -20,19 +20,17 @@ use Rattle.pgo_meaning.specs.Sections.{sections_of}
 use Rattle.pgo_meaning.specs.System.{system_of}
 use Rattle.pgo_workers.specs.Walk.{Own, Walk}
 use Rattle.pgo_accesses.specs.Accesses.{accesses_of, no_value}
-use Rattle.pgo_accesses.specs.Programs.{attempt_of, tree_with, tree_of}
+use Rattle.pgo_accesses.specs.Programs.{attempt_of, tree_of}
 use Rattle.pgo_section.specs.Programs.{RunsSystem}
 use Rattle.pgo_code.specs.See.{section_view}
 use Rattle.pgo_code.specs.Steps.{Step, steps_of}
 use Rattle.pgo_code.specs.declared.program.Code.{Code}
 use Rattle.pgo_code.specs.declared.program.Program.{Program}
-use Rattle.pgo_code.specs.declared.program.Variable.{Variable}
 use Rattle.pgo_places.specs.PlaceWalk.{count_of}
 use Rattle.pgo_places.specs.Stands.{limited, resume}
 use Rattle.pgo_places.specs.Trees.{attempt_with, fixed_of, start_of, steps_named, tree_in}
 use Rattle.pgo_places.proofs.Starts.{owner_of, starts}
-use Rattle.pgo_lower.specs.Agree.{SectionsAgree, IsLowered, AreLowered}
-use Rattle.pgo_lower.specs.Slots.{variable_view}
+use Rattle.pgo_lower.specs.Agree.{IsLowered, AreLowered}
 use Rattle.pgo_lower.proofs.AgreeLaws.{FoundAgree, found_agree}
 use Rattle.pgo_programs.proofs.Numbers.{limited_section}
 

@@ -1,5 +1,5 @@
 -- Where resources are numbered in order, a section accesses resources that there are, so nothing of its tree is left out.
-use Rattle.std.proofs.Common.{◌≡◌, ◌<◌, ◌∙◌, ℕ, zero, suc, Bool, true, false, List, [], ◌∷◌, length, Option, Some, None, refl, sym, ap, subst, arith}
+use Rattle.std.proofs.Common.{◌≡◌, ◌<◌, ◌∙◌, ℕ, zero, suc, Bool, true, false, List, [], ◌∷◌, length, Option, Some, refl, sym, arith}
 use Rattle.std.proofs.lemmas.List.{length-map}
 use Rattle.std.specs.Prelude.{if◌then◌else◌, ◌&&◌, nat_lt, map}
 use Rattle.pgo_base.specs.Data.{Data}
@@ -17,7 +17,7 @@ use Rattle.pgo_sections.specs.Domains.{Uses, AllUse}
 use Rattle.pgo_model.specs.System.{Words}
 use Rattle.pgo_workers.specs.Walk as walks
 use Rattle.pgo_workers.specs.Walk.{Walk, Stop, Touch, Within}
-use Rattle.pgo_accesses.specs.Accesses.{Attempt, accesses_of, begun, no_value}
+use Rattle.pgo_accesses.specs.Accesses.{accesses_of, begun, no_value}
 use Rattle.pgo_accesses.specs.Programs.{attempt_of}
 use Rattle.pgo_accesses.proofs.Reached.{InReach, PlaceInReach, within}
 use Rattle.pgo_accesses.proofs.Within.{there_below}

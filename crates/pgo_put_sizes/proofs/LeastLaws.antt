@@ -1,6 +1,7 @@
 -- An expansion has at least the nodes that `least` counts.
 use Rattle.std.proofs.Common.{◌≡◌, ◌≤◌, ℕ, suc, ◌+◌, Bool, true, false, ◌||◌, ◌&&◌, if◌then◌else◌, List, [], ◌∷◌, Option, refl, inl, inr, arith}
 use Rattle.std.specs.Prelude.{◌⊎◌}
+use Rattle.std.proofs.lemmas.Bool.{and_parts}
 use Rattle.pgo_base.specs.Lookup.{Name, find}
 use Rattle.pgo_base.specs.Tree.{Tree, name}
 use Rattle.pgo_model.specs.Written.{made}
@@ -15,10 +16,6 @@ use Rattle.pgo_put_sizes.proofs.Replaced.{current_nodes}
 pub either_is : (a b : Bool) → a || b ≡ true → (a ≡ true) ⊎ (b ≡ true)
 either_is true b h = inl refl
 either_is false b h = inr h
-
-pub both_are : (a b : Bool) → a && b ≡ true → (a ≡ true) × (b ≡ true)
-both_are true b h = (refl, h)
-both_are false b h = absurd (cc)
 
 never : {A : Type 0} → false ≡ true → A
 never e = absurd (cc)
@@ -86,12 +83,12 @@ mutual
       omega (arith, in_one (either_is (passes c) (passes d) p) (λ q. passes_law c m ps ren cur n k j y q h) (λ q. passes_law d m ps ren cur n k j y q h))
   passes_law (Either cs) m ps ren cur n k j y p h = omega (arith, one_passes_law cs m ps ren cur n k j y p h)
   passes_law (Seq c d) m ps ren cur n k j y p h =
-      let q = both_are (passes c) (passes d) p in
+      let q = and_parts (passes c) (passes d) p in
       passes_law c m ps ren cur n (λ cur' n'. expand ps d ren cur' n' k j y) j y q.0 (λ cur' n'. passes_law d m ps ren cur' n' k j y q.1 h)
   passes_law (Goto l) m ps ren cur n k j y p h = never p
   passes_law (Yield e) m ps ren cur n k j y p h = never p
   passes_law (Read w g i block c) m ps ren cur n k j y p h =
-      let q = both_are (yields block) (passes c) p in
+      let q = and_parts (yields block) (passes c) p in
       omega (
         arith,
         yields_law block m content_places [] (content_now (made old_base (suc n))) (suc n) no_go no_jump (after_read ps w g i c ren cur k j y) q.0
@@ -125,11 +122,11 @@ mutual
       one_of
       (either_is (yields c) (passes c && yields d) p)
       (λ q. yields_law c m ps ren cur n (λ cur' n'. expand ps d ren cur' n' k j y) j y q h)
-      (λ q. passes_law c m ps ren cur n (λ cur' n'. expand ps d ren cur' n' k j y) j y (both_are (passes c) (yields d) q).0 (λ cur' n'. yields_law d m ps ren cur' n' k j y (both_are (passes c) (yields d) q).1 h))
+      (λ q. passes_law c m ps ren cur n (λ cur' n'. expand ps d ren cur' n' k j y) j y (and_parts (passes c) (yields d) q).0 (λ cur' n'. yields_law d m ps ren cur' n' k j y (and_parts (passes c) (yields d) q).1 h))
   yields_law (Goto l) m ps ren cur n k j y p h = never p
   yields_law (Yield e) m ps ren cur n k j y p h = h (current_tree ps ren cur e) cur n
   yields_law (Read w g i block c) m ps ren cur n k j y p h =
-      let q = both_are (yields block) (yields c) p in
+      let q = and_parts (yields block) (yields c) p in
       omega (
         arith,
         yields_law block m content_places [] (content_now (made old_base (suc n))) (suc n) no_go no_jump (after_read ps w g i c ren cur k j y) q.0

@@ -1,26 +1,26 @@
 -- Where the paths through a statement of a mapping macro lead.
 use Rattle.std.specs.Prelude.{Bool, true, false, ◌||◌, ◌&&◌, [], ◌∷◌, Some, None}
 use Rattle.pgo_put_sizes.specs.Least.{yields}
-use Rattle.pgo_put_sizes.specs.declared.blocks.Leads.{Leads}
+use Rattle.pgo_put_sizes.specs.declared.blocks.Paths.{Paths}
 use Rattle.pgo_sections.specs.Access.{MappedNames}
 use Rattle.pgo_syntax.specs.Statement.{Statement, skip, assign, if_then, if_else, while_do, either_of, await_that, with_in, print_out, assert_that, go_to, call_macro, yield_as, block, Statements, no_statements, more_statements, LabeledStatements, no_labeled, more_labeled, GuardedStatements, no_guarded, more_guarded}
 
 -- it only goes on; it never does either
-abbrev pub goes_on : Leads
+abbrev pub goes_on : Paths
 goes_on = record { passes = true; yields = false }
 
-abbrev pub nowhere : Leads
+abbrev pub nowhere : Paths
 nowhere = record { passes = false; yields = false }
 
 -- the one or the other, and one behind the other
-abbrev pub either_way : Leads → Leads → Leads
+abbrev pub either_way : Paths → Paths → Paths
 either_way a b = record { passes = a.passes || b.passes; yields = a.yields || b.yields }
 
-abbrev pub then_way : Leads → Leads → Leads
+abbrev pub then_way : Paths → Paths → Paths
 then_way a b = record { passes = a.passes && b.passes; yields = a.yields || (a.passes && b.yields) }
 
 abbrev mutual
-  pub leads : Statement → Leads
+  pub leads : Statement → Paths
   leads (skip p) = goes_on
   leads (assign p x) = goes_on
   leads (if_then p bs) = branches_lead goes_on bs
@@ -37,16 +37,16 @@ abbrev mutual
   leads (block p ls) = row_leads goes_on ls
 
   -- those, or one of these
-  pub any_lead : Leads → Statements → Leads
+  pub any_lead : Paths → Statements → Paths
   any_lead a no_statements = a
   any_lead a (more_statements t ts) = any_lead (either_way a (leads t)) ts
 
-  pub branches_lead : Leads → GuardedStatements → Leads
+  pub branches_lead : Paths → GuardedStatements → Paths
   branches_lead a no_guarded = a
   branches_lead a (more_guarded p e t bs) = branches_lead (either_way a (leads t)) bs
 
   -- those, and then these up to the first label
-  pub row_leads : Leads → LabeledStatements → Leads
+  pub row_leads : Paths → LabeledStatements → Paths
   row_leads a no_labeled = a
   row_leads a (more_labeled None t ls) = row_leads (then_way a (leads t)) ls
   row_leads a (more_labeled (Some x) t ls) = then_way a nowhere

@@ -12,66 +12,66 @@ use pgo_syntax::statement::{Branch, Labeled, Stmt};
 
 /// Where the paths through statements lead: whether one comes to their end, and whether one comes to a `yield`.
 #[derive(Clone, Copy)]
-pub(crate) struct Leads {
+pub(crate) struct Paths {
     pub passes: bool,
     pub yields: bool,
 }
 
 /// It only goes on.
-fn goes_on() -> Leads
+fn goes_on() -> Paths
     ensures { result ≡ spec.goes_on }
 {
-    Leads {
+    Paths {
         passes: true,
         yields: false,
     }
 }
 
 /// It comes to neither.
-fn nowhere() -> Leads
+fn nowhere() -> Paths
     ensures { result ≡ spec.nowhere }
 {
-    Leads {
+    Paths {
         passes: false,
         yields: false,
     }
 }
 
 /// The one or the other.
-fn either_way(a: Leads, b: Leads) -> Leads
+fn either_way(a: Paths, b: Paths) -> Paths
     ensures { result ≡ spec.either_way a b }
 {
-    Leads {
+    Paths {
         passes: a.passes || b.passes,
         yields: a.yields || b.yields,
     }
 }
 
 /// The one, and then the other.
-fn then_way(a: Leads, b: Leads) -> Leads
+fn then_way(a: Paths, b: Paths) -> Paths
     ensures { result ≡ spec.then_way a b }
 {
-    Leads {
+    Paths {
         passes: a.passes && b.passes,
         yields: a.yields || (a.passes && b.yields),
     }
 }
 
 /// The same around a `while`, which may also be left at once.
-fn around_loop(body: Leads) -> Leads
+fn around_loop(body: Paths) -> Paths
     ensures { result ≡ record { passes = true; yields = body.yields } }
 {
-    Leads {
+    Paths {
         passes: true,
         yields: body.yields,
     }
 }
 
 /// It ends with a value.
-fn ends() -> Leads
+fn ends() -> Paths
     ensures { result ≡ record { passes = false; yields = true } }
 {
-    Leads {
+    Paths {
         passes: false,
         yields: true,
     }
@@ -79,7 +79,7 @@ fn ends() -> Leads
 
 /// Where a statement leads. It recurses to the nesting of statements.
 #[cycle(leads)]
-fn statement_leads(t: &Stmt) -> Leads
+fn statement_leads(t: &Stmt) -> Paths
     ensures { result ≡ spec.leads (statement t.now) }
 {
     match t {
@@ -100,7 +100,7 @@ fn statement_leads(t: &Stmt) -> Leads
 
 /// Where one of these statements leads.
 #[cycle(leads)]
-fn any_lead(list: &[Stmt]) -> Leads
+fn any_lead(list: &[Stmt]) -> Paths
     ensures { result ≡ spec.any_lead spec.nowhere (statements (map statement list.now)) }
 {
     let mut all = nowhere();
@@ -112,7 +112,7 @@ fn any_lead(list: &[Stmt]) -> Leads
 
 /// Where this way, or one of these branches, leads.
 #[cycle(leads)]
-fn branches_lead(other: Leads, list: &[Branch]) -> Leads
+fn branches_lead(other: Paths, list: &[Branch]) -> Paths
     ensures { result ≡ spec.branches_lead other (guarded (map branch_parts list.now)) }
 {
     let mut all = other;
@@ -124,7 +124,7 @@ fn branches_lead(other: Leads, list: &[Branch]) -> Leads
 
 /// Where these statements lead, one behind the other up to the first label.
 #[cycle(leads)]
-pub(crate) fn row_leads(list: &[Labeled]) -> Leads
+pub(crate) fn row_leads(list: &[Labeled]) -> Paths
     ensures { result ≡ spec.row_leads spec.goes_on (labeled (map labeled_pair list.now)) }
 {
     let mut all = goes_on();

@@ -12,10 +12,11 @@ ghost use Rattle.pgo_sizes.specs.Left.{left_after};
 ghost use Rattle.pgo_sizes.specs.Sums.{nodes_in};
 
 use crate::layers::resolve;
-use pgo_base::expr::{Expr, Names};
+use pgo_base::expr::Expr;
 use pgo_operands::operands::operands;
 use pgo_rewrite::arguments::Arguments;
 use pgo_rewrite::bound_names::{count_at, names_by};
+use pgo_rewrite::indexed_names::IndexedNames;
 use pgo_rewrite::scopes::Scope;
 use pgo_sizes::nodes::take;
 use pgo_sizes::tuples::own_nodes;
@@ -98,7 +99,7 @@ fn take_each(
     layers: &[Arguments],
     scope: &Scope<'_>,
     e: &Expr,
-    bound: &Names,
+    bound: &IndexedNames,
     list: &[&Expr],
     left: u64,
     levels: u64,

@@ -1,6 +1,8 @@
 -- What each call of a board of one instance does to what it shows.
 use Rattle.std.proofs.Common.{◌≡◌, ◌<◌, ℕ, zero, suc, Bool, true, false, List, [], ◌∷◌, ◌++◌, map, length, get_or, set, Option, Some, None, refl, sym, ap, ◌∙◌, subst, arith, inl, inr}
 use Rattle.std.specs.Prelude.{if◌then◌else◌, nat_eq, nat_lt, ◌&&◌, IsSome, slice_get, ◌⊎◌}
+use Rattle.std.proofs.lemmas.Bool.{and_parts}
+use Rattle.std.proofs.lemmas.List.{map_push}
 use Rattle.pgo_base.specs.Data.{Data}
 use Rattle.pgo_base.specs.Lookup.{Vars}
 use Rattle.pgo_base.specs.declared.log.Entry.{Entry}
@@ -13,7 +15,7 @@ use Rattle.pgo_syntax.specs.declared.records.Note.{Note}
 use Rattle.pgo_workers.specs.Walk.{At}
 use Rattle.pgo_workers.specs.View.{Shown, Hold, View, EachHold, IsSteady, Changed, MayNumber, StandsAt, Grows, hold_at, without, renewed, changed, along, own_left, notes_of}
 use Rattle.pgo_workers.specs.Worlds.{Layout, IsLayout, HasAll, value_in, own_in, are_components_of, world_of}
-use Rattle.pgo_workers.proofs.Components.{and_parts, same_self}
+use Rattle.pgo_workers.proofs.Components.{same_self}
 use Rattle.pgo_workers.proofs.Patched.{patched_has, patched_value, patched_own}
 use Rattle.pgo_resource.specs.declared.taken.Taken.{Taken}
 use Rattle.pgo_resource.specs.PlainRows.{taken_of, apart, fits, are_of, state_of, values_at, shown_at, row, rows, FreeStands, FitsStart, without_taken}
@@ -23,10 +25,6 @@ use Rattle.pgo_resource.proofs.PlainPlaces.{apart_parts, drop_among, taken_witho
 pub append_nil : {A : Type 0} (xs : List A) → xs ++ [] ≡ xs
 append_nil [] = refl
 append_nil (x ∷ xs) = ap (λ l. x ∷ l) (append_nil xs)
-
-pub map_push : {A B : Type 0} (f : A → B) (xs : List A) (x : A) → map f (xs ++ x ∷ []) ≡ map f xs ++ f x ∷ []
-map_push f [] x = refl
-map_push f (y ∷ ys) x = ap (λ l. f y ∷ l) (map_push f ys x)
 
 -- nobody else is there
 pub nothing_grows : (y : Layout) (b c : View Effect) → c.entries ≡ b.entries → c.notes ≡ b.notes → Grows (world_of y) b c

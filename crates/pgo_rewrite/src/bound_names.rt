@@ -5,36 +5,37 @@ ghost use Rattle.pgo_base.specs.Tree.{named, bound};
 ghost use Rattle.pgo_rewrite.specs.Scoped as spec;
 ghost use Rattle.pgo_sections.specs.Bound.{names_of, names_bound};
 
-use pgo_base::expr::{Binders, Expr, Named, Names};
+use crate::indexed_names::IndexedNames;
+use pgo_base::expr::{Binders, Expr, Named};
 use pgo_base::text::Text;
 use std::alloc::{AllocError, Global};
 
 /// Adds names.
-fn add_all(alloc: Global, all: &mut Names, names: &[Text]) -> Result<(), AllocError>
+fn add_all(alloc: Global, all: &mut IndexedNames, names: &[Text]) -> Result<(), AllocError>
     ensures { IfOk result (λ _. all.new ≡ all.old ++ names.now) }
 {
     for name in names {
-        all.push(name.copy(alloc)?)?;
+        all.push(alloc, name.copy(alloc)?)?;
     }
     Ok(())
 }
 
 /// The names of a LET.
-fn let_names(alloc: Global, list: &Named) -> Result<Names, AllocError>
+fn let_names(alloc: Global, list: &Named) -> Result<IndexedNames, AllocError>
     ensures { IfOk result (λ v. v ≡ names_of (named list.now)) }
 {
-    let mut all = Names::new(alloc);
+    let mut all = IndexedNames::new(alloc);
     for item in list.as_slice() {
-        all.push(item.0.copy(alloc)?)?;
+        all.push(alloc, item.0.copy(alloc)?)?;
     }
     Ok(all)
 }
 
 /// The names of binders.
-fn binder_names(alloc: Global, list: &Binders) -> Result<Names, AllocError>
+fn binder_names(alloc: Global, list: &Binders) -> Result<IndexedNames, AllocError>
     ensures { IfOk result (λ v. v ≡ names_bound (bound list.now)) }
 {
-    let mut all = Names::new(alloc);
+    let mut all = IndexedNames::new(alloc);
     for item in list.as_slice() {
         add_all(alloc, &mut all, item.0.as_slice())?;
     }
@@ -42,18 +43,18 @@ fn binder_names(alloc: Global, list: &Binders) -> Result<Names, AllocError>
 }
 
 /// One name.
-fn one_name(alloc: Global, name: &Text) -> Result<Names, AllocError>
+fn one_name(alloc: Global, name: &Text) -> Result<IndexedNames, AllocError>
     ensures { IfOk result (λ v. v ≡ name.now ∷ []) }
 {
-    let mut all = Names::new(alloc);
-    all.push(name.copy(alloc)?)?;
+    let mut all = IndexedNames::new(alloc);
+    all.push(alloc, name.copy(alloc)?)?;
     Ok(all)
 }
 
 /// The names that an expression binds for its operands, in the order of the text.
 ///
 /// A form that binds none gives none. Err only where there is no memory.
-pub fn names_by(alloc: Global, e: &Expr) -> Result<Names, AllocError>
+pub fn names_by(alloc: Global, e: &Expr) -> Result<IndexedNames, AllocError>
     ensures { IfOk result (λ v. v ≡ spec.names_by (tree e.now)) }
 {
     match e {
@@ -63,7 +64,7 @@ pub fn names_by(alloc: Global, e: &Expr) -> Result<Names, AllocError>
         Expr::Filter(x, _, _) => one_name(alloc, x),
         Expr::Image(_, x, _) => one_name(alloc, x),
         Expr::FunOf(list, _) => binder_names(alloc, list),
-        _ => Ok(Names::new(alloc)),
+        _ => Ok(IndexedNames::new(alloc)),
     }
 }
 

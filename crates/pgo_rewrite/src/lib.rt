@@ -12,6 +12,7 @@
 pub mod arguments;
 pub mod bound_names;
 pub mod indexed_bindings;
+pub mod indexed_names;
 mod lists;
 pub mod mapped;
 pub mod newest;

@@ -3,7 +3,7 @@ ghost use Rattle.std.specs.Prelude.{◌≡◌, [], ◌∷◌, take};
 ghost use Rattle.pgo_rewrite.specs.Scopes.{in_scope};
 ghost use Rattle.pgo_model.specs.Names.{is_among};
 
-use pgo_base::expr::Names;
+use crate::indexed_names::IndexedNames;
 use pgo_base::text::Text;
 use std::marker::Model;
 
@@ -19,7 +19,7 @@ pub struct Scope<'a> {
 #[derive(Clone, Copy)]
 enum Link<'a> {
     Empty,
-    Within(&'a Names, usize, &'a Scope<'a>),
+    Within(&'a IndexedNames, usize, &'a Scope<'a>),
 }
 
 impl<'a> Model for Scope<'a> {
@@ -50,36 +50,13 @@ impl<'a> Scope<'a> {
     }
 
     /// The names of `outer`, and within them the first `count` of these, or all where there are fewer.
-    pub fn within(outer: &'a Scope<'a>, names: &'a Names, count: usize) -> Scope<'a>
+    pub fn within(outer: &'a Scope<'a>, names: &'a IndexedNames, count: usize) -> Scope<'a>
         ensures { result ≡ take count names.entry.now ∷ outer.entry.now }
     {
         Scope {
             link: Link::Within(names, count, outer),
         }
     }
-}
-
-/// The first so many of these names.
-fn first_names(names: &[Text], count: usize) -> &[Text]
-    ensures { result.now ≡ take count names.now }
-{
-    if count < names.len() {
-        &names[..count]
-    } else {
-        names
-    }
-}
-
-/// Whether a name is one of these.
-fn is_one(names: &[Text], name: &Text) -> bool
-    ensures { result ≡ is_among name.now names.now }
-{
-    for one in names {
-        if name.is(one) {
-            return true;
-        }
-    }
-    false
 }
 
 impl<'a> Scope<'a> {
@@ -90,7 +67,7 @@ impl<'a> Scope<'a> {
         match &self.link {
             Link::Empty => false,
             Link::Within(names, count, outer) => {
-                is_one(first_names(names.as_slice(), *count), name) || outer.has(name)
+                names.has_before(*count, name) || outer.has(name)
             }
         }
     }

@@ -13,6 +13,7 @@ ghost use Rattle.pgo_sections.specs.Access.{if_whole, if_element, mapped_under, 
 
 use crate::bound_names::{count_at, names_by};
 use crate::indexed_bindings::IndexedBindings;
+use crate::indexed_names::IndexedNames;
 use crate::lists::push_item;
 use crate::mapped::Mapped;
 use crate::parts::Parts;
@@ -20,7 +21,7 @@ use crate::reads::Reads;
 use crate::rebuild::rebuilt;
 use crate::scopes::Scope;
 use crate::substitution::Substitution;
-use pgo_base::expr::{Expr, Exprs, Names};
+use pgo_base::expr::{Expr, Exprs};
 use pgo_base::text::Text;
 use pgo_operands::operands::operands;
 use std::alloc::{AllocError, Global};
@@ -212,7 +213,7 @@ fn rewrite_parts<'a, S: Substitution>(
     bindings: &IndexedBindings<'a>,
     scope: &Scope<'_>,
     e: &Expr,
-    bound: &Names,
+    bound: &IndexedNames,
     list: &[&Expr],
     reads: &mut Reads<'a>,
 ) -> Result<Vec<Expr>, AllocError>

@@ -26,6 +26,7 @@ use Rattle.pgo_meaning.proofs.SystemStates.{states_same}
 use Rattle.pgo_systems.specs.Premises.{AllAtLabels, IsGoodState, KeepsStates}
 use Rattle.pgo_agrees.specs.Accepted.{IsOfText}
 use Rattle.pgo_accounts.proofs.Steps.{Leads, leads_from}
+use Rattle.pgo_accounts.proofs.Entries.{nth_there}
 use Rattle.pgo_run_values.specs.Spellable.{AllSpellable, IsSpellable}
 use Rattle.pgo_run_values.specs.WrittenStatements.{LiteralsWrittenIn}
 use Rattle.pgo_run_values.specs.WrittenTexts.{AllLiteralsWritten}
@@ -34,11 +35,6 @@ use Rattle.pgo_run_values.proofs.Places.{label_bytes, places_spellable}
 use Rattle.pgo_run_values.proofs.StatementCode.{sections_fit}
 use Rattle.pgo_run_values.proofs.Starts.{definitions_fit, run_fits, start_spellable}
 use Rattle.pgo_run_values.proofs.States.{sect_spellable}
-
-nth_there : {A : Type 0} (l : List A) (n : ℕ) → suc n ≤ length l → (e : A) × (nth l n ≡ Some e)
-nth_there [] n h = absurd (omega (arith, h))
-nth_there (e ∷ l) zero h = (e, refl)
-nth_there (e ∷ l) (suc n) h = nth_there l n (omega (arith, h))
 
 module _ (s : Spec) (consts : List (Name × Data)) (text : IsOfText s) (literals : AllLiteralsWritten s) (spelled : AllSpellable consts) (keeps : KeepsStates (bound_of s consts)) where
   abbrev b : Bound

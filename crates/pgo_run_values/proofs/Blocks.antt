@@ -1,5 +1,6 @@
 -- The blocks of mapping macros give values, and a section from values ends in values.
 use Rattle.std.proofs.Common.{◌≡◌, Bool, true, false, if◌then◌else◌, List, [], ◌∷◌, Option, Some, None, inl, inr, refl, subst, sym, option_map}
+use Rattle.std.proofs.lemmas.Option.{same_Some}
 use Rattle.pgo_base.specs.Data.{Data, string}
 use Rattle.pgo_base.specs.Lookup.{Name, Names, Vars, same_name, find}
 use Rattle.pgo_model.specs.Options.{on}
@@ -8,7 +9,7 @@ use Rattle.pgo_model.specs.State.{is_shallow}
 use Rattle.pgo_model.specs.System.{Words}
 use Rattle.pgo_model.specs.Val.{Meaning}
 use Rattle.pgo_model.specs.Written.{pc}
-use Rattle.pgo_bound.specs.Among.{IsAmong, some_is}
+use Rattle.pgo_bound.specs.Among.{IsAmong}
 use Rattle.pgo_model.specs.Names.{is_among}
 use Rattle.pgo_sections.specs.Code.{Code, content_name, value_name}
 use Rattle.pgo_sections.specs.Context.{Context, block_context, content_state, is_assigned, new_content}
@@ -44,8 +45,8 @@ new_spellable ch new h e = go (is_assigned ch) (find content_name ch) (h content
   where
     go : (b : Bool) (o : Option Data) → Spellable o → (if b then option_map (λ v. Some v) o else Some None) ≡ Some new → Spellable new
     go true None c k = absurd (cc)
-    go true (Some v) c k = subst Spellable (some_is (Some v) new k) c
-    go false o c k = subst Spellable (some_is None new k) none_spellable
+    go true (Some v) c k = subst Spellable (same_Some (Some v) new k) c
+    go false o c k = subst Spellable (same_Some None new k) none_spellable
 
 read_end_spellable : (o : Out) → OutSpellable o → EndSpellable ReadSpellable (read_end o)
 read_end_spellable (Go run) h = tt
@@ -94,10 +95,10 @@ module _ (k : Context) (spellable : ContextSpellable k) where
   PlacesSpellable t = (p : Name × Data) → IsAmong p t → same_name p.0 pc ≡ true → IsSpellable p.1
 
   closed_all : (l : Name) (ch s t : Vars) → AllSpellable s → FoundSpellable ch → PlacesSpellable t → closed k l ch s ≡ Some t → AllSpellable t
-  closed_all l ch [] t h f places e = subst AllSpellable (some_is [] t e) tt
+  closed_all l ch [] t h f places e = subst AllSpellable (same_Some [] t e) tt
   closed_all l ch (p ∷ s) t h f places e =
       let b = both_parts (λ v t. Some ((p.0, v) ∷ t)) (closed_value k l ch p.0 p.1) (closed k l ch s) t e in
-      let same : (p.0, b.0) ∷ b.1.0 ≡ t = some_is ((p.0, b.0) ∷ b.1.0) t b.1.3 in
+      let same : (p.0, b.0) ∷ b.1.0 ≡ t = same_Some ((p.0, b.0) ∷ b.1.0) t b.1.3 in
       let given : PlacesSpellable ((p.0, b.0) ∷ b.1.0) = subst PlacesSpellable (sym same) places in
       subst AllSpellable same (first p.0 p.1 b.0 b.1.0 h.0 given b.1.1 (same_name p.0 pc) refl, closed_all l ch s b.1.0 h.1 f (λ q m. given q (inr m)) b.1.2)
     where

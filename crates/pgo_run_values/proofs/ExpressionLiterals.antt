@@ -13,15 +13,16 @@ use Rattle.pgo_expr_read.specs.declared.table.Operator.{Operator}
 use Rattle.pgo_expr_read.specs.declared.table.Operator.TheVariants as operator
 use Rattle.pgo_expr_read.specs.declared.read.Ending.{Ending}
 use Rattle.pgo_expr_read.specs.Kinds as kind
-use Rattle.pgo_expr_read.specs.Kinds.{Kind, Thing, between}
+use Rattle.pgo_expr_read.specs.Kinds.{Kind, ItemOf, between}
 use Rattle.pgo_expr_read.specs.Spells.{Spelled, Range, Item, Behind, Items, names, applied, extended, product_of_two, appended, joined, infix_of}
 use Rattle.pgo_expr_read.specs.Spells as s
+use Rattle.pgo_agrees.proofs.EachToken.{cut}
 use Rattle.pgo_run_values.specs.WrittenLiterals.{LiteralsWritten, AllWritten, ArmsWritten, NamedWritten, BoundWritten, PathsWritten}
-use Rattle.pgo_run_values.proofs.Tokens.{AllPlain, parts}
+use Rattle.pgo_run_values.proofs.Tokens.{AllPlain}
 
 -- ---- items
 
-abbrev Fits : (k : Kind) → Thing k → Type 0
+abbrev Fits : (k : Kind) → ItemOf k → Type 0
 Fits kind.tree a = LiteralsWritten a
 Fits kind.item a = LiteralsWritten a
 Fits kind.binder p = LiteralsWritten p.1
@@ -31,7 +32,7 @@ Fits kind.arm p = LiteralsWritten p.0 × LiteralsWritten p.1
 Fits kind.step a = LiteralsWritten a
 Fits kind.update p = AllWritten (trees p.0) × LiteralsWritten p.1
 
-abbrev EachWritten : (k : Kind) → List (Thing k) → Type 0
+abbrev EachWritten : (k : Kind) → List (ItemOf k) → Type 0
 EachWritten k [] = Unit {0}
 EachWritten k (a ∷ as') = Fits k a × EachWritten k as'
 
@@ -102,52 +103,52 @@ mutual
   fits s.boolean h = tt
   fits s.variable h = tt
   fits s.value h = tt
-  fits (s.parens {ts = ts} d) h = fits d (parts ts _ h.1).0
+  fits (s.parens {ts = ts} d) h = fits d (cut _ ts _ h.1).0
   fits (s.junction {op = o} {xs = xs} {ys = ys} {a = a} {bs = bs} d b) h =
-      let q = parts xs _ h.1 in joined_fits o a bs (fits d q.0) (fits_behind b (parts ys _ q.1).0)
+      let q = cut _ xs _ h.1 in joined_fits o a bs (fits d q.0) (fits_behind b (cut _ ys _ q.1).0)
   fits (s.unary l d) h = fits d h.1
-  fits (s.operation {op = o} {f = f} {xs = xs} {a = a} {b = b} l r d d') h = let q = parts xs _ h in applied_fits o f a b (fits d q.0) (fits d' q.1.1)
-  fits (s.member k {xs = xs} l is d) h = (fits d (parts xs _ h).0, tt)
-  fits (s.index {xs = xs} {ys = ys} {bs = bs} l d m) h = let q = parts xs _ h in (fits d q.0, all_trees bs (fits_items m (parts ys _ q.1.1).0))
-  fits (s.select {xs = xs} l d) h = let q = parts xs _ h in (q.1.1.0, fits d q.0)
-  fits (s.call {ts = ts} {as' = as'} m) h = all_trees as' (fits_items m (parts ts _ h.1.1).0)
+  fits (s.operation {op = o} {f = f} {xs = xs} {a = a} {b = b} l r d d') h = let q = cut _ xs _ h in applied_fits o f a b (fits d q.0) (fits d' q.1.1)
+  fits (s.member k {xs = xs} l is d) h = (fits d (cut _ xs _ h).0, tt)
+  fits (s.index {xs = xs} {ys = ys} {bs = bs} l d m) h = let q = cut _ xs _ h in (fits d q.0, all_trees bs (fits_items m (cut _ ys _ q.1.1).0))
+  fits (s.select {xs = xs} l d) h = let q = cut _ xs _ h in (q.1.1.0, fits d q.0)
+  fits (s.call {ts = ts} {as' = as'} m) h = all_trees as' (fits_items m (cut _ ts _ h.1.1).0)
   fits s.no_tuple h = tt
-  fits (s.tuple {ts = ts} {as' = as'} m) h = all_trees as' (fits_items m (parts ts _ h.1).0)
+  fits (s.tuple {ts = ts} {as' = as'} m) h = all_trees as' (fits_items m (cut _ ts _ h.1).0)
   fits s.no_set h = tt
-  fits (s.set {xs = xs} {ys = ys} {bs = bs} apart d b) h = let q = parts xs _ h.1 in (fits d q.0, all_trees bs (fits_behind b (parts ys _ q.1).0))
-  fits (s.filter {xs = xs} {ys = ys} r d) h = let q = parts xs _ h.1.1.1 in (fits_range r q.0, fits d (parts ys _ q.1.1).0)
-  fits (s.image {xs = xs} {ys = ys} apart d r) h = let q = parts xs _ h.1 in (fits d q.0, fits_range r (parts ys _ q.1.1.1.1).0)
-  fits (s.fun_of {xs = xs} {ys = ys} {bs = bs} m d) h = let q = parts xs _ h.1 in (all_binders bs (fits_items m q.0), fits d (parts ys _ q.1.1).0)
-  fits (s.fun_set {xs = xs} {ys = ys} apart d d') h = let q = parts xs _ h.1 in (fits d q.0, fits d' (parts ys _ q.1.1).0)
-  fits (s.record_of {xs = xs} {ds = ds} m) h = all_fields sign.MapsTo ds (fits_items m (parts xs _ h.1).0)
-  fits (s.record_set {xs = xs} {ds = ds} m) h = all_fields sign.Colon ds (fits_items m (parts xs _ h.1).0)
-  fits (s.except {xs = xs} {ys = ys} {us = us} apart d m) h = let q = parts xs _ h.1 in (fits d q.0, all_updates us (fits_items m (parts ys _ q.1.1).0))
+  fits (s.set {xs = xs} {ys = ys} {bs = bs} apart d b) h = let q = cut _ xs _ h.1 in (fits d q.0, all_trees bs (fits_behind b (cut _ ys _ q.1).0))
+  fits (s.filter {xs = xs} {ys = ys} r d) h = let q = cut _ xs _ h.1.1.1 in (fits_range r q.0, fits d (cut _ ys _ q.1.1).0)
+  fits (s.image {xs = xs} {ys = ys} apart d r) h = let q = cut _ xs _ h.1 in (fits d q.0, fits_range r (cut _ ys _ q.1.1.1.1).0)
+  fits (s.fun_of {xs = xs} {ys = ys} {bs = bs} m d) h = let q = cut _ xs _ h.1 in (all_binders bs (fits_items m q.0), fits d (cut _ ys _ q.1.1).0)
+  fits (s.fun_set {xs = xs} {ys = ys} apart d d') h = let q = cut _ xs _ h.1 in (fits d q.0, fits d' (cut _ ys _ q.1.1).0)
+  fits (s.record_of {xs = xs} {ds = ds} m) h = all_fields sign.MapsTo ds (fits_items m (cut _ xs _ h.1).0)
+  fits (s.record_set {xs = xs} {ds = ds} m) h = all_fields sign.Colon ds (fits_items m (cut _ xs _ h.1).0)
+  fits (s.except {xs = xs} {ys = ys} {us = us} apart d m) h = let q = cut _ xs _ h.1 in (fits d q.0, all_updates us (fits_items m (cut _ ys _ q.1.1).0))
   fits s.unchanged h = tt
-  fits (s.quantified {xs = xs} {bs = bs} m d) h = let q = parts xs _ h.1 in (all_binders bs (fits_items m q.0), fits d q.1.1)
-  fits (s.choose {xs = xs} r d) h = let q = parts xs _ h.1.1.1 in (fits_range r q.0, fits d q.1.1)
-  fits (s.cond_of {xs = xs} {ys = ys} d d' d'') h = let q = parts xs _ h.1 in let r = parts ys _ q.1.1 in (fits d q.0, fits d' r.0, fits d'' r.1.1)
+  fits (s.quantified {xs = xs} {bs = bs} m d) h = let q = cut _ xs _ h.1 in (all_binders bs (fits_items m q.0), fits d q.1.1)
+  fits (s.choose {xs = xs} r d) h = let q = cut _ xs _ h.1.1.1 in (fits_range r q.0, fits d q.1.1)
+  fits (s.cond_of {xs = xs} {ys = ys} d d' d'') h = let q = cut _ xs _ h.1 in let r = cut _ ys _ q.1.1 in (fits d q.0, fits d' r.0, fits d'' r.1.1)
   fits (s.case_of {gs = gs} m) h = all_arms gs (fits_items m h.1)
-  fits (s.case_other {xs = xs} {gs = gs} apart m d) h = let q = parts xs _ h.1 in (all_arms gs (fits_items m q.0), fits d q.1.1.1.1)
-  fits (s.let_in {xs = xs} {ds = ds} m d) h = let q = parts xs _ h.1 in (all_definitions ds (fits_items m q.0), fits d q.1.1)
+  fits (s.case_other {xs = xs} {gs = gs} apart m d) h = let q = cut _ xs _ h.1 in (all_arms gs (fits_items m q.0), fits d q.1.1.1.1)
+  fits (s.let_in {xs = xs} {ds = ds} m d) h = let q = cut _ xs _ h.1 in (all_definitions ds (fits_items m q.0), fits d q.1.1)
 
   pub fits_range : {ts : List Token} {a : Tree} → Range ts a → AllPlain ts → LiteralsWritten a
   fits_range (s.any d) h = fits d h
   fits_range (s.endless is) h = tt
 
-  fits_item : {k : Kind} {o : Ending} {ts : List Token} {a : Thing k} → Item k o ts a → AllPlain ts → Fits k a
+  fits_item : {k : Kind} {o : Ending} {ts : List Token} {a : ItemOf k} → Item k o ts a → AllPlain ts → Fits k a
   fits_item (s.tree d) h = fits d h
   fits_item (s.item d) h = fits d h
-  fits_item (s.binder {x = x} {xs = xs} r) h = let q = parts (names x xs) _ h in fits_range r q.1.1
+  fits_item (s.binder {x = x} {xs = xs} r) h = let q = cut _ (names x xs) _ h in fits_range r q.1.1
   fits_item (s.field d) h = (h.0, fits d h.1.1)
   fits_item (s.definition d) h = (h.0, fits d h.1.1)
-  fits_item (s.arm {xs = xs} d d') h = let q = parts xs _ h in (fits d q.0, fits d' q.1.1)
-  fits_item (s.index_step {ts = ts} d) h = fits d (parts ts _ h.1).0
+  fits_item (s.arm {xs = xs} d d') h = let q = cut _ xs _ h in (fits d q.0, fits d' q.1.1)
+  fits_item (s.index_step {ts = ts} d) h = fits d (cut _ ts _ h.1).0
   fits_item s.field_step h = h.1.0
-  fits_item (s.update {xs = xs} {as' = as'} m d) h = let q = parts xs _ h.1 in (all_steps as' (fits_items m q.0), fits d q.1.1)
+  fits_item (s.update {xs = xs} {as' = as'} m d) h = let q = cut _ xs _ h.1 in (all_steps as' (fits_items m q.0), fits d q.1.1)
 
-  fits_behind : {k : Kind} {o u : Ending} {ts : List Token} {as' : List (Thing k)} → Behind k o u ts as' → AllPlain ts → EachWritten k as'
+  fits_behind : {k : Kind} {o u : Ending} {ts : List Token} {as' : List (ItemOf k)} → Behind k o u ts as' → AllPlain ts → EachWritten k as'
   fits_behind s.none h = tt
-  fits_behind (s.one_more {k = k} {xs = xs} may d b) h = let q = parts xs _ (parts (between k) _ h).1 in (fits_item d q.0, fits_behind b q.1)
+  fits_behind (s.one_more {k = k} {xs = xs} may d b) h = let q = cut _ xs _ (cut _ (between k) _ h).1 in (fits_item d q.0, fits_behind b q.1)
 
-  fits_items : {k : Kind} {u : Ending} {ts : List Token} {as' : List (Thing k)} → Items k u ts as' → AllPlain ts → EachWritten k as'
-  fits_items (s.items {xs = xs} d b) h = let q = parts xs _ h in (fits_item d q.0, fits_behind b q.1)
+  fits_items : {k : Kind} {u : Ending} {ts : List Token} {as' : List (ItemOf k)} → Items k u ts as' → AllPlain ts → EachWritten k as'
+  fits_items (s.items {xs = xs} d b) h = let q = cut _ xs _ h in (fits_item d q.0, fits_behind b q.1)

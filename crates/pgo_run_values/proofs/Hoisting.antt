@@ -1,5 +1,5 @@
 -- The literals of expressions can be written in what is put in their place, and in what is left once reads are hoisted out of them.
-use Rattle.std.proofs.Common.{◌≡◌, ℕ, Bool, true, false, if◌then◌else◌, List, [], ◌∷◌, ◌++◌, Option, Some, None, refl}
+use Rattle.std.proofs.Common.{◌≡◌, ℕ, Bool, true, false, if◌then◌else◌, List, ◌∷◌, Option, Some, None, refl}
 use Rattle.std.specs.List.{AllByRecursion}
 use Rattle.pgo_base.specs.Lookup.{Name, find}
 use Rattle.pgo_base.specs.Tree.{Tree, name, primed, number, text, truth, at, word, unary, binary, product, cond_of, case_of, case_other, let_in, quantified, choose, tuple, set_of, filter_of, image, fun_of, fun_set, record_of, record_set, except, index, field, call, unchanged, Trees, no_trees, more_trees, NamedTrees, no_named, more_named, TreePairs, no_arms, more_arms, BoundTrees, no_bound, more_bound, PathTrees, no_paths, more_paths}
@@ -8,6 +8,7 @@ use Rattle.pgo_sections.specs.Access.{Mapped, MappedNames, MappedRead, Hoisted, 
 use Rattle.pgo_model.specs.Names.{is_among}
 use Rattle.pgo_sections.specs.Bound.{names_of, names_bound, below}
 use Rattle.pgo_sections.specs.Replaced.{replaced, replaced_all, replaced_arms, replaced_fields, replaced_let, replaced_bound, replaced_paths}
+use Rattle.pgo_agrees.proofs.EachToken.{all_joined}
 use Rattle.pgo_run_values.specs.WrittenLiterals.{LiteralsWritten, AllWritten, NamedWritten, ArmsWritten, BoundWritten, PathsWritten, CodeWritten}
 
 -- ---- expressions in the place of names
@@ -82,12 +83,8 @@ ReadsWritten rs = AllByRecursion ReadWritten rs
 abbrev pub HoistedWritten : {A : Type 0} → (A → Type 0) → Hoisted A → Type 0
 HoistedWritten F p = ReadsWritten p.reads × F p.rest
 
-reads_joined : (xs ys : List MappedRead) → ReadsWritten xs → ReadsWritten ys → ReadsWritten (xs ++ ys)
-reads_joined [] ys h g = g
-reads_joined (x ∷ xs) ys h g = (h.0, reads_joined xs ys h.1 g)
-
 then_fit : {A B : Type 0} (F : A → Type 0) (G : B → Type 0) (p : Hoisted A) (f : A → ℕ → Hoisted B) → HoistedWritten F p → (F p.rest → HoistedWritten G (f p.rest p.used)) → HoistedWritten G (then_hoist p f)
-then_fit F G p f h g = let q = g h.1 in (reads_joined p.reads (f p.rest p.used).reads h.0 q.0, q.1)
+then_fit F G p f h g = let q = g h.1 in (all_joined ReadWritten p.reads (f p.rest p.used).reads h.0 q.0, q.1)
 
 index_fits : (ts : Trees) → AllWritten ts → LiteralsWritten (index_tree ts)
 index_fits no_trees l = tt

@@ -1,5 +1,5 @@
 -- The literals of what an instance of a specification runs can be written.
-use Rattle.std.proofs.Common.{◌≡◌, ℕ, Bool, true, false, if◌then◌else◌, List, [], ◌∷◌, map, Some, option_map, inl, inr, sym, subst}
+use Rattle.std.proofs.Common.{◌≡◌, ℕ, Bool, true, false, if◌then◌else◌, List, [], ◌∷◌, Some, option_map, sym, subst}
 use Rattle.std.specs.List.{AllByRecursion}
 use Rattle.pgo_base.specs.Data.{Data}
 use Rattle.pgo_base.specs.Lookup.{Name, same_name}
@@ -15,23 +15,14 @@ use Rattle.pgo_syntax.specs.declared.process.Argument.{Argument}
 use Rattle.pgo_syntax.specs.declared.process.Argument.TheVariants as arguments
 use Rattle.pgo_syntax.specs.declared.process.MappingClause.{MappingClause}
 use Rattle.pgo_syntax.specs.declared.spec.Spec.{Spec}
-use Rattle.pgo_bound.specs.Among.{IsAmong}
+use Rattle.pgo_bound.specs.Among.{all_at}
 use Rattle.pgo_bound.specs.BoundOf.{bound_of}
 use Rattle.pgo_bound.specs.Runs.{run_with, mapping_named, mapping_by, speaking, target_of, binding_of}
 use Rattle.pgo_bound.specs.Values.{defs_of}
 use Rattle.pgo_run_values.specs.WrittenStatements.{LabeledWritten, TargetWritten, TextWritten}
 use Rattle.pgo_agrees.proofs.Instances.{runs_as}
+use Rattle.pgo_accounts.proofs.Premises.{all_map}
 use Rattle.pgo_run_values.specs.WrittenTexts.{AllLiteralsWritten, BlocksWritten}
-
--- what holds of all holds of each
-each_of : {A : Type 0} (P : A → Type 0) (x : A) (xs : List A) → AllByRecursion P xs → IsAmong x xs → P x
-each_of P x [] h a = absurd a
-each_of P x (y ∷ ys) h (inl e) = subst P (sym e) h.0
-each_of P x (y ∷ ys) h (inr a) = each_of P x ys h.1 a
-
-all_map : {A B : Type 0} (f : A → B) (P : B → Type 0) (xs : List A) → ((x : A) → P (f x)) → AllByRecursion P (map f xs)
-all_map f P [] h = tt
-all_map f P (x ∷ xs) h = (h x, all_map f P xs h)
 
 -- ---- literals of mapping macros
 
@@ -58,7 +49,7 @@ module _ (s : Spec) (consts : List (Name × Data)) (literals : AllLiteralsWritte
       let r = runs_as s consts k i at_k in
       let run = run_with (defs_of s consts) r.process r.archetype in
       subst (TextWritten (bound_of s consts)) (sym r.is) (record {
-        body = each_of (λ a. LabeledWritten (labeled a.body)) r.archetype s.archetypes literals.archetypes r.declared;
+        body = all_at (λ a. LabeledWritten (labeled a.body)) r.archetype s.archetypes literals.archetypes r.declared;
         macros = literals.macros;
         mappings = all_map (binding_of s run.process.clauses) (λ x. TargetWritten x.target) run.handed (λ z. target_fits s literals.mappings run.process.clauses z.number z.argument);
       })

@@ -4,19 +4,17 @@ use Rattle.std.specs.Prelude.{if◌then◌else◌, filter, cond, IsTrue, nat_le,
 use Rattle.std.proofs.lemmas.Bool.{le-leb}
 use Rattle.std.proofs.lemmas.Bool.Decides.{nat_tests}
 use Rattle.std.specs.Int.{int_div_euclid, int_rem_euclid}
-use Rattle.std.specs.declared.cmp.Ordering.{Ordering}
-use Rattle.std.specs.declared.cmp.Ordering.TheVariants.{Less, Equal, Greater}
-use Rattle.std.specs.Ordering.{match_ordering}
+use Rattle.std.proofs.lemmas.Option.{same_Some}
 use Rattle.pgo_base.specs.Data.{Data, boolean, integer, string, model, set, function, Items, no_items, item, items, members, Pairs, no_pairs, pair, pairs, graph, keys, graph-pairs, members-items}
-use Rattle.pgo_base.specs.Order.{data_cmp}
-use Rattle.pgo_base.specs.Pairs.{pairs_in_order, insert_pair}
+use Rattle.pgo_base.specs.Pairs.{pairs_in_order}
 use Rattle.pgo_base.specs.Sets.{in_order, IsSorted, sorted-in_order}
 use Rattle.pgo_model.specs.Operators.{both, each, contains, members_of, graph_of, first_of, set_from, function_from, function_of, from_truth, in_64, fits_i64, on_integers, lookup, same_data, sequence, sequence_at, joined, sublists, apply, upward, where_few, union, intersect, minus, flatten, power, single, merge, domain, range, divide, modulo, on_divisor, subset, included, span, most_members}
-use Rattle.pgo_bound.specs.Among.{IsAmong, among_append, from_map, some_is}
+use Rattle.pgo_bound.specs.Among.{IsAmong, among_append, from_map}
 use Rattle.pgo_bound.specs.Keyed.{keys_ordered}
 use Rattle.pgo_run_values.specs.Spellable.{IsSpellable, AreSpellable, PairsSpellable, EachSpellable, Spellable}
 use Rattle.pgo_systems.proofs.Fitting.{low_test, fits_between, divided, remainder}
 use Rattle.pgo_systems.proofs.Lists.{none_is, built_is, built_few, both_parts, two_integers, is_set, each_from, of_ordered, made_of, sublist_in, length_ordered, sequence_keys}
+use Rattle.pgo_systems.proofs.Operators.{ordered_among}
 
 -- not too many are at most so many
 pub at_most : (n : ℕ) → nat_lt most_members n ≡ false → IsTrue (nat_le n most_members)
@@ -48,7 +46,7 @@ pub none_spellable : Spellable None
 none_spellable v h = absurd (none_is v h)
 
 pub some_spellable : (w : Data) → IsSpellable w → Spellable (Some w)
-some_spellable w o v h = subst IsSpellable (some_is w v h) o
+some_spellable w o v h = subst IsSpellable (same_Some w v h) o
 
 pub then_spellable : {A : Type 0} (o : Option A) (f : A → Option Data) → ((a : A) → o ≡ Some a → Spellable (f a)) → Spellable (option_and_then f o)
 then_spellable None f h v e = absurd (cc)
@@ -59,7 +57,7 @@ both_spellable f a b h v e = let p = both_parts f a b v e in h p.0 p.1.0 p.1.1 p
 
 pub truth_spellable : (p : Option Bool) → Spellable (from_truth p)
 truth_spellable None v h = absurd (none_is v h)
-truth_spellable (Some b) v h = subst IsSpellable (some_is (boolean b) v h) tt
+truth_spellable (Some b) v h = subst IsSpellable (same_Some (boolean b) v h) tt
 
 pub in_64_spellable : (z : ℤ) → Spellable (in_64 z)
 in_64_spellable z = go (fits_i64 z) refl
@@ -88,29 +86,6 @@ set_spellable xs h v e =
       subst (λ ms. IsTrue (nat_le (length ms) most_members)) (sym (members-items (in_order xs))) few,
     )
 
-insert_among : (p q : Data × Data) (qs : List (Data × Data)) → IsAmong q (insert_pair p qs) → (q ≡ p) ⊎ IsAmong q qs
-insert_among p q [] h = h
-insert_among p q (r ∷ qs) h = go (data_cmp p.0 r.0) h (insert_among p q qs)
-  where
-    move : (q ≡ p) ⊎ IsAmong q qs → (q ≡ p) ⊎ IsAmong q (r ∷ qs)
-    move (inl e) = inl e
-    move (inr m) = inr (inr m)
-
-    go : (o : Ordering) → IsAmong q (match_ordering o (p ∷ r ∷ qs) (p ∷ qs) (r ∷ insert_pair p qs)) → (IsAmong q (insert_pair p qs) → (q ≡ p) ⊎ IsAmong q qs) → (q ≡ p) ⊎ IsAmong q (r ∷ qs)
-    go Less g f = g
-    go Equal (inl e) f = inl e
-    go Equal (inr m) f = inr (inr m)
-    go Greater (inl e) f = inr (inl e)
-    go Greater (inr m) f = move (f m)
-
-pub ordered_among : (q : Data × Data) (ps : List (Data × Data)) → IsAmong q (pairs_in_order ps) → IsAmong q ps
-ordered_among q [] h = h
-ordered_among q (p ∷ ps) h = go (insert_among p q (pairs_in_order ps) h) (ordered_among q ps)
-  where
-    go : (q ≡ p) ⊎ IsAmong q (pairs_in_order ps) → (IsAmong q (pairs_in_order ps) → IsAmong q ps) → (q ≡ p) ⊎ IsAmong q ps
-    go (inl e) f = inl e
-    go (inr m) f = inr (f m)
-
 -- a function whose keys are in order
 pub graph_spellable : (ps : List (Data × Data)) → EachPair ps → IsSorted (keys ps) → Spellable (function_of ps)
 graph_spellable ps h s v e = subst IsSpellable (built_is (length ps) (function (pairs ps)) v e) (pairs_ordered ps h, subst (λ qs. IsSorted (keys qs)) (sym (graph-pairs ps)) s, subst (λ qs. IsTrue (nat_le (length qs) most_members)) (sym (graph-pairs ps)) (at_most (length ps) (built_few (length ps) (function (pairs ps)) v e)))
@@ -133,7 +108,7 @@ pub member_all : (d : Data) (ms : List Data) → IsSpellable d → members_of d 
 member_all d ms o e = members_all (Some d) ms (some_spellable d o) e
 
 pub graph_all : (d : Data) (ps : List (Data × Data)) → IsSpellable d → graph_of d ≡ Some ps → EachPair ps × IsSorted (keys ps)
-graph_all (function qs) ps o e = subst (λ z. EachPair z × IsSorted (keys z)) (some_is (graph qs) ps e) (ordered_pairs qs o.0, o.1)
+graph_all (function qs) ps o e = subst (λ z. EachPair z × IsSorted (keys z)) (same_Some (graph qs) ps e) (ordered_pairs qs o.0, o.1)
 graph_all (boolean b) ps o e = absurd (cc)
 graph_all (integer b) ps o e = absurd (cc)
 graph_all (string b) ps o e = absurd (cc)
@@ -160,7 +135,7 @@ lookup_all k v [] h e = absurd (cc)
 lookup_all k v (p ∷ ps) h e = go (same_data k p.0) e (lookup_all k v ps (λ q m. h q (inr m)))
   where
     go : (b : Bool) → (if b then Some p.1 else lookup k ps) ≡ Some v → (lookup k ps ≡ Some v → IsSpellable v) → IsSpellable v
-    go true g r = subst IsSpellable (some_is p.1 v g) (h p (inl refl)).1
+    go true g r = subst IsSpellable (same_Some p.1 v g) (h p (inl refl)).1
     go false g r = r g
 
 pub lookup_spellable : (k : Data) (ps : List (Data × Data)) → EachPair ps → Spellable (lookup k ps)
@@ -192,11 +167,8 @@ range_spellable a b o p =
     bounded_spellable (span y z) (λ _. set_from (upward y (span y z)))
     (set_spellable (upward y (span y z)) (λ x m. let r = fits_between y z f g x m in subst IsSpellable (sym r.1) r.2)))
 
-each_all : (f : List Data → Option Data) (xs : List (List Data)) (ys : List Data) → ((l : List Data) → IsAmong l xs → Spellable (f l)) → each f xs ≡ Some ys → EachSpellable ys
+pub each_all : {A : Type 0} (f : A → Option Data) (xs : List A) (ys : List Data) → ((x : A) → IsAmong x xs → Spellable (f x)) → each f xs ≡ Some ys → EachSpellable ys
 each_all f xs ys h e y m = let r = each_from f xs ys e y m in h r.0 r.1 y r.2
-
-pub each_data_all : (f : Data → Option Data) (xs ys : List Data) → ((x : Data) → IsAmong x xs → Spellable (f x)) → each f xs ≡ Some ys → EachSpellable ys
-each_data_all f xs ys h e y m = let r = each_from f xs ys e y m in h r.0 r.1 y r.2
 
 power_of_spellable : (ms : List Data) → EachSpellable ms → Spellable (where_few (2 ^ length ms) (λ _. option_and_then set_from (each set_from (sublists ms))))
 power_of_spellable ms h =

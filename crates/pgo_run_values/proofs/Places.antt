@@ -1,13 +1,15 @@
 -- What `pc` has in a state in which instances stand at labels can be written.
 use Rattle.std.proofs.Common.{◌≡◌, ◌≤◌, ◌⊎◌, ℕ, suc, Bool, true, false, if◌then◌else◌, IsTrue, List, [], ◌∷◌, ◌++◌, map, length, Some, inl, inr, refl, ap, sym, ◌∙◌, subst, arith, option_and_then}
 use Rattle.std.proofs.lemmas.Bool.{and_parts, le-leb}
-use Rattle.std.specs.List.{AllByRecursion}
 use Rattle.std.specs.List.Sorted.{IsStrictlySortedBy}
 use Rattle.std.specs.Ordering.{match_ordering}
 use Rattle.std.specs.Prelude.{◌&&◌}
 use Rattle.std.specs.declared.cmp.Ordering.{Ordering}
 use Rattle.std.specs.declared.cmp.Ordering.TheVariants.{Less, Equal, Greater}
-use Rattle.pgo_base.specs.Data.{Data, string, function, Pairs, no_pairs, pair, pairs, graph, keys}
+use Rattle.std.proofs.lemmas.Option.{same_Some}
+use Rattle.std.proofs.lemmas.List.{length-map}
+use Rattle.pgo_base.proofs.Keyed.{pairs_back}
+use Rattle.pgo_base.specs.Data.{Data, string, function, Pairs, graph, keys}
 use Rattle.pgo_base.specs.Exact.{data_itself}
 use Rattle.pgo_base.specs.Lookup.{Name, Vars, same_name, find}
 use Rattle.pgo_base.specs.Order.{data_cmp}
@@ -23,7 +25,7 @@ use Rattle.pgo_syntax.specs.Statement.{labeled}
 use Rattle.pgo_syntax.specs.declared.bound.Bound.{Bound}
 use Rattle.pgo_syntax.specs.declared.bound.Instance.{Instance}
 use Rattle.pgo_syntax.specs.declared.spec.Spec.{Spec}
-use Rattle.pgo_bound.specs.Among.{IsAmong, all_at, among_map, among_nth, found_among, from_map, nth_among, some_is}
+use Rattle.pgo_bound.specs.Among.{IsAmong, all_at, among_map, among_nth, found_among, from_map, nth_among}
 use Rattle.pgo_bound.specs.BoundOf.{bound_of}
 use Rattle.pgo_bound.specs.Lookups.{same_equal, same_of}
 use Rattle.pgo_bound.specs.Sound.{IsLabel, labels_among}
@@ -45,19 +47,14 @@ bytes_joined (b ∷ bs) y h g = let p = and_parts (is_string_byte b) (all_string
 written_bytes : (p l : Name) → all_string_bytes p ≡ true → all_string_bytes l ≡ true → all_string_bytes (written p l) ≡ true
 written_bytes p l h g = bytes_joined (p ++ (95 ∷ [])) l (bytes_joined p (95 ∷ []) h refl) g
 
-each_of : {A : Type 0} (P : A → Type 0) (x : A) (xs : List A) → AllByRecursion P xs → IsAmong x xs → P x
-each_of P x [] h a = absurd a
-each_of P x (y ∷ ys) h (inl e) = subst P (sym e) h.0
-each_of P x (y ∷ ys) h (inr a) = each_of P x ys h.1 a
-
 -- the labels of an instance's process
 pub label_bytes : (s : Spec) (consts : List (Name × Data)) → IsOfText s → (k : ℕ) (i : Instance) → nth (bound_of s consts).instances k ≡ Some i → (l : Name) → IsLabel i l → all_string_bytes l ≡ true
 label_bytes s consts text k i at_k l =
     let r = runs_as s consts k i at_k in
     subst (λ (z : Instance). IsLabel z l → all_string_bytes l ≡ true) (sym r.is) (λ h.
-    let p : ProcessOfText r.process = each_of ProcessOfText r.process s.processes text.processes r.among in
-    let a : ArchetypeOfText r.archetype = each_of ArchetypeOfText r.archetype s.archetypes text.archetypes r.declared in
-    let x = each_of LabelOfText h.1 (labels_among (labeled r.archetype.body)) a.3 (among_nth h.1 (labels_among (labeled r.archetype.body)) h.0 h.2) in
+    let p : ProcessOfText r.process = all_at ProcessOfText r.process s.processes text.processes r.among in
+    let a : ArchetypeOfText r.archetype = all_at ArchetypeOfText r.archetype s.archetypes text.archetypes r.declared in
+    let x = all_at LabelOfText h.1 (labels_among (labeled r.archetype.body)) a.3 (among_nth h.1 (labels_among (labeled r.archetype.body)) h.0 h.2) in
     subst (λ y. all_string_bytes y ≡ true) (sym h.3) (written_bytes r.process.name.name h.1 (name_bytes r.process.name.name p.0) (name_bytes h.1 x)))
 
 -- ---- functions
@@ -79,16 +76,12 @@ looked q (p ∷ ps) s (inr m) = go (same_data q.0 p.0) refl (looked q ps s.1 m)
     go true e r = absurd (apart (same_of q.0 p.0 e))
     go false e r = r
 
-pairs_graph : (ps : Pairs) → pairs (graph ps) ≡ ps
-pairs_graph no_pairs = refl
-pairs_graph (pair k v ps) = ap (pair k v) (pairs_graph ps)
-
 value_found : (x : Name) (v : Data) (t : Vars) → AllValues t → find x t ≡ Some v → IsValue v
 value_found x v [] h e = absurd (cc)
 value_found x v (p ∷ t) h e = go (same_name x p.0) e (value_found x v t h.1)
   where
     go : (b : Bool) → (if b then Some p.1 else find x t) ≡ Some v → (find x t ≡ Some v → IsValue v) → IsValue v
-    go true k more = subst IsValue (some_is p.1 v k) h.0
+    go true k more = subst IsValue (same_Some p.1 v k) h.0
     go false k more = more k
 
 -- ---- few
@@ -106,10 +99,6 @@ ordered_few : (xs : List Data) → length (in_order xs) ≤ length xs
 ordered_few [] = omega arith
 ordered_few (x ∷ xs) = let a = longer x (in_order xs) in let b = ordered_few xs in omega (arith, a, b)
 
-map_length : {A B : Type 0} (f : A → B) (xs : List A) → length (map f xs) ≡ length xs
-map_length f [] = refl
-map_length f (x ∷ xs) = let q = map_length f xs in omega (arith, q)
-
 -- ---- `pc`
 module _ (b : Bound) (labels : (k : ℕ) (i : Instance) → nth b.instances k ≡ Some i → (l : Name) → IsLabel i l → all_string_bytes l ≡ true) (ids : (k : ℕ) (i : Instance) → nth b.instances k ≡ Some i → IsSpellable (id_of i)) (few : length b.instances ≤ 64) (t : Vars) (is : IsState b t) (at : AllAtLabels b t) (differ : AreDifferent (variables_of b.spec)) where
   abbrev ps : Pairs
@@ -125,7 +114,7 @@ module _ (b : Bound) (labels : (k : ℕ) (i : Instance) → nth b.instances k �
       let n = nth_among from.0 b.instances from.1 in
       let place = at n.0 from.0 n.1 in
       let here : lookup (id_of from.0) (graph ps) ≡ Some (string place.0) = ap (option_and_then (λ f. apply f (id_of from.0))) (sym is.places.1) ∙ place.1 in
-      let value : q.1 ≡ string place.0 = some_is q.1 (string place.0) (sym (looked q (graph ps) sorted m) ∙ ap (λ k. lookup k (graph ps)) from.2 ∙ here) in
+      let value : q.1 ≡ string place.0 = same_Some q.1 (string place.0) (sym (looked q (graph ps) sorted m) ∙ ap (λ k. lookup k (graph ps)) from.2 ∙ here) in
       (subst IsSpellable (sym from.2) (ids n.0 from.0 n.1), subst IsSpellable (sym value) (label n.0 from.0 n.1 place.0 place.2))
     where
       label : (k : ℕ) (i : Instance) → nth b.instances k ≡ Some i → (l : Name) → (l ≡ done) ⊎ IsLabel i l → IsTrue (all_string_bytes l)
@@ -134,13 +123,13 @@ module _ (b : Bound) (labels : (k : ℕ) (i : Instance) → nth b.instances k �
 
   pc_spellable : IsSpellable (function ps)
   pc_spellable = (
-    subst PairsSpellable (pairs_graph ps) (pairs_ordered (graph ps) one_pair),
+    subst PairsSpellable (pairs_back ps) (pairs_ordered (graph ps) one_pair),
     sorted,
     le-leb (length (graph ps)) most_members (
         let a = length_keys (graph ps) in
         let c : length (keys (graph ps)) ≡ length (identifiers b) = ap length is.places.2 in
         let d = ordered_few (map id_of b.instances) in
-        let e = map_length id_of b.instances in
+        let e = length-map b.instances id_of in
         omega (arith, a, c, d, e, few)),
   )
 
@@ -148,4 +137,4 @@ module _ (b : Bound) (labels : (k : ℕ) (i : Instance) → nth b.instances k �
   places_spellable p m e =
       let found : find p.0 t ≡ Some p.1 = found_among p.0 p.1 t (subst AreDifferent (sym is.variables) differ) m in
       let here : find pc t ≡ Some p.1 = ap (λ x. find x t) (sym (same_name-is p.0 pc e)) ∙ found in
-      subst IsSpellable (some_is (function ps) p.1 (sym is.places.1 ∙ here)) pc_spellable
+      subst IsSpellable (same_Some (function ps) p.1 (sym is.places.1 ∙ here)) pc_spellable

@@ -1,5 +1,6 @@
 -- What code does on values gives values: the changes along a section, the contents that mapping macros give, and its end.
 use Rattle.std.proofs.Common.{◌≡◌, ◌⊎◌, ℕ, zero, suc, Bool, true, false, if◌then◌else◌, List, [], ◌∷◌, ◌++◌, length, get_or, Option, Some, None, refl, ap, ◌∙◌, subst, option_map, option_and_then, inl, inr, ⊎_elim}
+use Rattle.std.proofs.lemmas.Option.{same_Some}
 use Rattle.pgo_base.specs.Data.{Data}
 use Rattle.pgo_base.specs.Lookup.{Name, Names, Vars, same_name, find}
 use Rattle.pgo_base.specs.Tree.{Tree}
@@ -9,7 +10,6 @@ use Rattle.pgo_model.specs.Outcome.{Blocked, AssertFails}
 use Rattle.pgo_model.specs.System.{Words}
 use Rattle.pgo_model.specs.Val.{Meaning}
 use Rattle.pgo_model.specs.Written.{self_name}
-use Rattle.pgo_bound.specs.Among.{some_is}
 use Rattle.pgo_sections.specs.Code.{Place, Whole, Own, variable_of, Code, Empty, Skip, Let, Pick, Become, Set, Await, Assert, Print, If, Either, Seq, Goto, Yield, Read, Write, Codes, no_codes, more_codes}
 use Rattle.pgo_sections.specs.Context.{Context, value_before, value_now, content, with_content, put_content, put_new, view, value_of, index_value}
 use Rattle.pgo_sections.specs.Exec.{MacroEnd, Gives, Stops, with_choices, if_gives, touching, read_unmapped, becoming, count, Reads, Writes, exec_with, exec_arm_with}
@@ -67,14 +67,6 @@ under_spellable x env h v e = go (find x env) refl e
     go None q k = absurd (cc)
     go (Some w) q k = h x v (q ∙ ap Some k)
 
-index_spellable : (i : Option Name) (env : Names) (j : Option Data) → NamesSpellable env → index_value i env ≡ Some j → Spellable j
-index_spellable None env j h e = subst Spellable (some_is None j e) none_spellable
-index_spellable (Some x) env j h e = go (value_under x env) refl e
-  where
-    go : (o : Option Data) → value_under x env ≡ o → option_map (λ v. Some v) o ≡ Some j → Spellable j
-    go None q k = absurd (cc)
-    go (Some w) q k = subst Spellable (some_is (Some w) j k) (some_spellable w (under_spellable x env h w q))
-
 picked_spellable : (ms : List Data) (i : ℕ) (m : Data) → EachSpellable ms → IsSpellable m → IsSpellable (get_or ms i m)
 picked_spellable [] i m h o = o
 picked_spellable (x ∷ xs) zero m h o = h x (inl refl)
@@ -121,10 +113,10 @@ module _ (k : Context) (spellable : ContextSpellable k) where
     where
       go : (o : Option Data) → Spellable o → option_map (λ w. (g, w) ∷ ch) o ≡ Some ch' → FoundSpellable ch'
       go None q e = absurd (cc)
-      go (Some w) q e = subst FoundSpellable (some_is ((g, w) ∷ ch) ch' e) (more_found g w ch (q w refl) h)
+      go (Some w) q e = subst FoundSpellable (same_Some ((g, w) ∷ ch) ch' e) (more_found g w ch (q w refl) h)
 
   new_found : (g : Name) (j v : Option Data) (ch ch' : Vars) → Spellable v → FoundSpellable ch → put_new k g j v ch ≡ Some ch' → FoundSpellable ch'
-  new_found g j None ch ch' c h e = subst FoundSpellable (some_is ch ch' e) h
+  new_found g j None ch ch' c h e = subst FoundSpellable (same_Some ch ch' e) h
   new_found g j (Some v) ch ch' c h e = put_found g j (Some v) ch ch' c h e
 
 -- how code ends: its changes are values, and what a block yields is one

@@ -1,11 +1,13 @@
 -- What variables start with is spellable, where constants are and the literals can be written from which the start is made.
-use Rattle.std.proofs.Common.{◌≤◌, length, arith, ◌≡◌, ℕ, suc, Bool, true, false, if◌then◌else◌, List, [], ◌∷◌, ◌++◌, map, Option, Some, None, refl, sym, ap, subst, option_and_then, option_map, inl, inr, ⊎_elim}
+use Rattle.std.proofs.Common.{◌≤◌, length, arith, ◌≡◌, suc, Bool, true, false, if◌then◌else◌, List, [], ◌∷◌, ◌++◌, map, Option, Some, None, refl, sym, ap, subst, option_and_then, option_map, inl, inr, ⊎_elim}
 use Rattle.std.proofs.lemmas.Bool.{le-leb, leb-true}
 use Rattle.std.specs.Ordering.{match_ordering}
 use Rattle.std.specs.declared.cmp.Ordering.{Ordering}
 use Rattle.std.specs.declared.cmp.Ordering.TheVariants.{Less, Equal, Greater}
 use Rattle.std.specs.Prelude.{IsTrue, nat_le, unwrap_or}
 use Rattle.std.specs.List.{AllByRecursion, filter_map, flat_map, cons_option}
+use Rattle.std.proofs.lemmas.Option.{same_Some}
+use Rattle.std.proofs.lemmas.List.{length-map}
 use Rattle.pgo_base.specs.Data.{Data, keys, members, graph-pairs}
 use Rattle.pgo_base.specs.Lookup.{Name, Names, Vars, same_name}
 use Rattle.pgo_base.specs.Order.{data_cmp}
@@ -19,8 +21,6 @@ use Rattle.pgo_model.specs.ModuleView.{defined_view}
 use Rattle.pgo_model.specs.Operators.{members_of, most_members}
 use Rattle.pgo_model.specs.Val.{seen}
 use Rattle.pgo_model.specs.Written.{pc, self_name, written}
-use Rattle.pgo_syntax.specs.declared.archetype.Archetype.{Archetype}
-use Rattle.pgo_syntax.specs.declared.archetype.Parameter.{Parameter}
 use Rattle.pgo_syntax.specs.declared.binding.Origin.{Origin}
 use Rattle.pgo_syntax.specs.declared.binding.Origin.TheVariants.{Equals, In}
 use Rattle.pgo_syntax.specs.declared.declaration.Definition.{Definition}
@@ -28,17 +28,20 @@ use Rattle.pgo_syntax.specs.declared.name.PlacedName.{PlacedName}
 use Rattle.pgo_syntax.specs.declared.process.Argument.{Argument}
 use Rattle.pgo_syntax.specs.declared.process.Argument.TheVariants as arguments
 use Rattle.pgo_syntax.specs.declared.spec.Spec.{Spec}
-use Rattle.pgo_bound.specs.Among.{IsAmong, all_at, among_append, from_map, from_flat_map, from_filter_map, mapped_some, some_is}
+use Rattle.pgo_bound.specs.Among.{IsAmong, all_at, among_append, from_map, from_flat_map, from_filter_map, mapped_some}
 use Rattle.pgo_bound.specs.BoundOf.{bound_of, GlobalStart, global_of, globals_of, global_value, function_on, function_at, first_places, expression_of, own_argument, own_start, locals_of, start_of}
 use Rattle.pgo_bound.specs.Keyed.{keys_ordered}
 use Rattle.pgo_bound.specs.Lookups.{data_from}
-use Rattle.pgo_bound.specs.Runs.{Handed, Run, handed_from, archetype_named, alone, members_in, ids_of, run_with, run_of, runs_of, run_ids}
+use Rattle.pgo_bound.specs.Runs.{Handed, Run, archetype_named, alone, members_in, ids_of, run_with, run_of, runs_of, run_ids}
 use Rattle.pgo_bound.specs.Values.{Start, Missing, Empty, Begins, latest, given_value, given_constant, meant, default_definition, define_of, defs_of, value_with, closed_value, value_at, start_of_value, start_of_members, start_in, global_start, local_start, argument_start, beginning}
+use Rattle.pgo_bound.specs.Instances.{archetype_among}
 use Rattle.pgo_run_values.specs.Spellable.{IsSpellable, EachSpellable, Spellable, AllSpellable, NamesSpellable}
 use Rattle.pgo_run_values.specs.WrittenLiterals.{LiteralsWritten, DefinedWritten, OriginWritten, InitialWritten, ArgumentWritten, StartWritten}
 use Rattle.pgo_systems.proofs.Lists.{is_set}
+use Rattle.pgo_systems.proofs.Operators.{ordered_among}
+use Rattle.pgo_agrees.proofs.Places.{handed_among}
 use Rattle.pgo_run_values.proofs.Definitions.{no_names, definitions_spellable}
-use Rattle.pgo_run_values.proofs.Operators.{EachPair, none_spellable, some_spellable, members_all, pairs_ordered, ordered_among}
+use Rattle.pgo_run_values.proofs.Operators.{EachPair, none_spellable, some_spellable, members_all, pairs_ordered}
 use Rattle.pgo_run_values.proofs.Trees.{named_more, tree_spellable}
 
 -- ---- definitions
@@ -98,13 +101,9 @@ function_on_spellable ps few h = (
   subst (λ qs. IsTrue (nat_le (length qs) most_members)) (sym (graph-pairs (pairs_in_order ps))) (le-leb (length (pairs_in_order ps)) most_members (let a = ordered_few ps in omega (arith, a, few))),
 )
 
-map_length : {A B : Type 0} (f : A → B) (xs : List A) → length (map f xs) ≡ length xs
-map_length f [] = refl
-map_length f (x ∷ xs) = let q = map_length f xs in omega (arith, q)
-
 function_at_spellable : (f : Data → Data) (ids : List Data) → length ids ≤ 65536 → EachSpellable ids → ((id : Data) → IsSpellable id → IsSpellable (f id)) → IsSpellable (function_at f ids)
 function_at_spellable f ids few h g =
-    function_on_spellable (map (λ id. (id, f id)) ids) (let q = map_length {B = Data × Data} (λ id. (id, f id)) ids in omega (arith, q, few)) (λ p m.
+    function_on_spellable (map (λ id. (id, f id)) ids) (let q = length-map {B = Data × Data} ids (λ id. (id, f id)) in omega (arith, q, few)) (λ p m.
     let r = from_map (λ id. (id, f id)) p ids m in
     subst (λ (z : Data × Data). IsSpellable z.0 × IsSpellable z.1) (sym r.2) (h r.0 r.1, g r.0 (h r.0 r.1)))
 
@@ -199,20 +198,6 @@ module _ (s : Spec) (consts : List (Name × Data)) (spellable : AllSpellable con
 
   -- ---- processes
 
-  archetype_among : (x : Name) (as' : List Archetype) (a : Archetype) → archetype_named x as' ≡ Some a → IsAmong a as'
-  archetype_among x [] a h = absurd (cc)
-  archetype_among x (c ∷ as') a h = go (same_name x c.name.name) h (archetype_among x as' a)
-    where
-      go : (b : Bool) → (if b then Some c else archetype_named x as') ≡ Some a → (archetype_named x as' ≡ Some a → IsAmong a as') → IsAmong a (c ∷ as')
-      go true k r = inl (sym (some_is c a k))
-      go false k r = inr (r k)
-
-  argument_among : (n : ℕ) (ps : List Parameter) (as' : List Argument) (h : Handed) → IsAmong h (handed_from n ps as') → IsAmong h.argument as'
-  argument_among n [] as' h m = absurd m
-  argument_among n (p ∷ ps) [] h m = absurd m
-  argument_among n (p ∷ ps) (a ∷ as') h (inl e) = inl (ap (λ (z : Handed). z.argument) e)
-  argument_among n (p ∷ ps) (a ∷ as') h (inr m) = inr (argument_among (suc n) ps as' h m)
-
   pub record RunWritten (r : Run) : Type 0 where
     pub ids : EachSpellable (run_ids r)
     pub few : length (run_ids r) ≤ 65536
@@ -226,7 +211,7 @@ module _ (s : Spec) (consts : List (Name × Data)) (spellable : AllSpellable con
       subst RunWritten (sym a.2) (record {
         ids = ids_spellable p.0.ids (all_at (λ p. OriginWritten p.ids) p.0 s.processes fit.identifiers p.1);
         few = few_ids p.0.ids (all_at (λ p. OriginWritten p.ids) p.0 s.processes fit.identifiers p.1);
-        handed = λ h k. all_at ArgumentWritten h.argument p.0.arguments (all_at (λ p. AllByRecursion ArgumentWritten p.arguments) p.0 s.processes fit.arguments p.1) (argument_among 1 a.0.params p.0.arguments h k);
+        handed = λ h k. all_at ArgumentWritten h.argument p.0.arguments (all_at (λ p. AllByRecursion ArgumentWritten p.arguments) p.0 s.processes fit.arguments p.1) (handed_among 1 a.0.params p.0.arguments h k);
         locals = all_at (λ a. AllByRecursion (λ d. InitialWritten d.initial) a.locals) a.0 s.archetypes fit.locals (archetype_among p.0.archetype.name s.archetypes a.0 a.1);
       })
 
@@ -237,7 +222,7 @@ module _ (s : Spec) (consts : List (Name × Data)) (spellable : AllSpellable con
       go (arguments.Ref g x) l k = absurd (cc)
       go (arguments.Value place e) l k =
           let v = function_at (λ id. beginning (argument_start ds e id)) (run_ids r) in
-          subst (λ (z : Name × Data). IsSpellable z.1) (some_is (written r.process.name.name h.parameter.name.name, v) q k)
+          subst (λ (z : Name × Data). IsSpellable z.1) (same_Some (written r.process.name.name h.parameter.name.name, v) q k)
           (function_at_spellable (λ id. beginning (argument_start ds e id)) (run_ids r) f.few f.ids (λ id c. begins_spellable (argument_start ds e id) (value_start (value_at ds id e) (at_spellable id e c l))))
 
   locals_spellable : (r : Run) → RunWritten r → (q : Name × Data) → IsAmong q (locals_of ds r) → IsSpellable q.1

@@ -2,6 +2,7 @@
 use Rattle.std.proofs.Common.{◌≡◌, ℕ, suc, Bool, true, false, if◌then◌else◌, List, [], ◌∷◌, ◌++◌, map, Option, Some, None, refl, subst, option_map}
 use Rattle.std.specs.Prelude.{IsTrue, unwrap_or}
 use Rattle.std.specs.List.{AllByRecursion}
+use Rattle.std.proofs.lemmas.Option.{same_Some}
 use Rattle.pgo_base.specs.Lookup.{Name, same_name, find}
 use Rattle.pgo_base.specs.Tree.{Tree, name, index, field, Trees, no_trees, more_trees, trees}
 use Rattle.pgo_model.specs.BundleParts.{all_string_bytes}
@@ -24,7 +25,6 @@ use Rattle.pgo_syntax.specs.declared.bound.Target.{Target}
 use Rattle.pgo_syntax.specs.declared.bound.Target.TheVariants as targets
 use Rattle.pgo_syntax.specs.declared.macros.Macro.{Macro}
 use Rattle.pgo_syntax.specs.declared.name.PlacedName.{PlacedName}
-use Rattle.pgo_bound.specs.Among.{some_is}
 use Rattle.pgo_sections.specs.Access.{Mapped, MappedRead, place, read_first, after, hoisted, evaluated}
 use Rattle.pgo_model.specs.Names.{is_among}
 use Rattle.pgo_sections.specs.Code.{Place, Whole, Code, Empty, Let, Pick, Become, Set, Await, Assert, Print, If, Seq, Goto, Read, Write, in_turn, content_name, at_base, old_base, val_base}
@@ -33,6 +33,7 @@ use Rattle.pgo_meaning.specs.MacrosPlaced.{unmarked, Arguments, argument, put_tr
 use Rattle.pgo_meaning.specs.Parameters.{block_setting, reads_by, writes_by, mapped_of, all_mapped, by_element, setting_of}
 use Rattle.pgo_meaning.specs.Statements.{Setting, label_of, Part, Index, Field, part_tree, index_of, alone, to_variable, assigned, steps, assign_all, assignment_code, bind_name, bind_names, code, branches, arms, in_order}
 use Rattle.pgo_meaning.specs.TreesAgree.{sections_at}
+use Rattle.pgo_agrees.proofs.EachToken.{all_joined, one_more}
 use Rattle.pgo_run_values.specs.WrittenLiterals.{LiteralsWritten, AllWritten, CodeWritten, AllCodeWritten, OriginWritten}
 use Rattle.pgo_run_values.specs.WrittenStatements.{StepWritten, AssignmentWritten, StatementWritten, StatementsWritten, LabeledWritten, GuardedWritten, MappingWritten, TargetWritten, TextWritten}
 use Rattle.pgo_run_values.proofs.Hoisting.{replaced_fits, IndexWritten, ReadsWritten, hoisted_fits}
@@ -62,10 +63,6 @@ put_tree_fits es h t l = replaced_fits (argument es) (argument_fits es h) [] t l
 abbrev PathWritten : List Step → Type 0
 PathWritten path = AllByRecursion StepWritten path
 
-steps_joined : (xs ys : List Step) → PathWritten xs → PathWritten ys → PathWritten (xs ++ ys)
-steps_joined [] ys h g = g
-steps_joined (x ∷ xs) ys h g = (h.0, steps_joined xs ys h.1 g)
-
 put_step_fits : (es : Arguments) → ArgumentsWritten es → (st : Step) → StepWritten st → StepWritten (put_step es st)
 put_step_fits es h (step.Index e) l = put_tree_fits es h e l
 put_step_fits es h (step.Field x) l = l
@@ -80,7 +77,7 @@ LeftWritten (Some l) = PathWritten l.path
 
 stepped_fits : (st : Step) (o : Option Left) → StepWritten st → LeftWritten o → LeftWritten (option_map (with_step st) o)
 stepped_fits st None s h = tt
-stepped_fits st (Some l) s h = steps_joined l.path (st ∷ []) h (s, tt)
+stepped_fits st (Some l) s h = all_joined StepWritten l.path (st ∷ []) h (s, tt)
 
 indexed_fits : (ts : Trees) (o : Option Left) → AllWritten ts → LeftWritten o → LeftWritten (on None (only ts) (λ i. option_map (with_step (step.Index i)) o))
 indexed_fits no_trees o l h = tt
@@ -109,7 +106,7 @@ put_left_fits es h l p = go (find l.name.name es) (found l.name.name es h)
 
     made : (o : Option Left) → LeftWritten o → PathWritten (on {B = Left} (record { name = l.name; path = map (put_step es) l.path }) o (λ m. record { name = m.name; path = m.path ++ map (put_step es) l.path })).path
     made None f = path
-    made (Some m) f = steps_joined m.path (map (put_step es) l.path) f path
+    made (Some m) f = all_joined StepWritten m.path (map (put_step es) l.path) f path
 
     go : (o : Option Tree) → LeftWritten (on None o left_of) → PathWritten (on {B = Left} (record { name = l.name; path = map (put_step es) l.path }) (on None o left_of) (λ m. record { name = m.name; path = m.path ++ map (put_step es) l.path })).path
     go o f = made (on None o left_of) f
@@ -167,7 +164,7 @@ body_fits [] x b h e = absurd (cc)
 body_fits (m ∷ ms) x b h e = go (same_name x m.0) e (λ k. body_fits ms x b h.1 k)
   where
     go : (q : Bool) → (if q then Some m.1 else find x ms) ≡ Some b → (find x ms ≡ Some b → StatementWritten b.statement) → StatementWritten b.statement
-    go true e more = subst (λ (z : Body). StatementWritten z.statement) (some_is m.1 b e) h.0
+    go true e more = subst (λ (z : Body). StatementWritten z.statement) (same_Some m.1 b e) h.0
     go false e more = more e
 
 handed_fit : (xs : List Name) (ts : List Tree) → AllByRecursion LiteralsWritten ts → ArgumentsWritten (handed xs ts)
@@ -273,17 +270,13 @@ module _ (s : Setting) (blocks : (x : Name) (m : Mapped) → find x s.mapped ≡
   in_turn_fits [] h = tt
   in_turn_fits (c ∷ cs) h = (h.0, in_turn_fits cs h.1)
 
-  last_fits : (cs : List Code) (c : Code) → EachWritten cs → CodeWritten c → EachWritten (cs ++ c ∷ [])
-  last_fits [] c h g = (g, tt)
-  last_fits (d ∷ cs) c h g = (h.0, last_fits cs c h.1 g)
-
   all_assigned : (as' : List Assignment) (k : ℕ) (then' : List Code) → AllByRecursion AssignmentWritten as' → EachWritten then' → CodeWritten (assign_all s as' k then')
   all_assigned [] k then' l h = in_turn_fits then' h
   all_assigned (a ∷ as') k then' l h =
       let end = λ (path : List Part) (e : Tree) (k2 : ℕ). Let val_base (place k2) e (assign_all s as' (suc k2) (then' ++ assigned s a.left.name.name path (place k2) ∷ [])) in
       steps_fit a.left.path k (λ path k1. evaluated s.mapped a.right k1 (end path)) l.0.0 (λ path k1 o.
       evaluated_fits a.right k1 (end path) l.0.1 (λ e k2 g.
-      (g, all_assigned as' (suc k2) (then' ++ assigned s a.left.name.name path (place k2) ∷ []) l.1 (last_fits then' (assigned s a.left.name.name path (place k2)) h (assigned_fits a.left.name.name path o (place k2))))))
+      (g, all_assigned as' (suc k2) (then' ++ assigned s a.left.name.name path (place k2) ∷ []) l.1 (one_more CodeWritten then' (assigned s a.left.name.name path (place k2)) h (assigned_fits a.left.name.name path o (place k2))))))
 
   abbrev TreeWritten : Option Tree → Type 0
   TreeWritten None = Unit {0}
@@ -350,10 +343,6 @@ module _ (s : Setting) (blocks : (x : Name) (m : Mapped) → find x s.mapped ≡
   abbrev Sections : List (Name × Code) → Type 0
   Sections cs = AllByRecursion (λ c. CodeWritten c.1) cs
 
-  joined : (cs ds : List (Name × Code)) → Sections cs → Sections ds → Sections (cs ++ ds)
-  joined [] ds h g = g
-  joined (c ∷ cs) ds h g = (h.0, joined cs ds h.1 g)
-
   own_fits : (x : Option PlacedName) (t : Statement) (c : Code) → StatementWritten t → CodeWritten c → Sections (own s x t c)
   own_fits None t c h g = tt
   own_fits (Some x) t c h g = ((code_fits t (label_of s.process x.name) h, g), tt)
@@ -363,7 +352,7 @@ module _ (s : Setting) (blocks : (x : Name) (m : Mapped) → find x s.mapped ≡
     within_fits (skip p) l c h g = tt
     within_fits (assign p as') l c h g = tt
     within_fits (if_then p bs) l c h g = within_branches_fit bs l c h g
-    within_fits (if_else p bs t) l c h g = joined (within_branches s l bs c) (within s l t c) (within_branches_fit bs l c h.0 g) (within_fits t l c h.1 g)
+    within_fits (if_else p bs t) l c h g = all_joined _ (within_branches s l bs c) (within s l t c) (within_branches_fit bs l c h.0 g) (within_fits t l c h.1 g)
     within_fits (while_do p e t) l c h g = within_fits t l (Goto l) h.1 tt
     within_fits (either_of p ts) l c h g = within_arms_fit ts l c h g
     within_fits (await_that p e) l c h g = tt
@@ -377,19 +366,19 @@ module _ (s : Setting) (blocks : (x : Name) (m : Mapped) → find x s.mapped ≡
 
     within_branches_fit : (bs : GuardedStatements) (l : Name) (c : Code) → GuardedWritten bs → CodeWritten c → Sections (within_branches s l bs c)
     within_branches_fit no_guarded l c h g = tt
-    within_branches_fit (more_guarded p e t bs) l c h g = joined (within s l t c) (within_branches s l bs c) (within_fits t l c h.1 g) (within_branches_fit bs l c h.2 g)
+    within_branches_fit (more_guarded p e t bs) l c h g = all_joined _ (within s l t c) (within_branches s l bs c) (within_fits t l c h.1 g) (within_branches_fit bs l c h.2 g)
 
     within_arms_fit : (ts : Statements) (l : Name) (c : Code) → StatementsWritten ts → CodeWritten c → Sections (within_arms s l ts c)
     within_arms_fit no_statements l c h g = tt
-    within_arms_fit (more_statements t ts) l c h g = joined (within s l t c) (within_arms s l ts c) (within_fits t l c h.0 g) (within_arms_fit ts l c h.1 g)
+    within_arms_fit (more_statements t ts) l c h g = all_joined _ (within s l t c) (within_arms s l ts c) (within_fits t l c h.0 g) (within_arms_fit ts l c h.1 g)
 
     within_order_fits : (ls : LabeledStatements) (l : Name) (c : Code) → LabeledWritten ls → CodeWritten c → Sections (within_order s l ls c)
     within_order_fits no_labeled l c h g = tt
     within_order_fits (more_labeled x t ls) l c h g =
         let rest = Seq (in_order s l ls) c in
         let rest_fits : CodeWritten rest = (order_fits ls l h.1, g) in
-        joined (own s x t rest ++ within s (labelled s l x) t rest) (within_order s l ls c)
-        (joined (own s x t rest) (within s (labelled s l x) t rest) (own_fits x t rest h.0 rest_fits) (within_fits t (labelled s l x) rest h.0 rest_fits))
+        all_joined _ (own s x t rest ++ within s (labelled s l x) t rest) (within_order s l ls c)
+        (all_joined _ (own s x t rest) (within s (labelled s l x) t rest) (own_fits x t rest h.0 rest_fits) (within_fits t (labelled s l x) rest h.0 rest_fits))
         (within_order_fits ls l c h.1 g)
 
 -- ---- mapping macros
@@ -409,7 +398,7 @@ mapped_fit [] h x m e = absurd (cc)
 mapped_fit (b ∷ bs) h x m e = go b.target h.0 e (λ k. mapped_fit bs h.1 x m k)
   where
     found : (q : Mapped) → CodeWritten q.reads × CodeWritten q.writes → (c : Bool) → (if c then Some q else find x (all_mapped bs)) ≡ Some m → (find x (all_mapped bs) ≡ Some m → CodeWritten m.reads × CodeWritten m.writes) → CodeWritten m.reads × CodeWritten m.writes
-    found q f true k more = subst (λ (z : Mapped). CodeWritten z.reads × CodeWritten z.writes) (some_is q m k) f
+    found q f true k more = subst (λ (z : Mapped). CodeWritten z.reads × CodeWritten z.writes) (same_Some q m k) f
     found q f false k more = more k
 
     go : (t : Target) → TargetWritten t → find x (mapped_of b.parameter t (all_mapped bs)) ≡ Some m → (find x (all_mapped bs) ≡ Some m → CodeWritten m.reads × CodeWritten m.writes) → CodeWritten m.reads × CodeWritten m.writes
@@ -433,5 +422,5 @@ module _ (b : Bound) (i : Instance) (fit : TextWritten b i) where
       found (x ∷ cs) h e = go (same_name l x.0) e (λ k. found cs h.1 k)
         where
           go : (q : Bool) → (if q then Some x.1 else find l cs) ≡ Some c → (find l cs ≡ Some c → CodeWritten c) → CodeWritten c
-          go true e more = subst CodeWritten (some_is x.1 c e) h.0
+          go true e more = subst CodeWritten (same_Some x.1 c e) h.0
           go false e more = more e

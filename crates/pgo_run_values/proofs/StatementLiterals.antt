@@ -1,13 +1,10 @@
 -- The literals of statements that tokens spell can be written where the tokens' numbers, strings and names can.
-use Rattle.std.proofs.Common.{ℕ, Bool, List, [], ◌∷◌, ◌++◌, Option}
+use Rattle.std.proofs.Common.{ℕ, Bool, List, ◌∷◌, Option}
 use Rattle.std.specs.List.{AllByRecursion}
 use Rattle.pgo_base.specs.Tree.{Tree}
-use Rattle.pgo_lexer.specs.declared.symbol.Symbol.{Symbol}
 use Rattle.pgo_lexer.specs.declared.symbol.Symbol.TheVariants as symbol
 use Rattle.pgo_lexer.specs.declared.token.Lexeme.{Lexeme}
-use Rattle.pgo_expr_read.specs.Lookahead.{tokens_of}
-use Rattle.pgo_mpcal_read.specs.Elements.{IsExpression, IsRange, Behind, Items, InBrackets, Row}
-use Rattle.pgo_mpcal_read.specs.Elements as elements
+use Rattle.pgo_mpcal_read.specs.Elements.{IsExpression, IsRange}
 use Rattle.pgo_mpcal_read.specs.Statements.{IsStep, IsLeft, IsAssignment, IsOrigin, IsWithName, Spelled, IsBranch, ElseIfs, Ors, IsLabeled, Rows, IsBody}
 use Rattle.pgo_mpcal_read.specs.Statements as m
 use Rattle.pgo_syntax.specs.Statement.{Statement, statements, labeled, guarded}
@@ -17,64 +14,35 @@ use Rattle.pgo_syntax.specs.declared.assignment.Step.{Step}
 use Rattle.pgo_syntax.specs.declared.binding.Origin.{Origin}
 use Rattle.pgo_syntax.specs.declared.binding.WithName.{WithName}
 use Rattle.pgo_syntax.specs.declared.name.PlacedName.{PlacedName}
+use Rattle.pgo_agrees.proofs.EachToken.{cut, tokens_each, all_items, all_in_brackets, all_in_row}
 use Rattle.pgo_run_values.specs.WrittenLiterals.{LiteralsWritten, OriginWritten}
 use Rattle.pgo_run_values.specs.WrittenStatements.{StepWritten, AssignmentWritten, StatementWritten, StatementsWritten, LabeledWritten, GuardedWritten}
-use Rattle.pgo_run_values.proofs.Tokens.{IsPlain, AllPlain}
+use Rattle.pgo_run_values.proofs.Tokens.{IsPlain}
 use Rattle.pgo_run_values.proofs.ExpressionLiterals.{fits, fits_range}
 
 -- the numbers, strings and names among these tokens can be written
 abbrev pub ArePlain : List Lexeme → Type 0
-ArePlain [] = Unit {0}
-ArePlain (l ∷ ls) = IsPlain l.token × ArePlain ls
-
-pub cut : (xs ys : List Lexeme) → ArePlain (xs ++ ys) → ArePlain xs × ArePlain ys
-cut [] ys h = (tt, h)
-cut (x ∷ xs) ys h = let q = cut xs ys h.1 in ((h.0, q.0), q.1)
-
-plain_of : (ls : List Lexeme) → ArePlain ls → AllPlain (tokens_of ls)
-plain_of [] h = tt
-plain_of (l ∷ ls) h = (h.0, plain_of ls h.1)
+ArePlain = AllByRecursion (λ (l : Lexeme). IsPlain l.token)
 
 pub expression : {xs : List Lexeme} {e : Tree} → IsExpression xs e → ArePlain xs → LiteralsWritten e
-expression {xs} {e} d h = fits d.spells.2 (plain_of xs h)
+expression {xs} {e} d h = fits d.spells.2 (tokens_each IsPlain xs h)
 
 range : {xs : List Lexeme} {e : Tree} → IsRange xs e → ArePlain xs → LiteralsWritten e
-range {xs} {e} d h = fits_range d.range (plain_of xs h)
-
--- ---- lists
-
-module _ {A : Type 0} (Item : List Lexeme → A → Type 0) (Q : A → Type 0) (item : (xs : List Lexeme) (a : A) → Item xs a → ArePlain xs → Q a) where
-  pub all_behind : (v : Symbol) (xs : List Lexeme) (as' : List A) → Behind Item v xs as' → ArePlain xs → AllByRecursion Q as'
-  all_behind v xs as' elements.no_more h = tt
-  all_behind v xs as' (elements.one_more {xs = ys} {ys = zs} {a = a} {as' = bs} i r) h =
-      let q = cut ys zs h.1 in (item ys a i q.0, all_behind v zs bs r q.1)
-
-  pub all_items : (v : Symbol) (xs : List Lexeme) (as' : List A) → Items Item v xs as' → ArePlain xs → AllByRecursion Q as'
-  all_items v xs as' (elements.items {xs = ys} {ys = zs} {a = a} {as' = bs} i r) h =
-      let q = cut ys zs h in (item ys a i q.0, all_behind v zs bs r q.1)
-
-  pub all_in_brackets : (xs : List Lexeme) (as' : List A) → InBrackets Item xs as' → ArePlain xs → AllByRecursion Q as'
-  all_in_brackets xs as' elements.empty h = tt
-  all_in_brackets xs as' (elements.some c {xs = ys} {as' = bs} i) h = all_items symbol.Comma ys bs i (cut ys _ h.1).0
-
-  pub all_in_row : (xs : List Lexeme) (as' : List A) → Row Item xs as' → ArePlain xs → AllByRecursion Q as'
-  all_in_row xs as' elements.nothing h = tt
-  all_in_row xs as' (elements.another {xs = ys} {ys = zs} {a = a} {as' = bs} i r) h =
-      let q = cut ys zs h in (item ys a i q.0, all_in_row zs bs r q.1)
+range {xs} {e} d h = fits_range d.range (tokens_each IsPlain xs h)
 
 -- ---- assignments and names of a `with`
 
 step_fits : (xs : List Lexeme) (s : Step) → IsStep xs s → ArePlain xs → StepWritten s
-step_fits xs s (m.index c {xs = ys} d) h = expression d (cut ys _ h.1).0
+step_fits xs s (m.index c {xs = ys} d) h = expression d (cut _ ys _ h.1).0
 step_fits xs s m.field h = h.1.0
 
 left_fits : (xs : List Lexeme) (l : Left) → IsLeft xs l → ArePlain xs → AllByRecursion StepWritten l.path
-left_fits xs l (m.named {xs = ys} {path = p} r) h = all_in_row IsStep StepWritten step_fits ys p r h.1
-left_fits xs l (m.variable {xs = ys} {path = p} r) h = all_in_row IsStep StepWritten step_fits ys p r h.1
+left_fits xs l (m.named {xs = ys} {path = p} r) h = all_in_row _ IsStep StepWritten step_fits ys p r h.1
+left_fits xs l (m.variable {xs = ys} {path = p} r) h = all_in_row _ IsStep StepWritten step_fits ys p r h.1
 
 assignment_fits : (xs : List Lexeme) (a : Assignment) → IsAssignment xs a → ArePlain xs → AssignmentWritten a
 assignment_fits xs a (m.assignment p {xs = ys} {ys = zs} {l = l} {e = e} i d) h =
-    let q = cut ys _ h in (left_fits ys l i q.0, expression d q.1.1)
+    let q = cut _ ys _ h in (left_fits ys l i q.0, expression d q.1.1)
 
 pub origin_fits : (xs : List Lexeme) (o : Origin) → IsOrigin xs o → ArePlain xs → OriginWritten o
 origin_fits xs o (m.equals d) h = expression d h.1
@@ -91,43 +59,43 @@ mutual
   pub statement_fits : {u v : Bool} {xs : List Lexeme} {s : Statement} → Spelled u v xs s → ArePlain xs → StatementWritten s
   statement_fits m.skip h = tt
   statement_fits (m.assign {xs = xs} {a = a} {as' = as'} i) h =
-      all_items IsAssignment AssignmentWritten assignment_fits symbol.Bars xs (a ∷ as') i h
-  statement_fits (m.if_then {xs = xs} d e) h = let q = cut xs _ h in let r = branch_fits d q.0 in (r.0, r.1, else_ifs_fits e q.1)
+      all_items _ IsAssignment AssignmentWritten assignment_fits symbol.Bars xs (a ∷ as') i h
+  statement_fits (m.if_then {xs = xs} d e) h = let q = cut _ xs _ h in let r = branch_fits d q.0 in (r.0, r.1, else_ifs_fits e q.1)
   statement_fits (m.if_else p {xs = xs} {ys = ys} d e g f) h =
-      let q = cut xs _ h in let w = cut ys _ q.1 in let r = branch_fits d q.0 in ((r.0, r.1, else_ifs_fits e w.0), statement_fits f w.1.1)
-  statement_fits (m.while_do c {xs = xs} d f) h = let q = cut xs _ h.1.1 in (expression d q.0, statement_fits f q.1.1)
+      let q = cut _ xs _ h in let w = cut _ ys _ q.1 in let r = branch_fits d q.0 in ((r.0, r.1, else_ifs_fits e w.0), statement_fits f w.1.1)
+  statement_fits (m.while_do c {xs = xs} d f) h = let q = cut _ xs _ h.1.1 in (expression d q.0, statement_fits f q.1.1)
   statement_fits (m.either_of q {xs = xs} {ys = ys} d e o) h =
-      let r = cut xs _ h.1 in let w = cut ys _ r.1.1 in (statement_fits d r.0, (statement_fits e w.0, ors_fits o w.1))
+      let r = cut _ xs _ h.1 in let w = cut _ ys _ r.1.1 in (statement_fits d r.0, (statement_fits e w.0, ors_fits o w.1))
   statement_fits (m.await_that a d) h = expression d h.1
   statement_fits (m.with_in c {xs = xs} {ns = ns} i f) h =
-      let q = cut xs _ h.1.1 in (all_items IsWithName OneWith with_fits symbol.Comma xs ns i q.0, statement_fits f q.1.1)
+      let q = cut _ xs _ h.1.1 in (all_items _ IsWithName OneWith with_fits symbol.Comma xs ns i q.0, statement_fits f q.1.1)
   statement_fits (m.print_out d) h = expression d h.1
   statement_fits (m.assert_that d) h = expression d h.1
   statement_fits m.go_to h = tt
   statement_fits (m.call_macro {xs = xs} {es = es} i) h =
-      all_in_brackets IsExpression LiteralsWritten (λ ys e d g. expression d g) xs es i h.1
+      all_in_brackets _ IsExpression LiteralsWritten (λ ys e d g. expression d g) xs es i h.1
   statement_fits (m.yield_as d) h = expression d h.1
-  statement_fits (m.block c {xs = xs} r) h = rows_fits r (cut xs _ h.1).0
+  statement_fits (m.block c {xs = xs} r) h = rows_fits r (cut _ xs _ h.1).0
 
   branch_fits : {u v : Bool} {xs : List Lexeme} {r : ℕ × (Tree × Statement)} → IsBranch u v xs r → ArePlain xs → LiteralsWritten r.1.0 × StatementWritten r.1.1
-  branch_fits (m.branch c {xs = xs} d f) h = let q = cut xs _ h.1.1 in (expression d q.0, statement_fits f q.1.1)
+  branch_fits (m.branch c {xs = xs} d f) h = let q = cut _ xs _ h.1.1 in (expression d q.0, statement_fits f q.1.1)
 
   else_ifs_fits : {u v w z : Bool} {xs : List Lexeme} {bs : List (ℕ × (Tree × Statement))} → ElseIfs u v w z xs bs → ArePlain xs → GuardedWritten (guarded bs)
   else_ifs_fits m.no_else_if h = tt
-  else_ifs_fits (m.else_if {xs = xs} d e) h = let q = cut xs _ h.1 in let r = branch_fits d q.0 in (r.0, r.1, else_ifs_fits e q.1)
+  else_ifs_fits (m.else_if {xs = xs} d e) h = let q = cut _ xs _ h.1 in let r = branch_fits d q.0 in (r.0, r.1, else_ifs_fits e q.1)
 
   ors_fits : {u v w z : Bool} {xs : List Lexeme} {ss : List Statement} → Ors u v w z xs ss → ArePlain xs → StatementsWritten (statements ss)
   ors_fits m.no_or h = tt
-  ors_fits (m.or_this {xs = xs} d o) h = let q = cut xs _ h.1 in (statement_fits d q.0, ors_fits o q.1)
+  ors_fits (m.or_this {xs = xs} d o) h = let q = cut _ xs _ h.1 in (statement_fits d q.0, ors_fits o q.1)
 
   labeled_fits : {u v : Bool} {xs : List Lexeme} {r : Option PlacedName × Statement} → IsLabeled u v xs r → ArePlain xs → StatementWritten r.1
   labeled_fits (m.bare d) h = statement_fits d h
-  labeled_fits (m.label {xs = xs} f d) h = statement_fits d (cut xs _ h.1.1).1
+  labeled_fits (m.label {xs = xs} f d) h = statement_fits d (cut _ xs _ h.1.1).1
 
   pub rows_fits : {xs : List Lexeme} {rs : List (Option PlacedName × Statement)} → Rows xs rs → ArePlain xs → LabeledWritten (labeled rs)
   rows_fits m.no_row h = tt
   rows_fits (m.last_row d) h = (labeled_fits d h, tt)
-  rows_fits (m.row {xs = xs} {zs = zs} d e r) h = let q = cut xs _ h in (labeled_fits d q.0, rows_fits r (cut zs _ q.1).1)
+  rows_fits (m.row {xs = xs} {zs = zs} d e r) h = let q = cut _ xs _ h in (labeled_fits d q.0, rows_fits r (cut _ zs _ q.1).1)
 
 pub body_fits : {xs : List Lexeme} {rs : List (Option PlacedName × Statement)} → IsBody xs rs → ArePlain xs → LabeledWritten (labeled rs)
-body_fits (m.body c {xs = xs} r) h = rows_fits r (cut xs _ h.1).0
+body_fits (m.body c {xs = xs} r) h = rows_fits r (cut _ xs _ h.1).0

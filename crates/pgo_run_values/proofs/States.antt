@@ -1,47 +1,23 @@
 -- A section leads from a state whose values can be written to one.
 use Rattle.std.proofs.Common.{◌≡◌, ℕ, Bool, true, false, if◌then◌else◌, List, [], ◌∷◌, map, Some, refl, sym, subst, inl, inr}
-use Rattle.pgo_base.specs.Data.{Data, boolean, integer, string, model, set, function, Items, no_items, item, Pairs, no_pairs, pair, graph, keys}
+use Rattle.pgo_base.specs.Data.{Data, function, graph, keys}
 use Rattle.pgo_base.specs.Lookup.{Name, Vars, same_name, find}
 use Rattle.pgo_model.specs.Machine.{nth}
 use Rattle.pgo_model.specs.ModuleView.{defined_view}
 use Rattle.pgo_model.specs.Outcome.{Next}
-use Rattle.pgo_model.specs.State.{AllValues}
 use Rattle.pgo_model.specs.System.{Words}
-use Rattle.pgo_model.specs.Value.{IsValue, AreValues, ArePairs}
 use Rattle.pgo_model.specs.Written.{pc}
 use Rattle.pgo_syntax.specs.declared.bound.Bound.{Bound}
 use Rattle.pgo_syntax.specs.declared.bound.Instance.{Instance}
 use Rattle.pgo_bound.specs.Among.{IsAmong}
 use Rattle.pgo_bound.specs.State.{IsState, id_of}
 use Rattle.pgo_meaning.specs.Sect.{context_of, Sect}
-use Rattle.pgo_run_values.specs.Spellable.{IsSpellable, AreSpellable, PairsSpellable, Spellable, AllSpellable, FoundSpellable, ContextSpellable}
+use Rattle.pgo_run_values.specs.Spellable.{IsSpellable, Spellable, AllSpellable, FoundSpellable, ContextSpellable}
 use Rattle.pgo_run_values.specs.WrittenStatements.{LiteralsWrittenIn}
 use Rattle.pgo_systems.proofs.States.{from_label, identifier_there}
 use Rattle.pgo_run_values.proofs.Operators.{EachPair, none_spellable, some_spellable, ordered_pairs}
 use Rattle.pgo_run_values.proofs.Definitions.{definitions_spellable}
 use Rattle.pgo_run_values.proofs.Blocks.{section_spellable}
-
--- ---- values that can be written are values
-mutual
-  pub spellable_value : (v : Data) → IsSpellable v → IsValue v
-  spellable_value (boolean b) h = tt
-  spellable_value (integer z) h = h
-  spellable_value (string s) h = tt
-  spellable_value (model s) h = tt
-  spellable_value (set xs) h = (spellable_items xs h.0, h.1)
-  spellable_value (function ps) h = (spellable_pairs ps h.0, h.1)
-
-  spellable_items : (xs : Items) → AreSpellable xs → AreValues xs
-  spellable_items no_items h = tt
-  spellable_items (item x xs) h = (spellable_value x h.0, spellable_items xs h.1)
-
-  spellable_pairs : (ps : Pairs) → PairsSpellable ps → ArePairs ps
-  spellable_pairs no_pairs h = tt
-  spellable_pairs (pair k v ps) h = (spellable_value k h.0, spellable_value v h.1, spellable_pairs ps h.2)
-
-pub spellable_values : (s : Vars) → AllSpellable s → AllValues s
-spellable_values [] h = tt
-spellable_values (p ∷ s) h = (spellable_value p.1 h.0, spellable_values s h.1)
 
 pub all_found : (s : Vars) → AllSpellable s → FoundSpellable s
 all_found [] h x = none_spellable

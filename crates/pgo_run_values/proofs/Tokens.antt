@@ -1,5 +1,6 @@
 -- Numbers, strings and names among tokens.
-use Rattle.std.proofs.Common.{List, [], ◌∷◌, ◌++◌, IsTrue}
+use Rattle.std.proofs.Common.{List, IsTrue}
+use Rattle.std.specs.List.{AllByRecursion}
 use Rattle.pgo_lexer.specs.declared.token.Token.{Token}
 use Rattle.pgo_lexer.specs.declared.token.Token.TheVariants as t
 use Rattle.pgo_model.specs.BundleParts.{all_string_bytes}
@@ -13,9 +14,4 @@ IsPlain (t.Name x) = IsTrue (all_string_bytes x)
 IsPlain _ = Unit {0}
 
 abbrev pub AllPlain : List Token → Type 0
-AllPlain [] = Unit {0}
-AllPlain (k ∷ ks) = IsPlain k × AllPlain ks
-
-pub parts : (xs ys : List Token) → AllPlain (xs ++ ys) → AllPlain xs × AllPlain ys
-parts [] ys h = (tt, h)
-parts (k ∷ xs) ys h = let q = parts xs ys h.1 in ((h.0, q.0), q.1)
+AllPlain = AllByRecursion IsPlain

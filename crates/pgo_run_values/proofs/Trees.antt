@@ -4,6 +4,7 @@ use Rattle.std.specs.Prelude.{if◌then◌else◌, nat_abs, nat_le, nat_lt, IsTr
 use Rattle.std.proofs.lemmas.Bool.{leb-true}
 use Rattle.std.specs.List.{AllByRecursion}
 use Rattle.std.specs.List.Sorted.{IsStrictlySortedBy}
+use Rattle.std.proofs.lemmas.Option.{same_Some}
 use Rattle.pgo_base.specs.declared.expr.Prefix.{Prefix}
 use Rattle.pgo_base.specs.declared.expr.Infix.{Infix}
 use Rattle.pgo_base.specs.declared.expr.Prefix.TheVariants as prefixs
@@ -19,13 +20,15 @@ use Rattle.pgo_model.specs.FunctionSets.{Choices, paired, functions_over, choice
 use Rattle.pgo_model.specs.Operators.{both, each, members_of, graph_of, lookup, same_data, set_from, function_from, function_of, from_truth, truth_of, in_64, fits_i64, most_members, on_integers, sequence, sequence_at, choices, first3, least3, filter3, keep3, replace_at, put_at, apply, union, intersect, minus, flatten, power, single, merge, domain, range, divide, modulo, subset, or3, not3, and3, iff3, is_member, cardinality, span}
 use Rattle.pgo_model.specs.Sequences.{elements_from, elements, len, first_element, head, later_elements, tail, append, concat, slice, slice_of, sub_seq, assert, print, on_one, on_two, on_three, operators, assert_name}
 use Rattle.pgo_model.specs.Val.{Scope, Sem, sem, values_of, asserted, let_scope, case_value, ranges, fields, updated, call_def, or_else, value_of_name, value_of_call, with_name, with_names, with_part, functions_sem, word_sem, unary_sem, binary_sem, decide, quantify, function_over, index_of, name_values, names_over, sets_over, over_each, arithmetic, comparison, same_variables}
-use Rattle.pgo_bound.specs.Among.{IsAmong, from_map, some_is}
+use Rattle.pgo_bound.specs.Among.{IsAmong, from_map}
 use Rattle.pgo_bound.specs.Lookups.{same_of}
 use Rattle.pgo_run_values.specs.Spellable.{IsSpellable, EachSpellable, Spellable, NamesSpellable, ScopeSpellable}
 use Rattle.pgo_run_values.specs.WrittenLiterals.{LiteralsWritten, AllWritten, NamedWritten, ArmsWritten, BoundWritten, PathsWritten}
 use Rattle.pgo_systems.proofs.Fitting.{low, low_test}
 use Rattle.pgo_systems.proofs.Lists.{both_parts, each_from, each_step, is_set, InChoices, choices_in}
-use Rattle.pgo_run_values.proofs.Operators.{EachPair, any_spellable, none_spellable, some_spellable, then_spellable, both_spellable, truth_spellable, in_64_spellable, bounded_spellable, few_spellable, few_pairs, set_spellable, function_spellable, graph_spellable, members_all, member_all, graph_all, append_all, apply_spellable, lookup_spellable, sequence_spellable, ordered_among, range_spellable, power_spellable, flatten_spellable, domain_spellable, union_spellable, intersect_spellable, minus_spellable, merge_spellable, single_spellable, divide_spellable, modulo_spellable, subset_spellable}
+use Rattle.pgo_systems.proofs.Operators.{ordered_among}
+use Rattle.pgo_systems.proofs.Trees.{replaced_keys}
+use Rattle.pgo_run_values.proofs.Operators.{EachPair, any_spellable, none_spellable, some_spellable, then_spellable, both_spellable, truth_spellable, in_64_spellable, bounded_spellable, few_spellable, few_pairs, set_spellable, function_spellable, graph_spellable, members_all, member_all, graph_all, append_all, apply_spellable, lookup_spellable, sequence_spellable, range_spellable, power_spellable, flatten_spellable, domain_spellable, union_spellable, intersect_spellable, minus_spellable, merge_spellable, single_spellable, divide_spellable, modulo_spellable, subset_spellable, each_all}
 
 -- ---- sequences
 
@@ -41,7 +44,7 @@ drop_all (suc n) [] h = h
 drop_all (suc n) (y ∷ ys) h = drop_all n ys (λ z k. h z (inr k))
 
 elements_from_all : (n : ℕ) (ps : List (Data × Data)) (xs : List Data) → EachPair ps → elements_from n ps ≡ Some xs → EachSpellable xs
-elements_from_all n [] xs h e = subst EachSpellable (some_is [] xs e) (λ x m. absurd m)
+elements_from_all n [] xs h e = subst EachSpellable (same_Some [] xs e) (λ x m. absurd m)
 elements_from_all n (p ∷ ps) xs h e = go (same_data p.0 (integer (pos n))) e (λ vs g. elements_from_all (suc n) ps vs (λ q j. h q (inr j)) g)
   where
     two : (vs : List Data) → EachSpellable vs → (x : Data) → (x ≡ p.1) ⊎ IsAmong x vs → IsSpellable x
@@ -50,7 +53,7 @@ elements_from_all n (p ∷ ps) xs h e = go (same_data p.0 (integer (pos n))) e (
 
     more : (o : Option (List Data)) → elements_from (suc n) ps ≡ o → option_map (λ vs. p.1 ∷ vs) o ≡ Some xs → ((vs : List Data) → elements_from (suc n) ps ≡ Some vs → EachSpellable vs) → EachSpellable xs
     more None g k r = absurd (cc)
-    more (Some vs) g k r = subst EachSpellable (some_is (p.1 ∷ vs) xs k) (two vs (r vs g))
+    more (Some vs) g k r = subst EachSpellable (same_Some (p.1 ∷ vs) xs k) (two vs (r vs g))
 
     go : (b : Bool) → (if b then option_map (λ vs. p.1 ∷ vs) (elements_from (suc n) ps) else None) ≡ Some xs → ((vs : List Data) → elements_from (suc n) ps ≡ Some vs → EachSpellable vs) → EachSpellable xs
     go true k r = more (elements_from (suc n) ps) refl k r
@@ -77,13 +80,13 @@ more_all x xs o h y (inr m) = h y m
 
 -- the keys of a sequence are the numbers of its elements
 elements_low : (n : ℕ) (ps : List (Data × Data)) (xs : List Data) → n ≤ 2 ^ 63 → EachPair ps → elements_from n ps ≡ Some xs → n + length xs ≤ 2 ^ 63
-elements_low n [] xs l h e = subst (λ ys. n + length ys ≤ 2 ^ 63) (some_is [] xs e) (let z : n + 0 ≤ 2 ^ 63 = omega (arith, l) in z)
+elements_low n [] xs l h e = subst (λ ys. n + length ys ≤ 2 ^ 63) (same_Some [] xs e) (let z : n + 0 ≤ 2 ^ 63 = omega (arith, l) in z)
 elements_low n (p ∷ ps) xs l h e = go (same_data p.0 (integer (pos n))) refl e (λ k vs g. elements_low (suc n) ps vs k (λ q j. h q (inr j)) g)
   where
     more : (o : Option (List Data)) → elements_from (suc n) ps ≡ o → option_map (λ vs. p.1 ∷ vs) o ≡ Some xs → ((vs : List Data) → elements_from (suc n) ps ≡ Some vs → suc n + length vs ≤ 2 ^ 63) → n + length xs ≤ 2 ^ 63
     more None g k r = absurd (cc)
     more (Some vs) g k r =
-        subst (λ ys. n + length ys ≤ 2 ^ 63) (some_is (p.1 ∷ vs) xs k) (let w = r vs g in let z : n + suc (length vs) ≤ 2 ^ 63 = omega (arith, w) in z)
+        subst (λ ys. n + length ys ≤ 2 ^ 63) (same_Some (p.1 ∷ vs) xs k) (let w = r vs g in let z : n + suc (length vs) ≤ 2 ^ 63 = omega (arith, w) in z)
 
     go : (b : Bool) → same_data p.0 (integer (pos n)) ≡ b → (if b then option_map (λ vs. p.1 ∷ vs) (elements_from (suc n) ps) else None) ≡ Some xs
         → (suc n ≤ 2 ^ 63 → (vs : List Data) → elements_from (suc n) ps ≡ Some vs → suc n + length vs ≤ 2 ^ 63) → n + length xs ≤ 2 ^ 63
@@ -175,7 +178,7 @@ rows_spellable x f [] a e = absurd (cc)
 rows_spellable x f (r ∷ rows) a e = go (same_name x r.0) e (rows_spellable x f rows a.1)
   where
     go : (b : Bool) → (if b then Some r.1 else find x rows) ≡ Some f → (find x rows ≡ Some f → OperatorSpellable f) → OperatorSpellable f
-    go true k i = subst OperatorSpellable (some_is r.1 f k) a.0
+    go true k i = subst OperatorSpellable (same_Some r.1 f k) a.0
     go false k i = i k
 
 operators_spellable : (x : Name) (f : List Data → Option Data) → find x operators ≡ Some f → OperatorSpellable f
@@ -230,26 +233,23 @@ paired_keys [] (v ∷ vs) h = absurd h
 paired_keys (c ∷ cs) [] h = absurd h
 paired_keys (c ∷ cs) (v ∷ vs) h = ap (λ ks. c.0 ∷ ks) (paired_keys cs vs h.1)
 
-each_lists_all : (f : List Data → Option Data) (xs : List (List Data)) (ys : List Data) → ((l : List Data) → IsAmong l xs → Spellable (f l)) → each f xs ≡ Some ys → EachSpellable ys
-each_lists_all f xs ys h e y m = let r = each_from f xs ys e y m in h r.0 r.1 y r.2
-
 functions_spellable : (cs : Choices) → ChoicesSpellable cs → Spellable (functions_over cs)
 functions_spellable cs h =
     bounded_spellable (choice_count (map set_at cs)) (λ _. option_and_then set_from (each (λ vs. function_from (paired cs vs)) (choices (map set_at cs))))
-    (then_spellable (each (λ vs. function_from (paired cs vs)) (choices (map set_at cs))) set_from (λ fs e. set_spellable fs (each_lists_all (λ vs. function_from (paired cs vs)) (choices (map set_at cs)) fs (λ vs m. one vs (choices_in (map set_at cs) vs m)) e)))
+    (then_spellable (each (λ vs. function_from (paired cs vs)) (choices (map set_at cs))) set_from (λ fs e. set_spellable fs (each_all (λ vs. function_from (paired cs vs)) (choices (map set_at cs)) fs (λ vs m. one vs (choices_in (map set_at cs) vs m)) e)))
   where
     one : (vs : List Data) → InChoices (map set_at cs) vs → Spellable (function_from (paired cs vs))
     one vs i = few_spellable (paired cs vs) (λ few. paired_all cs vs (h (subst AreFew (paired_keys cs vs i) few)) i)
 
 choices_keys : (ps : List (Data × Data)) (cs : Choices) → choices_of ps ≡ Some cs → map key_of cs ≡ keys ps
-choices_keys [] cs h = ap (map key_of) (sym (some_is [] cs h))
+choices_keys [] cs h = ap (map key_of) (sym (same_Some [] cs h))
 choices_keys (p ∷ ps) cs h =
     let r = each_step (λ p. option_map (λ ms. (p.0, ms)) (members_of p.1)) p ps cs h in
     ap (map key_of) r.1.3 ∙ (λ i. first_key (members_of p.1) r.0 r.1.1 i ∷ choices_keys ps r.1.0 r.1.2 i)
   where
     first_key : (o : Option (List Data)) (c : Data × List Data) → option_map (λ ms. (p.0, ms)) o ≡ Some c → c.0 ≡ p.0
     first_key None c g = absurd (cc)
-    first_key (Some ms) c g = sym (ap (λ z. z.0) (some_is (p.0, ms) c g))
+    first_key (Some ms) c g = sym (ap (λ z. z.0) (same_Some (p.0, ms) c g))
 
 choices_of_all : (ps : List (Data × Data)) (cs : Choices) → (AreFew (keys ps) → EachPair ps) → choices_of ps ≡ Some cs → ChoicesSpellable cs
 choices_of_all ps cs h e few c m =
@@ -259,7 +259,7 @@ choices_of_all ps cs h e few c m =
   where
     by_set : (p : Data × Data) → IsSpellable p.0 × IsSpellable p.1 → (o : Option (List Data)) → members_of p.1 ≡ o → option_map (λ ms. (p.0, ms)) o ≡ Some c → IsSpellable c.0 × EachSpellable c.1
     by_set p a None q k = absurd (cc)
-    by_set p a (Some ms) q k = subst (λ z. IsSpellable z.0 × EachSpellable z.1) (some_is (p.0, ms) c k) (a.0, member_all p.1 ms a.1 q)
+    by_set p a (Some ms) q k = subst (λ z. IsSpellable z.0 × EachSpellable z.1) (same_Some (p.0, ms) c k) (a.0, member_all p.1 ms a.1 q)
 
 functions_sem_spellable : (o : Option Choices) → ((cs : Choices) → o ≡ Some cs → ChoicesSpellable cs) → Spellable (functions_sem o).value
 functions_sem_spellable o h = then_spellable o functions_over (λ cs e. functions_spellable cs (h cs e))
@@ -270,17 +270,9 @@ over_all ms ns h g c m = let r = from_map (λ m. (m, ns)) c ms m in subst (λ z.
 function_choices_all : (a b : Data) (cs : Choices) → IsSpellable a → IsSpellable b → function_choices a b ≡ Some cs → ChoicesSpellable cs
 function_choices_all a b cs o p e =
     let r = both_parts (λ ms ns. Some (map (λ m. (m, ns)) ms)) (members_of a) (members_of b) cs e in
-    subst ChoicesSpellable (some_is (map (λ m. (m, r.1.0)) r.0) cs r.1.3) (λ few. over_all r.0 r.1.0 (member_all a r.0 o r.1.1) (member_all b r.1.0 p r.1.2))
+    subst ChoicesSpellable (same_Some (map (λ m. (m, r.1.0)) r.0) cs r.1.3) (λ few. over_all r.0 r.1.0 (member_all a r.0 o r.1.1) (member_all b r.1.0 p r.1.2))
 
 -- ---- EXCEPT
-
-pub replaced_keys : (k v : Data) (ps : List (Data × Data)) → keys (replace_at k v ps) ≡ keys ps
-replaced_keys k v [] = refl
-replaced_keys k v (p ∷ ps) = go (same_data k p.0) refl (replaced_keys k v ps)
-  where
-    go : (b : Bool) → same_data k p.0 ≡ b → keys (replace_at k v ps) ≡ keys ps → keys (if b then (k, v) ∷ ps else p ∷ replace_at k v ps) ≡ p.0 ∷ keys ps
-    go true e r = ap (λ z. z ∷ keys ps) (same_of k p.0 e)
-    go false e r = ap (λ z. p.0 ∷ z) r
 
 replaced_all : (k v : Data) (ps : List (Data × Data)) → EachPair ps → IsSpellable v → EachPair (replace_at k v ps)
 replaced_all k v [] h o = λ q m. absurd m
@@ -372,7 +364,7 @@ pub named_more : (x : Name) (o : Option Data) (ns : Names) → Spellable o → N
 named_more x o ns h n y v e = go (same_name y x) e
   where
     go : (b : Bool) → (if b then Some o else find y ns) ≡ Some (Some v) → IsSpellable v
-    go true k = h v (some_is o (Some v) k)
+    go true k = h v (same_Some o (Some v) k)
     go false k = n y v k
 
 pub names_valued : (xs : List Name) (vs : List Data) (ns : Names) → EachSpellable vs → NamesSpellable ns → NamesSpellable (name_values xs vs ns)
@@ -418,12 +410,12 @@ first3_spellable p (m ∷ ms) h = go (p m) (first3_spellable p ms (λ y k. h y (
     go None r = none_spellable
 
 filter3_all : (p : Data → Option Bool) (ms ks : List Data) → EachSpellable ms → filter3 p ms ≡ Some ks → EachSpellable ks
-filter3_all p [] ks h e = subst EachSpellable (some_is [] ks e) h
+filter3_all p [] ks h e = subst EachSpellable (same_Some [] ks e) h
 filter3_all p (m ∷ ms) ks h e = go (p m) (filter3 p ms) refl e (λ ls g. filter3_all p ms ls (λ y k. h y (inr k)) g)
   where
     kept : (t : Option Bool) (ls : List Data) → EachSpellable ls → keep3 t m ls ≡ Some ks → EachSpellable ks
-    kept (Some true) ls o k = subst EachSpellable (some_is (m ∷ ls) ks k) (more_all m ls (h m (inl refl)) o)
-    kept (Some false) ls o k = subst EachSpellable (some_is ls ks k) o
+    kept (Some true) ls o k = subst EachSpellable (same_Some (m ∷ ls) ks k) (more_all m ls (h m (inl refl)) o)
+    kept (Some false) ls o k = subst EachSpellable (same_Some ls ks k) o
     kept None ls o k = absurd (cc)
 
     go : (t : Option Bool) (o : Option (List Data)) → filter3 p ms ≡ o → option_and_then (keep3 t m) o ≡ Some ks → ((ls : List Data) → filter3 p ms ≡ Some ls → EachSpellable ls) → EachSpellable ks
@@ -460,10 +452,7 @@ function_over_spellable over f ns r n h =
         let q = each_from (λ vs. both (λ k v. Some (k, v)) (index_of vs) (f (name_values (names_over over) vs ns))) (choices (sets_over over)) ps e p m in
         let o = chosen_all over q.0 r (choices_in (sets_over over) q.0 q.1) in
         let b = both_parts (λ k v. Some (k, v)) (index_of q.0) (f (name_values (names_over over) q.0 ns)) p q.2 in
-        subst (λ z. IsSpellable z.0 × IsSpellable z.1) (some_is (b.0, b.1.0) p b.1.3) (index_spellable q.0 o b.0 b.1.1, h (name_values (names_over over) q.0 ns) (names_valued (names_over over) q.0 ns o n) b.1.0 b.1.2)
-
-each_data_all : (f : Data → Option Data) (xs ys : List Data) → ((x : Data) → IsAmong x xs → Spellable (f x)) → each f xs ≡ Some ys → EachSpellable ys
-each_data_all f xs ys h e y m = let r = each_from f xs ys e y m in h r.0 r.1 y r.2
+        subst (λ z. IsSpellable z.0 × IsSpellable z.1) (same_Some (b.0, b.1.0) p b.1.3) (index_spellable q.0 o b.0 b.1.1, h (name_values (names_over over) q.0 ns) (names_valued (names_over over) q.0 ns o n) b.1.0 b.1.2)
 
 pairs_in_order_all : (ps : List (Data × Data)) → EachPair ps → EachPair (pairs_in_order ps)
 pairs_in_order_all ps h q m = h q (ordered_among q ps m)
@@ -522,7 +511,7 @@ mutual
       (λ ms e. then_spellable (filter3 (λ m. truth_of (sem p (with_name x (Some m) s)).value) ms) set_from (λ ks g. set_spellable ks (filter3_all (λ m. truth_of (sem p (with_name x (Some m) s)).value) ms ks (members_all (sem r s).value ms (tree_spellable r s l.0 a) e) g)))
   tree_spellable (image e x r) s l a =
       then_spellable (option_and_then members_of (sem r s).value) (λ ms. option_and_then set_from (each (λ m. (sem e (with_name x (Some m) s)).value) ms))
-      (λ ms g. then_spellable (each (λ m. (sem e (with_name x (Some m) s)).value) ms) set_from (λ ks k. set_spellable ks (each_data_all (λ m. (sem e (with_name x (Some m) s)).value) ms ks (λ m i. tree_spellable e (with_name x (Some m) s) l.0 (more_spellable s x (Some m) a (some_spellable m (members_all (sem r s).value ms (tree_spellable r s l.1 a) g m i)))) k)))
+      (λ ms g. then_spellable (each (λ m. (sem e (with_name x (Some m) s)).value) ms) set_from (λ ks k. set_spellable ks (each_all (λ m. (sem e (with_name x (Some m) s)).value) ms ks (λ m i. tree_spellable e (with_name x (Some m) s) l.0 (more_spellable s x (Some m) a (some_spellable m (members_all (sem r s).value ms (tree_spellable r s l.1 a) g m i)))) k)))
   tree_spellable (fun_of bs e) s l a =
       then_spellable (ranges bs s) (λ over. function_over over (λ ns. (sem e (with_names ns s)).value) s.names) (λ over g. function_over_spellable over (λ ns. (sem e (with_names ns s)).value) s.names (ranges_spellable bs s l.0 a over g) a.names (λ ns n. tree_spellable e (with_names ns s) l.1 (with_spellable s ns a n)))
   tree_spellable (fun_set e f) s l a = functions_sem_spellable (both function_choices (sem e s).value (sem f s).value) (fun_set_all (sem e s).value (sem f s).value (tree_spellable e s l.0 a) (tree_spellable f s l.1 a))
@@ -535,10 +524,10 @@ mutual
   tree_spellable (unchanged xs) s l a = then_spellable s.next (λ next. from_truth (same_variables xs s.now next)) (λ next e. truth_spellable (same_variables xs s.now next))
 
   trees_spellable : (ts : Trees) (s : Scope) → AllWritten ts → ScopeSpellable s → (vs : List Data) → values_of ts s ≡ Some vs → EachSpellable vs
-  trees_spellable no_trees s l a vs e = subst EachSpellable (some_is [] vs e) (λ x m. absurd m)
+  trees_spellable no_trees s l a vs e = subst EachSpellable (same_Some [] vs e) (λ x m. absurd m)
   trees_spellable (more_trees t ts) s l a vs e =
       let b = both_parts (λ v ws. Some (v ∷ ws)) (sem t s).value (values_of ts s) vs e in
-      subst EachSpellable (some_is (b.0 ∷ b.1.0) vs b.1.3) (more_all b.0 b.1.0 (tree_spellable t s l.0 a b.0 b.1.1) (trees_spellable ts s l.1 a b.1.0 b.1.2))
+      subst EachSpellable (same_Some (b.0 ∷ b.1.0) vs b.1.3) (more_all b.0 b.1.0 (tree_spellable t s l.0 a b.0 b.1.1) (trees_spellable ts s l.1 a b.1.0 b.1.2))
 
   let_spellable : (ds : NamedTrees) (s : Scope) → NamedWritten ds → ScopeSpellable s → ScopeSpellable (let_scope ds s)
   let_spellable no_named s l a = a
@@ -549,16 +538,16 @@ mutual
   case_spellable (more_arms g e gs) s l a o h = decide_spellable (truth_of (sem g s).value) (sem e s).value (case_value gs s o) (tree_spellable e s l.1 a) (case_spellable gs s l.2 a o h)
 
   ranges_spellable : (bs : BoundTrees) (s : Scope) → BoundWritten bs → ScopeSpellable s → (over : List (Name × List Data)) → ranges bs s ≡ Some over → RangesSpellable over
-  ranges_spellable no_bound s l a over e = subst RangesSpellable (some_is [] over e) (λ b m. absurd m)
+  ranges_spellable no_bound s l a over e = subst RangesSpellable (same_Some [] over e) (λ b m. absurd m)
   ranges_spellable (more_bound xs r bs) s l a over e =
       let b = both_parts (λ ms rest. Some (over_each xs ms rest)) (option_and_then members_of (sem r s).value) (ranges bs s) over e in
-      subst RangesSpellable (some_is (over_each xs b.0 b.1.0) over b.1.3) (over_each_all xs b.0 b.1.0 (members_all (sem r s).value b.0 (tree_spellable r s l.0 a) b.1.1) (ranges_spellable bs s l.1 a b.1.0 b.1.2))
+      subst RangesSpellable (same_Some (over_each xs b.0 b.1.0) over b.1.3) (over_each_all xs b.0 b.1.0 (members_all (sem r s).value b.0 (tree_spellable r s l.0 a) b.1.1) (ranges_spellable bs s l.1 a b.1.0 b.1.2))
 
   fields_spellable : (ds : NamedTrees) (s : Scope) → NamedWritten ds → ScopeSpellable s → (ps : List (Data × Data)) → fields ds s ≡ Some ps → EachPair ps
-  fields_spellable no_named s l a ps e = subst EachPair (some_is [] ps e) (λ p m. absurd m)
+  fields_spellable no_named s l a ps e = subst EachPair (same_Some [] ps e) (λ p m. absurd m)
   fields_spellable (more_named x t ds) s l a ps e =
       let b = both_parts (λ v rest. Some ((string x, v) ∷ rest)) (sem t s).value (fields ds s) ps e in
-      subst EachPair (some_is ((string x, b.0) ∷ b.1.0) ps b.1.3) (more_pairs (string x) b.0 b.1.0 l.0 (tree_spellable t s l.1 a b.0 b.1.1) (fields_spellable ds s l.2 a b.1.0 b.1.2))
+      subst EachPair (same_Some ((string x, b.0) ∷ b.1.0) ps b.1.3) (more_pairs (string x) b.0 b.1.0 l.0 (tree_spellable t s l.1 a b.0 b.1.1) (fields_spellable ds s l.2 a b.1.0 b.1.2))
 
   updated_spellable : (us : PathTrees) (s : Scope) → PathsWritten us → ScopeSpellable s → (o : Option Data) → Spellable o → Spellable (updated us s o)
   updated_spellable no_paths s l a o h = h

@@ -1,6 +1,6 @@
 -- Values of this kind have counted sets, and their canonical text is read back.
-use Rattle.std.proofs.Common.{◌≡◌, ◌≤◌, ◌^◌, ◌&&◌, Bool, true, nat_le, [], ◌∷◌, length, ap, ◌∙◌, refl, arith}
-use Rattle.std.proofs.lemmas.Bool.{leb-true, lt-ltb}
+use Rattle.std.proofs.Common.{◌≡◌, ◌≤◌, ◌^◌, ◌&&◌, true, nat_le, [], ◌∷◌, length, refl, arith}
+use Rattle.std.proofs.lemmas.Bool.{leb-true, lt-ltb, and_from}
 use Rattle.pgo_base.specs.Data.{Data, boolean, integer, string, model, set, function, Items, no_items, item, members, Pairs, no_pairs, pair, graph}
 use Rattle.pgo_base.specs.Lookup.{Vars}
 use Rattle.pgo_base.specs.Size.{depth}
@@ -8,11 +8,8 @@ use Rattle.pgo_model.specs.Operators.{most_members}
 use Rattle.pgo_value_text.specs.IsValueText.{is_small, are_small, all_small, most_depth}
 use Rattle.pgo_value_text.specs.Writable.{IsWritable, is_spellable, are_spellable, all_spellable}
 use Rattle.pgo_systems.specs.Counted.{IsCounted, AreCounted, PairsCounted, AllCounted}
+use Rattle.pgo_systems.proofs.States.{counted_value}
 use Rattle.pgo_run_values.specs.Spellable.{IsSpellable, AreSpellable, PairsSpellable, AllSpellable}
-use Rattle.pgo_run_values.proofs.States.{spellable_value}
-
-both : (a b : Bool) → a ≡ true → b ≡ true → (a && b) ≡ true
-both a b h g = ap (λ t. t && b) h ∙ g
 
 mutual
   pub is_counted : (v : Data) → IsSpellable v → IsCounted v
@@ -46,11 +43,11 @@ mutual
 
   spells_items : (xs : Items) → AreSpellable xs → are_spellable xs ≡ true
   spells_items no_items h = refl
-  spells_items (item x xs) h = both (is_spellable x) (are_spellable xs) (spells x h.0) (spells_items xs h.1)
+  spells_items (item x xs) h = and_from (is_spellable x) (are_spellable xs) (spells x h.0) (spells_items xs h.1)
 
   spells_pairs : (ps : Pairs) → PairsSpellable ps → all_spellable ps ≡ true
   spells_pairs no_pairs h = refl
-  spells_pairs (pair k v ps) h = both (is_spellable k && is_spellable v) (all_spellable ps) (both (is_spellable k) (is_spellable v) (spells k h.0) (spells v h.1)) (spells_pairs ps h.2)
+  spells_pairs (pair k v ps) h = and_from (is_spellable k && is_spellable v) (all_spellable ps) (and_from (is_spellable k) (is_spellable v) (spells k h.0) (spells v h.1)) (spells_pairs ps h.2)
 
 mutual
   few : (v : Data) → IsSpellable v → is_small v ≡ true
@@ -58,16 +55,16 @@ mutual
   few (integer z) h = refl
   few (string s) h = refl
   few (model s) h = refl
-  few (set xs) h = both (nat_le (length (members xs)) most_members) (are_small xs) h.2 (few_items xs h.0)
-  few (function ps) h = both (nat_le (length (graph ps)) most_members) (all_small ps) h.2 (few_pairs ps h.0)
+  few (set xs) h = and_from (nat_le (length (members xs)) most_members) (are_small xs) h.2 (few_items xs h.0)
+  few (function ps) h = and_from (nat_le (length (graph ps)) most_members) (all_small ps) h.2 (few_pairs ps h.0)
 
   few_items : (xs : Items) → AreSpellable xs → are_small xs ≡ true
   few_items no_items h = refl
-  few_items (item x xs) h = both (is_small x) (are_small xs) (few x h.0) (few_items xs h.1)
+  few_items (item x xs) h = and_from (is_small x) (are_small xs) (few x h.0) (few_items xs h.1)
 
   few_pairs : (ps : Pairs) → PairsSpellable ps → all_small ps ≡ true
   few_pairs no_pairs h = refl
-  few_pairs (pair k v ps) h = both (is_small k && is_small v) (all_small ps) (both (is_small k) (is_small v) (few k h.0) (few v h.1)) (few_pairs ps h.2)
+  few_pairs (pair k v ps) h = and_from (is_small k && is_small v) (all_small ps) (and_from (is_small k) (is_small v) (few k h.0) (few v h.1)) (few_pairs ps h.2)
 
 pub is_writable : (v : Data) → IsSpellable v → depth v ≤ most_depth → IsWritable v
-is_writable v h low = record { value = spellable_value v h; shallow = low; spellable = spells v h; small = few v h }
+is_writable v h low = record { value = counted_value v (is_counted v h); shallow = low; spellable = spells v h; small = few v h }

@@ -1,5 +1,5 @@
 -- No `yield` stands in the body of an archetype that a process of an accepted specification runs, macros in place.
-use Rattle.std.proofs.Common.{◌≡◌, List, [], length, true, Some, ap, sym, ◌∙◌}
+use Rattle.std.proofs.Common.{◌≡◌, List, [], true, Some}
 use Rattle.pgo_base.specs.Data.{Data}
 use Rattle.pgo_base.specs.Lookup.{Name}
 use Rattle.pgo_syntax.specs.Statement.{labeled}
@@ -9,7 +9,7 @@ use Rattle.pgo_syntax.specs.declared.spec.Spec.{Spec}
 use Rattle.pgo_uses.specs.AllUses.{archetype_uses}
 use Rattle.pgo_uses.specs.declared.uses.Use.{Use}
 use Rattle.pgo_labels.specs.LabelHere.{label_in_with}
-use Rattle.pgo_bound.specs.Among.{IsAmong, nth_among, none_flat_map, some_is}
+use Rattle.pgo_bound.specs.Among.{IsAmong, none_flat_map}
 use Rattle.pgo_bound.specs.Runs.{archetype_named}
 use Rattle.pgo_meaning.specs.MacrosPlaced.{bodies, placed_among}
 use Rattle.pgo_accesses.specs.WithoutYield.{LabeledWithout}
@@ -21,18 +21,11 @@ use Rattle.pgo_agrees.proofs.Uses.{FineUse, fine_use, of_archetype}
 use Rattle.pgo_runnable.proofs.NoYield.{labeled_without}
 
 module _ (s : Spec) (consts : List (Name × Data)) (h : IsAccepted s consts) where
-  parameters_number : (p : Process) (a : Archetype) → IsAmong p s.processes → archetype_named p.archetype.name s.archetypes ≡ Some a → length a.params ≡ length p.arguments
-  parameters_number p a among named =
-      let n = nth_among p s.processes among in
-      let r = (premises.well s consts h).archetypes n.0 p n.1 in
-      let same : r.0 ≡ a = some_is r.0 a (sym r.1 ∙ named) in
-      ap (λ (z : Archetype). length z.params) (sym same) ∙ r.2
-
   pub body_without : (p : Process) (a : Archetype) → IsAmong p s.processes → archetype_named p.archetype.name s.archetypes ≡ Some a → IsAmong a s.archetypes → LabeledWithout (placed_among (bodies s.macros) (labeled a.body))
   body_without p a among named declared =
       let k = premises.names s consts h in
       let fit = premises.fit s consts h in
-      let len = parameters_number p a among named in
+      let len = premises.parameters_number s consts h p a among named in
       let o = of_archetype s a declared in
       let there : (u : Use) → IsAmong u (archetype_uses o.0 a) → FineUse s u = λ u b. fine_use s k u (o.2 u b) in
       let free = none_flat_map label_in_with a s.archetypes (premises.labels s consts h).withs declared in

@@ -1,23 +1,18 @@
 -- What is asked of a bound specification, so that its states are kept, of every accepted one.
-use Rattle.std.proofs.Common.{◌≡◌, ℕ, List, [], ◌∷◌, Some}
+use Rattle.std.proofs.Common.{◌≡◌, ℕ, List, Some}
 use Rattle.pgo_base.specs.Data.{Data}
-use Rattle.pgo_base.specs.Lookup.{Name, Vars}
+use Rattle.pgo_base.specs.Lookup.{Name}
 use Rattle.pgo_model.specs.Machine.{nth}
 use Rattle.pgo_model.specs.State.{AllValues}
-use Rattle.pgo_model.specs.Value.{IsValue}
 use Rattle.pgo_syntax.specs.declared.bound.Instance.{Instance}
 use Rattle.pgo_syntax.specs.declared.spec.Spec.{Spec}
 use Rattle.pgo_bound.specs.BoundOf.{bound_of}
 use Rattle.pgo_meaning.specs.SystemStates.{GlobalsBound}
-use Rattle.pgo_systems.specs.Counted.{AllCounted, IsCounted}
+use Rattle.pgo_systems.specs.Counted.{AllCounted}
 use Rattle.pgo_systems.specs.Premises.{EndsAtLabels, KeepsStates, LiteralsFitIn, OwnsApart}
 use Rattle.pgo_agrees.specs.Accepted.{IsAccepted}
 use Rattle.pgo_agrees.proofs.Premises as premises
 use Rattle.pgo_runnable.proofs.Premises.{is_sound}
-
-pub all_values : ((v : Data) → IsCounted v → IsValue v) → (s : Vars) → AllCounted s → AllValues s
-all_values f [] h = tt
-all_values f (p ∷ s) h = (f p.1 h.0, all_values f s h.1)
 
 pub keeps : (s : Spec) (consts : List (Name × Data)) → IsAccepted s consts → AllValues (bound_of s consts).start → GlobalsBound (bound_of s consts) → AllCounted (bound_of s consts).start
     → ((k : ℕ) (i : Instance) → nth (bound_of s consts).instances k ≡ Some i → LiteralsFitIn (bound_of s consts) i)

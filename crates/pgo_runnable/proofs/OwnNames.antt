@@ -17,9 +17,9 @@ use Rattle.pgo_bound.specs.State.{id_of, names_with, names_or_none}
 use Rattle.pgo_sections.specs.Code.{Place, Own, Whole, variable_of}
 use Rattle.pgo_meaning.specs.Parameters.{own_name, own_variables, places_of}
 use Rattle.pgo_meaning.specs.System.{ids_of, owned, owned_by, system_of}
+use Rattle.pgo_meaning.proofs.Traces.{among_is}
 use Rattle.pgo_accesses.proofs.Parts.{same_self}
 use Rattle.pgo_agrees.proofs.Places.{PlaceFrom, is_own, is_whole, hands, binds, place_from}
-use Rattle.pgo_agrees.proofs.Variables.{among_is}
 
 place_own : (z : Place) (x : Name) → own_name z ≡ Some x → z ≡ Own x
 place_own (Whole y) x k = absurd (cc)

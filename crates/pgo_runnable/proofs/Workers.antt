@@ -56,7 +56,7 @@ runs_over W P Reaches Good Fewer is r = record {
   is_of = r.is_of;
 }
 
-at_done : (o : Option Data) → is_place done o ≡ true → o ≡ Some (string done)
+pub at_done : (o : Option Data) → is_place done o ≡ true → o ≡ Some (string done)
 at_done None h = absurd (grind (arith, h))
 at_done (Some (string l)) h = ap (λ x. Some (string x)) (sym (same_name-is done l h))
 at_done (Some (boolean z)) h = absurd (grind (arith, h))

@@ -7,7 +7,7 @@ use Rattle.std.specs.Ordering.{nat_cmp}
 use Rattle.std.specs.BTreeSet.{BTreeSet}
 use Rattle.std.proofs.lemmas.Bool.{eq-eqb, eqb-true}
 use Rattle.pgo_base.specs.Lookup.{Name, same_name}
-use Rattle.pgo_model.specs.Names.{same_name-self, same_name-is}
+use Rattle.pgo_model.specs.Names.{same_name-is, same_name_back}
 use Rattle.pgo_syntax.specs.declared.archetype.Archetype.{Archetype}
 use Rattle.pgo_syntax.specs.declared.archetype.Parameter.{Parameter}
 use Rattle.pgo_syntax.specs.declared.process.Argument.{Argument}
@@ -43,12 +43,6 @@ same_truth false false f g = refl
 same_truth true false f g = sym (f refl)
 same_truth false true f g = g refl
 
-name_back : (x y : Name) → same_name x y ≡ same_name y x
-name_back x y = same_truth (same_name x y) (same_name y x) (turned x y) (turned y x)
-  where
-    turned : (x y : Name) → same_name x y ≡ true → same_name y x ≡ true
-    turned x y h = ap (λ z. same_name y z) (same_name-is x y h) ∙ same_name-self y
-
 pub one_less : (m n : ℕ) → 0 < m → nat_eq (m - 1) n ≡ nat_eq m (suc n)
 one_less m n h = same_truth (nat_eq (m - 1) n) (nat_eq m (suc n))
     (λ e. eq-eqb m (suc n) (let k : m - 1 ≡ n = eqb-true (m - 1) n e in omega (arith, k, h)))
@@ -58,7 +52,7 @@ one_less m n h = same_truth (nat_eq (m - 1) n) (nat_eq m (suc n))
 pub ref_more : (g : Name) (old new : Rows) → ((x : Name) → has_row x new ≡ same_name x g || has_row x old) → (o : Option Argument) → ref_among new o ≡ is_ref_to g o || ref_among old o
 ref_more g old new h None = refl
 ref_more g old new h (Some (arguments.Value p e)) = refl
-ref_more g old new h (Some (arguments.Ref x extent)) = h x.name ∙ ap (λ b. b || has_row x.name old) (name_back x.name g)
+ref_more g old new h (Some (arguments.Ref x extent)) = h x.name ∙ ap (λ b. b || has_row x.name old) (same_name_back x.name g)
 
 pub some_or : (b : Bool) (n : ℕ) (es : List Argument) (cs : List MappingClause) → some_clause_or b n es cs ≡ b || some_clause n es cs
 some_or b n es [] = go b

@@ -1,5 +1,6 @@
 -- Why a specification's names are refused: the first rule that something breaks, at its first place in the text.
 use Rattle.std.specs.Prelude.{◌≡◌, ◌⊎◌, List, [], ◌∷◌, map, Option, Some, None, Result, Ok, Err}
+pub use Rattle.pgo_base.specs.Lookup.{or_that as or_next}
 use Rattle.pgo_syntax.specs.declared.spec.Spec.{Spec}
 use Rattle.pgo_scope.specs.declared.errors.ScopeError.{ScopeError}
 use Rattle.pgo_scope.specs.declared.errors.ScopeError.TheVariants as errors
@@ -8,10 +9,6 @@ use Rattle.pgo_scope.specs.Findings.{earliest}
 use Rattle.pgo_scope.specs.declared.rules.Rule.{Rule}
 use Rattle.pgo_scope.specs.declared.rules.Rule.TheVariants as rules
 use Rattle.pgo_scope.specs.Rules.{context_of, found_by}
-
-abbrev pub or_next : Option ScopeError → Option ScopeError → Option ScopeError
-or_next None f = f
-or_next (Some e) f = Some e
 
 -- the first of these rules that has a finding
 abbrev pub first_broken : List (List Finding) → Option ScopeError

@@ -3,9 +3,9 @@ ghost use Rattle.std.specs.Prelude.{◌≡◌, false, ◌||◌, ◌&&◌, nat_eq
 ghost use Rattle.pgo_base.specs.Lookup.{Name, same_name};
 ghost use Rattle.pgo_scope.specs.Binders as spec;
 ghost use Rattle.pgo_scope.specs.Binders.{binds, some_binds};
-ghost use Rattle.pgo_scope.specs.Targets.{has_number};
 ghost use Rattle.pgo_scope.specs.Twice.{binds_of, is_bound_in};
 
+use crate::places::add_place;
 use pgo_base::name_map::NameMap;
 use pgo_base::text::Text;
 use pgo_syntax::macros::Macro;
@@ -18,14 +18,6 @@ use std::collections::BTreeSet;
 #[derive(Drop)]
 pub struct Binders {
     pub map: NameMap<BTreeSet<usize>>,
-}
-
-/// This number too.
-fn add_number(number: usize, numbers: &mut BTreeSet<usize>) -> Result<(), AllocError>
-    ensures { IfOk result (λ _. (n : ℕ) → has_number numbers.new n ≡ has_number numbers.old n || nat_eq number n) }
-{
-    numbers.insert(number)?;
-    Ok(())
 }
 
 impl Binders {
@@ -43,7 +35,7 @@ impl Binders {
         ensures { IfOk result (λ _. (i : ℕ) (x : Name) → binds self.new i x ≡ binds self.old i x || (same_name x name.now && nat_eq place i)) }
     {
         let mut places = self.map.take(name).unwrap_or(BTreeSet::new(alloc));
-        add_number(place, &mut places)?;
+        add_place(place, &mut places)?;
         self.map.set(alloc, name, places)?;
         Ok(())
     }

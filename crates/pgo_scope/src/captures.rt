@@ -10,7 +10,8 @@ ghost use Rattle.pgo_scope.specs.declared.binders.Binders.{Binders as SpecBinder
 
 use crate::binders::Binders;
 use crate::finding::{Cause, Finding, add_if};
-use crate::handed::{HandedOn, add_place};
+use crate::handed::HandedOn;
+use crate::places::add_place;
 use pgo_base::expr::Expr;
 use pgo_base::text::Text;
 use pgo_syntax::macros::Macro;
@@ -157,15 +158,14 @@ fn binds_some(uses: &[Use]) -> bool
     false
 }
 
-/// The macro in this place, with these names in it, where it binds one.
-fn own_places(alloc: Global, uses: &[Use], place: usize) -> Result<BTreeSet<usize>, AllocError>
-    ensures { IfOk result (λ s. (b : SpecBinders) (x : Name) → binds b place x ≡ spec.is_bound_in false uses.now x → some_binds b s x ≡ spec.is_bound_in false uses.now x) }
+/// The macro in this place, or none where it binds no name.
+fn own_places(alloc: Global, binds_some: bool, place: usize) -> Result<BTreeSet<usize>, AllocError>
+    ensures { IfOk result (λ s. (b : SpecBinders) (x : Name) → some_binds b s x ≡ (binds_some && binds b place x)) }
 {
     let mut own = BTreeSet::new(alloc);
-    if !binds_some(uses) {
-        return Ok(own);
+    if binds_some {
+        add_place(place, &mut own)?;
     }
-    add_place(place, &mut own)?;
     Ok(own)
 }
 
@@ -181,7 +181,7 @@ fn macro_captures(
     ensures { IfOk result (λ c. see_macro_captures table.now.binders.now c ≡ spec.macro_captures (see_captures table.now) uses.now (names_of params.now)) }
 {
     let found = handed_on(alloc, table, uses)?;
-    let own = own_places(alloc, uses, place)?;
+    let own = own_places(alloc, binds_some(uses), place)?;
     let handed = handed_places(alloc, &found, &own, params)?;
     Ok(Captures { handed, own })
 }

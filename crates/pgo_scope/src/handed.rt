@@ -2,10 +2,11 @@
 ghost use Rattle.std.specs.Prelude.{◌≡◌, false, ◌||◌, not, ◌&&◌, IfOk};
 ghost use Rattle.pgo_base.specs.Lookup.{Name, same_name};
 ghost use Rattle.pgo_uses.specs.Names.{has_row};
-ghost use Rattle.pgo_scope.specs.Binders.{binds, some_binds, some_set_binds, is_handed, is_captured, or_if};
+ghost use Rattle.pgo_scope.specs.Binders.{some_binds, is_handed, is_captured, or_if};
 ghost use Rattle.pgo_scope.specs.declared.binders.Binders.{Binders};
 ghost use Rattle.pgo_scope.specs.Twice as spec;
 
+use crate::places::all_places;
 use pgo_base::name_map::NameMap;
 use pgo_base::text::Text;
 use pgo_uses::names::Names;
@@ -17,40 +18,6 @@ use std::collections::BTreeSet;
 #[derive(Drop)]
 pub struct HandedOn<'a> {
     pub map: NameMap<Vec<&'a BTreeSet<usize>>>,
-}
-
-/// Adds this place.
-pub fn add_place(place: usize, places: &mut BTreeSet<usize>) -> Result<(), AllocError>
-    ensures { IfOk result (λ _. (b : Binders) (x : Name) → some_binds b places.new x ≡ binds b place x || some_binds b places.old x) }
-{
-    places.insert(place)?;
-    Ok(())
-}
-
-/// Adds these places.
-fn add_places(more: &BTreeSet<usize>, places: &mut BTreeSet<usize>) -> Result<(), AllocError>
-    ensures { IfOk result (λ _. (b : Binders) (x : Name) → some_binds b places.new x ≡ some_binds b more.now x || some_binds b places.old x) }
-{
-    for place in more.iter() {
-        add_place(*place, places)?;
-    }
-    Ok(())
-}
-
-/// The places in these sets and in this one.
-fn all_places(
-    alloc: Global,
-    list: &[&BTreeSet<usize>],
-    own: &BTreeSet<usize>,
-) -> Result<BTreeSet<usize>, AllocError>
-    ensures { IfOk result (λ s. (b : Binders) (x : Name) → some_binds b s x ≡ some_set_binds (some_binds b own.now x) b list.now x) }
-{
-    let mut places = BTreeSet::new(alloc);
-    add_places(own, &mut places)?;
-    for more in list {
-        add_places(more, &mut places)?;
-    }
-    Ok(places)
 }
 
 impl<'a> HandedOn<'a> {

@@ -15,6 +15,7 @@ mod mapped;
 mod module_names;
 mod modules;
 mod name_usage;
+mod places;
 mod rules;
 pub mod scope;
 mod targets;

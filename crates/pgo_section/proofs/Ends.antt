@@ -1,5 +1,5 @@
 -- Where an instance ends, and where its next attempt begins.
-use Rattle.std.proofs.Common.{◌≡◌, ℕ, zero, suc, Bool, true, false, List, [], ◌∷◌, length, map, get_or, Option, Some, None, refl, sym, ap, ◌∙◌, subst, arith}
+use Rattle.std.proofs.Common.{◌≡◌, ℕ, Bool, true, false, List, [], ◌∷◌, length, map, Option, Some, None, refl, sym, ap, ◌∙◌, subst, arith}
 use Rattle.std.specs.Prelude.{if◌then◌else◌, nat_eq, option_map}
 use Rattle.pgo_base.specs.Lookup.{find}
 use Rattle.pgo_model.specs.Core as core
@@ -7,11 +7,12 @@ use Rattle.pgo_model.specs.Machine.{Record, last_ends, Step, Noted, Held, Down, 
 use Rattle.pgo_model.specs.Outcome.{Blocked, NoValue, AssertFails}
 use Rattle.pgo_model.specs.System.{System}
 use Rattle.pgo_model.specs.Written.{pc, done}
+use Rattle.pgo_syntax.proofs.Ends.{end_by_last}
 use Rattle.pgo_syntax.specs.RecordView.{result_view}
 use Rattle.pgo_syntax.specs.declared.records.End.TheVariants as ends
 use Rattle.pgo_workers.specs.View.{View, World}
 use Rattle.pgo_workers.specs.Walk as walks
-use Rattle.pgo_workers.specs.Worker.{Program, Worker, Phase, Resting, Walking, Giving, Turn, Turned, TIdle, TGave, TTook, THeld, TOperated, TReadied, TDown, TCommitted, TFull, TNoted, TJournal, Goes_on, has_ended, attempt, is_giving, is_resting}
+use Rattle.pgo_workers.specs.Worker.{Program, Worker, Resting, Walking, Turn, Turned, TIdle, TGave, TTook, THeld, TOperated, TReadied, TDown, TCommitted, TFull, TNoted, TJournal, Goes_on, has_ended, attempt, is_giving, is_resting}
 use Rattle.pgo_workers.specs.Sentences.{Meets, Under, Runs}
 use Rattle.pgo_workers.specs.Kept.{under, running}
 use Rattle.pgo_section.specs.Programs.{Trees}
@@ -20,22 +21,6 @@ use Rattle.pgo_section.specs.declared.worker.Worker as code
 use Rattle.pgo_section.proofs.Events.{world, same_length}
 
 -- ---- the last record
-
-skip : (x z : Record) (l : List Record) → core.end_by (x ∷ (z ∷ l)) ≡ core.end_by (z ∷ l)
-skip (Step n) z l = refl
-skip (Noted Blocked p) z l = refl
-skip (Noted NoValue p) z l = refl
-skip (Noted AssertFails p) z l = refl
-skip (Held r h) z l = refl
-skip (Down r o) z l = refl
-skip (Full n) z l = refl
-
-pub last_is : {A : Type 0} (f : A → Record) (l : List A) (n : ℕ) (d : A) → suc n ≡ length l → core.end_by (map f l) ≡ core.end_by (f (get_or l n d) ∷ [])
-last_is f [] n d e = absurd (omega (arith, e))
-last_is f (x ∷ []) zero d e = refl
-last_is f (x ∷ []) (suc n) d e = absurd (omega (arith, e))
-last_is f (x ∷ (z ∷ l)) zero d e = absurd (omega (arith, e))
-last_is f (x ∷ (z ∷ l)) (suc n) d e = skip (f x) (f z) (map f l) ∙ last_is f (z ∷ l) n d (let q : suc n ≡ length (z ∷ l) = omega (arith, e) in q)
 
 none_is : (o : Option core.End) → option_map ended o ≡ None → o ≡ None
 none_is None e = refl
@@ -62,7 +47,7 @@ no_last (Full n) e = absurd (grind (arith, e))
 no_end : (l : List Record) → core.end_by l ≡ None → last_ends l ≡ false
 no_end [] e = refl
 no_end (x ∷ []) e = no_last x e
-no_end (x ∷ (z ∷ l)) e = goes_past x z l ∙ no_end (z ∷ l) (sym (skip x z l) ∙ e)
+no_end (x ∷ (z ∷ l)) e = goes_past x z l ∙ no_end (z ∷ l) (sym (end_by_last x z l) ∙ e)
 
 not_spent : (o : Option core.End) (b : Bool) → core.end_or_spent o b ≡ None → (o ≡ None) × (b ≡ false)
 not_spent None true e = absurd (grind (arith, e))

@@ -20,7 +20,7 @@ use Rattle.pgo_workers.specs.Sentences.{Under, Place, Sound, IsOwn}
 use Rattle.pgo_workers.specs.Walk.{At, Own, Walk, Stop, Goes, Sticks, Within}
 use Rattle.pgo_workers.specs.View.{Shown, Hold, View, World, EachHold, IsSteady, Takes, Commits, Notes, JournalHeld, IsHeld, MayCommit, MayNote, Once, hold_at, resources_of, renewed, with_content, aborted, committed, raised, notes_of}
 use Rattle.pgo_workers.specs.Worker as spec
-use Rattle.pgo_workers.specs.Worker.{Walking, Goes_on, TTook, THeld, TOperated, TReadied, TDown, TCommitted, TFull, TNoted, TJournal, is_giving, is_resting, rest_of, readied_of, fails_at, finished, with_held, counted, changes_of, attempt}
+use Rattle.pgo_workers.specs.Worker.{Walking, Goes_on, TTook, THeld, TOperated, TReadied, TDown, TCommitted, TFull, TNoted, TJournal, is_giving, is_resting, rest_of, readied_of, fails_at, finished, with_held, counted, attempt}
 use Rattle.pgo_workers.specs.Worlds.{Layout, layout_of, world_of}
 use Rattle.pgo_workers.specs.Holds as holds
 use Rattle.pgo_workers.specs.Kept as laws

@@ -92,23 +92,6 @@ fn copied(alloc: Global, settings: &Settings) -> Result<Settings, AllocError>
     })
 }
 
-/// The end that an instance's last record shows.
-fn end_by(told: AttemptResult) -> Option<End>
-    ensures { result ≡ option_map ended (end_by (result_view told ∷ [])) }
-{
-    match told {
-        AttemptResult::Noted {
-            kind: NoteKind::Blocked,
-            ..
-        } => None,
-        AttemptResult::Noted { .. } => Some(End::Stopped),
-        AttemptResult::Refused {
-            refusal: Refusal::Full { .. },
-        } => Some(End::Full),
-        _ => None,
-    }
-}
-
 impl<P: Drop> Worker<P> {
     /// The worker of an instance before its first turn, with the instance's components at the start. It takes the room for
     /// all its records, and for taking each resource once; `resources` is how many there are.
@@ -162,7 +145,7 @@ impl<P: Drop> Worker<P> {
         if count == 0 {
             return None;
         }
-        end_by(self.records[count - 1])
+        self.records[count - 1].shown_end()
     }
 
     /// How the instance ended, where no attempt is under way.

@@ -1,6 +1,7 @@
 -- The end of a path makes the state that the section's end makes.
 use Rattle.std.proofs.Common.{◌≡◌, ℕ, zero, suc, Bool, true, false, ◌||◌, List, [], ◌∷◌, length, Option, Some, None, refl, sym, ap, ◌∙◌, arith, option_and_then}
 use Rattle.std.specs.List.{AllByRecursion}
+use Rattle.std.proofs.lemmas.Option.{same_Some}
 use Rattle.pgo_base.specs.Data.{Data}
 use Rattle.pgo_base.specs.Lookup.{Name, Vars, same_name, find}
 use Rattle.pgo_model.specs.Machine.{nth}
@@ -9,13 +10,12 @@ use Rattle.pgo_model.specs.Operators.{both}
 use Rattle.pgo_sections.specs.SectionsAgree.{keys}
 use Rattle.pgo_sections.specs.Context.{Context}
 use Rattle.pgo_sections.specs.Section.{closed_value, closed}
-use Rattle.pgo_sections.proofs.Iff.{some_is}
 use Rattle.pgo_sections.proofs.Later.{find_in, find_on}
 
 -- ---- lists of names
 pub among_nth : (xs : List Name) (n : ℕ) (x : Name) → nth xs n ≡ Some x → is_among x xs ≡ true
 among_nth [] n x h = absurd (grind (arith, h))
-among_nth (y ∷ xs) zero x h = ap (λ b. b || is_among x xs) (ap (λ z. same_name x z) (some_is y x h) ∙ same_name-self x)
+among_nth (y ∷ xs) zero x h = ap (λ b. b || is_among x xs) (ap (λ z. same_name x z) (same_Some y x h) ∙ same_name-self x)
 among_nth (y ∷ xs) (suc n) x h = or_true (same_name x y) (is_among x xs) (among_nth xs n x h)
   where
     or_true : (b c : Bool) → c ≡ true → b || c ≡ true
@@ -54,11 +54,11 @@ module _ (k : Context) (l : Name) (ch : Vars) where
   some_both : (o : Option Data) (q : Option Vars) (x : Name) (t : Vars) → both (λ v t. Some ((x, v) ∷ t)) o q ≡ Some t → (v : Data) × (rest : Vars) × (o ≡ Some v) × (q ≡ Some rest) × ((x, v) ∷ rest ≡ t)
   some_both None q x t e = absurd (grind (arith, e))
   some_both (Some v) None x t e = absurd (grind (arith, e))
-  some_both (Some v) (Some rest) x t e = (v, rest, refl, refl, some_is _ _ e)
+  some_both (Some v) (Some rest) x t e = (v, rest, refl, refl, same_Some _ _ e)
 
   -- each variable of the end is what its start becomes
   pub closed_at : (s t : Vars) → closed k l ch s ≡ Some t → (x : Name) → find x t ≡ option_and_then (closed_value k l ch x) (find x s)
-  closed_at [] t e x = ap (find x) (sym (some_is _ _ e))
+  closed_at [] t e x = ap (find x) (sym (same_Some _ _ e))
   closed_at (p ∷ s) t e x =
       let b = some_both (closed_value k l ch p.0 p.1) (closed k l ch s) p.0 t e in
       ap (find x) (sym b.4) ∙ go (same_name x p.0) refl b.0 b.1 b.2 (closed_at s b.1 b.3 x)
@@ -69,7 +69,7 @@ module _ (k : Context) (l : Name) (ch : Vars) where
       go false c v rest h more = find_on x (p.0, v) rest c ∙ more ∙ sym (ap (option_and_then (closed_value k l ch x)) (find_on x p s c))
 
   pub closed_keys : (s t : Vars) → closed k l ch s ≡ Some t → keys t ≡ keys s
-  closed_keys [] t e = ap keys (sym (some_is _ _ e))
+  closed_keys [] t e = ap keys (sym (same_Some _ _ e))
   closed_keys (p ∷ s) t e =
       let b = some_both (closed_value k l ch p.0 p.1) (closed k l ch s) p.0 t e in
       ap keys (sym b.4) ∙ ap (λ xs. p.0 ∷ xs) (closed_keys s b.1 b.3)

@@ -9,6 +9,7 @@ use Rattle.pgo_base.specs.Order.{data_cmp}
 use Rattle.pgo_base.specs.Lookup.{Name, Names, Vars, same_name, find}
 use Rattle.pgo_base.specs.Size.{depth}
 use Rattle.std.specs.Ordering.{is_eq}
+use Rattle.std.proofs.lemmas.Option.{same_Some}
 use Rattle.pgo_model.specs.Names.{same_name-is, is_among}
 use Rattle.pgo_model.specs.Operators.{members_of, truth_of, same_data, lookup, built, if_few, most_depth, most_members, function_of, replace_at, put_at, set_from}
 use Rattle.pgo_model.specs.Options.{on}
@@ -27,7 +28,6 @@ use Rattle.pgo_sections.specs.BoundValues.{bindable, value_under, put_part, valu
 use Rattle.pgo_sections.specs.SectionRun.{SectionRun, begun, printed, picked_number, chosen, Out, Go, Jump, Yielded, Stop, with_value, if_true, picked, go_on}
 use Rattle.pgo_sections.specs.Section.{closed_value, closed, if_shallow, end_of, section}
 use Rattle.pgo_sections.proofs.Closing.{closed_at, closed_keys, found_among, not_among}
-use Rattle.pgo_sections.proofs.Iff.{some_is}
 
 -- ---- EXCEPT keeps the domain
 pub same_of : (x y : Data) → same_data x y ≡ true → x ≡ y
@@ -51,7 +51,7 @@ built_is n v w h = go (nat_lt most_depth (depth v)) h
   where
     few : (b : Bool) → (if b then None else Some v) ≡ Some w → v ≡ w
     few true h = absurd (grind (arith, h))
-    few false h = some_is v w h
+    few false h = same_Some v w h
 
     go : (b : Bool) → (if b then None else if_few n v) ≡ Some w → v ≡ w
     go true h = absurd (grind (arith, h))
@@ -162,10 +162,10 @@ module _ (k : Context) where
 
       go : (o : Option Data) → bindable (with_content k g j v ch) ≡ o → option_map (λ w. (g, w) ∷ ch) o ≡ Some ch' → Kept ch'
       go None q e = absurd (grind (arith, e))
-      go (Some w) q e = subst Kept (some_is ((g, w) ∷ ch) ch' e) (by_element w i j has at_j q (k.by_element g) refl)
+      go (Some w) q e = subst Kept (same_Some ((g, w) ∷ ch) ch' e) (by_element w i j has at_j q (k.by_element g) refl)
 
   pub new_kept : (g : Name) (i : Option Name) (j : Option Data) (env : Names) (v : Option Data) (ch ch' : Vars) → HasIndex k.by_element g i → index_value i env ≡ Some j → Kept ch → put_new k g j v ch ≡ Some ch' → Kept ch'
-  new_kept g i j env None ch ch' has at_j h e = subst Kept (some_is ch ch' e) h
+  new_kept g i j env None ch ch' has at_j h e = subst Kept (same_Some ch ch' e) h
   new_kept g i j env (Some v) ch ch' has at_j h e = put_kept g i j env (Some v) ch ch' has at_j h e
 
   mutual

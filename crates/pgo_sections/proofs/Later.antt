@@ -2,7 +2,8 @@
 use Rattle.std.proofs.Common.{◌≡◌, ℕ, suc, ◌<◌, ◌≤◌, Bool, true, false, ◌||◌, if◌then◌else◌, List, [], ◌∷◌, ◌++◌, Option, Some, ◌⊎◌, refl, sym, ap, ◌∙◌, arith, inl, inr, append_assoc}
 use Rattle.pgo_base.specs.Data.{Data}
 use Rattle.pgo_base.specs.Lookup.{Name, Names, same_name, find}
-use Rattle.pgo_model.specs.Names.{same_name-self, same_name-is, is_among}
+use Rattle.pgo_model.specs.Names.{same_name-self, is_among}
+pub use Rattle.pgo_model.specs.Names.{turned}
 use Rattle.pgo_model.specs.Written.{made}
 use Rattle.pgo_sections.specs.Plain.{All}
 use Rattle.pgo_sections.specs.WellFormed.{NotMade, Bindable}
@@ -25,13 +26,6 @@ pub find_past : (Δ env : Names) (x : Name) → is_among x (names Δ) ≡ false 
 find_past [] env x h = refl
 find_past (p ∷ Δ) env x h =
     let o = or_out (same_name x p.0) (is_among x (names Δ)) h in find_on x p (Δ ++ env) o.0 ∙ find_past Δ env x o.1
-
-pub turned : (x y : Name) → same_name x y ≡ false → same_name y x ≡ false
-turned x y h = go (same_name y x) refl
-  where
-    go : (b : Bool) → same_name y x ≡ b → same_name y x ≡ false
-    go true e = absurd (let f : same_name x y ≡ true = ap (λ z. same_name x z) (same_name-is y x e) ∙ same_name-self x in grind (arith, f, h))
-    go false e = e
 
 module _ (vs : List Name) (L : ℕ) (apart : (b b' : Name) (m m' : ℕ) → m ≤ L → m' ≤ L → same_name (made b m) (made b' m') ≡ true → m ≡ m') where
   -- a made name with a number above n

@@ -1,6 +1,7 @@
 -- The paths through an expansion go where the section may.
 use Rattle.std.proofs.Common.{◌≡◌, ℕ, suc, ◌+◌, ◌<◌, ◌≤◌, Bool, true, false, ◌||◌, if◌then◌else◌, List, [], ◌∷◌, ◌++◌, length, Option, Some, None, ◌↔◌, refl, sym, ap, ◌∙◌, subst, arith, inr, option_and_then, option_map}
 use Rattle.std.specs.Prelude.{unwrap_or}
+use Rattle.std.proofs.lemmas.Option.{same_Some}
 use Rattle.pgo_base.specs.Data.{Data, boolean}
 use Rattle.pgo_base.specs.Lookup.{Name, Names, Vars, same_name, find}
 use Rattle.pgo_base.specs.Tree.{Tree, name, index, except, trees, no_paths, more_paths}
@@ -18,7 +19,7 @@ use Rattle.pgo_sections.specs.Expansion.{Expansion, With, PathContext, Path, Som
 use Rattle.pgo_sections.specs.Nodes.{most_names, most_of_arms}
 use Rattle.pgo_sections.specs.WellFormed.{PlainCode, PlainCodes, KnownIndex}
 use Rattle.pgo_sections.proofs.Here.{sim_ext, sources, among_found, on_path, Fits, SimName, Changed, Here, here_ext, here_with, here_set, fits_block, here_block, tree_is}
-use Rattle.pgo_sections.proofs.Iff.{iff_same, iff_then, sum_iff, with_iff, guard_iff, pick_iff, known_iff, map_iff, iff_along, read_iff, some_is}
+use Rattle.pgo_sections.proofs.Iff.{iff_same, iff_then, sum_iff, with_iff, guard_iff, pick_iff, known_iff, map_iff, iff_along, read_iff}
 use Rattle.pgo_sections.proofs.Later.{AllLater, Ext, ext_same, ext_more, ext_then, just_bound}
 use Rattle.pgo_sections.proofs.May.{block_of, left_content, May, SomeMay, never, never_at}
 
@@ -187,7 +188,7 @@ module _ (vs : List Name) (L : ℕ) (apart : (b b' : Name) (m m' : ℕ) → m �
   index_ext n n' ren env env' wenv (Some i) None le x h = h
   index_ext n n' ren env env' wenv (Some i) (Some j) le x h =
       let sim = sim_ext vs L apart s t (meanings a.defs s (Some t)) not_there n n' env env' (Some h.0) (Some (Some j)) le x (j, refl, h.3) in
-      (h.0, h.1, h.2, λ Δ later. sim.2 Δ later ∙ ap (λ v. Some (Some v)) (some_is _ _ (sym sim.1)))
+      (h.0, h.1, h.2, λ Δ later. sim.2 Δ later ∙ ap (λ v. Some (Some v)) (same_Some _ _ (sym sim.1)))
 
   -- a block's content on the path
   content_now_is : (k : Context) (n : ℕ) (cur : Current) (env : Names) (mem : Vars) (Δ : Names) (part : Option Data) → AllLater vs L apart n Δ → Valued (block_of k) n cur env mem → sem (current cur (Whole content_name)) (ThePath part (Δ ++ env)) ≡ plain (find content_name mem)

@@ -1,6 +1,7 @@
 -- An expression with other expressions in the place of its names has the value that the expression has, where what stands
 -- for a name has the name's value.
 use Rattle.std.proofs.Common.{◌≡◌, ℕ, suc, Bool, true, false, ◌||◌, if◌then◌else◌, List, [], ◌∷◌, ◌++◌, length, Option, Some, None, refl, sym, ap, ◌∙◌, subst, arith, option_and_then}
+use Rattle.std.proofs.lemmas.Option.{same_Some}
 use Rattle.pgo_base.specs.declared.expr.Quantifier.{Quantifier}
 use Rattle.pgo_base.specs.declared.expr.Quantifier.TheVariants as quantifiers
 use Rattle.pgo_base.specs.Data.{Data, string}
@@ -66,19 +67,16 @@ abbrev got : {A : Type 0} → A → Option A → A
 got d None = d
 got d (Some a) = a
 
-some_is : {A : Type 0} → (a b : A) → Some a ≡ Some b → a ≡ b
-some_is a b e = ap (got a) e
-
 some_both : {A B C : Type 0} → (f : A → B → Option C) (p : Option A) (q : Option B) (c : C) → both f p q ≡ Some c → (a : A) × (b : B) × (p ≡ Some a) × (q ≡ Some b) × (f a b ≡ Some c)
 some_both f None q c e = absurd (grind (arith, e))
 some_both f (Some a) None c e = absurd (grind (arith, e))
 some_both f (Some a) (Some b) c e = (a, b, refl, refl, e)
 
 pub ranges_names : (bs : BoundTrees) (s : Scope) (over : List (Name × List Data)) → ranges bs s ≡ Some over → names_over over ≡ names_bound bs
-ranges_names no_bound s over e = ap names_over (sym (some_is _ _ e))
+ranges_names no_bound s over e = ap names_over (sym (same_Some _ _ e))
 ranges_names (more_bound xs r bs) s over e =
     let b = some_both (λ ms rest. Some (over_each xs ms rest)) (option_and_then members_of (sem r s).value) (ranges bs s) over e in
-    ap names_over (sym (some_is _ _ b.4)) ∙ each_names xs b.0 b.1 ∙ ap (λ l. xs ++ l) (ranges_names bs s b.1 b.3)
+    ap names_over (sym (same_Some _ _ b.4)) ∙ each_names xs b.0 b.1 ∙ ap (λ l. xs ++ l) (ranges_names bs s b.1 b.3)
 
 all_below : (B : Name → Type 0) (xs : List Name) (Γ : Names) (vs : List Data) → All B xs → All B (names Γ) → All B (names (name_values xs vs Γ))
 all_below B [] Γ vs h g = g

@@ -3,6 +3,7 @@
 use Rattle.std.specs.Prelude.{List, [], ◌∷◌, Option, codes}
 use Rattle.pgo_base.specs.Tree.{Tree}
 use Rattle.pgo_base.specs.Lookup.{Name}
+pub use Rattle.pgo_model.specs.Written.{content_name, value_name}
 
 -- a variable as a whole, or its part at `self`, which is what a local or a value parameter is
 pub data Place : Type 0 where
@@ -52,16 +53,9 @@ abbrev pub in_turn : List Code → Code
 in_turn [] = Empty
 in_turn (c ∷ cs) = Seq c (in_turn cs)
 
--- in a mapping macro's block: the content and the value that is written
-abbrev pub content_name : Name
-content_name = codes "$variable"
-
 -- what names stand for in such a block
 abbrev pub content_places : List (Name × Place)
 content_places = (content_name, Whole content_name) ∷ []
-
-abbrev pub value_name : Name
-value_name = codes "$value"
 
 -- bases of made names
 abbrev pub at_base : Name

@@ -1,6 +1,6 @@
 -- The pairs of a sequence.
 use Rattle.std.proofs.Common.{◌≡◌, ℕ, zero, suc, ℤ, negsuc, ◌-ℤ◌, ◌-◌, ltb, int_lt, nat_abs, ◌<◌, ◌≤◌, ◌+◌, Bool, true, false, cond, if◌then◌else◌, nat_lt, pos, List, [], ◌∷◌, ◌++◌, length, map, take, drop, Some, None, option_map, refl, ap, sym, ◌∙◌, arith}
-use Rattle.std.proofs.lemmas.List.{length-map, length-append}
+use Rattle.std.proofs.lemmas.List.{length-map, length-append, map_push}
 use Rattle.std.proofs.lemmas.Bool.Decides.{nat_tests}
 use Rattle.std.specs.declared.cmp.Ordering.TheVariants.{Less, Equal, Greater}
 use Rattle.std.specs.Ordering.{int_cmp}
@@ -49,16 +49,12 @@ pub sequence_push : (n : ℕ) (xs : List Data) (x : Data) (k : ℕ) → k ≡ n 
 sequence_push n [] x k e = ap (λ m. (integer (pos m), x) ∷ []) (let z : n ≡ k = omega arith in z)
 sequence_push n (y ∷ ys) x k e = ap (λ ps. (integer (pos n), y) ∷ ps) (sequence_push (suc n) ys x k (omega arith))
 
-pushed : {A B : Type 0} (f : A → B) (xs : List A) (y : A) → map f (xs ++ y ∷ []) ≡ map f xs ++ f y ∷ []
-pushed f [] y = refl
-pushed f (x ∷ xs) y = ap (λ zs. f x ∷ zs) (pushed f xs y)
-
 -- one element more has its number
 pub numbered_more : (done next : List (Value × Value)) (vs : List Value) (k v : Value) (n : ℕ) → next ≡ done ++ (k, v) ∷ [] → data_of k ≡ integer (pos (suc n)) → n ≡ length done → length done ≡ length vs → map pair_of done ≡ sequence_at 1 (map data_of vs) → map pair_of next ≡ sequence_at 1 (map data_of (vs ++ v ∷ []))
 numbered_more done next vs k v n e d l m h =
-    ap (map pair_of) e ∙ pushed pair_of done (k, v) ∙ (λ i. h i ++ (d i, data_of v) ∷ [])
+    ap (map pair_of) e ∙ map_push pair_of done (k, v) ∙ (λ i. h i ++ (d i, data_of v) ∷ [])
     ∙ sym (sequence_push 1 (map data_of vs) (data_of v) (suc n) (let z : suc n ≡ 1 + length (map data_of vs) = rw (length-map vs data_of) (omega arith) in z))
-    ∙ ap (sequence_at 1) (sym (pushed data_of vs v))
+    ∙ ap (sequence_at 1) (sym (map_push data_of vs v))
 
 pub count_more : {A B : Type 0} (done next : List A) (p : A) (vs : List B) (v : B) → next ≡ done ++ p ∷ [] → length done ≡ length vs → length next ≡ length (vs ++ v ∷ [])
 count_more done next p vs v e h = ap length e ∙ length-append done (p ∷ []) ∙ ap (λ n. n + 1) h ∙ sym (length-append vs (v ∷ []))

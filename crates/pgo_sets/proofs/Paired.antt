@@ -1,8 +1,9 @@
 -- The choices of a product, of a set of functions and of a set of records.
 use Rattle.std.proofs.Common.{◌≡◌, ℕ, zero, suc, ◌+◌, ◌<◌, ◌≤◌, Bool, true, false, ◌&&◌, pos, List, [], ◌∷◌, ◌++◌, length, map, get_or, Option, Some, None, option_map, refl, ap, sym, ◌∙◌, subst, arith}
 use Rattle.std.proofs.Math.ListN.{get_or-map}
-use Rattle.std.proofs.lemmas.List.{length-map}
+use Rattle.std.proofs.lemmas.List.{length-map, map_push}
 use Rattle.std.specs.List.Sorted.{IsStrictlySortedBy}
+use Rattle.std.proofs.lemmas.Option.{same_Some}
 use Rattle.pgo_base.specs.declared.value.Value.{Value}
 use Rattle.pgo_base.specs.Data.{Data, integer, set, items, members-items, keys}
 use Rattle.pgo_base.specs.Sets.{IsSorted}
@@ -53,18 +54,15 @@ product_some vs done next i v ms k h e s n = made_some choice_pair (sequence_at 
 pub product_all : (vs : List Value) (done : Choices) (i : ℕ) → EachFrom choice_pair (sequence_at 1 (map data_of vs)) done i → length vs ≤ i → choices_of (sequence_at 1 (map data_of vs)) ≡ Some done
 product_all vs done i k h = made_all choice_pair (sequence_at 1 (map data_of vs)) done i k (omega (arith, factors vs))
 
-some_is : {A : Type 0} (x y : A) → Some x ≡ Some y → x ≡ y
-some_is x y e = cc
-
 -- choices have the keys of the pairs that they come from
 pub chosen_keys : (ps : List (Data × Data)) (cs : Choices) → choices_of ps ≡ Some cs → map (λ (c : Data × List Data). c.0) cs ≡ keys ps
-chosen_keys [] cs e = ap (map (λ (c : Data × List Data). c.0)) (sym (some_is [] cs e))
+chosen_keys [] cs e = ap (map (λ (c : Data × List Data). c.0)) (sym (same_Some [] cs e))
 chosen_keys (p ∷ ps) cs e = go (members_of p.1) (each choice_pair ps) refl e (chosen_keys ps)
   where
     go : (o : Option (List Data)) (r : Option Choices) → each choice_pair ps ≡ r → with_first (option_map (λ ms. (p.0, ms)) o) r ≡ Some cs → ((ds : Choices) → choices_of ps ≡ Some ds → map (λ (c : Data × List Data). c.0) ds ≡ keys ps) → map (λ (c : Data × List Data). c.0) cs ≡ p.0 ∷ keys ps
     go None r g e ih = absurd (cc)
     go (Some ms) None g e ih = absurd (cc)
-    go (Some ms) (Some ds) g e ih = ap (map (λ (c : Data × List Data). c.0)) (sym (some_is ((p.0, ms) ∷ ds) cs e)) ∙ ap (λ ks. p.0 ∷ ks) (ih ds g)
+    go (Some ms) (Some ds) g e ih = ap (map (λ (c : Data × List Data). c.0)) (sym (same_Some ((p.0, ms) ∷ ds) cs e)) ∙ ap (λ ks. p.0 ∷ ks) (ih ds g)
 
 pub sorted_choices : (ps : List (Data × Data)) (cs : List Choice) → IsSorted (keys ps) → choices_of ps ≡ Some (map choice_of cs) → IsSorted (map key_in cs)
 sorted_choices ps cs s e = subst IsSorted (sym (chosen_keys ps (map choice_of cs) e) ∙ map_map choice_of (λ (c : Data × List Data). c.0) cs) s
@@ -94,15 +92,11 @@ unfit (c ∷ cs) (p ∷ ps) h = ap (λ b. same_data p.0 c.0 && (contains p.1 c.1
     go true false = refl
     go false t = refl
 
-pushed : {A B : Type 0} (f : A → B) (xs : List A) (y : A) → map f (xs ++ y ∷ []) ≡ map f xs ++ f y ∷ []
-pushed f [] y = refl
-pushed f (x ∷ xs) y = ap (λ zs. f x ∷ zs) (pushed f xs y)
-
 pub choices_push : (cs next : List Choice) (c : Choice) (k : Data) → next ≡ cs ++ c ∷ [] → key_in c ≡ k → map choice_of next ≡ map choice_of cs ++ (k, members_in c) ∷ []
-choices_push cs next c k e f = ap (map choice_of) e ∙ pushed choice_of cs c ∙ ap (λ d. map choice_of cs ++ (d, members_in c) ∷ []) f
+choices_push cs next c k e f = ap (map choice_of) e ∙ map_push choice_of cs c ∙ ap (λ d. map choice_of cs ++ (d, members_in c) ∷ []) f
 
 pub pairs_push : (ps next : List (Value × Value)) (p : Value × Value) (a b : Data) → next ≡ ps ++ p ∷ [] → data_of p.0 ≡ a → data_of p.1 ≡ b → map pair_of next ≡ map pair_of ps ++ (a, b) ∷ []
-pairs_push ps next p a b e f g = ap (map pair_of) e ∙ pushed pair_of ps p ∙ (λ i. map pair_of ps ++ (f i, g i) ∷ [])
+pairs_push ps next p a b e f g = ap (map pair_of) e ∙ map_push pair_of ps p ∙ (λ i. map pair_of ps ++ (f i, g i) ∷ [])
 
 pub product_is : (xs ys : List Data) → product (set (items xs)) (set (items ys)) ≡ functions_over ((integer (pos 1), xs) ∷ (integer (pos 2), ys) ∷ [])
 product_is xs ys = λ i. functions_over ((integer (pos 1), members-items xs i) ∷ (integer (pos 2), members-items ys i) ∷ [])

@@ -1,6 +1,6 @@
 -- The pairs of a function with another value at one key.
 use Rattle.std.proofs.Common.{◌≡◌, ℕ, suc, ◌<◌, ◌+◌, List, [], ◌∷◌, ◌++◌, length, map, get_or, drop, refl, ap, sym, ◌∙◌, add-one, drop-cons, append_assoc, ◌≤◌}
-use Rattle.std.proofs.lemmas.List.{append-nil, drop_all}
+use Rattle.std.proofs.lemmas.List.{append-nil, drop_all, map_push}
 use Rattle.std.specs.Prelude.{Bool, true, false, ◌&&◌, if◌then◌else◌}
 use Rattle.std.specs.Ordering.{is_eq}
 use Rattle.std.specs.declared.cmp.Ordering.{Ordering}
@@ -45,10 +45,6 @@ rest_step true k v p ps = go (same_data k p.0) refl
     go true e = ap (λ x. (x, v) ∷ ps) (same_exact k p.0 e)
     go false e = refl
 
-pushed : {A B : Type 0} (f : A → B) (xs : List A) (y : A) → map f (xs ++ y ∷ []) ≡ map f xs ++ f y ∷ []
-pushed f [] y = refl
-pushed f (x ∷ xs) y = ap (λ zs. f x ∷ zs) (pushed f xs y)
-
 -- one pair more is done
 pub replaced_more : (k v : Data) (left here after : Bool) (done next old : List (Value × Value)) (i : ℕ) (p q : Value × Value) → i < length old → p ≡ get_or old i p → here ≡ left && same_data k (data_of p.0) → next ≡ done ++ q ∷ [] → data_of q.0 ≡ data_of p.0 → data_of q.1 ≡ (if here then v else data_of p.1) → after ≡ (if here then false else left) → map pair_of done ++ rest_replaced left k v (map pair_of (drop i old)) ≡ map pair_of next ++ rest_replaced after k v (map pair_of (drop (i + 1) old))
 replaced_more k v left here after done next old i p q h e t n a b d =
@@ -56,7 +52,7 @@ replaced_more k v left here after done next old i p q h e t n a b d =
     ∙ ap (λ xs. map pair_of done ++ xs) (rest_step left k v (pair_of p) (map pair_of (drop (suc i) old)))
     ∙ sym (append_assoc (map pair_of done) ((data_of p.0, if left && same_data k (data_of p.0) then v else data_of p.1) ∷ []) _)
     ∙ (λ j. (map pair_of done ++ (sym a j, (ap (λ x. if x then v else data_of p.1) (sym t) ∙ sym b) j) ∷ []) ++ rest_replaced (still (sym t j) left) k v (map pair_of (drop (suc i) old)))
-    ∙ (λ j. (sym (pushed pair_of done q) ∙ ap (map pair_of) (sym n)) j ++ rest_replaced (sym d j) k v (map pair_of (drop (sym (add-one i) j) old)))
+    ∙ (λ j. (sym (map_push pair_of done q) ∙ ap (map pair_of) (sym n)) j ++ rest_replaced (sym d j) k v (map pair_of (drop (sym (add-one i) j) old)))
 
 -- the data of a choice
 pub data_of_choice : (b : Bool) (x y : Value) → data_of (if b then x else y) ≡ (if b then data_of x else data_of y)

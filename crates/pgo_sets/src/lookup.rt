@@ -1,11 +1,14 @@
-// Finding a member of a set and the value of a function at a key, by binary search and without memory.
-ghost use Rattle.std.specs.Prelude.{◌≡◌, Some, option_map, option_and_then};
+// Finding a member of a set and the value of a function at a key, by binary search, and a variable of a list, all without
+// memory.
+ghost use Rattle.std.specs.Prelude.{◌≡◌, length, map, Some, option_map, option_and_then};
 ghost use Rattle.pgo_base.specs.Data.{boolean};
-ghost use Rattle.pgo_base.specs.View.{data_of};
+ghost use Rattle.pgo_base.specs.View.{data_of, named_data};
 ghost use Rattle.pgo_model.specs.Operators as operators;
+ghost use Rattle.pgo_model.specs.Steps.{IsPlaced, place_in};
 ghost use Rattle.pgo_model.specs.Val as meanings;
 
 use pgo_base::compare::compare;
+use pgo_base::text::Text;
 use pgo_base::value::{Fun, Set, Value};
 
 /// The set that a value is; none where it is no set.
@@ -116,4 +119,17 @@ fn is_between(v: &Value, low: i64, high: i64) -> bool
         Value::Int(n) => low <= *n && *n <= high,
         _ => false,
     }
+}
+
+/// The place of the first variable of the name.
+pub fn place_in(name: &Text, list: &[(Text, Value)]) -> Option<usize>
+    ensures place { result ≡ place_in name.now (map named_data list.now) }
+    ensures within { IsPlaced result (length list.now) }
+{
+    for (i, p) in list.iter().enumerate() {
+        if name.is(&p.0) {
+            return Some(i);
+        }
+    }
+    None
 }

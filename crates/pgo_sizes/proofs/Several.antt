@@ -1,5 +1,5 @@
 -- How many expressions a list has.
-use Rattle.std.proofs.Common.{◌≡◌, ℕ, suc, Bool, true, false, not, nat_eq, List, [], ◌∷◌, map, length, refl, ap, ◌∙◌, arith}
+use Rattle.std.proofs.Common.{◌≡◌, ℕ, suc, true, false, not, nat_eq, List, [], ◌∷◌, map, length, ap, ◌∙◌, arith}
 use Rattle.pgo_base.specs.declared.expr.Expr.{Expr}
 use Rattle.pgo_base.specs.ExprView.{tree}
 use Rattle.pgo_base.specs.Tree.{Tree, trees}

@@ -10,7 +10,7 @@ use Rattle.pgo_lexer.specs.Lexemes.{column_behind, columns_behind}
 use Rattle.pgo_lexer.specs.Prefixes.{AreCounted, IsMarkedTo}
 use Rattle.pgo_spec_text.specs.declared.cut.Head.{Head}
 use Rattle.pgo_spec_text.specs.declared.before.SpecBefore.{SpecBefore}
-use Rattle.pgo_spec_text.specs.SpecText.{Cut, Anything, mpcal, most_tokens, IsModuleLine, IsFirst}
+use Rattle.pgo_spec_text.specs.SpecText.{Cut, Anything, mpcal, most_tokens, IsModuleLine}
 use Rattle.pgo_spec_text.specs.SpecText as s
 use Rattle.pgo_spec_text.specs.Searching.{inside, module_from, is_line_at, is_fresh}
 use Rattle.pgo_spec_text.specs.Cutting.{algorithm, algorithm_in, body_start, column_at, header}

@@ -2,14 +2,13 @@
 ghost use Rattle.std.specs.Prelude.{◌≡◌, ◌≤◌, ◌<◌, ◌+◌, ◌*◌, [], length, drop, IfErr, IfOk};
 ghost use Rattle.pgo_lexer.specs.Answers.{Gives, ok_as};
 ghost use Rattle.pgo_lexer.specs.Offsets.{IsAt, IsWithin};
-ghost use Rattle.pgo_lexer.specs.Pieces as piece;
 ghost use Rattle.pgo_spec_text.specs.SpecText as text;
 ghost use Rattle.pgo_spec_text.specs.Cutting as spec;
 
 use crate::search::is_algorithm_comment;
 use pgo_lexer::bytes::{columns_behind, first, skip};
 use pgo_lexer::errors::TextStop;
-use pgo_lexer::piece::{Piece, first_piece};
+use pgo_lexer::piece::{Piece, next_piece};
 use pgo_lexer::symbol::{Bracket, Symbol};
 use pgo_lexer::token::{Lexeme, Token, Tokens};
 use std::alloc::Global;
@@ -80,18 +79,6 @@ fn is_last(depth: usize, token: &Option<Token>) -> bool
     match token {
         None => false,
         Some(token) => depth == 1 && is_close_brace(token),
-    }
-}
-
-/// The piece that the rest of a text begins with, which stands at an offset.
-pub fn next_piece(alloc: Global, rest: &[u8], at: usize) -> Result<Piece, TextStop>
-    ensures value { Gives (piece.first_piece rest.now) result }
-    ensures within { IfOk result (λ p. p.length ≤ length rest.now) }
-    ensures refused { IfErr result (IsAt at) }
-{
-    match first_piece(alloc, rest)? {
-        Some(piece) => Ok(piece),
-        None => Err(TextStop::at(at)),
     }
 }
 

@@ -18,17 +18,8 @@ use pgo_base::value::Value;
 use pgo_resource::layout::{BoardLayout, Member, OwnNames};
 use pgo_sets::lookup::at;
 use pgo_syntax::bound::Bound;
+use pgo_syntax::name::written_name;
 use std::alloc::{AllocError, Global};
-
-/// The variable of a process's value parameter or local.
-fn written(alloc: Global, process: &Text, name: &Text) -> Result<Text, AllocError>
-    ensures { IfOk result (λ t. t ≡ names.written process.now name.now) }
-{
-    let mut bytes = Vec::from_slice(alloc, process.as_bytes())?;
-    bytes.push(b'_')?;
-    bytes.extend_from_slice(name.as_bytes())?;
-    Ok(Text::from_bytes(bytes))
-}
 
 /// What a state has of a variable at an identifier.
 fn part<'x>(start: &'x State, id: &Value, variable: &Text) -> Option<&'x Value>
@@ -79,7 +70,7 @@ fn add_names(
     ensures { IfOk result (λ _. map named_data list.new.items ≡ map named_data list.old.items ++ own_at 0 (data_of id.now) (map (names.written own.now.process) own.now.names) start.now) }
 {
     for x in own.names.as_slice() {
-        let variable = written(alloc, &own.process, x)?;
+        let variable = written_name(alloc, own.process.as_bytes(), x)?;
         list.push(component(alloc, start, id, variable)?)?;
     }
     Ok(())

@@ -1,9 +1,12 @@
 // Macros and mapping macros.
 ghost use Rattle.std.specs.Prelude.{◌≡◌, [], ◌∷◌, ◌++◌, IfOk};
+ghost use Rattle.pgo_syntax.specs.MacroName.{macro_name};
 
 use crate::name::{PlacedName, PlacedNames};
 use crate::statement::Block;
 use pgo_base::items::{Copied, Items};
+use pgo_base::last_place::Named;
+use pgo_base::text::Text;
 use std::alloc::{AllocError, Global};
 
 /// `macro name (params) body`.
@@ -24,6 +27,15 @@ impl Copied for Macro {
             params: self.params.copy(alloc)?,
             body: self.body.copy(alloc)?,
         })
+    }
+}
+
+impl Named for Macro {
+    ghost name_of = { macro_name };
+
+    /// Its name.
+    fn name(&self) -> &Text {
+        &self.name.name
     }
 }
 

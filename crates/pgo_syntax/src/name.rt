@@ -1,5 +1,6 @@
 // Names with their places in the text.
 ghost use Rattle.std.specs.Prelude.{◌≡◌, [], ◌∷◌, ◌++◌, IfOk};
+ghost use Rattle.pgo_model.specs.Written.{written};
 
 use pgo_base::items::{Copied, Items};
 use pgo_base::text::Text;
@@ -37,6 +38,18 @@ pub fn copy_optional(
         Some(name) => Ok(Some(name.copy(alloc)?)),
         None => Ok(None),
     }
+}
+
+/// The written name of a label or a variable of a process: the process's name, `_` and its own.
+///
+/// Err where there is no memory.
+pub fn written_name(alloc: Global, process: &[u8], name: &Text) -> Result<Text, AllocError>
+    ensures { IfOk result (λ t. t ≡ written process.now name.now) }
+{
+    let mut bytes = Vec::from_slice(alloc, process)?;
+    bytes.push(b'_')?;
+    bytes.extend_from_slice(name.as_bytes())?;
+    Ok(Text::from_bytes(bytes))
 }
 
 /// Names in order.

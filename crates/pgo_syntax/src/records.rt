@@ -1,6 +1,7 @@
 // What becomes of the attempts of a run, and how a run is set.
-ghost use Rattle.std.specs.Prelude.{◌≡◌, [], ◌∷◌, ◌++◌, IfOk};
-ghost use Rattle.pgo_model.specs.Core.{is_listed};
+ghost use Rattle.std.specs.Prelude.{◌≡◌, [], ◌∷◌, ◌++◌, option_map, IfOk};
+ghost use Rattle.pgo_model.specs.Core.{is_listed, end_by};
+ghost use Rattle.pgo_syntax.specs.RecordView.{ended, result_view};
 
 use pgo_base::items::Items;
 use std::alloc::{AllocError, Global};
@@ -66,6 +67,25 @@ pub enum End {
     Spent,
     NoMemory,
     Nobody,
+}
+
+impl AttemptResult {
+    /// The end that it shows where it is the last of an instance's records; none where the instance goes on.
+    pub fn shown_end(self) -> Option<End>
+        ensures { result ≡ option_map ended (end_by (result_view self ∷ [])) }
+    {
+        match self {
+            AttemptResult::Noted {
+                kind: NoteKind::Blocked,
+                ..
+            } => None,
+            AttemptResult::Noted { .. } => Some(End::Stopped),
+            AttemptResult::Refused {
+                refusal: Refusal::Full { .. },
+            } => Some(End::Full),
+            _ => None,
+        }
+    }
 }
 
 /// The pre-commits that fail, in order: a resource's number, and the number of the pre-commit at it, from 1.

@@ -1,5 +1,6 @@
 -- The blocks of mapping macros give values, and a section from values ends in values.
 use Rattle.std.proofs.Common.{◌≡◌, Bool, true, false, if◌then◌else◌, List, [], ◌∷◌, Option, Some, None, refl, subst, option_map}
+use Rattle.std.proofs.lemmas.Option.{same_Some}
 use Rattle.pgo_base.specs.Data.{Data, string}
 use Rattle.pgo_base.specs.Lookup.{Name, Names, Vars, same_name, find}
 use Rattle.pgo_model.specs.Options.{on}
@@ -8,7 +9,6 @@ use Rattle.pgo_model.specs.State.{is_shallow}
 use Rattle.pgo_model.specs.System.{Words}
 use Rattle.pgo_model.specs.Val.{Meaning}
 use Rattle.pgo_model.specs.Written.{pc}
-use Rattle.pgo_bound.specs.Among.{some_is}
 use Rattle.pgo_model.specs.Names.{is_among}
 use Rattle.pgo_sections.specs.Code.{Code, content_name, value_name}
 use Rattle.pgo_sections.specs.Context.{Context, block_context, content_state, is_assigned, new_content}
@@ -44,8 +44,8 @@ new_counted ch new h e = go (is_assigned ch) (find content_name ch) (h content_n
   where
     go : (b : Bool) (o : Option Data) → Counted o → (if b then option_map (λ v. Some v) o else Some None) ≡ Some new → Counted new
     go true None c k = absurd (cc)
-    go true (Some v) c k = subst Counted (some_is (Some v) new k) c
-    go false o c k = subst Counted (some_is None new k) none_counted
+    go true (Some v) c k = subst Counted (same_Some (Some v) new k) c
+    go false o c k = subst Counted (same_Some None new k) none_counted
 
 read_end_counted : (o : Out) → OutCounted o → EndCounted ReadCounted (read_end o)
 read_end_counted (Go run) h = tt
@@ -89,10 +89,10 @@ module _ (k : Context) (counted : ContextCounted k) where
       go false (Some v) c = put (is_among x k.globals) v (c v refl)
 
   closed_all : (l : Name) (ch s t : Vars) → AllCounted s → FoundCounted ch → closed k l ch s ≡ Some t → AllCounted t
-  closed_all l ch [] t h f e = subst AllCounted (some_is [] t e) tt
+  closed_all l ch [] t h f e = subst AllCounted (same_Some [] t e) tt
   closed_all l ch (p ∷ s) t h f e =
       let b = both_parts (λ v t. Some ((p.0, v) ∷ t)) (closed_value k l ch p.0 p.1) (closed k l ch s) t e in
-      subst AllCounted (some_is ((p.0, b.0) ∷ b.1.0) t b.1.3) (closed_counted l p.0 ch p.1 h.0 f b.0 b.1.1, closed_all l ch s b.1.0 h.1 f b.1.2)
+      subst AllCounted (same_Some ((p.0, b.0) ∷ b.1.0) t b.1.3) (closed_counted l p.0 ch p.1 h.0 f b.0 b.1.1, closed_all l ch s b.1.0 h.1 f b.1.2)
 
   end_counted : (o : Out) (t : Vars) (prints : List Data) → AllCounted k.start → OutCounted o → end_of k o ≡ Next t prints → AllCounted t
   end_counted (Go run) t prints s h e = absurd (cc)

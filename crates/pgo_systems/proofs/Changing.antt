@@ -1,5 +1,6 @@
 -- What a list of changes leaves of a state.
 use Rattle.std.proofs.Common.{◌≡◌, Bool, true, false, List, [], ◌∷◌, Option, Some, None, refl, sym, ap, ◌∙◌, subst, option_and_then, option_map, inl, inr}
+use Rattle.std.proofs.lemmas.Option.{same_Some}
 use Rattle.pgo_base.specs.Data.{Data, function, pairs, graph, keys, graph-pairs}
 use Rattle.pgo_base.specs.Lookup.{Name, Vars, same_name, find}
 use Rattle.pgo_model.specs.Log.{Change, with_part, changed, after_changes}
@@ -7,7 +8,7 @@ use Rattle.pgo_model.specs.Names.{same_name-is}
 use Rattle.pgo_model.specs.Operators.{lookup, replace_at}
 use Rattle.pgo_model.specs.Options.{on}
 use Rattle.pgo_model.specs.Variables.{IsFunctionOn, store}
-use Rattle.pgo_bound.specs.Among.{IsAmong, some_is}
+use Rattle.pgo_bound.specs.Among.{IsAmong}
 use Rattle.pgo_workers.proofs.Components.{find_stored, find_other}
 use Rattle.pgo_systems.proofs.Trees.{replaced_keys}
 
@@ -47,12 +48,12 @@ one_function x ks c s u e l h = go (find c.component.variable s) refl e
 
     by_index : (old : Data) → find c.component.variable s ≡ Some old → (at : Option Data) → c.component.index ≡ at → on (Some (store c.component.variable c.value s)) at (λ i. option_map (λ f. store c.component.variable f s) (with_part old i c.value)) ≡ Some u → IsFunctionOn ks (find x u)
     by_index old q None r k =
-        subst (λ z. IsFunctionOn ks (find x z)) (some_is (store c.component.variable c.value s) u k) (stored c.value (same_name x c.component.variable) refl (there old q) (λ is. let j = l is in absurd (let z : None ≡ Some j.0 = sym r ∙ j.1 in cc)))
+        subst (λ z. IsFunctionOn ks (find x z)) (same_Some (store c.component.variable c.value s) u k) (stored c.value (same_name x c.component.variable) refl (there old q) (λ is. let j = l is in absurd (let z : None ≡ Some j.0 = sym r ∙ j.1 in cc)))
     by_index old q (Some i) r k = made (with_part old i c.value) refl k
       where
         made : (o : Option Data) → with_part old i c.value ≡ o → option_map (λ f. store c.component.variable f s) o ≡ Some u → IsFunctionOn ks (find x u)
         made None p k = absurd (cc)
-        made (Some w) p k = subst (λ z. IsFunctionOn ks (find x z)) (some_is (store c.component.variable w s) u k) (stored w (same_name x c.component.variable) refl (there old q) (part old i w q p))
+        made (Some w) p k = subst (λ z. IsFunctionOn ks (find x z)) (same_Some (store c.component.variable w s) u k) (stored w (same_name x c.component.variable) refl (there old q) (part old i w q p))
 
     go : (o : Option Data) → find c.component.variable s ≡ o → option_and_then (λ old. on (Some (store c.component.variable c.value s)) c.component.index (λ i. option_map (λ f. store c.component.variable f s) (with_part old i c.value))) o ≡ Some u → IsFunctionOn ks (find x u)
     go None q k = absurd (cc)
@@ -60,7 +61,7 @@ one_function x ks c s u e l h = go (find c.component.variable s) refl e
 
 -- changes of parts leave a function its domain
 pub kept_function : (x : Name) (ks : List Data) (cs : List Change) (s u : Vars) → after_changes cs s ≡ Some u → ((c : Change) → IsAmong c cs → Leaves x c) → IsFunctionOn ks (find x s) → IsFunctionOn ks (find x u)
-kept_function x ks [] s u e l h = subst (λ z. IsFunctionOn ks (find x z)) (some_is s u e) h
+kept_function x ks [] s u e l h = subst (λ z. IsFunctionOn ks (find x z)) (same_Some s u e) h
 kept_function x ks (c ∷ cs) s u e l h = go (changed c s) refl e (λ v k f. kept_function x ks cs v u k (λ d m. l d (inr m)) f)
   where
     go : (o : Option Vars) → changed c s ≡ o → option_and_then (after_changes cs) o ≡ Some u → ((v : Vars) → after_changes cs v ≡ Some u → IsFunctionOn ks (find x v) → IsFunctionOn ks (find x u)) → IsFunctionOn ks (find x u)
@@ -71,7 +72,7 @@ one_other : (x : Name) (c : Change) (s u : Vars) → changed c s ≡ Some u → 
 one_other x c s u e n = go (find c.component.variable s) e
   where
     stored : (w : Data) → Some (store c.component.variable w s) ≡ Some u → find x u ≡ find x s
-    stored w k = sym (ap (find x) (some_is (store c.component.variable w s) u k)) ∙ find_other c.component.variable x w s n
+    stored w k = sym (ap (find x) (same_Some (store c.component.variable w s) u k)) ∙ find_other c.component.variable x w s n
 
     part : (o : Option Data) → option_map (λ f. store c.component.variable f s) o ≡ Some u → find x u ≡ find x s
     part None k = absurd (cc)
@@ -87,7 +88,7 @@ one_other x c s u e n = go (find c.component.variable s) e
 
 -- a variable of which there is no change stays
 pub kept_other : (x : Name) (cs : List Change) (s u : Vars) → after_changes cs s ≡ Some u → ((c : Change) → IsAmong c cs → same_name x c.component.variable ≡ false) → find x u ≡ find x s
-kept_other x [] s u e n = ap (find x) (sym (some_is s u e))
+kept_other x [] s u e n = ap (find x) (sym (same_Some s u e))
 kept_other x (c ∷ cs) s u e n = go (changed c s) refl e (λ v k. kept_other x cs v u k (λ d m. n d (inr m)))
   where
     go : (o : Option Vars) → changed c s ≡ o → option_and_then (after_changes cs) o ≡ Some u → ((v : Vars) → after_changes cs v ≡ Some u → find x u ≡ find x v) → find x u ≡ find x s

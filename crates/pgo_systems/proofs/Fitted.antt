@@ -2,6 +2,7 @@
 use Rattle.std.proofs.Common.{◌≡◌, inl, inr, ◌++◌, ℕ, zero, suc, Bool, true, false, ◌||◌, ◌&&◌, if◌then◌else◌, List, [], ◌∷◌, map, Option, Some, None, refl, sym, ap, ◌∙◌, subst}
 use Rattle.std.specs.Prelude.{unwrap_or}
 use Rattle.std.specs.List.{AllByRecursion, flat_map}
+use Rattle.std.proofs.lemmas.Option.{same_Some}
 use Rattle.pgo_base.specs.Data.{Data, graph, keys}
 use Rattle.pgo_base.specs.Lookup.{Name, Vars, same_name, find}
 use Rattle.pgo_model.specs.Accounts.{AllIn, Fits}
@@ -20,7 +21,7 @@ use Rattle.pgo_syntax.specs.declared.bound.Instance.{Instance}
 use Rattle.pgo_syntax.specs.declared.bound.Resource as resource
 use Rattle.pgo_syntax.specs.declared.declaration.Declaration.{Declaration}
 use Rattle.pgo_bound.specs.declared.kinds.Kind.TheVariants.{Unbound}
-use Rattle.pgo_bound.specs.Among.{IsAmong, among_map, among_nth, nth_among, nth_map, some_is}
+use Rattle.pgo_bound.specs.Among.{IsAmong, among_map, among_nth, nth_among, nth_map}
 use Rattle.pgo_bound.specs.Sound.{Sound}
 use Rattle.pgo_bound.specs.State.{AreDifferent, IsStateOnDomains, kind_in, own_names, variables_of}
 use Rattle.pgo_model.specs.Written.{pc, written}
@@ -112,7 +113,7 @@ module _ (b : Bound) (h : KeepsStates b) where
     where
       at : (rs : List resource.Resource) (n : ℕ) → nth (map resource_of rs) n ≡ Some r → ((m : ℕ) (q : resource.Resource) → nth rs m ≡ Some q → q.number ≡ m) → r.number ≡ n
       at [] n k f = absurd (cc)
-      at (q ∷ rs) zero k f = ap (λ (z : Resource). z.number) (sym (some_is (resource_of q) r k)) ∙ f zero q refl
+      at (q ∷ rs) zero k f = ap (λ (z : Resource). z.number) (sym (same_Some (resource_of q) r k)) ∙ f zero q refl
       at (q ∷ rs) (suc n) k f = back rs n k (λ m p at_m. f (suc m) p at_m)
         where
           back : (rs : List resource.Resource) (n : ℕ) → nth (map resource_of rs) n ≡ Some r → ((m : ℕ) (p : resource.Resource) → nth rs m ≡ Some p → p.number ≡ suc m) → r.number ≡ suc n
@@ -120,7 +121,7 @@ module _ (b : Bound) (h : KeepsStates b) where
             where
               nth_back : (rs : List resource.Resource) (n : ℕ) → nth (map resource_of rs) n ≡ Some r → (q : resource.Resource) × (nth rs n ≡ Some q) × (resource_of q ≡ r)
               nth_back [] n k = absurd (cc)
-              nth_back (q ∷ rs) zero k = (q, refl, some_is (resource_of q) r k)
+              nth_back (q ∷ rs) zero k = (q, refl, same_Some (resource_of q) r k)
               nth_back (q ∷ rs) (suc n) k = nth_back rs n k
 
   -- globals that are not bound stay
@@ -174,7 +175,7 @@ module _ (b : Bound) (h : KeepsStates b) where
 
       go : (q : Bool) → (same_name r.global c.0 && same_index r.index c.1) ≡ q → (if q then Some r.number else number_among rs c) ≡ Some n
           → (number_among rs c ≡ Some n → (r : Resource) × IsAmong r rs × (r.number ≡ n) × (r.global ≡ c.0)) → (z : Resource) × IsAmong z (r ∷ rs) × (z.number ≡ n) × (z.global ≡ c.0)
-      go true q k more = (r, inl refl, some_is r.number n k, same_name-is r.global c.0 (left (same_name r.global c.0) (same_index r.index c.1) q))
+      go true q k more = (r, inl refl, same_Some r.number n k, same_name-is r.global c.0 (left (same_name r.global c.0) (same_index r.index c.1) q))
       go false q k more = let z = more k in (z.0, inr z.1, z.2, z.3)
 
   all_reached : (k : ℕ) (i : Instance) → nth b.instances k ≡ Some i → (cs : List Touched) → AreOfResources y.resources cs → AllByRecursion (λ c. is_among c.0 (globals_in i.bindings) ≡ true) cs → AllIn (Reaches y k) (numbers_of y.resources cs)

@@ -1,5 +1,6 @@
 -- Where a section ends, its instance is at the label at which its code ends it, and the others are where they were.
 use Rattle.std.proofs.Common.{◌≡◌, ℕ, zero, suc, Bool, true, false, if◌then◌else◌, List, [], ◌∷◌, length, get_or, Option, Some, None, refl, sym, ap, ◌∙◌, subst, option_and_then, inl, inr}
+use Rattle.std.proofs.lemmas.Option.{same_Some}
 use Rattle.pgo_base.specs.Data.{Data, string, function, Pairs, pairs, graph, keys, graph-pairs}
 use Rattle.pgo_base.specs.Lookup.{Name, Names, Vars, same_name, find}
 use Rattle.pgo_model.specs.Names.{same_name-self}
@@ -10,7 +11,7 @@ use Rattle.pgo_model.specs.State.{is_shallow}
 use Rattle.pgo_model.specs.System.{Words}
 use Rattle.pgo_model.specs.Variables.{IsFunctionOn}
 use Rattle.pgo_model.specs.Written.{pc}
-use Rattle.pgo_bound.specs.Among.{IsAmong, some_is}
+use Rattle.pgo_bound.specs.Among.{IsAmong}
 use Rattle.pgo_bound.specs.Declares.{value_in}
 use Rattle.pgo_bound.specs.Lookups.{same_itself}
 use Rattle.pgo_sections.specs.Code.{Code, Empty, Skip, Let, Pick, Become, Set, Await, Assert, Print, If, Either, Seq, Goto, Yield, Read, Write, Codes, no_codes, more_codes}
@@ -162,7 +163,7 @@ there_still k l ch [] t e x v h = absurd (cc)
 there_still k l ch (p ∷ s) t e x v h =
     let b = both_parts (λ v t. Some ((p.0, v) ∷ t)) (closed_value k l ch p.0 p.1) (closed k l ch s) t e in
     let r = go (same_name x p.0) b.0 b.1.0 h (λ h. there_still k l ch s b.1.0 b.1.2 x v h) in
-    (r.0, ap (find x) (sym (some_is ((p.0, b.0) ∷ b.1.0) t b.1.3)) ∙ r.1)
+    (r.0, ap (find x) (sym (same_Some ((p.0, b.0) ∷ b.1.0) t b.1.3)) ∙ r.1)
   where
     go : (c : Bool) (w : Data) (u : Vars) → (if c then Some p.1 else find x s) ≡ Some v → (find x s ≡ Some v → (w : Data) × (find x u ≡ Some w)) → (q : Data) × ((if c then Some w else find x u) ≡ Some q)
     go true w u h r = (w, refl)

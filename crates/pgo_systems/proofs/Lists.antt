@@ -6,13 +6,14 @@ use Rattle.std.specs.List.{AllByRecursion}
 use Rattle.std.specs.List.Sorted.{IsStrictlySortedBy}
 use Rattle.std.specs.Ordering.{int_cmp}
 use Rattle.std.specs.declared.cmp.Ordering.TheVariants.{Less, Equal, Greater}
+use Rattle.std.proofs.lemmas.Option.{same_Some}
 use Rattle.pgo_base.specs.Data.{Data, boolean, integer, string, model, set, function, Items, members, keys}
 use Rattle.pgo_base.specs.Order.{data_cmp}
 use Rattle.pgo_base.specs.Pairs.{pairs_in_order}
 use Rattle.pgo_base.specs.Sets.{in_order, IsSorted, IsIn, same_sorted, sorted-in_order, in-in_order, in_order-in}
 use Rattle.pgo_base.specs.Size.{depth}
 use Rattle.pgo_model.specs.Operators.{each, both, built, most_depth, most_members, members_of, on_integers, choices, spread, put, sublists, where_few, sequence_at}
-use Rattle.pgo_bound.specs.Among.{IsAmong, among_append, from_map, some_is}
+use Rattle.pgo_bound.specs.Among.{IsAmong, among_append, from_map}
 use Rattle.pgo_bound.specs.Keyed.{keys_ordered}
 
 pub none_is : {A : Type 0} (a : A) → None ≡ Some a → ⊥
@@ -26,7 +27,7 @@ built_is n v w h = go (nat_lt most_depth (depth v)) (nat_lt most_members n) h
     go : (b c : Bool) → (if b then None else (if c then None else Some v)) ≡ Some w → v ≡ w
     go true c e = absurd (cc)
     go false true e = absurd (cc)
-    go false false e = some_is v w e
+    go false false e = same_Some v w e
 
 -- what is built has few members
 pub built_few : (n : ℕ) (v w : Data) → built n v ≡ Some w → nat_lt most_members n ≡ false
@@ -52,7 +53,7 @@ both_parts f (Some x) None c h = absurd (cc)
 both_parts f (Some x) (Some y) c h = (x, (y, refl, refl, h))
 
 pub is_set : (x : Data) (ms : List Data) → members_of x ≡ Some ms → (xs : Items) × (x ≡ set xs) × (members xs ≡ ms)
-is_set (set xs) ms h = (xs, refl, some_is (members xs) ms h)
+is_set (set xs) ms h = (xs, refl, same_Some (members xs) ms h)
 is_set (boolean b) ms h = absurd (cc)
 is_set (integer b) ms h = absurd (cc)
 is_set (string b) ms h = absurd (cc)
@@ -83,10 +84,10 @@ each_step {B = B} f a as' ys h = go (f a) (each f as') refl refl h
     go : (o : Option B) (p : Option (List B)) → f a ≡ o → each f as' ≡ p → both (λ b bs. Some (b ∷ bs)) o p ≡ Some ys → (b : B) × ((bs : List B) × (f a ≡ Some b) × (each f as' ≡ Some bs) × (ys ≡ b ∷ bs))
     go None p e g k = absurd (cc)
     go (Some b) None e g k = absurd (cc)
-    go (Some b) (Some bs) e g k = (b, (bs, e, g, sym (some_is (b ∷ bs) ys k)))
+    go (Some b) (Some bs) e g k = (b, (bs, e, g, sym (same_Some (b ∷ bs) ys k)))
 
 pub each_from : {A B : Type 0} (f : A → Option B) (xs : List A) (ys : List B) → each f xs ≡ Some ys → (y : B) → IsAmong y ys → (x : A) × IsAmong x xs × (f x ≡ Some y)
-each_from f [] ys h y m = absurd (subst (IsAmong y) (sym (some_is [] ys h)) m)
+each_from f [] ys h y m = absurd (subst (IsAmong y) (sym (same_Some [] ys h)) m)
 each_from {A = A} f (a ∷ xs) ys h y m = let r = each_step f a xs ys h in go r.0 r.1.0 r.1.1 (subst (IsAmong y) r.1.3 m) (each_from f xs r.1.0 r.1.2 y)
   where
     go : (b : _) (bs : List _) → f a ≡ Some b → (y ≡ b) ⊎ IsAmong y bs → (IsAmong y bs → (x : A) × IsAmong x xs × (f x ≡ Some y)) → (x : A) × IsAmong x (a ∷ xs) × (f x ≡ Some y)

@@ -6,12 +6,13 @@ use Rattle.std.specs.Int.{int_div_euclid, int_rem_euclid}
 use Rattle.std.specs.declared.cmp.Ordering.{Ordering}
 use Rattle.std.specs.declared.cmp.Ordering.TheVariants.{Less, Equal, Greater}
 use Rattle.std.specs.Ordering.{match_ordering}
+use Rattle.std.proofs.lemmas.Option.{same_Some}
 use Rattle.pgo_base.specs.Data.{Data, boolean, integer, string, model, set, function, Items, no_items, item, items, members, Pairs, no_pairs, pair, pairs, graph, keys, graph-pairs, members-items}
 use Rattle.pgo_base.specs.Order.{data_cmp}
 use Rattle.pgo_base.specs.Pairs.{pairs_in_order, insert_pair}
 use Rattle.pgo_base.specs.Sets.{in_order, IsSorted, sorted-in_order}
 use Rattle.pgo_model.specs.Operators.{both, each, contains, members_of, graph_of, first_of, set_from, function_from, function_of, from_truth, in_64, fits_i64, on_integers, lookup, same_data, sequence, sequence_at, joined, sublists, apply, upward, where_few, union, intersect, minus, flatten, power, single, merge, domain, range, divide, modulo, on_divisor, subset, included, span, most_members}
-use Rattle.pgo_bound.specs.Among.{IsAmong, among_append, from_map, some_is}
+use Rattle.pgo_bound.specs.Among.{IsAmong, among_append, from_map}
 use Rattle.pgo_bound.specs.Keyed.{keys_ordered}
 use Rattle.pgo_systems.specs.Counted.{IsCounted, AreCounted, PairsCounted, EachCounted, Counted}
 use Rattle.pgo_systems.proofs.Fitting.{few_fits, low_test, fits_between, divided, remainder}
@@ -43,7 +44,7 @@ pub none_counted : Counted None
 none_counted v h = absurd (none_is v h)
 
 pub some_counted : (w : Data) → IsCounted w → Counted (Some w)
-some_counted w o v h = subst IsCounted (some_is w v h) o
+some_counted w o v h = subst IsCounted (same_Some w v h) o
 
 pub then_counted : {A : Type 0} (o : Option A) (f : A → Option Data) → ((a : A) → o ≡ Some a → Counted (f a)) → Counted (option_and_then f o)
 then_counted None f h v e = absurd (cc)
@@ -54,7 +55,7 @@ both_counted f a b h v e = let p = both_parts f a b v e in h p.0 p.1.0 p.1.1 p.1
 
 pub truth_counted : (p : Option Bool) → Counted (from_truth p)
 truth_counted None v h = absurd (none_is v h)
-truth_counted (Some b) v h = subst IsCounted (some_is (boolean b) v h) tt
+truth_counted (Some b) v h = subst IsCounted (same_Some (boolean b) v h) tt
 
 pub in_64_counted : (z : ℤ) → Counted (in_64 z)
 in_64_counted z = go (fits_i64 z) refl
@@ -128,7 +129,7 @@ pub member_all : (d : Data) (ms : List Data) → IsCounted d → members_of d �
 member_all d ms o e = members_all (Some d) ms (some_counted d o) e
 
 pub graph_all : (d : Data) (ps : List (Data × Data)) → IsCounted d → graph_of d ≡ Some ps → EachPair ps × IsSorted (keys ps)
-graph_all (function qs) ps o e = subst (λ z. EachPair z × IsSorted (keys z)) (some_is (graph qs) ps e) (ordered_pairs qs o.0, o.1)
+graph_all (function qs) ps o e = subst (λ z. EachPair z × IsSorted (keys z)) (same_Some (graph qs) ps e) (ordered_pairs qs o.0, o.1)
 graph_all (boolean b) ps o e = absurd (cc)
 graph_all (integer b) ps o e = absurd (cc)
 graph_all (string b) ps o e = absurd (cc)
@@ -155,7 +156,7 @@ lookup_all k v [] h e = absurd (cc)
 lookup_all k v (p ∷ ps) h e = go (same_data k p.0) e (lookup_all k v ps (λ q m. h q (inr m)))
   where
     go : (b : Bool) → (if b then Some p.1 else lookup k ps) ≡ Some v → (lookup k ps ≡ Some v → IsCounted v) → IsCounted v
-    go true g r = subst IsCounted (some_is p.1 v g) (h p (inl refl)).1
+    go true g r = subst IsCounted (same_Some p.1 v g) (h p (inl refl)).1
     go false g r = r g
 
 pub lookup_counted : (k : Data) (ps : List (Data × Data)) → EachPair ps → Counted (lookup k ps)

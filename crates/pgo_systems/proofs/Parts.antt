@@ -1,6 +1,7 @@
 -- The components of a system, and that the changes between two states lead from the one to a state with the contents of the other.
 use Rattle.std.proofs.Common.{◌≡◌, ◌⊎◌, ℕ, zero, suc, Bool, true, false, if◌then◌else◌, List, [], ◌∷◌, map, Option, Some, None, refl, sym, ap, ◌∙◌, subst, option_and_then, inl, inr, ⊎_elim}
 use Rattle.std.specs.Prelude.{not}
+use Rattle.std.proofs.lemmas.Option.{same_Some}
 use Rattle.pgo_base.specs.Data.{Data}
 use Rattle.pgo_base.specs.Lookup.{Name, Vars, find}
 use Rattle.pgo_model.specs.Log.{Component, Change, OfResource, OfInstance, content, differs, resource_components, parts_at, own_names, own_components, components_of, changes_between}
@@ -10,7 +11,7 @@ use Rattle.pgo_model.specs.Operators.{same_data}
 use Rattle.pgo_model.specs.Options.{on}
 use Rattle.pgo_model.specs.System.{System, Member, Owned, Resource}
 use Rattle.pgo_model.specs.Written.{pc}
-use Rattle.pgo_bound.specs.Among.{IsAmong, among_append, among_left, among_right, some_is}
+use Rattle.pgo_bound.specs.Among.{IsAmong, among_append, among_left, among_right}
 use Rattle.pgo_bound.specs.Lookups.{same_of}
 use Rattle.pgo_workers.specs.Worlds.{Layout, layout_of, IsLayout, HasAll, names_at, same_component}
 use Rattle.pgo_workers.proofs.Applied.{Comparable, EachThere, given_by, or_that}
@@ -23,7 +24,7 @@ use Rattle.pgo_workers.proofs.LayoutChanges.{IsPart, OfShared, OfOne, own_name_h
 pub resource_there : (rs : List Resource) (n : ℕ) (r : Resource) → nth rs n ≡ Some r → (c : Component) × IsAmong c (resource_components rs) × (c.variable ≡ r.global) × (c.index ≡ r.index)
 resource_there [] n r h = absurd (cc)
 resource_there (q ∷ rs) zero r h =
-    let e = some_is q r h in
+    let e = same_Some q r h in
     (record { variable = q.global; index = q.index; owner = OfResource q.number }, inl refl, ap (λ z. z.global) e, ap (λ z. z.index) e)
 resource_there (q ∷ rs) (suc n) r h = let c = resource_there rs n r h in (c.0, inr c.1, c.2, c.3)
 
@@ -46,7 +47,7 @@ from_parts c k id (x ∷ xs) (inr h) = let r = from_parts c k id xs h in (inr r.
 pub own_there : (os : List Owned) (k : ℕ) (ms : List Member) (n : ℕ) (m : Member) (x : Name) → nth ms n ≡ Some m → IsAmong x (pc ∷ own_names m.id os) → (c : Component) × IsAmong c (own_components os k ms) × (c.variable ≡ x) × (c.index ≡ Some m.id)
 own_there os k [] n m x h a = absurd (cc)
 own_there os k (q ∷ ms) zero m x h a =
-    let e = some_is q m h in
+    let e = same_Some q m h in
     let b : IsAmong x (pc ∷ own_names q.id os) = subst (λ (z : Member). IsAmong x (pc ∷ own_names z.id os)) (sym e) a in (
       record { variable = x; index = Some q.id; owner = OfInstance k },
       among_left (record { variable = x; index = Some q.id; owner = OfInstance k }) (parts_at k q.id (pc ∷ own_names q.id os)) (own_components os (suc k) ms) (part_among k q.id x (pc ∷ own_names q.id os) b),
@@ -65,7 +66,7 @@ from_own c os k (q ∷ ms) h =
 
 nth_ids : (ms : List Member) (n : ℕ) (m : Member) → nth ms n ≡ Some m → nth (map (λ i. i.id) ms) n ≡ Some m.id
 nth_ids [] n m h = absurd (cc)
-nth_ids (q ∷ ms) zero m h = ap (λ (z : Member). Some z.id) (some_is q m h)
+nth_ids (q ∷ ms) zero m h = ap (λ (z : Member). Some z.id) (same_Some q m h)
 nth_ids (q ∷ ms) (suc n) m h = nth_ids ms n m h
 
 named : (x : Name) (xs : List Name) → IsAmong x xs → is_among x xs ≡ true
@@ -116,7 +117,7 @@ given_from d [] v h = absurd (cc)
 given_from d (c ∷ cs) v h = go (given_by d cs) refl h (given_from d cs v)
   where
     here : (b : Bool) → same_component d c.component ≡ b → (if b then Some c.value else None) ≡ Some v → (e : Change) × IsAmong e (c ∷ cs) × (same_component d e.component ≡ true) × (e.value ≡ v)
-    here true q k = (c, inl refl, q, some_is c.value v k)
+    here true q k = (c, inl refl, q, same_Some c.value v k)
     here false q k = absurd (cc)
 
     go : (o : Option Data) → given_by d cs ≡ o → on (if same_component d c.component then Some c.value else None) o (λ v. Some v) ≡ Some v

@@ -3,6 +3,7 @@
 use Rattle.std.proofs.Common.{◌≡◌, ◌⊎◌, ℕ, Bool, true, false, if◌then◌else◌, List, [], ◌∷◌, ◌++◌, map, cond, Option, Some, None, refl, sym, ap, ◌∙◌, subst, option_and_then, inl, inr, ⊎_elim}
 use Rattle.std.specs.Prelude.{filter}
 use Rattle.std.specs.List.{AllByRecursion, flat_map}
+use Rattle.std.proofs.lemmas.Option.{same_Some}
 use Rattle.pgo_base.specs.Data.{Data, function, Pairs, graph, keys}
 use Rattle.pgo_base.specs.Lookup.{Name, Vars, same_name, find}
 use Rattle.pgo_base.specs.Sets.{IsSorted, in_order, sorted-in_order}
@@ -24,7 +25,7 @@ use Rattle.pgo_syntax.specs.declared.declaration.Declaration.{Declaration}
 use Rattle.pgo_syntax.specs.declared.process.Process.{Process}
 use Rattle.pgo_bound.specs.declared.kinds.Kind.{Kind}
 use Rattle.pgo_bound.specs.declared.kinds.Kind.TheVariants.{Unbound, AsWhole, ByElement}
-use Rattle.pgo_bound.specs.Among.{IsAmong, all_at, among_append, among_left, among_right, among_map, among_flat_map, among_nth, nth_among, nth_map, from_map, from_flat_map, some_is}
+use Rattle.pgo_bound.specs.Among.{IsAmong, all_at, among_append, among_left, among_right, among_map, among_flat_map, among_nth, nth_among, nth_map, from_map, from_flat_map}
 use Rattle.pgo_bound.specs.Lookups.{same_itself}
 use Rattle.pgo_bound.specs.Sound.{Sound, index_in}
 use Rattle.pgo_bound.specs.State.{AreDifferent, IsStateOnDomains, id_of, kind_in, variables_of}
@@ -96,7 +97,7 @@ value_there [] x v a h = absurd (cc)
 value_there (p ∷ s) x v a h = go (same_name x p.0) h (value_there s x v a.1)
   where
     go : (b : Bool) → (if b then Some p.1 else find x s) ≡ Some v → (find x s ≡ Some v → IsValue v) → IsValue v
-    go true k r = subst IsValue (some_is p.1 v k) a.0
+    go true k r = subst IsValue (same_Some p.1 v k) a.0
     go false k r = r k
 
 -- the domain of a variable that is a function

@@ -1,5 +1,6 @@
 -- A section leaves each instance at a label of its process or at Done.
 use Rattle.std.proofs.Common.{◌≡◌, ◌⊎◌, ℕ, Bool, true, false, List, Some, refl, sym, ap, ◌∙◌, subst}
+use Rattle.std.proofs.lemmas.Option.{same_Some}
 use Rattle.pgo_base.specs.Data.{Data}
 use Rattle.pgo_base.specs.Lookup.{Name, Vars}
 use Rattle.pgo_model.specs.Machine.{nth}
@@ -9,7 +10,6 @@ use Rattle.pgo_model.specs.System.{Words}
 use Rattle.pgo_model.specs.Written.{done}
 use Rattle.pgo_syntax.specs.declared.bound.Bound.{Bound}
 use Rattle.pgo_syntax.specs.declared.bound.Instance.{Instance}
-use Rattle.pgo_bound.specs.Among.{some_is}
 use Rattle.pgo_bound.specs.Lookups.{same_of}
 use Rattle.pgo_bound.specs.Sound.{IsAtLabel, IsLabel, IsNumbered}
 use Rattle.pgo_bound.specs.State.{IsState, id_of, identifiers}
@@ -32,7 +32,7 @@ module _ (b : Bound) (k : ℕ) (i : Instance) (at_k : nth b.instances k ≡ Some
 
   module _ (numbered : IsNumbered b) where
     same_instance : (n : ℕ) (j : Instance) → nth b.instances n ≡ Some j → id_of j ≡ id_of i → i ≡ j
-    same_instance n j at_n e = let m = numbered.identifiers_differ n k j i at_n at_k e in some_is i j (sym at_k ∙ ap (nth b.instances) (sym m) ∙ at_n)
+    same_instance n j at_n e = let m = numbered.identifiers_differ n k j i at_n at_k e in same_Some i j (sym at_k ∙ ap (nth b.instances) (sym m) ∙ at_n)
 
     all_at : EndsAt (context_of b i s) (IsEnd i) t → AllAtLabels b s → AllAtLabels b t
     all_at e h n j at_n = go (same_data (id_of j) (id_of i)) refl

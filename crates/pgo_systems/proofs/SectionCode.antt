@@ -1,5 +1,6 @@
 -- What code does on values gives values: the changes along a section, the contents that mapping macros give, and its end.
 use Rattle.std.proofs.Common.{◌≡◌, ◌⊎◌, ℕ, zero, suc, Bool, true, false, if◌then◌else◌, List, [], ◌∷◌, ◌++◌, length, get_or, Option, Some, None, refl, ap, ◌∙◌, subst, option_map, option_and_then, inl, inr, ⊎_elim}
+use Rattle.std.proofs.lemmas.Option.{same_Some}
 use Rattle.pgo_base.specs.Data.{Data}
 use Rattle.pgo_base.specs.Lookup.{Name, Names, Vars, same_name, find}
 use Rattle.pgo_base.specs.Tree.{Tree}
@@ -9,7 +10,6 @@ use Rattle.pgo_model.specs.Outcome.{Blocked, AssertFails}
 use Rattle.pgo_model.specs.System.{Words}
 use Rattle.pgo_model.specs.Val.{Meaning}
 use Rattle.pgo_model.specs.Written.{self_name}
-use Rattle.pgo_bound.specs.Among.{some_is}
 use Rattle.pgo_sections.specs.Code.{Place, Whole, Own, variable_of, Code, Empty, Skip, Let, Pick, Become, Set, Await, Assert, Print, If, Either, Seq, Goto, Yield, Read, Write, Codes, no_codes, more_codes}
 use Rattle.pgo_sections.specs.Context.{Context, value_before, value_now, content, with_content, put_content, put_new, view, value_of, index_value}
 use Rattle.pgo_sections.specs.Exec.{MacroEnd, Gives, Stops, with_choices, if_gives, touching, read_unmapped, becoming, count, Reads, Writes, exec_with, exec_arm_with}
@@ -68,12 +68,12 @@ under_counted x env h v e = go (find x env) refl e
     go (Some w) q k = h x v (q ∙ ap Some k)
 
 index_counted : (i : Option Name) (env : Names) (j : Option Data) → NamesCounted env → index_value i env ≡ Some j → Counted j
-index_counted None env j h e = subst Counted (some_is None j e) none_counted
+index_counted None env j h e = subst Counted (same_Some None j e) none_counted
 index_counted (Some x) env j h e = go (value_under x env) refl e
   where
     go : (o : Option Data) → value_under x env ≡ o → option_map (λ v. Some v) o ≡ Some j → Counted j
     go None q k = absurd (cc)
-    go (Some w) q k = subst Counted (some_is (Some w) j k) (some_counted w (under_counted x env h w q))
+    go (Some w) q k = subst Counted (same_Some (Some w) j k) (some_counted w (under_counted x env h w q))
 
 picked_counted : (ms : List Data) (i : ℕ) (m : Data) → EachCounted ms → IsCounted m → IsCounted (get_or ms i m)
 picked_counted [] i m h o = o
@@ -121,10 +121,10 @@ module _ (k : Context) (counted : ContextCounted k) where
     where
       go : (o : Option Data) → Counted o → option_map (λ w. (g, w) ∷ ch) o ≡ Some ch' → FoundCounted ch'
       go None q e = absurd (cc)
-      go (Some w) q e = subst FoundCounted (some_is ((g, w) ∷ ch) ch' e) (more_found g w ch (q w refl) h)
+      go (Some w) q e = subst FoundCounted (same_Some ((g, w) ∷ ch) ch' e) (more_found g w ch (q w refl) h)
 
   new_found : (g : Name) (j v : Option Data) (ch ch' : Vars) → Counted v → FoundCounted ch → put_new k g j v ch ≡ Some ch' → FoundCounted ch'
-  new_found g j None ch ch' c h e = subst FoundCounted (some_is ch ch' e) h
+  new_found g j None ch ch' c h e = subst FoundCounted (same_Some ch ch' e) h
   new_found g j (Some v) ch ch' c h e = put_found g j (Some v) ch ch' c h e
 
 -- how code ends: its changes are values, and what a block yields is one

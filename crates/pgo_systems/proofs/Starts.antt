@@ -2,6 +2,7 @@
 use Rattle.std.proofs.Common.{◌≡◌, ℕ, suc, Bool, true, false, if◌then◌else◌, List, [], ◌∷◌, ◌++◌, map, Option, Some, None, refl, sym, ap, subst, option_and_then, option_map, inl, inr, ⊎_elim}
 use Rattle.std.specs.Prelude.{unwrap_or}
 use Rattle.std.specs.List.{AllByRecursion, filter_map, flat_map, cons_option}
+use Rattle.std.proofs.lemmas.Option.{same_Some}
 use Rattle.pgo_base.specs.Data.{Data, keys, graph-pairs}
 use Rattle.pgo_base.specs.Lookup.{Name, Names, Vars, same_name}
 use Rattle.pgo_base.specs.Pairs.{pairs_in_order}
@@ -23,7 +24,7 @@ use Rattle.pgo_syntax.specs.declared.name.PlacedName.{PlacedName}
 use Rattle.pgo_syntax.specs.declared.process.Argument.{Argument}
 use Rattle.pgo_syntax.specs.declared.process.Argument.TheVariants as arguments
 use Rattle.pgo_syntax.specs.declared.spec.Spec.{Spec}
-use Rattle.pgo_bound.specs.Among.{IsAmong, all_at, among_append, from_map, from_flat_map, from_filter_map, mapped_some, some_is}
+use Rattle.pgo_bound.specs.Among.{IsAmong, all_at, among_append, from_map, from_flat_map, from_filter_map, mapped_some}
 use Rattle.pgo_bound.specs.BoundOf.{bound_of, GlobalStart, global_of, globals_of, global_value, function_on, function_at, first_place, first_places, places_of, places_of_run, expression_of, own_argument, own_start, locals_of, start_of}
 use Rattle.pgo_bound.specs.Keyed.{keys_ordered}
 use Rattle.pgo_bound.specs.Lookups.{data_from}
@@ -159,7 +160,7 @@ module _ (s : Spec) (consts : List (Name × Data)) (counted : AllCounted consts)
   archetype_among x (c ∷ as') a h = go (same_name x c.name.name) h (archetype_among x as' a)
     where
       go : (b : Bool) → (if b then Some c else archetype_named x as') ≡ Some a → (archetype_named x as' ≡ Some a → IsAmong a as') → IsAmong a (c ∷ as')
-      go true k r = inl (sym (some_is c a k))
+      go true k r = inl (sym (same_Some c a k))
       go false k r = inr (r k)
 
   argument_among : (n : ℕ) (ps : List Parameter) (as' : List Argument) (h : Handed) → IsAmong h (handed_from n ps as') → IsAmong h.argument as'
@@ -190,7 +191,7 @@ module _ (s : Spec) (consts : List (Name × Data)) (counted : AllCounted consts)
       go (arguments.Ref g x) l k = absurd (cc)
       go (arguments.Value place e) l k =
           let v = function_at (λ id. beginning (argument_start ds e id)) (run_ids r) in
-          subst (λ (z : Name × Data). IsCounted z.1) (some_is (written r.process.name.name h.parameter.name.name, v) q k)
+          subst (λ (z : Name × Data). IsCounted z.1) (same_Some (written r.process.name.name h.parameter.name.name, v) q k)
           (function_at_counted (λ id. beginning (argument_start ds e id)) (run_ids r) f.ids (λ id c. begins_counted (argument_start ds e id) (value_start (value_at ds id e) (at_counted id e c l))))
 
   locals_counted : (r : Run) → RunFits r → (q : Name × Data) → IsAmong q (locals_of ds r) → IsCounted q.1

@@ -2,6 +2,7 @@
 use Rattle.std.proofs.Common.{◌≡◌, ℕ, suc, Bool, true, false, if◌then◌else◌, List, [], ◌∷◌, ◌++◌, map, Option, Some, None, refl, subst, option_map}
 use Rattle.std.specs.Prelude.{unwrap_or}
 use Rattle.std.specs.List.{AllByRecursion}
+use Rattle.std.proofs.lemmas.Option.{same_Some}
 use Rattle.pgo_base.specs.Lookup.{Name, same_name, find}
 use Rattle.pgo_base.specs.Tree.{Tree, name, index, field, Trees, no_trees, more_trees, trees}
 use Rattle.pgo_model.specs.Options.{on}
@@ -23,7 +24,6 @@ use Rattle.pgo_syntax.specs.declared.bound.Target.{Target}
 use Rattle.pgo_syntax.specs.declared.bound.Target.TheVariants as targets
 use Rattle.pgo_syntax.specs.declared.macros.Macro.{Macro}
 use Rattle.pgo_syntax.specs.declared.name.PlacedName.{PlacedName}
-use Rattle.pgo_bound.specs.Among.{some_is}
 use Rattle.pgo_sections.specs.Access.{Mapped, MappedRead, place, read_first, after, hoisted, evaluated}
 use Rattle.pgo_model.specs.Names.{is_among}
 use Rattle.pgo_sections.specs.Code.{Place, Whole, Code, Empty, Let, Pick, Become, Set, Await, Assert, Print, If, Seq, Goto, Read, Write, in_turn, content_name, at_base, old_base, val_base}
@@ -166,7 +166,7 @@ body_fits [] x b h e = absurd (cc)
 body_fits (m ∷ ms) x b h e = go (same_name x m.0) e (λ k. body_fits ms x b h.1 k)
   where
     go : (q : Bool) → (if q then Some m.1 else find x ms) ≡ Some b → (find x ms ≡ Some b → StatementFits b.statement) → StatementFits b.statement
-    go true e more = subst (λ (z : Body). StatementFits z.statement) (some_is m.1 b e) h.0
+    go true e more = subst (λ (z : Body). StatementFits z.statement) (same_Some m.1 b e) h.0
     go false e more = more e
 
 handed_fit : (xs : List Name) (ts : List Tree) → AllByRecursion LiteralsFit ts → ArgumentsFit (handed xs ts)
@@ -400,7 +400,7 @@ mapped_fit [] h x m e = absurd (cc)
 mapped_fit (b ∷ bs) h x m e = go b.target h.0 e (λ k. mapped_fit bs h.1 x m k)
   where
     found : (q : Mapped) → CodeFits q.reads × CodeFits q.writes → (c : Bool) → (if c then Some q else find x (all_mapped bs)) ≡ Some m → (find x (all_mapped bs) ≡ Some m → CodeFits m.reads × CodeFits m.writes) → CodeFits m.reads × CodeFits m.writes
-    found q f true k more = subst (λ (z : Mapped). CodeFits z.reads × CodeFits z.writes) (some_is q m k) f
+    found q f true k more = subst (λ (z : Mapped). CodeFits z.reads × CodeFits z.writes) (same_Some q m k) f
     found q f false k more = more k
 
     go : (t : Target) → TargetFits t → find x (mapped_of b.parameter t (all_mapped bs)) ≡ Some m → (find x (all_mapped bs) ≡ Some m → CodeFits m.reads × CodeFits m.writes) → CodeFits m.reads × CodeFits m.writes
@@ -424,5 +424,5 @@ module _ (b : Bound) (i : Instance) (fit : TextFits b i) where
       found (x ∷ cs) h e = go (same_name l x.0) e (λ k. found cs h.1 k)
         where
           go : (q : Bool) → (if q then Some x.1 else find l cs) ≡ Some c → (find l cs ≡ Some c → CodeFits c) → CodeFits c
-          go true e more = subst CodeFits (some_is x.1 c e) h.0
+          go true e more = subst CodeFits (same_Some x.1 c e) h.0
           go false e more = more e

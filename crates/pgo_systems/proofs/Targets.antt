@@ -1,6 +1,7 @@
 -- Sections end at labels of their process or at Done, where each `goto` names one.
 use Rattle.std.proofs.Common.{◌≡◌, ◌⊎◌, ℕ, suc, Bool, true, false, if◌then◌else◌, List, [], ◌∷◌, ◌++◌, map, Option, Some, None, refl, ap, ◌∙◌, subst, inl, inr}
 use Rattle.std.specs.List.{AllByRecursion}
+use Rattle.std.proofs.lemmas.Option.{same_Some}
 use Rattle.pgo_base.specs.Lookup.{Name, same_name, find}
 use Rattle.pgo_base.specs.Tree.{Tree, name}
 use Rattle.pgo_model.specs.Names.{same_name-self}
@@ -17,7 +18,7 @@ use Rattle.pgo_syntax.specs.declared.bound.Bound.{Bound}
 use Rattle.pgo_syntax.specs.declared.bound.Instance.{Instance}
 use Rattle.pgo_syntax.specs.declared.macros.Macro.{Macro}
 use Rattle.pgo_syntax.specs.declared.name.PlacedName.{PlacedName}
-use Rattle.pgo_bound.specs.Among.{IsAmong, among_left, among_right, nth_among, some_is}
+use Rattle.pgo_bound.specs.Among.{IsAmong, among_left, among_right, nth_among}
 use Rattle.pgo_bound.specs.Sound.{IsLabel, labels_in, labels_each, labels_among, labels_guarded}
 use Rattle.pgo_sections.specs.Access.{Mapped, MappedRead, place, read_first, after, hoisted, evaluated}
 use Rattle.pgo_sections.specs.Code.{Place, Whole, Code, Empty, Let, Pick, Become, Set, Await, Assert, Print, If, Seq, Goto, Read, Write, in_turn, content_name, at_base, old_base, val_base}
@@ -151,7 +152,7 @@ module _ (R : Name → Type 0) where
   body_meets (m ∷ ms) x b h e = go (same_name x m.0) e (λ k. body_meets ms x b h.1 k)
     where
       go : (q : Bool) → (if q then Some m.1 else find x ms) ≡ Some b → (find x ms ≡ Some b → Meets b.statement) → Meets b.statement
-      go true e more = subst (λ (z : Body). Meets z.statement) (some_is m.1 b e) h.0
+      go true e more = subst (λ (z : Body). Meets z.statement) (same_Some m.1 b e) h.0
       go false e more = more e
 
   module _ (ms : Bodies) (h : BodiesMeet ms) where
@@ -235,7 +236,7 @@ body_none [] x b h e = absurd (cc)
 body_none (m ∷ ms) x b h e = go (same_name x m.0) e (λ k. body_none ms x b h.1 k)
   where
     go : (q : Bool) → (if q then Some m.1 else find x ms) ≡ Some b → (find x ms ≡ Some b → NoBareWhile b.statement) → NoBareWhile b.statement
-    go true e more = subst (λ (z : Body). NoBareWhile z.statement) (some_is m.1 b e) h.0
+    go true e more = subst (λ (z : Body). NoBareWhile z.statement) (same_Some m.1 b e) h.0
     go false e more = more e
 
 module _ (ms : Bodies) (h : NoneInBodies ms) where
@@ -467,5 +468,5 @@ module _ (b : Bound) (i : Instance) (known : GotosKnown b i) where
       found (x ∷ cs) h e = go (same_name l x.0) e (λ k. found cs h.1 k)
         where
           go : (q : Bool) → (if q then Some x.1 else find l cs) ≡ Some c → (find l cs ≡ Some c → Jumps (λ m. (m ≡ done) ⊎ IsLabel i m) c) → Jumps (λ m. (m ≡ done) ⊎ IsLabel i m) c
-          go true e more = subst (Jumps (λ m. (m ≡ done) ⊎ IsLabel i m)) (some_is x.1 c e) h.0
+          go true e more = subst (Jumps (λ m. (m ≡ done) ⊎ IsLabel i m)) (same_Some x.1 c e) h.0
           go false e more = more e

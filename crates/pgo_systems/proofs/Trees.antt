@@ -3,6 +3,7 @@ use Rattle.std.proofs.Common.{◌≡◌, ◌⊎◌, ℕ, zero, suc, ◌+◌, ◌
 use Rattle.std.specs.Prelude.{if◌then◌else◌, nat_abs, nat_lt, IsTrue}
 use Rattle.std.specs.List.{AllByRecursion}
 use Rattle.std.specs.List.Sorted.{IsStrictlySortedBy}
+use Rattle.std.proofs.lemmas.Option.{same_Some}
 use Rattle.pgo_base.specs.declared.expr.Prefix.{Prefix}
 use Rattle.pgo_base.specs.declared.expr.Infix.{Infix}
 use Rattle.pgo_base.specs.declared.expr.Prefix.TheVariants as prefixs
@@ -18,7 +19,7 @@ use Rattle.pgo_model.specs.FunctionSets.{Choices, paired, functions_over, choice
 use Rattle.pgo_model.specs.Operators.{both, each, members_of, graph_of, lookup, same_data, set_from, function_from, function_of, from_truth, truth_of, in_64, fits_i64, most_members, on_integers, sequence, sequence_at, choices, first3, least3, filter3, keep3, replace_at, put_at, apply, union, intersect, minus, flatten, power, single, merge, domain, range, divide, modulo, subset, or3, not3, and3, iff3, is_member, cardinality, span}
 use Rattle.pgo_model.specs.Sequences.{elements_from, elements, len, first_element, head, later_elements, tail, append, concat, slice, slice_of, sub_seq, assert, print, on_one, on_two, on_three, operators, assert_name}
 use Rattle.pgo_model.specs.Val.{Scope, Sem, sem, values_of, asserted, let_scope, case_value, ranges, fields, updated, call_def, or_else, value_of_name, value_of_call, with_name, with_names, with_part, functions_sem, word_sem, unary_sem, binary_sem, decide, quantify, function_over, index_of, name_values, names_over, sets_over, over_each, arithmetic, comparison, same_variables}
-use Rattle.pgo_bound.specs.Among.{IsAmong, from_map, some_is}
+use Rattle.pgo_bound.specs.Among.{IsAmong, from_map}
 use Rattle.pgo_bound.specs.Lookups.{same_of}
 use Rattle.pgo_systems.specs.Counted.{IsCounted, EachCounted, Counted, NamesCounted, ScopeCounted}
 use Rattle.pgo_systems.specs.Literals.{LiteralsFit, AllFit, NamedFit, ArmsFit, BoundFit, PathsFit}
@@ -40,7 +41,7 @@ drop_all (suc n) [] h = h
 drop_all (suc n) (y ∷ ys) h = drop_all n ys (λ z k. h z (inr k))
 
 elements_from_all : (n : ℕ) (ps : List (Data × Data)) (xs : List Data) → EachPair ps → elements_from n ps ≡ Some xs → EachCounted xs
-elements_from_all n [] xs h e = subst EachCounted (some_is [] xs e) (λ x m. absurd m)
+elements_from_all n [] xs h e = subst EachCounted (same_Some [] xs e) (λ x m. absurd m)
 elements_from_all n (p ∷ ps) xs h e = go (same_data p.0 (integer (pos n))) e (λ vs g. elements_from_all (suc n) ps vs (λ q j. h q (inr j)) g)
   where
     two : (vs : List Data) → EachCounted vs → (x : Data) → (x ≡ p.1) ⊎ IsAmong x vs → IsCounted x
@@ -49,7 +50,7 @@ elements_from_all n (p ∷ ps) xs h e = go (same_data p.0 (integer (pos n))) e (
 
     more : (o : Option (List Data)) → elements_from (suc n) ps ≡ o → option_map (λ vs. p.1 ∷ vs) o ≡ Some xs → ((vs : List Data) → elements_from (suc n) ps ≡ Some vs → EachCounted vs) → EachCounted xs
     more None g k r = absurd (cc)
-    more (Some vs) g k r = subst EachCounted (some_is (p.1 ∷ vs) xs k) (two vs (r vs g))
+    more (Some vs) g k r = subst EachCounted (same_Some (p.1 ∷ vs) xs k) (two vs (r vs g))
 
     go : (b : Bool) → (if b then option_map (λ vs. p.1 ∷ vs) (elements_from (suc n) ps) else None) ≡ Some xs → ((vs : List Data) → elements_from (suc n) ps ≡ Some vs → EachCounted vs) → EachCounted xs
     go true k r = more (elements_from (suc n) ps) refl k r
@@ -76,13 +77,13 @@ more_all x xs o h y (inr m) = h y m
 
 -- the keys of a sequence are the numbers of its elements
 elements_low : (n : ℕ) (ps : List (Data × Data)) (xs : List Data) → n ≤ 2 ^ 63 → EachPair ps → elements_from n ps ≡ Some xs → n + length xs ≤ 2 ^ 63
-elements_low n [] xs l h e = subst (λ ys. n + length ys ≤ 2 ^ 63) (some_is [] xs e) (let z : n + 0 ≤ 2 ^ 63 = omega (arith, l) in z)
+elements_low n [] xs l h e = subst (λ ys. n + length ys ≤ 2 ^ 63) (same_Some [] xs e) (let z : n + 0 ≤ 2 ^ 63 = omega (arith, l) in z)
 elements_low n (p ∷ ps) xs l h e = go (same_data p.0 (integer (pos n))) refl e (λ k vs g. elements_low (suc n) ps vs k (λ q j. h q (inr j)) g)
   where
     more : (o : Option (List Data)) → elements_from (suc n) ps ≡ o → option_map (λ vs. p.1 ∷ vs) o ≡ Some xs → ((vs : List Data) → elements_from (suc n) ps ≡ Some vs → suc n + length vs ≤ 2 ^ 63) → n + length xs ≤ 2 ^ 63
     more None g k r = absurd (cc)
     more (Some vs) g k r =
-        subst (λ ys. n + length ys ≤ 2 ^ 63) (some_is (p.1 ∷ vs) xs k) (let w = r vs g in let z : n + suc (length vs) ≤ 2 ^ 63 = omega (arith, w) in z)
+        subst (λ ys. n + length ys ≤ 2 ^ 63) (same_Some (p.1 ∷ vs) xs k) (let w = r vs g in let z : n + suc (length vs) ≤ 2 ^ 63 = omega (arith, w) in z)
 
     go : (b : Bool) → same_data p.0 (integer (pos n)) ≡ b → (if b then option_map (λ vs. p.1 ∷ vs) (elements_from (suc n) ps) else None) ≡ Some xs
         → (suc n ≤ 2 ^ 63 → (vs : List Data) → elements_from (suc n) ps ≡ Some vs → suc n + length vs ≤ 2 ^ 63) → n + length xs ≤ 2 ^ 63
@@ -170,7 +171,7 @@ rows_counted x f [] a e = absurd (cc)
 rows_counted x f (r ∷ rows) a e = go (same_name x r.0) e (rows_counted x f rows a.1)
   where
     go : (b : Bool) → (if b then Some r.1 else find x rows) ≡ Some f → (find x rows ≡ Some f → OperatorCounted f) → OperatorCounted f
-    go true k i = subst OperatorCounted (some_is r.1 f k) a.0
+    go true k i = subst OperatorCounted (same_Some r.1 f k) a.0
     go false k i = i k
 
 operators_counted : (x : Name) (f : List Data → Option Data) → find x operators ≡ Some f → OperatorCounted f
@@ -237,14 +238,14 @@ functions_counted cs h =
     one vs i = few_counted (paired cs vs) (λ few. paired_all cs vs (h (subst AreFew (paired_keys cs vs i) few)) i)
 
 choices_keys : (ps : List (Data × Data)) (cs : Choices) → choices_of ps ≡ Some cs → map key_of cs ≡ keys ps
-choices_keys [] cs h = ap (map key_of) (sym (some_is [] cs h))
+choices_keys [] cs h = ap (map key_of) (sym (same_Some [] cs h))
 choices_keys (p ∷ ps) cs h =
     let r = each_step (λ p. option_map (λ ms. (p.0, ms)) (members_of p.1)) p ps cs h in
     ap (map key_of) r.1.3 ∙ (λ i. first_key (members_of p.1) r.0 r.1.1 i ∷ choices_keys ps r.1.0 r.1.2 i)
   where
     first_key : (o : Option (List Data)) (c : Data × List Data) → option_map (λ ms. (p.0, ms)) o ≡ Some c → c.0 ≡ p.0
     first_key None c g = absurd (cc)
-    first_key (Some ms) c g = sym (ap (λ z. z.0) (some_is (p.0, ms) c g))
+    first_key (Some ms) c g = sym (ap (λ z. z.0) (same_Some (p.0, ms) c g))
 
 choices_of_all : (ps : List (Data × Data)) (cs : Choices) → (AreFew (keys ps) → EachPair ps) → choices_of ps ≡ Some cs → ChoicesCounted cs
 choices_of_all ps cs h e few c m =
@@ -254,7 +255,7 @@ choices_of_all ps cs h e few c m =
   where
     by_set : (p : Data × Data) → IsCounted p.0 × IsCounted p.1 → (o : Option (List Data)) → members_of p.1 ≡ o → option_map (λ ms. (p.0, ms)) o ≡ Some c → IsCounted c.0 × EachCounted c.1
     by_set p a None q k = absurd (cc)
-    by_set p a (Some ms) q k = subst (λ z. IsCounted z.0 × EachCounted z.1) (some_is (p.0, ms) c k) (a.0, member_all p.1 ms a.1 q)
+    by_set p a (Some ms) q k = subst (λ z. IsCounted z.0 × EachCounted z.1) (same_Some (p.0, ms) c k) (a.0, member_all p.1 ms a.1 q)
 
 functions_sem_counted : (o : Option Choices) → ((cs : Choices) → o ≡ Some cs → ChoicesCounted cs) → Counted (functions_sem o).value
 functions_sem_counted o h = then_counted o functions_over (λ cs e. functions_counted cs (h cs e))
@@ -265,7 +266,7 @@ over_all ms ns h g c m = let r = from_map (λ m. (m, ns)) c ms m in subst (λ z.
 function_choices_all : (a b : Data) (cs : Choices) → IsCounted a → IsCounted b → function_choices a b ≡ Some cs → ChoicesCounted cs
 function_choices_all a b cs o p e =
     let r = both_parts (λ ms ns. Some (map (λ m. (m, ns)) ms)) (members_of a) (members_of b) cs e in
-    subst ChoicesCounted (some_is (map (λ m. (m, r.1.0)) r.0) cs r.1.3) (λ few. over_all r.0 r.1.0 (member_all a r.0 o r.1.1) (member_all b r.1.0 p r.1.2))
+    subst ChoicesCounted (same_Some (map (λ m. (m, r.1.0)) r.0) cs r.1.3) (λ few. over_all r.0 r.1.0 (member_all a r.0 o r.1.1) (member_all b r.1.0 p r.1.2))
 
 -- ---- EXCEPT
 
@@ -367,7 +368,7 @@ pub named_more : (x : Name) (o : Option Data) (ns : Names) → Counted o → Nam
 named_more x o ns h n y v e = go (same_name y x) e
   where
     go : (b : Bool) → (if b then Some o else find y ns) ≡ Some (Some v) → IsCounted v
-    go true k = h v (some_is o (Some v) k)
+    go true k = h v (same_Some o (Some v) k)
     go false k = n y v k
 
 pub names_valued : (xs : List Name) (vs : List Data) (ns : Names) → EachCounted vs → NamesCounted ns → NamesCounted (name_values xs vs ns)
@@ -413,12 +414,12 @@ first3_counted p (m ∷ ms) h = go (p m) (first3_counted p ms (λ y k. h y (inr 
     go None r = none_counted
 
 filter3_all : (p : Data → Option Bool) (ms ks : List Data) → EachCounted ms → filter3 p ms ≡ Some ks → EachCounted ks
-filter3_all p [] ks h e = subst EachCounted (some_is [] ks e) h
+filter3_all p [] ks h e = subst EachCounted (same_Some [] ks e) h
 filter3_all p (m ∷ ms) ks h e = go (p m) (filter3 p ms) refl e (λ ls g. filter3_all p ms ls (λ y k. h y (inr k)) g)
   where
     kept : (t : Option Bool) (ls : List Data) → EachCounted ls → keep3 t m ls ≡ Some ks → EachCounted ks
-    kept (Some true) ls o k = subst EachCounted (some_is (m ∷ ls) ks k) (more_all m ls (h m (inl refl)) o)
-    kept (Some false) ls o k = subst EachCounted (some_is ls ks k) o
+    kept (Some true) ls o k = subst EachCounted (same_Some (m ∷ ls) ks k) (more_all m ls (h m (inl refl)) o)
+    kept (Some false) ls o k = subst EachCounted (same_Some ls ks k) o
     kept None ls o k = absurd (cc)
 
     go : (t : Option Bool) (o : Option (List Data)) → filter3 p ms ≡ o → option_and_then (keep3 t m) o ≡ Some ks → ((ls : List Data) → filter3 p ms ≡ Some ls → EachCounted ls) → EachCounted ks
@@ -455,7 +456,7 @@ function_over_counted over f ns r n h =
         let q = each_from (λ vs. both (λ k v. Some (k, v)) (index_of vs) (f (name_values (names_over over) vs ns))) (choices (sets_over over)) ps e p m in
         let o = chosen_all over q.0 r (choices_in (sets_over over) q.0 q.1) in
         let b = both_parts (λ k v. Some (k, v)) (index_of q.0) (f (name_values (names_over over) q.0 ns)) p q.2 in
-        subst (λ z. IsCounted z.0 × IsCounted z.1) (some_is (b.0, b.1.0) p b.1.3) (index_counted q.0 o b.0 b.1.1, h (name_values (names_over over) q.0 ns) (names_valued (names_over over) q.0 ns o n) b.1.0 b.1.2)
+        subst (λ z. IsCounted z.0 × IsCounted z.1) (same_Some (b.0, b.1.0) p b.1.3) (index_counted q.0 o b.0 b.1.1, h (name_values (names_over over) q.0 ns) (names_valued (names_over over) q.0 ns o n) b.1.0 b.1.2)
 
 each_data_all : (f : Data → Option Data) (xs ys : List Data) → ((x : Data) → IsAmong x xs → Counted (f x)) → each f xs ≡ Some ys → EachCounted ys
 each_data_all f xs ys h e y m = let r = each_from f xs ys e y m in h r.0 r.1 y r.2
@@ -530,10 +531,10 @@ mutual
   tree_counted (unchanged xs) s l a = then_counted s.next (λ next. from_truth (same_variables xs s.now next)) (λ next e. truth_counted (same_variables xs s.now next))
 
   trees_counted : (ts : Trees) (s : Scope) → AllFit ts → ScopeCounted s → (vs : List Data) → values_of ts s ≡ Some vs → EachCounted vs
-  trees_counted no_trees s l a vs e = subst EachCounted (some_is [] vs e) (λ x m. absurd m)
+  trees_counted no_trees s l a vs e = subst EachCounted (same_Some [] vs e) (λ x m. absurd m)
   trees_counted (more_trees t ts) s l a vs e =
       let b = both_parts (λ v ws. Some (v ∷ ws)) (sem t s).value (values_of ts s) vs e in
-      subst EachCounted (some_is (b.0 ∷ b.1.0) vs b.1.3) (more_all b.0 b.1.0 (tree_counted t s l.0 a b.0 b.1.1) (trees_counted ts s l.1 a b.1.0 b.1.2))
+      subst EachCounted (same_Some (b.0 ∷ b.1.0) vs b.1.3) (more_all b.0 b.1.0 (tree_counted t s l.0 a b.0 b.1.1) (trees_counted ts s l.1 a b.1.0 b.1.2))
 
   let_counted : (ds : NamedTrees) (s : Scope) → NamedFit ds → ScopeCounted s → ScopeCounted (let_scope ds s)
   let_counted no_named s l a = a
@@ -544,16 +545,16 @@ mutual
   case_counted (more_arms g e gs) s l a o h = decide_counted (truth_of (sem g s).value) (sem e s).value (case_value gs s o) (tree_counted e s l.1 a) (case_counted gs s l.2 a o h)
 
   ranges_counted : (bs : BoundTrees) (s : Scope) → BoundFit bs → ScopeCounted s → (over : List (Name × List Data)) → ranges bs s ≡ Some over → RangesCounted over
-  ranges_counted no_bound s l a over e = subst RangesCounted (some_is [] over e) (λ b m. absurd m)
+  ranges_counted no_bound s l a over e = subst RangesCounted (same_Some [] over e) (λ b m. absurd m)
   ranges_counted (more_bound xs r bs) s l a over e =
       let b = both_parts (λ ms rest. Some (over_each xs ms rest)) (option_and_then members_of (sem r s).value) (ranges bs s) over e in
-      subst RangesCounted (some_is (over_each xs b.0 b.1.0) over b.1.3) (over_each_all xs b.0 b.1.0 (members_all (sem r s).value b.0 (tree_counted r s l.0 a) b.1.1) (ranges_counted bs s l.1 a b.1.0 b.1.2))
+      subst RangesCounted (same_Some (over_each xs b.0 b.1.0) over b.1.3) (over_each_all xs b.0 b.1.0 (members_all (sem r s).value b.0 (tree_counted r s l.0 a) b.1.1) (ranges_counted bs s l.1 a b.1.0 b.1.2))
 
   fields_counted : (ds : NamedTrees) (s : Scope) → NamedFit ds → ScopeCounted s → (ps : List (Data × Data)) → fields ds s ≡ Some ps → EachPair ps
-  fields_counted no_named s l a ps e = subst EachPair (some_is [] ps e) (λ p m. absurd m)
+  fields_counted no_named s l a ps e = subst EachPair (same_Some [] ps e) (λ p m. absurd m)
   fields_counted (more_named x t ds) s l a ps e =
       let b = both_parts (λ v rest. Some ((string x, v) ∷ rest)) (sem t s).value (fields ds s) ps e in
-      subst EachPair (some_is ((string x, b.0) ∷ b.1.0) ps b.1.3) (more_pairs (string x) b.0 b.1.0 tt (tree_counted t s l.0 a b.0 b.1.1) (fields_counted ds s l.1 a b.1.0 b.1.2))
+      subst EachPair (same_Some ((string x, b.0) ∷ b.1.0) ps b.1.3) (more_pairs (string x) b.0 b.1.0 tt (tree_counted t s l.0 a b.0 b.1.1) (fields_counted ds s l.1 a b.1.0 b.1.2))
 
   updated_counted : (us : PathTrees) (s : Scope) → PathsFit us → ScopeCounted s → (o : Option Data) → Counted o → Counted (updated us s o)
   updated_counted no_paths s l a o h = h

@@ -1,5 +1,6 @@
 -- A variable that code neither assigns nor writes is at the end of a section what it was.
 use Rattle.std.proofs.Common.{◌≡◌, ℕ, zero, suc, Bool, true, false, if◌then◌else◌, List, [], ◌∷◌, length, get_or, Option, Some, None, refl, ap, ◌∙◌, subst, option_map, option_and_then}
+use Rattle.std.proofs.lemmas.Option.{same_Some}
 use Rattle.pgo_base.specs.Data.{Data}
 use Rattle.pgo_base.specs.Lookup.{Name, Names, Vars, same_name, find}
 use Rattle.pgo_model.specs.Operators.{members_of, truth_of}
@@ -8,7 +9,6 @@ use Rattle.pgo_model.specs.Outcome.{Blocked, NoValue, AssertFails, Next, Stuck}
 use Rattle.pgo_model.specs.State.{is_shallow}
 use Rattle.pgo_model.specs.System.{Words}
 use Rattle.pgo_model.specs.Written.{pc}
-use Rattle.pgo_bound.specs.Among.{some_is}
 use Rattle.pgo_model.specs.Names.{is_among}
 use Rattle.pgo_sections.specs.Code.{Place, variable_of, Code, Empty, Skip, Let, Pick, Become, Set, Await, Assert, Print, If, Either, Seq, Goto, Yield, Read, Write, Codes, no_codes, more_codes}
 use Rattle.pgo_sections.specs.Context.{Context, content, with_content, put_content, put_new, value_of, index_value}
@@ -73,10 +73,10 @@ module _ (x : Name) where
     where
       go : (o : Option Data) → option_map (λ w. (g, w) ∷ ch) o ≡ Some ch' → Still ch'
       go None e = absurd (cc)
-      go (Some w) e = subst Still (some_is ((g, w) ∷ ch) ch' e) (more_still g w ch n h)
+      go (Some w) e = subst Still (same_Some ((g, w) ∷ ch) ch' e) (more_still g w ch n h)
 
   new_still : (k : Context) (g : Name) (j v : Option Data) (ch ch' : Vars) → same_name x g ≡ false → Still ch → put_new k g j v ch ≡ Some ch' → Still ch'
-  new_still k g j None ch ch' n h e = subst Still (some_is ch ch' e) h
+  new_still k g j None ch ch' n h e = subst Still (same_Some ch ch' e) h
   new_still k g j (Some v) ch ch' n h e = put_still k g j (Some v) ch ch' n h e
 
   module _ (reads : Reads) (writes : Writes) (k : Context) where

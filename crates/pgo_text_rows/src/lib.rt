@@ -3,6 +3,7 @@
 
 mod answer;
 mod expressions;
+mod fails_once;
 mod labels;
 mod modules;
 mod one_byte_sink;

@@ -2,8 +2,10 @@
 //
 // `memory N` takes a source or a sink in memory, the sink with room for N bytes; `standard N` takes those over the standard
 // traits, the sink over a slice of N bytes; `failing N` takes those in memory whose call behind N good ones fails, where each
-// write takes one byte. `read N` reads the text up to N bytes, `write T` writes T; a row reads or writes once for each of its
-// lines.
+// write takes one byte; `failing_standard N` takes those over the standard traits whose reader or writer takes one byte in each
+// call and fails once, behind N good calls. `read N` reads the text up to N bytes, `write T` writes T; a row reads or writes
+// once for each of its lines.
+use crate::fails_once::{FailingReader, FailingWriter};
 use crate::one_byte_sink::OneByteSink;
 use pgo_io::mem_sink::MemSink;
 use pgo_io::mem_source::MemSource;
@@ -28,6 +30,7 @@ enum Medium {
     Memory,
     Standard,
     Failing,
+    FailingStandard,
 }
 
 #[derive(Drop)]
@@ -59,6 +62,7 @@ impl Streams {
             "memory" => Medium::Memory,
             "standard" => Medium::Standard,
             "failing" => Medium::Failing,
+            "failing_standard" => Medium::FailingStandard,
             "read" => {
                 self.reads.push(u64::from(number))?;
                 return Ok(true);
@@ -82,9 +86,11 @@ impl Streams {
             }
             (Medium::Standard, true) => self.read_from(&mut StdSource::new(text)),
             (Medium::Failing, true) => self.read_failing(text),
+            (Medium::FailingStandard, true) => self.read_failing_standard(text),
             (Medium::Memory, false) => self.write_memory(),
             (Medium::Standard, false) => self.write_standard(),
             (Medium::Failing, false) => self.write_failing(),
+            (Medium::FailingStandard, false) => self.write_failing_standard(),
         }
     }
 
@@ -107,6 +113,13 @@ impl Streams {
         let mut source = MemSource::new(text.to_vec(self.alloc)?, self.failing()?);
         let words = self.read_from(&mut source)?;
         format!(in self.alloc; "{words}, {} faults", source.faults())
+    }
+
+    fn read_failing_standard(&self, text: &[u8]) -> Result<String, AllocError> {
+        self.read_from(&mut StdSource::new(FailingReader {
+            bytes: text,
+            before: Some(self.size),
+        }))
     }
 
     /// Whether each write succeeds.
@@ -136,6 +149,17 @@ impl Streams {
         let mut room = vec![in self.alloc; 0u8; self.size as usize]?;
         let words = self.write_to(&mut StdSink::new(room.as_mut_slice()))?;
         let held = String::from_utf8_lossy(self.alloc, room.as_slice())?;
+        format!(in self.alloc; "{words}, \"{held}\"")
+    }
+
+    fn write_failing_standard(&self) -> Result<String, AllocError> {
+        let mut room = vec![in self.alloc; 0u8; SINK_ROOM]?;
+        let words = self.write_to(&mut StdSink::new(FailingWriter {
+            inner: room.as_mut_slice(),
+            before: Some(self.size),
+        }))?;
+        let all = String::from_utf8_lossy(self.alloc, room.as_slice())?;
+        let held = all.trim_end_matches('\0');
         format!(in self.alloc; "{words}, \"{held}\"")
     }
 

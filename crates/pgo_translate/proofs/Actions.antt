@@ -2,6 +2,7 @@
 use Rattle.std.proofs.Common.{◌≡◌, Bool, true, false, List, [], ◌∷◌, ◌++◌, map, Option, Some, None, ◌↔◌, refl, sym, ap, ◌∙◌, subst, option_and_then, option_map, inl, inr, ⊎_elim, fold, length, append_assoc}
 use Rattle.std.specs.Prelude.{reverse, if◌then◌else◌, ◌||◌, ◌==◌}
 use Rattle.std.specs.List.{AllByRecursion, filter_map, flat_map, cons_option}
+use Rattle.std.proofs.lemmas.Option.{same_Some}
 use Rattle.pgo_base.specs.Data.{Data, string, model}
 use Rattle.pgo_base.specs.Lookup.{Name, Names, Vars, same_name, find}
 use Rattle.pgo_base.specs.Tree.{Tree}
@@ -37,7 +38,7 @@ use Rattle.pgo_translate.specs.Premises.{IsNamed, ArmsNamed, IsFree, TreeNamed, 
 use Rattle.pgo_translate.specs.Agrees.{ActsAgree}
 use Rattle.pgo_translate.proofs.FoundBack.{found_back}
 use Rattle.pgo_translate.proofs.Alike.{Alike, sem_alike}
-use Rattle.pgo_translate.proofs.Kleene.{is_true, iff_then, pair_iff, some_is}
+use Rattle.pgo_translate.proofs.Kleene.{is_true, iff_then, pair_iff}
 use Rattle.pgo_translate.proofs.Paths.{Binds, ArmsBind, Holds, body-yes, stands-yes}
 
 -- a path depends on the definitions only by the values of expressions that avoid the bad names
@@ -362,7 +363,7 @@ module _ (s : Spec) (consts : List (Name × Data)) (names : ModuleNames s) where
       to None e h = let k : None ≡ Some h.0 = sym (found_action a ∙ ap (option_map (action_body (variables_of s) (global_names s) a)) e) ∙ h.1 in absurd (cc)
       to (Some x) e h =
           let k : Some (action_body (variables_of s) (global_names s) a x) ≡ Some h.0 = sym (found_action a ∙ ap (option_map (action_body (variables_of s) (global_names s) a)) e) ∙ h.1 in
-          let q = some_is (action_body (variables_of s) (global_names s) a x) h.0 k in
+          let q = same_Some (action_body (variables_of s) (global_names s) a x) h.0 k in
           let r = (acts-tree a id u t hu ht x (tree_named x e)).0 (subst (λ b. is_true (Val module_definitions b (only_self id) u (Some t))) (sym q) h.2) in
           (r.0, (x, e, (ht, r.1)))
 

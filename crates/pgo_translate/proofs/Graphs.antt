@@ -4,7 +4,9 @@ use Rattle.std.proofs.lemmas.Bool.Decides.{nat_tests}
 use Rattle.std.specs.Prelude.{if◌then◌else◌, ◌&&◌, nat_lt}
 use Rattle.std.specs.List.Sorted.{IsStrictlySortedBy}
 use Rattle.std.specs.declared.cmp.Ordering.TheVariants.{Less}
-use Rattle.pgo_base.specs.Data.{Data, function, Pairs, no_pairs, pair, pairs, graph, keys, graph-pairs}
+use Rattle.std.proofs.lemmas.Option.{same_Some}
+use Rattle.pgo_base.proofs.Keyed.{pairs_back}
+use Rattle.pgo_base.specs.Data.{Data, function, Pairs, pairs, graph, keys, graph-pairs}
 use Rattle.pgo_base.specs.Exact.{data_itself}
 use Rattle.pgo_base.specs.Order.{data_cmp}
 use Rattle.pgo_base.specs.Pairs.{pairs_in_order}
@@ -17,7 +19,6 @@ use Rattle.pgo_bound.specs.Among.{all_at}
 use Rattle.pgo_bound.specs.Keyed.{keys_ordered}
 use Rattle.pgo_bound.specs.Lookups.{same_of, same_itself, same_equal, apply_on}
 use Rattle.pgo_bound.specs.Once.{StandOnce}
-use Rattle.pgo_translate.proofs.Kleene.{some_is}
 
 -- an identifier with the value that f gives there
 abbrev pub one : (Data → Option Data) → Data → Option (Data × Data)
@@ -25,10 +26,6 @@ one f id = both (λ k v. Some (k, v)) (Some id) (f id)
 
 abbrev pub pairs_of : (Data → Option Data) → List Data → Option (List (Data × Data))
 pairs_of f ids = each (one f) ids
-
-pub pairs-graph : (ps : Pairs) → pairs (graph ps) ≡ ps
-pairs-graph no_pairs = refl
-pairs-graph (pair k v ps) = ap (pair k v) (pairs-graph ps)
 
 pub among_in : (q : Data) (xs : List Data) → IsAmong q xs → IsIn q xs
 among_in q [] h = h
@@ -50,7 +47,7 @@ pairs_step : (f : Data → Option Data) (d : Data) (ids : List Data) (qs : List 
     → f d ≡ o → pairs_of f ids ≡ p → ((rs : List (Data × Data)) → p ≡ Some rs → PairsOf f ids rs) → both (λ b bs. Some (b ∷ bs)) (both (λ k v. Some (k, v)) (Some d) o) p ≡ Some qs → PairsOf f (d ∷ ids) qs
 pairs_step f d ids qs None p e g r h = absurd (cc)
 pairs_step f d ids qs (Some v) None e g r h = absurd (cc)
-pairs_step f d ids qs (Some v) (Some rs) e g r h = subst (PairsOf f (d ∷ ids)) (some_is ((d, v) ∷ rs) qs h) (record {
+pairs_step f d ids qs (Some v) (Some rs) e g r h = subst (PairsOf f (d ∷ ids)) (same_Some ((d, v) ∷ rs) qs h) (record {
   keyed = ap (λ ks. d ∷ ks) rest.keyed;
   there = there;
   at = at;
@@ -72,7 +69,7 @@ pairs_step f d ids qs (Some v) (Some rs) e g r h = subst (PairsOf f (d ∷ ids))
     at id m = pick id (same_data id d) refl m
 
 pub pairs_are : (f : Data → Option Data) (ids : List Data) (qs : List (Data × Data)) → pairs_of f ids ≡ Some qs → PairsOf f ids qs
-pairs_are f [] qs h = subst (PairsOf f []) (some_is [] qs h) (record { keyed = refl; there = λ id m. absurd m; at = λ id m. absurd m })
+pairs_are f [] qs h = subst (PairsOf f []) (same_Some [] qs h) (record { keyed = refl; there = λ id m. absurd m; at = λ id m. absurd m })
 pairs_are f (d ∷ ids) qs h = pairs_step f d ids qs (f d) (pairs_of f ids) refl refl (λ rs e. pairs_are f ids rs e) h
 
 pub pairs_there : (f : Data → Option Data) (ids : List Data) → ((id : Data) → IsAmong id ids → (v : Data) × (f id ≡ Some v)) → (qs : List (Data × Data)) × (pairs_of f ids ≡ Some qs)
@@ -101,7 +98,7 @@ same_graph (a ∷ as') [] e o f = absurd (cc)
 same_graph (a ∷ as') (b ∷ bs) e o f =
     let k = cons_first a.0 b.0 (keys as') (keys bs) e in
     let v : Some a.1 ≡ Some b.1 = ap (λ c. if c then Some a.1 else lookup a.0 as') (sym (same_itself a.0)) ∙ f a.0 (inl refl) ∙ ap (λ c. if c then Some b.1 else lookup a.0 bs) (same_equal a.0 b.0 k) in
-    let w = some_is a.1 b.1 v in
+    let w = same_Some a.1 b.1 v in
     λ i. (k i, w i) ∷ same_graph as' bs (cons_rest a.0 b.0 (keys as') (keys bs) e) o.1 (λ q m. pass q m (f q (inr m))) i
   where
     pass : (q : Data) → IsAmong q (keys as') → lookup q (a ∷ as') ≡ lookup q (b ∷ bs) → lookup q as' ≡ lookup q bs
@@ -128,14 +125,14 @@ built_is n v w h = go (nat_lt most_depth (depth v)) (nat_lt most_members n) h
     go : (b c : Bool) → (if b then None else (if c then None else Some v)) ≡ Some w → v ≡ w
     go true c e = absurd (cc)
     go false true e = absurd (cc)
-    go false false e = some_is v w e
+    go false false e = same_Some v w e
 
 -- the graph in order of pairs has these keys and values
 ordered_graph : (f : Data → Option Data) (ids : List Data) (qs : List (Data × Data)) (ps : Pairs) → PairsOf f ids qs → keys (graph ps) ≡ in_order ids → ((id : Data) → IsAmong id ids → lookup id (graph ps) ≡ f id) → pairs (pairs_in_order qs) ≡ ps
 ordered_graph f ids qs ps q e g =
-    sym (pairs-graph (pairs (pairs_in_order qs)))
+    sym (pairs_back (pairs (pairs_in_order qs)))
     ∙ ap pairs (same_graph (graph (pairs (pairs_in_order qs))) (graph ps) same_keys once same_values)
-    ∙ pairs-graph ps
+    ∙ pairs_back ps
   where
     ordered : keys (graph (pairs (pairs_in_order qs))) ≡ in_order ids
     ordered = ap keys (graph-pairs (pairs_in_order qs)) ∙ keys_ordered qs ∙ ap in_order q.keyed
@@ -241,5 +238,5 @@ fits-yes (d ∷ ids) ys (p ∷ ps) e o = step (fits-yes ids ys ps (cons_rest p.0
         from : ((id : Data) → IsAmong id (d ∷ ids) → (v : Data) × (lookup id (p ∷ ps) ≡ Some v) × (contains v ys ≡ true)) → same_data p.0 d && (contains p.1 ys && rest) ≡ true
         from h =
             let f = h d (inl refl) in
-            let c : contains p.1 ys ≡ true = subst (λ w. contains w ys ≡ true) (some_is f.0 p.1 (sym f.1 ∙ first_value d refl)) f.2 in
+            let c : contains p.1 ys ≡ true = subst (λ w. contains w ys ≡ true) (same_Some f.0 p.1 (sym f.1 ∙ first_value d refl)) f.2 in
             (and_both (same_data p.0 d) (contains p.1 ys && rest)).1 (same_equal p.0 d k, (and_both (contains p.1 ys) rest).1 (c, ih.1 (λ id m. let v = h id (inr m) in (v.0, sym (later_value id m) ∙ v.1, v.2))))

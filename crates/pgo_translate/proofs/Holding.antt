@@ -1,5 +1,6 @@
 -- What an expression holds at the right of `\in` is what its set has, where sets are in order.
 use Rattle.std.proofs.Common.{◌≡◌, ℕ, suc, ◌+◌, ℤ, pos, List, [], ◌∷◌, length, map, Option, Some, None, refl, sym, ap, ◌∙◌, subst, option_and_then, option_map, arith}
+use Rattle.std.proofs.lemmas.Option.{same_Some}
 use Rattle.pgo_base.specs.declared.expr.Prefix.{Prefix}
 use Rattle.pgo_base.specs.declared.expr.Infix.{Infix}
 use Rattle.pgo_base.specs.declared.expr.Word.{Word}
@@ -15,7 +16,7 @@ use Rattle.pgo_model.specs.Operators.{both, contains, is_member, members_of, ran
 use Rattle.pgo_model.specs.Value.{IsValue}
 use Rattle.pgo_model.specs.Val.{Scope, Sem, sem, val, values_of, fields, functions_sem, power_sem, range_sem, range_holds, word_sem, unary_sem, binary_sem}
 use Rattle.pgo_bound.specs.Keyed.{keys_ordered}
-use Rattle.pgo_translate.proofs.Kleene.{some_is, none_is}
+use Rattle.pgo_translate.proofs.Kleene.{none_is}
 use Rattle.pgo_translate.proofs.SetLaws.{fits_contains, range_contains, subset_contains, key, each_step}
 use Rattle.pgo_translate.proofs.Upward.{sorted_upward}
 
@@ -28,14 +29,14 @@ abbrev pub HoldsAs : Sem → Type 0
 HoldsAs m = (xs : Items) (v : Data) → m.value ≡ Some (set xs) → IsValue v → m.holds v ≡ Some (contains v (members xs))
 
 choices_keys : (ps : List (Data × Data)) (cs : Choices) → choices_of ps ≡ Some cs → map key cs ≡ keys ps
-choices_keys [] cs h = ap (map key) (sym (some_is [] cs h))
+choices_keys [] cs h = ap (map key) (sym (same_Some [] cs h))
 choices_keys (p ∷ ps) cs h =
     let r = each_step (λ p. option_map (λ ms. (p.0, ms)) (members_of p.1)) p ps cs h in
     ap (map key) r.1.3 ∙ (λ i. first_key (members_of p.1) r.0 r.1.1 i ∷ choices_keys ps r.1.0 r.1.2 i)
   where
     first_key : (o : Option (List Data)) (c : Data × List Data) → option_map (λ ms. (p.0, ms)) o ≡ Some c → c.0 ≡ p.0
     first_key None c g = absurd (cc)
-    first_key (Some ms) c g = sym (ap (λ z. z.0) (some_is (p.0, ms) c g))
+    first_key (Some ms) c g = sym (ap (λ z. z.0) (same_Some (p.0, ms) c g))
 
 sequence_keys : (n : ℕ) (xs : List Data) → keys (sequence_at n xs) ≡ upward (pos n) (length xs)
 sequence_keys n [] = refl
@@ -64,7 +65,7 @@ both_parts f (Some x) None c h = absurd (cc)
 both_parts f (Some x) (Some y) c h = (x, (y, refl, refl, h))
 
 pub is_set : (x : Data) (ms : List Data) → members_of x ≡ Some ms → (xs : Items) × (x ≡ set xs) × (members xs ≡ ms)
-is_set (set xs) ms h = (xs, refl, some_is (members xs) ms h)
+is_set (set xs) ms h = (xs, refl, same_Some (members xs) ms h)
 is_set (boolean b) ms h = absurd (cc)
 is_set (integer b) ms h = absurd (cc)
 is_set (string b) ms h = absurd (cc)
@@ -76,7 +77,7 @@ sets_sorted a b s cs h =
     let p = both_parts function_choices a b cs h in
     let q = both_parts (λ ms ns. Some (map (λ m. (m, ns)) ms)) (members_of p.0) (members_of p.1.0) cs p.1.3 in
     let r = is_set p.0 q.0 q.1.1 in
-    let e : map key cs ≡ q.0 = ap (map key) (sym (some_is (map (λ m. (m, q.1.0)) q.0) cs q.1.3)) ∙ function_keys q.0 q.1.0 in
+    let e : map key cs ≡ q.0 = ap (map key) (sym (same_Some (map (λ m. (m, q.1.0)) q.0) cs q.1.3)) ∙ function_keys q.0 q.1.0 in
     subst IsSorted (r.2 ∙ sym e) (s r.0 (p.1.1 ∙ ap Some r.1))
 
 power_hold : (o : Option Data) → ((xs : Items) → o ≡ Some (set xs) → IsSorted (members xs)) → HoldsAs (power_sem o)

@@ -1,6 +1,7 @@
 -- When conjunctions, disjunctions, choices and the other items of an action are TRUE.
 use Rattle.std.proofs.Common.{◌≡◌, ◌⊎◌, ℕ, zero, suc, ◌<◌, length, get_or, Contains, Bool, true, false, List, [], ◌∷◌, ◌++◌, Option, Some, None, ◌↔◌, refl, sym, ap, ◌∙◌, subst, option_and_then, option_map, inl, inr, ⊎_elim, arith}
 use Rattle.std.specs.Prelude.{if◌then◌else◌, ◌&&◌, nat_lt}
+use Rattle.std.proofs.lemmas.Option.{same_Some}
 use Rattle.pgo_base.specs.declared.expr.Infix.TheVariants as infixs
 use Rattle.pgo_base.specs.declared.expr.Quantifier.TheVariants as quantifiers
 use Rattle.pgo_base.specs.Data.{Data, boolean, integer, string, model, set, function, no_items, item, members}
@@ -43,9 +44,6 @@ lone_iff f = (λ h. f.0 h.0, λ b. (f.1 b, tt))
 
 pub none_is : {A : Type 0} (a : A) → None ≡ Some a → ⊥
 none_is a h = cc
-
-pub some_is : {A : Type 0} (x y : A) → Some x ≡ Some y → x ≡ y
-some_is x y h = cc
 
 or3-yes : (p q : Option Bool) → (or3 p q ≡ Some true) ↔ ((p ≡ Some true) ⊎ (q ≡ Some true))
 or3-yes (Some true) q = (λ h. inl refl, λ h. refl)
@@ -136,7 +134,7 @@ module _ (x : Name) (p : Tree) (s : Scope) where
 
       from : (v : Data) × (Some (contains v (members xs)) ≡ Some true) × is_true (val p (with_name x (Some v) s)) → is_true (from_truth (any3 truth_with (members xs)))
       from r =
-          (from_truth-yes (any3 truth_with (members xs))).1 ((any3-yes truth_with (members xs)).1 (r.0, some_is (contains r.0 (members xs)) true r.1, (truth_of-yes (val p (with_name x (Some r.0) s))).1 r.2))
+          (from_truth-yes (any3 truth_with (members xs))).1 ((any3-yes truth_with (members xs)).1 (r.0, same_Some (contains r.0 (members xs)) true r.1, (truth_of-yes (val p (with_name x (Some r.0) s))).1 r.2))
   exists-yes (Some (boolean b)) = (λ h. absurd (cc), λ h. absurd (let e = h.1 in cc))
   exists-yes (Some (integer z)) = (λ h. absurd (cc), λ h. absurd (let e = h.1 in cc))
   exists-yes (Some (string u)) = (λ h. absurd (cc), λ h. absurd (let e = h.1 in cc))
@@ -163,7 +161,7 @@ module _ (x : Name) (p : Tree) (s : Scope) where
   only-yes (Some v) = (to, from)
     where
       the : (u : Data) → is_member u (Some (set (item v no_items))) ≡ Some true → u ≡ v
-      the u h = ⊎_elim (λ e. e) (λ k. absurd (cc)) (contains_cases u v [] (some_is (contains u (v ∷ [])) true h))
+      the u h = ⊎_elim (λ e. e) (λ k. absurd (cc)) (contains_cases u v [] (same_Some (contains u (v ∷ [])) true h))
 
       inside : CanBeBound v → is_true (exists_in (set_from (v ∷ []))) → (u : Data) × (Some v ≡ Some u) × CanBeBound u × is_true (val p (with_name x (Some u) s))
       inside b h =
@@ -175,7 +173,7 @@ module _ (x : Name) (p : Tree) (s : Scope) where
 
       from : (u : Data) × (Some v ≡ Some u) × CanBeBound u × is_true (val p (with_name x (Some u) s)) → is_true (exists_in (set_from (v ∷ [])))
       from r =
-          let e : r.0 ≡ v = sym (some_is v r.0 r.1) in
+          let e : r.0 ≡ v = sym (same_Some v r.0 r.1) in
           let b : CanBeBound v = subst CanBeBound e r.2 in
           subst (λ o. is_true (exists_in o)) (sym b)
           ((exists-yes (Some (set (item v no_items)))).1 (v, ap Some (contains_first v v [] refl), subst (λ u. is_true (val p (with_name x (Some u) s))) e r.3))
@@ -188,10 +186,10 @@ module _ (x : Name) (p : Tree) (s : Scope) where
       to : option_map (λ x. u) (set_from (u ∷ [])) ≡ Some v → (Some u ≡ Some v) × CanBeBound v
       to h =
           ⊎_elim (λ n. absurd (none_is v (sym (ap (option_map (λ x. u)) n) ∙ h)))
-          (λ b. let e : Some u ≡ Some v = sym (ap (option_map (λ x. u)) b) ∙ h in (e, subst CanBeBound (some_is u v e) b)) (alone u)
+          (λ b. let e : Some u ≡ Some v = sym (ap (option_map (λ x. u)) b) ∙ h in (e, subst CanBeBound (same_Some u v e) b)) (alone u)
 
       from : (Some u ≡ Some v) × CanBeBound v → option_map (λ x. u) (set_from (u ∷ [])) ≡ Some v
-      from h = let b : CanBeBound u = subst CanBeBound (sym (some_is u v h.0)) h.1 in ap (option_map (λ x. u)) b ∙ h.0
+      from h = let b : CanBeBound u = subst CanBeBound (sym (same_Some u v h.0)) h.1 in ap (option_map (λ x. u)) b ∙ h.0
 
   -- a choice from the one value of e is TRUE exactly where e has a value that can be bound and the body is TRUE of it
   pub one-yes : (e : Tree) → is_true (val (some_in x (only e) p) s) ↔ ((v : Data) × (bindable (val e s) ≡ Some v) × is_true (val p (with_name x (Some v) s)))
@@ -278,7 +276,7 @@ same_true : (o p : Option Data) → (both (λ v w. Some (same_data v w)) o p ≡
 same_true None p = (λ h. absurd (cc), λ h. absurd (let e = h.1 in cc))
 same_true (Some v) None = (λ h. absurd (cc), λ h. absurd (let e = h.2 in cc))
 same_true (Some v) (Some w) =
-    (λ h. (v, refl, ap Some (sym (same_of v w (some_is (same_data v w) true h)))), λ h. ap Some (subst (λ x. same_data v x ≡ true) (some_is v h.0 h.1 ∙ sym (some_is w h.0 h.2)) (same_itself v)))
+    (λ h. (v, refl, ap Some (sym (same_of v w (same_Some (same_data v w) true h)))), λ h. ap Some (subst (λ x. same_data v x ≡ true) (same_Some v h.0 h.1 ∙ sym (same_Some w h.0 h.2)) (same_itself v)))
 
 -- each of these variables has one value in both states
 abbrev pub AllSame : Vars → Vars → List Name → Type 0
@@ -308,8 +306,8 @@ place_contains v (m ∷ ms) (suc k) h e = contains_later v m ms (place_contains 
 member_cases : (v : Data) (o : Option (List Data)) → (option_map (contains v) o ≡ Some true) ↔ ((ms : List Data) × (o ≡ Some ms) × Contains ms v)
 member_cases v None = (λ h. absurd (cc), λ h. absurd (let e = h.1 in cc))
 member_cases v (Some ms) = (
-  λ h. (ms, refl, contains_place v ms (some_is (contains v ms) true h)),
-  λ h. ap Some (place_contains v ms h.2.0 (subst (λ l. h.2.0 < length l) (sym (some_is ms h.0 h.1)) h.2.1) (subst (λ l. get_or l h.2.0 v ≡ v) (sym (some_is ms h.0 h.1)) h.2.2)),
+  λ h. (ms, refl, contains_place v ms (same_Some (contains v ms) true h)),
+  λ h. ap Some (place_contains v ms h.2.0 (subst (λ l. h.2.0 < length l) (sym (same_Some ms h.0 h.1)) h.2.1) (subst (λ l. get_or l h.2.0 v ≡ v) (sym (same_Some ms h.0 h.1)) h.2.2)),
 )
 
 member_of : (v : Data) (o : Option Data) → is_member v o ≡ option_map (contains v) (option_and_then members_of o)

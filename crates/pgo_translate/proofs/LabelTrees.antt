@@ -2,6 +2,7 @@
 use Rattle.std.proofs.Common.{◌≡◌, ◌↔◌, ℕ, Bool, true, false, List, [], ◌∷◌, ◌++◌, map, Some, refl, ap, ◌∙◌, sym, subst, option_map}
 use Rattle.std.specs.Prelude.{if◌then◌else◌}
 use Rattle.std.specs.List.{flat_map}
+use Rattle.std.proofs.lemmas.Option.{same_Some}
 use Rattle.pgo_base.specs.Data.{Data, string}
 use Rattle.pgo_base.specs.Lookup.{Name, Vars, same_name, find}
 use Rattle.pgo_model.specs.Machine.{nth}
@@ -32,7 +33,6 @@ use Rattle.pgo_translate.specs.ModuleOf.{module_of, constants_with, declared}
 use Rattle.pgo_translate.specs.Named.{TreesAreNamed, PlacesAmong}
 use Rattle.pgo_translate.specs.Premises.{ModuleNames, TreeNamed}
 use Rattle.pgo_translate.proofs.Actions.{among_front}
-use Rattle.pgo_translate.proofs.Kleene.{some_is}
 
 -- the law of trees, at an instance's label
 abbrev pub TreesLaw : Type 0
@@ -85,4 +85,4 @@ module _ (sections : SectionsLaw) (naming : TreesAreNamed) (s : Spec) (consts : 
         let c = sections b i l h.unlabelled n.done is_label in
         let there : find l (trees_of s) ≡ Some (expansion (variables_of s) places c.0) =
         n.labels l c.0 c.1 ∙ find_mapped (expansion (variables_of s) places) l (sections_at b i) ∙ ap (option_map (expansion (variables_of s) places)) c.1 in
-        subst (TreeNamed s) (some_is (expansion (variables_of s) places c.0) x (sym there ∙ e)) (naming s places c.0 h.names placed (n.sections l c.0 c.1))
+        subst (TreeNamed s) (same_Some (expansion (variables_of s) places c.0) x (sym there ∙ e)) (naming s places c.0 h.names placed (n.sections l c.0 c.1))

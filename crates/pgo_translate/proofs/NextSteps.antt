@@ -1,5 +1,6 @@
 -- Next is TRUE of exactly the steps of instances, and where all have ended.
 use Rattle.std.proofs.Common.{◌≡◌, ◌⊎◌, ◌↔◌, ℕ, Bool, true, false, if◌then◌else◌, List, [], ◌∷◌, ◌++◌, map, Option, Some, None, refl, sym, ap, ◌∙◌, subst, inl, inr, option_and_then, option_map}
+use Rattle.std.proofs.lemmas.Option.{same_Some}
 use Rattle.pgo_base.specs.Data.{Data}
 use Rattle.pgo_base.specs.declared.module.Defined as memory
 use Rattle.pgo_base.specs.Lookup.{Name, Vars, same_name, find}
@@ -45,7 +46,7 @@ use Rattle.pgo_translate.specs.Premises.{TreeNamed}
 use Rattle.pgo_translate.proofs.Actions.{further, labels_differ, module_defs}
 use Rattle.pgo_translate.proofs.ByProcess.{map_map, module_is, own_module, written_process}
 use Rattle.pgo_translate.proofs.Calls.{under}
-use Rattle.pgo_translate.proofs.Kleene.{is_true, iff_then, sum_iff, some_in-yes, any-yes, SomeYes, some_is}
+use Rattle.pgo_translate.proofs.Kleene.{is_true, iff_then, sum_iff, some_in-yes, any-yes, SomeYes}
 use Rattle.pgo_translate.proofs.LabelTrees.{SectionsLaw, LabelsLaw, ActionsLaw, tree_named}
 use Rattle.pgo_translate.proofs.Next.{Stands, process-yes, some_mapped, some_behind}
 use Rattle.pgo_translate.proofs.SetLaws.{in_list}
@@ -60,13 +61,13 @@ found_in x [] v h = absurd (cc)
 found_in {A = A} x (p ∷ ps) v h = go (same_name x p.0) refl h (found_in x ps v)
   where
     go : (b : Bool) → same_name x p.0 ≡ b → (if b then Some p.1 else find x ps) ≡ Some v → (find x ps ≡ Some v → IsAmong (x, v) ps) → IsAmong (x, v) (p ∷ ps)
-    go true e k r = inl (λ i. (same_name-is x p.0 e i, sym (some_is p.1 v k) i))
+    go true e k r = inl (λ i. (same_name-is x p.0 e i, sym (same_Some p.1 v k) i))
     go false e k r = inr (r k)
 
 members_yes : (v : Data) (o : Option Data) (ids : List Data) → option_and_then members_of o ≡ Some ids → (is_member v o ≡ Some true) ↔ IsAmong v ids
 members_yes v None ids h = absurd (cc)
 members_yes v (Some d) ids h =
-    (λ k. in_list v ids (some_is (contains v ids) true (sym (ap (option_map (contains v)) h) ∙ k)), λ k. ap (option_map (contains v)) h ∙ ap Some (contained v ids k))
+    (λ k. in_list v ids (same_Some (contains v ids) true (sym (ap (option_map (contains v)) h) ∙ k)), λ k. ap (option_map (contains v)) h ∙ ap Some (contained v ids k))
 
 module _ (sections : SectionsLaw) (labels : LabelsLaw) (actions : ActionsLaw) (naming : TreesAreNamed) (s : Spec) (consts : List (Name × Data)) (h : Accepted s consts) (u t : Vars) (hu : IsState (bound_of s consts) u) (ht : IsState (bound_of s consts) t) where
   abbrev b : Bound

@@ -5,6 +5,7 @@ use Rattle.std.specs.Int.{int_div_euclid, int_rem_euclid}
 use Rattle.std.specs.declared.cmp.Ordering.{Ordering}
 use Rattle.std.specs.declared.cmp.Ordering.TheVariants.{Less, Equal, Greater}
 use Rattle.std.specs.Ordering.{match_ordering}
+use Rattle.std.proofs.lemmas.Option.{same_Some}
 use Rattle.pgo_base.specs.Data.{Data, boolean, integer, string, model, set, function, Items, no_items, item, items, members, Pairs, no_pairs, pair, pairs, graph, keys, graph-pairs, members-items}
 use Rattle.pgo_base.specs.Order.{data_cmp}
 use Rattle.pgo_base.specs.Pairs.{pairs_in_order, insert_pair}
@@ -15,7 +16,7 @@ use Rattle.pgo_bound.specs.Among.{among_append, from_map}
 use Rattle.pgo_bound.specs.Keyed.{keys_ordered}
 use Rattle.pgo_translate.proofs.Graphs.{built_is}
 use Rattle.pgo_translate.proofs.Holding.{both_parts, two_integers, is_set}
-use Rattle.pgo_translate.proofs.Kleene.{some_is, none_is}
+use Rattle.pgo_translate.proofs.Kleene.{none_is}
 use Rattle.pgo_translate.proofs.SetLaws.{each_from, of_ordered, made_of, sublist_in}
 
 abbrev mutual
@@ -68,7 +69,7 @@ pub none_okay : Okay None
 none_okay v h = absurd (none_is v h)
 
 pub some_okay : (w : Data) → Ordered w → Okay (Some w)
-some_okay w o v h = subst Ordered (some_is w v h) o
+some_okay w o v h = subst Ordered (same_Some w v h) o
 
 pub then_okay : {A : Type 0} (o : Option A) (f : A → Option Data) → ((a : A) → o ≡ Some a → Okay (f a)) → Okay (option_and_then f o)
 then_okay None f h v e = absurd (cc)
@@ -79,7 +80,7 @@ both_okay f a b h v e = let p = both_parts f a b v e in h p.0 p.1.0 p.1.1 p.1.2 
 
 pub truth_okay : (p : Option Bool) → Okay (from_truth p)
 truth_okay None v h = absurd (none_is v h)
-truth_okay (Some b) v h = subst Ordered (some_is (boolean b) v h) tt
+truth_okay (Some b) v h = subst Ordered (same_Some (boolean b) v h) tt
 
 pub in_64_okay : (z : ℤ) → Okay (in_64 z)
 in_64_okay z = go (fits_i64 z)
@@ -138,7 +139,7 @@ pub member_ok : (d : Data) (ms : List Data) → Ordered d → members_of d ≡ S
 member_ok d ms o e = members_ok (Some d) ms (some_okay d o) e
 
 pub graph_ok : (d : Data) (ps : List (Data × Data)) → Ordered d → graph_of d ≡ Some ps → AllPairs ps × IsSorted (keys ps)
-graph_ok (function qs) ps o e = subst (λ z. AllPairs z × IsSorted (keys z)) (some_is (graph qs) ps e) (ordered_pairs qs o.0, o.1)
+graph_ok (function qs) ps o e = subst (λ z. AllPairs z × IsSorted (keys z)) (same_Some (graph qs) ps e) (ordered_pairs qs o.0, o.1)
 graph_ok (boolean b) ps o e = absurd (cc)
 graph_ok (integer b) ps o e = absurd (cc)
 graph_ok (string b) ps o e = absurd (cc)
@@ -165,7 +166,7 @@ lookup_ok k v [] h e = absurd (cc)
 lookup_ok k v (p ∷ ps) h e = go (same_data k p.0) e (lookup_ok k v ps (λ q m. h q (inr m)))
   where
     go : (b : Bool) → (if b then Some p.1 else lookup k ps) ≡ Some v → (lookup k ps ≡ Some v → Ordered v) → Ordered v
-    go true g r = subst Ordered (some_is p.1 v g) (h p (inl refl)).1
+    go true g r = subst Ordered (same_Some p.1 v g) (h p (inl refl)).1
     go false g r = r g
 
 pub lookup_okay : (k : Data) (ps : List (Data × Data)) → AllPairs ps → Okay (lookup k ps)

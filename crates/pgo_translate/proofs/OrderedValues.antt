@@ -3,6 +3,7 @@ use Rattle.std.proofs.Common.{◌≡◌, ◌⊎◌, ℕ, zero, suc, ℤ, pos, �
 use Rattle.std.specs.Prelude.{if◌then◌else◌, nat_abs}
 use Rattle.std.specs.List.{AllByRecursion}
 use Rattle.std.specs.List.Sorted.{IsStrictlySortedBy}
+use Rattle.std.proofs.lemmas.Option.{same_Some}
 use Rattle.pgo_base.specs.declared.expr.Prefix.{Prefix}
 use Rattle.pgo_base.specs.declared.expr.Infix.{Infix}
 use Rattle.pgo_base.specs.declared.expr.Prefix.TheVariants as prefixs
@@ -22,7 +23,6 @@ use Rattle.pgo_bound.specs.Among.{IsAmong}
 use Rattle.pgo_bound.specs.Among.{from_map}
 use Rattle.pgo_bound.specs.Lookups.{same_of}
 use Rattle.pgo_translate.proofs.Holding.{both_parts}
-use Rattle.pgo_translate.proofs.Kleene.{some_is}
 use Rattle.pgo_translate.proofs.SetLaws.{each_from, InChoices, from_set, choices_in}
 use Rattle.pgo_translate.proofs.Ordered.{Ordered, AllOrdered, AllPairs, Okay, none_okay, some_okay, then_okay, both_okay, truth_okay, in_64_okay, integers_okay, few_okay, set_okay, function_okay, graph_okay, members_ok, member_ok, graph_ok, append_ok, apply_okay, lookup_okay, sequence_okay, sequence_pairs, ordered_among, range_okay, power_okay, flatten_okay, domain_okay, union_okay, intersect_okay, minus_okay, merge_okay, single_okay, divide_okay, modulo_okay, subset_okay}
 
@@ -48,7 +48,7 @@ drop_ok (suc n) [] h = h
 drop_ok (suc n) (y ∷ ys) h = drop_ok n ys (λ z k. h z (inr k))
 
 elements_from_ok : (n : ℕ) (ps : List (Data × Data)) (xs : List Data) → AllPairs ps → elements_from n ps ≡ Some xs → AllOrdered xs
-elements_from_ok n [] xs h e = subst AllOrdered (some_is [] xs e) (λ x m. absurd m)
+elements_from_ok n [] xs h e = subst AllOrdered (same_Some [] xs e) (λ x m. absurd m)
 elements_from_ok n (p ∷ ps) xs h e = go (same_data p.0 (integer (pos n))) e (λ vs g. elements_from_ok (suc n) ps vs (λ q j. h q (inr j)) g)
   where
     two : (vs : List Data) → AllOrdered vs → (x : Data) → (x ≡ p.1) ⊎ IsAmong x vs → Ordered x
@@ -57,7 +57,7 @@ elements_from_ok n (p ∷ ps) xs h e = go (same_data p.0 (integer (pos n))) e (�
 
     more : (o : Option (List Data)) → elements_from (suc n) ps ≡ o → option_map (λ vs. p.1 ∷ vs) o ≡ Some xs → ((vs : List Data) → elements_from (suc n) ps ≡ Some vs → AllOrdered vs) → AllOrdered xs
     more None g k r = absurd (cc)
-    more (Some vs) g k r = subst AllOrdered (some_is (p.1 ∷ vs) xs k) (two vs (r vs g))
+    more (Some vs) g k r = subst AllOrdered (same_Some (p.1 ∷ vs) xs k) (two vs (r vs g))
 
     go : (b : Bool) → (if b then option_map (λ vs. p.1 ∷ vs) (elements_from (suc n) ps) else None) ≡ Some xs → ((vs : List Data) → elements_from (suc n) ps ≡ Some vs → AllOrdered vs) → AllOrdered xs
     go true k r = more (elements_from (suc n) ps) refl k r
@@ -152,7 +152,7 @@ rows_okay x f [] a e = absurd (cc)
 rows_okay x f (r ∷ rows) a e = go (same_name x r.0) e (rows_okay x f rows a.1)
   where
     go : (b : Bool) → (if b then Some r.1 else find x rows) ≡ Some f → (find x rows ≡ Some f → OperatorOkay f) → OperatorOkay f
-    go true k i = subst OperatorOkay (some_is r.1 f k) a.0
+    go true k i = subst OperatorOkay (same_Some r.1 f k) a.0
     go false k i = i k
 
 operators_okay : (x : Name) (f : List Data → Option Data) → find x operators ≡ Some f → OperatorOkay f
@@ -203,7 +203,7 @@ choices_of_ok ps cs h e c m =
   where
     by_set : (p : Data × Data) → Ordered p.0 × Ordered p.1 → (o : Option (List Data)) → members_of p.1 ≡ o → option_map (λ ms. (p.0, ms)) o ≡ Some c → Ordered c.0 × AllOrdered c.1
     by_set p a None q k = absurd (cc)
-    by_set p a (Some ms) q k = subst (λ z. Ordered z.0 × AllOrdered z.1) (some_is (p.0, ms) c k) (a.0, member_ok p.1 ms a.1 q)
+    by_set p a (Some ms) q k = subst (λ z. Ordered z.0 × AllOrdered z.1) (same_Some (p.0, ms) c k) (a.0, member_ok p.1 ms a.1 q)
 
 functions_sem_okay : (o : Option Choices) → ((cs : Choices) → o ≡ Some cs → ChoicesOk cs) → Okay (functions_sem o).value
 functions_sem_okay o h = then_okay o functions_over (λ cs e. functions_okay cs (h cs e))
@@ -214,7 +214,7 @@ over_ok ms ns h g c m = let r = from_map (λ m. (m, ns)) c ms m in subst (λ z. 
 function_choices_ok : (a b : Data) (cs : Choices) → Ordered a → Ordered b → function_choices a b ≡ Some cs → ChoicesOk cs
 function_choices_ok a b cs o p e =
     let r = both_parts (λ ms ns. Some (map (λ m. (m, ns)) ms)) (members_of a) (members_of b) cs e in
-    subst ChoicesOk (some_is (map (λ m. (m, r.1.0)) r.0) cs r.1.3) (over_ok r.0 r.1.0 (member_ok a r.0 o r.1.1) (member_ok b r.1.0 p r.1.2))
+    subst ChoicesOk (same_Some (map (λ m. (m, r.1.0)) r.0) cs r.1.3) (over_ok r.0 r.1.0 (member_ok a r.0 o r.1.1) (member_ok b r.1.0 p r.1.2))
 
 -- ---- EXCEPT
 
@@ -319,7 +319,7 @@ named_more : (x : Name) (o : Option Data) (ns : Names) → Okay o → NamesOrder
 named_more x o ns h n y v e = go (same_name y x) e
   where
     go : (b : Bool) → (if b then Some o else find y ns) ≡ Some (Some v) → Ordered v
-    go true k = h v (some_is o (Some v) k)
+    go true k = h v (same_Some o (Some v) k)
     go false k = n y v k
 
 pub names_valued : (xs : List Name) (vs : List Data) (ns : Names) → AllOrdered vs → NamesOrdered ns → NamesOrdered (name_values xs vs ns)
@@ -365,12 +365,12 @@ first3_okay p (m ∷ ms) h = go (p m) (first3_okay p ms (λ y k. h y (inr k)))
     go None r = none_okay
 
 filter3_ok : (p : Data → Option Bool) (ms ks : List Data) → AllOrdered ms → filter3 p ms ≡ Some ks → AllOrdered ks
-filter3_ok p [] ks h e = subst AllOrdered (some_is [] ks e) h
+filter3_ok p [] ks h e = subst AllOrdered (same_Some [] ks e) h
 filter3_ok p (m ∷ ms) ks h e = go (p m) (filter3 p ms) refl e (λ ls g. filter3_ok p ms ls (λ y k. h y (inr k)) g)
   where
     kept : (t : Option Bool) (ls : List Data) → AllOrdered ls → keep3 t m ls ≡ Some ks → AllOrdered ks
-    kept (Some true) ls o k = subst AllOrdered (some_is (m ∷ ls) ks k) (more_ok m ls (h m (inl refl)) o)
-    kept (Some false) ls o k = subst AllOrdered (some_is ls ks k) o
+    kept (Some true) ls o k = subst AllOrdered (same_Some (m ∷ ls) ks k) (more_ok m ls (h m (inl refl)) o)
+    kept (Some false) ls o k = subst AllOrdered (same_Some ls ks k) o
     kept None ls o k = absurd (cc)
 
     go : (t : Option Bool) (o : Option (List Data)) → filter3 p ms ≡ o → option_and_then (keep3 t m) o ≡ Some ks → ((ls : List Data) → filter3 p ms ≡ Some ls → AllOrdered ls) → AllOrdered ks
@@ -407,7 +407,7 @@ function_over_okay over f ns r n h =
         let q = each_from (λ vs. both (λ k v. Some (k, v)) (index_of vs) (f (name_values (names_over over) vs ns))) (choices (sets_over over)) ps e p m in
         let o = chosen_ok over q.0 r (choices_in (sets_over over) q.0 q.1) in
         let b = both_parts (λ k v. Some (k, v)) (index_of q.0) (f (name_values (names_over over) q.0 ns)) p q.2 in
-        subst (λ z. Ordered z.0 × Ordered z.1) (some_is (b.0, b.1.0) p b.1.3) (index_okay q.0 o b.0 b.1.1, h (name_values (names_over over) q.0 ns) (names_valued (names_over over) q.0 ns o n) b.1.0 b.1.2)
+        subst (λ z. Ordered z.0 × Ordered z.1) (same_Some (b.0, b.1.0) p b.1.3) (index_okay q.0 o b.0 b.1.1, h (name_values (names_over over) q.0 ns) (names_valued (names_over over) q.0 ns o n) b.1.0 b.1.2)
 
 each_data_ok : (f : Data → Option Data) (xs ys : List Data) → ((x : Data) → IsAmong x xs → Okay (f x)) → each f xs ≡ Some ys → AllOrdered ys
 each_data_ok f xs ys h e y m = let r = each_from f xs ys e y m in h r.0 r.1 y r.2
@@ -482,10 +482,10 @@ mutual
   ordered_value (unchanged xs) s a = then_okay s.next (λ next. from_truth (same_variables xs s.now next)) (λ next e. truth_okay (same_variables xs s.now next))
 
   values_ordered : (ts : Trees) (s : Scope) → ScopeOrdered s → (vs : List Data) → values_of ts s ≡ Some vs → AllOrdered vs
-  values_ordered no_trees s a vs e = subst AllOrdered (some_is [] vs e) (λ x m. absurd m)
+  values_ordered no_trees s a vs e = subst AllOrdered (same_Some [] vs e) (λ x m. absurd m)
   values_ordered (more_trees t ts) s a vs e =
       let b = both_parts (λ v ws. Some (v ∷ ws)) (sem t s).value (values_of ts s) vs e in
-      subst AllOrdered (some_is (b.0 ∷ b.1.0) vs b.1.3) (more_ok b.0 b.1.0 (ordered_value t s a b.0 b.1.1) (values_ordered ts s a b.1.0 b.1.2))
+      subst AllOrdered (same_Some (b.0 ∷ b.1.0) vs b.1.3) (more_ok b.0 b.1.0 (ordered_value t s a b.0 b.1.1) (values_ordered ts s a b.1.0 b.1.2))
 
   let_ordered : (ds : NamedTrees) (s : Scope) → ScopeOrdered s → ScopeOrdered (let_scope ds s)
   let_ordered no_named s a = a
@@ -496,16 +496,16 @@ mutual
   case_ordered (more_arms g e gs) s a o h = decide_okay (truth_of (sem g s).value) (sem e s).value (case_value gs s o) (ordered_value e s a) (case_ordered gs s a o h)
 
   ranges_ordered : (bs : BoundTrees) (s : Scope) → ScopeOrdered s → (over : List (Name × List Data)) → ranges bs s ≡ Some over → RangesOk over
-  ranges_ordered no_bound s a over e = subst RangesOk (some_is [] over e) (λ b m. absurd m)
+  ranges_ordered no_bound s a over e = subst RangesOk (same_Some [] over e) (λ b m. absurd m)
   ranges_ordered (more_bound xs r bs) s a over e =
       let b = both_parts (λ ms rest. Some (over_each xs ms rest)) (option_and_then members_of (sem r s).value) (ranges bs s) over e in
-      subst RangesOk (some_is (over_each xs b.0 b.1.0) over b.1.3) (over_each_ok xs b.0 b.1.0 (members_ok (sem r s).value b.0 (ordered_value r s a) b.1.1) (ranges_ordered bs s a b.1.0 b.1.2))
+      subst RangesOk (same_Some (over_each xs b.0 b.1.0) over b.1.3) (over_each_ok xs b.0 b.1.0 (members_ok (sem r s).value b.0 (ordered_value r s a) b.1.1) (ranges_ordered bs s a b.1.0 b.1.2))
 
   fields_ordered : (ds : NamedTrees) (s : Scope) → ScopeOrdered s → (ps : List (Data × Data)) → fields ds s ≡ Some ps → AllPairs ps
-  fields_ordered no_named s a ps e = subst AllPairs (some_is [] ps e) (λ p m. absurd m)
+  fields_ordered no_named s a ps e = subst AllPairs (same_Some [] ps e) (λ p m. absurd m)
   fields_ordered (more_named x t ds) s a ps e =
       let b = both_parts (λ v rest. Some ((string x, v) ∷ rest)) (sem t s).value (fields ds s) ps e in
-      subst AllPairs (some_is ((string x, b.0) ∷ b.1.0) ps b.1.3) (more_pairs (string x) b.0 b.1.0 tt (ordered_value t s a b.0 b.1.1) (fields_ordered ds s a b.1.0 b.1.2))
+      subst AllPairs (same_Some ((string x, b.0) ∷ b.1.0) ps b.1.3) (more_pairs (string x) b.0 b.1.0 tt (ordered_value t s a b.0 b.1.1) (fields_ordered ds s a b.1.0 b.1.2))
 
   updated_ordered : (us : PathTrees) (s : Scope) → ScopeOrdered s → (o : Option Data) → Okay o → Okay (updated us s o)
   updated_ordered no_paths s a o h = h

@@ -3,6 +3,7 @@ use Rattle.std.proofs.Common.{◌≡◌, ℕ, zero, suc, Contains, Bool, true, f
 use Rattle.std.specs.Prelude.{if◌then◌else◌, ◌||◌}
 use Rattle.pgo_model.specs.Options.{on}
 use Rattle.std.specs.List.{AllByRecursion}
+use Rattle.std.proofs.lemmas.Option.{same_Some}
 use Rattle.pgo_base.specs.Data.{Data, boolean, integer, string, model, set, function, graph}
 use Rattle.pgo_base.specs.Lookup.{Name, Names, Vars, same_name, find}
 use Rattle.pgo_base.specs.Tree.{Tree, name, primed, text, index, trees}
@@ -17,7 +18,7 @@ use Rattle.pgo_sections.specs.BoundValues.{bindable}
 use Rattle.pgo_sections.specs.BoundValues.{value_put, value_under, put_part}
 use Rattle.pgo_translate.specs.Items.{items, arm_trees, assignments, assigned, assigned_to, staying, stays, is_missing, unless_none, new_value, at_self, equals, action_body}
 use Rattle.pgo_translate.proofs.Truths.{from_truth-yes, equal-yes}
-use Rattle.pgo_translate.proofs.Kleene.{is_true, member-yes, iff_then, pair_iff, sum_iff, lone_iff, some_is, if-yes, some_in-yes, one-yes, assert-yes, print-yes, AllYes, SomeYes, all-yes, any-yes, all_append, AllSame, same-yes}
+use Rattle.pgo_translate.proofs.Kleene.{is_true, member-yes, iff_then, pair_iff, sum_iff, lone_iff, if-yes, some_in-yes, one-yes, assert-yes, print-yes, AllYes, SomeYes, all-yes, any-yes, all_append, AllSame, same-yes}
 
 -- an update that makes no value, and one that makes v
 none_put : (f : Data) (id : Data) (ps : List (Data × Data)) (o : Option Data) → elim o as (λ o. Option Data) [ None ↦ option_map {T = Data} {U = Data} (λ v. f) None | Some part ↦ option_and_then {T = Data} {U = Data} (λ v. function_of (replace_at id v ps)) None ] ≡ None
@@ -69,7 +70,7 @@ found_bound above x y [] a h = absurd (cc)
 found_bound above x y (c ∷ cs) a h = go (same_name x c.0) h (found_bound above x y cs a.1)
   where
     go : (b : Bool) → (if b then Some c.1 else find x cs) ≡ Some y → (find x cs ≡ Some y → is_among y above ≡ true) → is_among y above ≡ true
-    go true k r = ap (λ z. is_among z above) (sym (some_is c.1 y k)) ∙ a.0
+    go true k r = ap (λ z. is_among z above) (sym (same_Some c.1 y k)) ∙ a.0
     go false k r = r k
 
 -- where a path goes, and two states, in the first of which each variable has a value
@@ -196,7 +197,7 @@ module _ (a : PathContext) (s t : Vars)
     each_more changes l x xs = (to, λ h. (h 0 x refl, λ n y e. h (suc n) y e))
       where
         to : Ended changes l x × EachEnds changes l xs → EachEnds changes l (x ∷ xs)
-        to h zero y e = subst (Ended changes l) (some_is x y e) h.0
+        to h zero y e = subst (Ended changes l) (same_Some x y e) h.0
         to h (suc n) y e = h.1 n y e
 
     end-all : (changes : List (Name × Name)) (l : Name) (xs : List Name) → AllByRecursion (λ c. is_among c.1 above ≡ true) changes → ((x : Name) → is_among x xs ≡ true → is_among x vars ≡ true)

@@ -5,6 +5,8 @@ use Rattle.std.proofs.lemmas.Bool.Decides.{nat_tests}
 use Rattle.std.specs.Prelude.{◌&&◌, nat_lt}
 use Rattle.std.specs.List.Sorted.{IsStrictlySortedBy}
 use Rattle.std.specs.declared.cmp.Ordering.TheVariants.{Less}
+use Rattle.std.proofs.lemmas.Option.{same_Some}
+use Rattle.pgo_base.proofs.Keyed.{pairs_back}
 use Rattle.pgo_base.specs.Data.{Data, boolean, integer, string, model, set, function, Items, no_items, item, items, members, pairs, graph, keys, graph-pairs, members-items}
 use Rattle.pgo_base.specs.Exact.{data_itself}
 use Rattle.pgo_base.specs.Order.{data_cmp}
@@ -19,8 +21,8 @@ use Rattle.pgo_bound.specs.Among.{among_left, among_right, among_append, among_m
 use Rattle.pgo_bound.specs.Keyed.{keys_ordered}
 use Rattle.pgo_bound.specs.Once.{StandOnce}
 use Rattle.pgo_bound.specs.Lookups.{apply_on, same_of, same_equal}
-use Rattle.pgo_translate.proofs.Graphs.{in_among, among_in, sorted_once, same_graph, built_is, pairs-graph, and_both}
-use Rattle.pgo_translate.proofs.Kleene.{some_is, contains_cases}
+use Rattle.pgo_translate.proofs.Graphs.{in_among, among_in, sorted_once, same_graph, built_is, and_both}
+use Rattle.pgo_translate.proofs.Kleene.{contains_cases}
 use Rattle.pgo_translate.proofs.StartPlaces.{contained}
 use Rattle.pgo_translate.proofs.Upward.{above, span_above, above_self, neither_less}
 
@@ -42,7 +44,7 @@ each_step {B = B} f a as' ys h = go (f a) (each f as') refl refl h
     go : (o : Option B) (p : Option (List B)) → f a ≡ o → each f as' ≡ p → both (λ b bs. Some (b ∷ bs)) o p ≡ Some ys → (b : B) × ((bs : List B) × (f a ≡ Some b) × (each f as' ≡ Some bs) × (ys ≡ b ∷ bs))
     go None p e g k = absurd (cc)
     go (Some b) None e g k = absurd (cc)
-    go (Some b) (Some bs) e g k = (b, (bs, e, g, sym (some_is (b ∷ bs) ys k)))
+    go (Some b) (Some bs) e g k = (b, (bs, e, g, sym (same_Some (b ∷ bs) ys k)))
 
 pub each_into : {A B : Type 0} (f : A → Option B) (xs : List A) (ys : List B) → each f xs ≡ Some ys → (x : A) → IsAmong x xs → (y : B) × (f x ≡ Some y) × IsAmong y ys
 each_into f [] ys h x m = absurd m
@@ -50,7 +52,7 @@ each_into f (a ∷ xs) ys h x (inl e) = let r = each_step f a xs ys h in (r.0, a
 each_into f (a ∷ xs) ys h x (inr m) = let r = each_step f a xs ys h in let q = each_into f xs r.1.0 r.1.2 x m in (q.0, q.1, subst (IsAmong q.0) (sym r.1.3) (inr q.2))
 
 pub each_from : {A B : Type 0} (f : A → Option B) (xs : List A) (ys : List B) → each f xs ≡ Some ys → (y : B) → IsAmong y ys → (x : A) × IsAmong x xs × (f x ≡ Some y)
-each_from f [] ys h y m = absurd (subst (IsAmong y) (sym (some_is [] ys h)) m)
+each_from f [] ys h y m = absurd (subst (IsAmong y) (sym (same_Some [] ys h)) m)
 each_from {A = A} f (a ∷ xs) ys h y m = let r = each_step f a xs ys h in go r.0 r.1.0 r.1.1 (subst (IsAmong y) r.1.3 m) (each_from f xs r.1.0 r.1.2 y)
   where
     go : (b : _) (bs : List _) → f a ≡ Some b → (y ≡ b) ⊎ IsAmong y bs → (IsAmong y bs → (x : A) × IsAmong x xs × (f x ≡ Some y)) → (x : A) × IsAmong x (a ∷ xs) × (f x ≡ Some y)
@@ -177,7 +179,7 @@ fits_contains cs xs v s h = made (each (λ vs. function_from (paired cs vs)) (ch
             let q = each_into (λ vs. function_from (paired cs vs)) (choices (map from_set cs)) fs e (map second (graph ps)) (in_choices (map from_set cs) (map second (graph ps)) r.0) in
             let sorted : IsSorted (keys (graph ps)) = subst (λ z. IsSorted (keys z)) r.1 (subst IsSorted (sym (paired_fits cs (map second (graph ps)) r.0).0) s) in
             let is = function_is (graph ps) q.0 sorted (ap function_from (sym r.1) ∙ q.1) in
-            subst (λ z. IsAmong z fs) (sym is ∙ ap function (pairs-graph ps)) q.2
+            subst (λ z. IsAmong z fs) (sym is ∙ ap function (pairs_back ps)) q.2
         to (boolean b) f = absurd (cc)
         to (integer z) f = absurd (cc)
         to (string z) f = absurd (cc)

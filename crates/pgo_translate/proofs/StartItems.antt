@@ -2,6 +2,7 @@
 use Rattle.std.proofs.Common.{◌≡◌, ◌↔◌, suc, ◌*◌, ◌≤◌, Bool, true, false, List, [], ◌∷◌, length, map, Option, Some, None, refl, sym, ap, ◌∙◌, subst, option_and_then, option_map, arith}
 use Rattle.std.proofs.lemmas.Bool.Decides.{nat_tests}
 use Rattle.std.specs.Prelude.{if◌then◌else◌, ◌&&◌, nat_le}
+use Rattle.std.proofs.lemmas.Option.{same_Some}
 use Rattle.pgo_base.specs.declared.module.Defined as memory
 use Rattle.pgo_base.specs.Data.{Data, boolean, integer, string, model, set, function, Pairs, graph, keys, Items, members}
 use Rattle.pgo_base.specs.Lookup.{Name, Names, Vars, same_name, find}
@@ -28,7 +29,7 @@ use Rattle.pgo_translate.specs.ModuleOf.{global_starts, own_starts, for_each_id,
 use Rattle.pgo_translate.specs.Premises.{ModuleNames, StartNames, OriginAvoids, is_taken}
 use Rattle.pgo_translate.proofs.Actions.{named_known}
 use Rattle.pgo_translate.proofs.Graphs.{pairs_of, function-yes, fits-yes, few_made, each_choice, sorted_once}
-use Rattle.pgo_translate.proofs.Kleene.{is_true, iff_then, some_is}
+use Rattle.pgo_translate.proofs.Kleene.{is_true, iff_then}
 use Rattle.pgo_translate.proofs.StartValues.{at_start, start_sem, default_value, specification}
 use Rattle.pgo_translate.proofs.Truths.{from_truth-yes, equal-yes}
 
@@ -39,7 +40,7 @@ shallow_at (p ∷ ps) x v h e = go (nat_le (depth p.1) state_depth) refl (same_n
   where
     go : (b : Bool) → nat_le (depth p.1) state_depth ≡ b → (c : Bool) → b && is_shallow ps ≡ true → (if c then Some p.1 else find x ps) ≡ Some v → (is_shallow ps ≡ true → find x ps ≡ Some v → depth v ≤ 256) → depth v ≤ 256
     go false g c k f r = absurd (cc)
-    go true g true k f r = let q : p.1 ≡ v = some_is p.1 v f in subst (λ w. depth w ≤ 256) q (grind (arith, nat_tests))
+    go true g true k f r = let q : p.1 ≡ v = same_Some p.1 v f in subst (λ w. depth w ≤ 256) q (grind (arith, nat_tests))
     go true g false k f r = r k f
 
 pub length_keys : (ps : List (Data × Data)) → length (keys ps) ≡ length ps
@@ -54,7 +55,7 @@ member_true : (o : Option Data) (f : Data → Option Bool) → is_true (option_a
 member_true None f = (λ h. absurd (cc), λ h. absurd (let e = h.1 in cc))
 member_true (Some v) f = (
   λ h. (v, refl, (from_truth-yes (f v)).0 h),
-  λ h. (from_truth-yes (f v)).1 (ap f (some_is v h.0 h.1) ∙ h.2),
+  λ h. (from_truth-yes (f v)).1 (ap f (same_Some v h.0 h.1) ∙ h.2),
 )
 
 each_same : {A B : Type 0} (f g : A → Option B) → ((a : A) → f a ≡ g a) → (xs : List A) → each f xs ≡ each g xs
@@ -64,7 +65,7 @@ each_same f g h (x ∷ xs) = λ i. both (λ b bs. Some (b ∷ bs)) (h x i) (each
 -- what a set is that has members
 pub set_is : (o : Option Data) (ms : List Data) → option_and_then members_of o ≡ Some ms → (xs : Items) × (o ≡ Some (set xs)) × (members xs ≡ ms)
 set_is None ms h = absurd (cc)
-set_is (Some (set xs)) ms h = (xs, refl, some_is (members xs) ms h)
+set_is (Some (set xs)) ms h = (xs, refl, same_Some (members xs) ms h)
 set_is (Some (boolean b)) ms h = absurd (cc)
 set_is (Some (integer b)) ms h = absurd (cc)
 set_is (Some (string b)) ms h = absurd (cc)
@@ -74,7 +75,7 @@ set_is (Some (function b)) ms h = absurd (cc)
 -- \in where the left side is a given value and the right side decides it by a test
 decided_true : (f : Data → Option Bool) (o : Option Data) (v : Data) (g : Bool) → o ≡ Some v → f v ≡ Some g → is_true (option_and_then (λ w. from_truth (f w)) o) ↔ (g ≡ true)
 decided_true f o v g e h = (
-  λ k. let r = (member_true o f).0 k in some_is g true (sym h ∙ ap f (some_is v r.0 (sym e ∙ r.1)) ∙ r.2),
+  λ k. let r = (member_true o f).0 k in same_Some g true (sym h ∙ ap f (same_Some v r.0 (sym e ∙ r.1)) ∙ r.2),
   λ k. (member_true o f).1 (v, e, h ∙ ap Some k),
 )
 
@@ -92,7 +93,7 @@ each_iff ids at to P Q e f = (
 
 -- an equation with a function that is there
 function_there : (o p : Option Data) (v : Data) → o ≡ Some v → ((w : Data) × (o ≡ Some w) × (p ≡ Some w)) ↔ (p ≡ Some v)
-function_there o p v e = (λ h. h.2 ∙ ap Some (sym (some_is v h.0 (sym e ∙ h.1))), λ h. (v, e, h))
+function_there o p v e = (λ h. h.2 ∙ ap Some (sym (same_Some v h.0 (sym e ∙ h.1))), λ h. (v, e, h))
 
 module _ (s : Spec) (consts : List (Name × Data)) (free : ModuleNames s) (names : StartNames s consts) (u : Vars) (known : map (λ p. p.0) u ≡ variables_of s) (after : Option Vars) where
   abbrev pub ds : List memory.Defined
@@ -116,7 +117,7 @@ module _ (s : Spec) (consts : List (Name × Data)) (free : ModuleNames s) (names
   default_here ns h = default_value s consts free names u known after ns h
 
   same_model : (v : Data) → (Some (model default_init_value) ≡ Some v) ↔ (v ≡ model default_init_value)
-  same_model v = (λ h. sym (some_is (model default_init_value) v h), λ h. ap Some (sym h))
+  same_model v = (λ h. sym (same_Some (model default_init_value) v h), λ h. ap Some (sym h))
 
   exists_iff : {A B C : Data → Type 0} → ((v : Data) → B v ↔ C v) → ((v : Data) × A v × B v) ↔ ((v : Data) × A v × C v)
   exists_iff f = (λ h. (h.0, h.1, (f h.0).0 h.2), λ h. (h.0, h.1, (f h.0).1 h.2))
@@ -209,7 +210,7 @@ module _ (s : Spec) (consts : List (Name × Data)) (free : ModuleNames s) (names
         set-each =
             iff_then decided
             (iff_then (fits-yes ids ys (graph ps) keyed_ids (sorted_once ids ids_sorted))
-            (each_iff ids (λ id. lookup id (graph ps)) (value_in u x) (λ id v. contains v ys ≡ true) (λ id v. is_member v (closed_value ds e) ≡ Some true) (λ id. sym (value_there id)) (λ id v. (λ h. member_is v ∙ ap Some h, λ h. some_is (contains v ys) true (sym (member_is v) ∙ h)))))
+            (each_iff ids (λ id. lookup id (graph ps)) (value_in u x) (λ id v. contains v ys ≡ true) (λ id v. is_member v (closed_value ds e) ≡ Some true) (λ id. sym (value_there id)) (λ id v. (λ h. member_is v ∙ ap Some h, λ h. same_Some (contains v ys) true (sym (member_is v) ∙ h)))))
 
       none-each : is_true (val (own_starts it x None) (here [])) ↔ Each (λ id v. v ≡ model default_init_value)
       none-each = equal-each (name default_init_value) (λ id v. v ≡ model default_init_value) (λ id v. iff_then (through (at_id (name default_init_value) id) (Some (model default_init_value)) v (default_here ((self_name, Some id) ∷ []) refl)) (same_model v))

@@ -6,6 +6,7 @@ use Rattle.std.specs.List.{AllByRecursion, flat_map}
 use Rattle.std.specs.declared.cmp.Ordering.{Ordering}
 use Rattle.std.specs.declared.cmp.Ordering.TheVariants.{Less, Equal, Greater}
 use Rattle.std.specs.Ordering.{match_ordering}
+use Rattle.std.proofs.lemmas.Option.{same_Some}
 use Rattle.pgo_base.specs.declared.expr.Infix.TheVariants as infixs
 use Rattle.pgo_base.specs.Data.{Data, boolean, string, set, Pairs, no_pairs, pair, graph, keys, no_items, item, items, members-items}
 use Rattle.pgo_base.specs.Lookup.{Name}
@@ -21,7 +22,7 @@ use Rattle.pgo_bound.specs.Among.{among_append, among_left, among_right, among_f
 use Rattle.pgo_bound.specs.Once.{StandOnce}
 use Rattle.pgo_translate.proofs.Kleene.{CanBeBound}
 use Rattle.pgo_translate.proofs.Graphs.{built_some, in_among, among_in}
-use Rattle.pgo_translate.proofs.Kleene.{some_is, contains_cases, contains_first, contains_later}
+use Rattle.pgo_translate.proofs.Kleene.{contains_cases, contains_first, contains_later}
 use Rattle.pgo_translate.proofs.StartItems.{set_is}
 
 -- depths and lengths of what is put in order
@@ -72,7 +73,7 @@ pub only_ids : (o : Option Data) (ids : List Data) → option_map (λ v. v ∷ [
     → option_and_then members_of (option_and_then set_from (both (λ v vs. Some (v ∷ vs)) o (Some []))) ≡ Some ids
 only_ids None ids h b = absurd (cc)
 only_ids (Some v) ids h b =
-    let e : v ∷ [] ≡ ids = some_is (v ∷ []) ids h in
+    let e : v ∷ [] ≡ ids = same_Some (v ∷ []) ids h in
     ap (option_and_then members_of) (b v (subst (IsAmong v) e (inl refl))) ∙ ap Some e
 
 pub length_append : (xs ys : List Data) → length (xs ++ ys) ≡ length xs + length ys

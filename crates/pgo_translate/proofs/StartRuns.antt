@@ -1,5 +1,6 @@
 -- The declared starts, said of processes with their identifiers and not of instances.
 use Rattle.std.proofs.Common.{◌≡◌, ◌↔◌, ℕ, zero, suc, List, [], ◌∷◌, Some, None, sym, ap, ◌∙◌, subst}
+use Rattle.std.proofs.lemmas.Option.{same_Some}
 use Rattle.pgo_base.specs.declared.module.Defined as memory
 use Rattle.pgo_base.specs.Data.{Data, string}
 use Rattle.pgo_base.specs.Lookup.{Name, Vars, find}
@@ -26,7 +27,6 @@ use Rattle.pgo_bound.specs.Among.{among_map, among_flat_map, among_nth, from_map
 use Rattle.pgo_bound.specs.Lookups.{data_from}
 use Rattle.pgo_bound.specs.Among.{nth_among}
 use Rattle.pgo_bound.specs.Instances.{instance_from, target_tree, tree_of}
-use Rattle.pgo_translate.proofs.Kleene.{some_is}
 
 -- each global has its initial value or a member of its set; at each identifier of a process `pc` has its first label, each
 -- local its value or a member of its set, and each value parameter its argument's value
@@ -40,11 +40,11 @@ pub record ByRuns (s : Spec) (ds : List memory.Defined) (u : Vars) : Type 0 wher
 
 nth_numbered : {A B : Type 0} (f : ℕ → A → B) (k n : ℕ) (xs : List A) (x : A) → nth xs n ≡ Some x → (m : ℕ) × (nth (numbered f k xs) n ≡ Some (f m x))
 nth_numbered f k n [] x h = absurd (cc)
-nth_numbered f k zero (y ∷ ys) x h = (k, ap (λ z. Some (f k z)) (some_is y x h))
+nth_numbered f k zero (y ∷ ys) x h = (k, ap (λ z. Some (f k z)) (same_Some y x h))
 nth_numbered f k (suc n) (y ∷ ys) x h = nth_numbered f (suc k) n ys x h
 
 target_value : (s : Spec) (cs : List MappingClause) (n : ℕ) (a : Argument) (e : Tree) → expression_of a ≡ Some e → target_of s cs n a ≡ targets.Value e
-target_value s cs n (arguments.Value place t) e h = ap targets.Value (some_is t e h)
+target_value s cs n (arguments.Value place t) e h = ap targets.Value (same_Some t e h)
 target_value s cs n (arguments.Ref g t) e h = absurd (cc)
 
 module _ (s : Spec) (consts : List (Name × Data)) (w : WellNamed s) (h : heads_refused s.archetypes (defs_of s consts) (runs_of s (defs_of s consts)) (globals_of s (defs_of s consts) (runs_of s (defs_of s consts))) ≡ None) (u : Vars) where

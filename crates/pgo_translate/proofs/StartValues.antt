@@ -14,7 +14,7 @@ use Rattle.pgo_model.specs.Written.{proc_set, terminating, default_init_value}
 use Rattle.pgo_syntax.specs.declared.spec.Spec.{Spec}
 use Rattle.pgo_bound.specs.State.{variables_of}
 use Rattle.pgo_bound.specs.Values as values
-use Rattle.pgo_bound.specs.Values.{closed_value, value_at, meant, define_of}
+use Rattle.pgo_bound.specs.Values.{meant, define_of}
 use Rattle.pgo_syntax.specs.declared.declaration.Definition.{Definition}
 use Rattle.pgo_translate.specs.Avoids.{Avoids}
 use Rattle.pgo_translate.specs.ModuleOf.{constants_with}

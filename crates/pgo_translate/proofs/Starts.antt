@@ -2,6 +2,7 @@
 use Rattle.std.proofs.Common.{◌≡◌, ◌⊎◌, ◌↔◌, ℕ, suc, ◌≤◌, Bool, true, false, List, [], ◌∷◌, ◌++◌, length, map, Option, Some, None, refl, sym, ap, ◌∙◌, subst, option_and_then, option_map, inl, inr, ⊎_elim, arith}
 use Rattle.std.specs.Prelude.{if◌then◌else◌, ◌||◌, filter, unwrap_or}
 use Rattle.std.specs.List.{AllByRecursion, filter_map, flat_map, cons_option}
+use Rattle.std.proofs.lemmas.Option.{same_Some}
 use Rattle.pgo_base.specs.declared.module.Defined as memory
 use Rattle.pgo_base.specs.declared.expr.Infix.TheVariants as infixs
 use Rattle.pgo_base.specs.Data.{Data, boolean, string, set, function, Pairs, no_pairs, pair, graph, keys, Items, members}
@@ -33,7 +34,7 @@ use Rattle.pgo_bound.specs.Runs.{Run, Handed, handed_from, archetype_named, run_
 use Rattle.pgo_bound.specs.Sound.{WellNamed}
 use Rattle.pgo_bound.specs.State.{IsState, variables_of, own_names, names_with, names_or_none, value_name}
 use Rattle.pgo_bound.specs.Values as values
-use Rattle.pgo_bound.specs.Values.{Begins as Starting, Start, closed_value, value_at, start_in, start_of_members, global_start}
+use Rattle.pgo_bound.specs.Values.{Begins as Starting, closed_value, value_at, start_of_members, global_start}
 use Rattle.pgo_bound.specs.Among.{IsAmong}
 use Rattle.pgo_bound.specs.Among.{among_left, among_right, among_map, among_flat_map, among_filter_map, among_filter, from_flat_map, from_filter_map, all_at, none_left, none_right, none_filter_map, none_flat_map, empty_map, empty_none}
 use Rattle.pgo_bound.specs.Among.{mapped_some}
@@ -58,7 +59,7 @@ use Rattle.pgo_translate.proofs.Actions.{pc_there}
 use Rattle.pgo_translate.proofs.Alike.{sem_alike}
 use Rattle.pgo_translate.proofs.Graphs.{in_among, among_in}
 use Rattle.pgo_translate.proofs.Holding.{holds_member}
-use Rattle.pgo_translate.proofs.Kleene.{is_true, iff_then, iff_back, pair_iff, some_is, AllYes, all-yes, all_append}
+use Rattle.pgo_translate.proofs.Kleene.{is_true, iff_then, iff_back, pair_iff, AllYes, all-yes, all_append}
 use Rattle.pgo_translate.proofs.StartItems.{shallow_at, set_is, global-yes, own-yes, equal-each, OriginHeld, OriginSet}
 use Rattle.pgo_translate.proofs.StartPlaces.{length_append, key_low, can_be_bound, only_ids, Has, AllHave, Gathers, union_gathers, case_at}
 use Rattle.pgo_translate.proofs.StartRuns.{ByRuns, declares-runs}
@@ -93,7 +94,7 @@ all_filtered {A = A} sc f (y ∷ ys) = go (f y) refl (all_filtered sc f ys)
       λ h. r.1 (λ x t k q. h x t (inr k) q),
     )
     go (Some z) e r = (
-      λ h x t m q. ⊎_elim (λ g. subst (λ s. is_true (val s sc)) (some_is z t (sym e ∙ ap f (sym g) ∙ q)) h.0) (λ k. r.0 h.1 x t k q) m,
+      λ h x t m q. ⊎_elim (λ g. subst (λ s. is_true (val s sc)) (same_Some z t (sym e ∙ ap f (sym g) ∙ q)) h.0) (λ k. r.0 h.1 x t k q) m,
       λ h. (h y z (inl refl) e, r.1 (λ x t k q. h x t (inr k) q)),
     )
 
@@ -116,7 +117,7 @@ found_value [] x v a h = absurd (cc)
 found_value (p ∷ ps) x v a h = go (same_name x p.0) h (found_value ps x v a.1)
   where
     go : (b : Bool) → (if b then Some p.1 else find x ps) ≡ Some v → (find x ps ≡ Some v → IsValue v) → IsValue v
-    go true k r = subst IsValue (some_is p.1 v k) a.0
+    go true k r = subst IsValue (same_Some p.1 v k) a.0
     go false k r = r k
 
 members_begin : (o : Option Data) (v : Data) → start_of_members (option_and_then members_of o) ≡ Starting v → (ys : List Data) × (option_and_then members_of o ≡ Some ys)
@@ -144,15 +145,15 @@ joined_map f (x ∷ xs) = ap (λ ys. f x ++ ys) (joined_map f xs)
 
 one_sorted : (o : Option Data) (ids : List Data) → option_map (λ v. v ∷ []) o ≡ Some ids → IsSorted ids
 one_sorted None ids h = absurd (cc)
-one_sorted (Some v) ids h = subst IsSorted (some_is (v ∷ []) ids h) (sorted-in_order (v ∷ []))
+one_sorted (Some v) ids h = subst IsSorted (same_Some (v ∷ []) ids h) (sorted-in_order (v ∷ []))
 
 argument_is : (p : Name) (it : Tree) (x : Name) (a : Argument) (t : Tree) → argument_starts p it x a ≡ Some t → (e : Tree) × (expression_of a ≡ Some e) × (t ≡ own_starts it (written p x) (Some (Equals e)))
 argument_is p it x (arguments.Ref g f) t h = absurd (cc)
-argument_is p it x (arguments.Value place e) t h = (e, refl, sym (some_is (own_starts it (written p x) (Some (Equals e))) t h))
+argument_is p it x (arguments.Value place e) t h = (e, refl, sym (same_Some (own_starts it (written p x) (Some (Equals e))) t h))
 
 is_argument : (p : Name) (it : Tree) (x : Name) (a : Argument) (e : Tree) → expression_of a ≡ Some e → argument_starts p it x a ≡ Some (own_starts it (written p x) (Some (Equals e)))
 is_argument p it x (arguments.Ref g f) e h = absurd (cc)
-is_argument p it x (arguments.Value place t) e h = ap (λ z. Some (own_starts it (written p x) (Some (Equals z)))) (some_is t e h)
+is_argument p it x (arguments.Value place t) e h = ap (λ z. Some (own_starts it (written p x) (Some (Equals z)))) (same_Some t e h)
 
 value_named : (x : Name) (a : Argument) (e : Tree) → expression_of a ≡ Some e → value_name x a ≡ Some x
 value_named x (arguments.Ref g f) e h = absurd (cc)
@@ -160,7 +161,7 @@ value_named x (arguments.Value place t) e h = refl
 
 argument_avoids : (bad : Name → Bool) (a : Argument) (e : Tree) → ArgumentAvoids bad a → expression_of a ≡ Some e → Avoids bad e
 argument_avoids bad (arguments.Ref g f) e n h = absurd (cc)
-argument_avoids bad (arguments.Value place t) e n h = subst (Avoids bad) (some_is t e h) n
+argument_avoids bad (arguments.Value place t) e n h = subst (Avoids bad) (same_Some t e h) n
 
 handed_argument : (n : ℕ) (ps : List Parameter) (as' : List Argument) (k : Handed) → IsAmong k (handed_from n ps as') → IsAmong k.argument as'
 handed_argument n [] as' k h = absurd h

@@ -21,7 +21,7 @@ use Rattle.pgo_syntax.specs.declared.process.Process.{Process}
 use Rattle.pgo_syntax.specs.declared.spec.Spec.{Spec}
 use Rattle.pgo_bound.specs.Runs.{archetype_named}
 use Rattle.pgo_sections.specs.Expansion as tree
-use Rattle.pgo_sections.specs.Expansion.{Expansion, Expansions, no_expansions, more_expansions}
+use Rattle.pgo_sections.specs.Expansion.{Expansion, no_expansions, more_expansions}
 use Rattle.pgo_pluscal.specs.declared.pluscal.ExpandedProcess.{ExpandedProcess}
 use Rattle.pgo_pluscal.specs.declared.pluscal.PlusCal.{PlusCal}
 use Rattle.pgo_pluscal.specs.PlusCalOf.{header_of, process_of as expanded_process}

@@ -1,6 +1,6 @@
 mod Counts
 mod Heights
-mod Indexing
+mod FirstNumbers
 mod Scoped
 mod StatementHeights
 mod StatementWalked

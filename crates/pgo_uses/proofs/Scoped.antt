@@ -1,9 +1,10 @@
 -- Whether a name is in scope, by the rows in which it is looked up; and what is added in three steps.
-use Rattle.std.proofs.Common.{◌≡◌, ℕ, zero, suc, Bool, true, false, ◌||◌, List, [], ◌∷◌, ◌++◌, take, refl, ap, sym, ◌∙◌, append_assoc, arith}
-use Rattle.std.specs.Prelude.{if◌then◌else◌, nat_lt, Option, Some, None, option_map, is_some}
+use Rattle.std.proofs.Common.{◌≡◌, ℕ, Bool, true, false, ◌||◌, List, [], ◌∷◌, ◌++◌, take, refl, ap, sym, ◌∙◌, append_assoc}
+use Rattle.std.specs.Prelude.{if◌then◌else◌, Some, is_some}
 use Rattle.pgo_base.specs.Lookup.{Name, same_name, find}
 use Rattle.pgo_model.specs.Names.{is_among}
-use Rattle.pgo_uses.specs.Names.{Rows, has_row, first_at, is_below, is_earlier}
+use Rattle.pgo_model.proofs.FirstPlaces.{below_is}
+use Rattle.pgo_uses.specs.Names.{Rows, has_row, is_earlier}
 use Rattle.pgo_uses.specs.Scopes.{row_names}
 
 pub among_is : (x : Name) (rows : Rows) → has_row x rows ≡ is_among x (row_names rows)
@@ -13,23 +14,6 @@ among_is x (r ∷ rs) = go (same_name x r.0) (among_is x rs)
     go : (b : Bool) → has_row x rs ≡ is_among x (row_names rs) → is_some (if b then Some r.1 else find x rs) ≡ (b || is_among x (row_names rs))
     go true h = refl
     go false h = h
-
-below_suc : (n : ℕ) (o : Option ℕ) → is_below (suc n) (option_map suc o) ≡ is_below n o
-below_suc n None = refl
-below_suc n (Some i) = grind arith
-
-below_none : (o : Option ℕ) → is_below 0 o ≡ false
-below_none None = refl
-below_none (Some i) = grind arith
-
-pub earlier_is : (x : Name) (rows : Rows) (n : ℕ) → is_earlier n x rows ≡ is_among x (take n (row_names rows))
-earlier_is x rows zero = below_none (first_at x rows)
-earlier_is x [] (suc n) = refl
-earlier_is x (r ∷ rs) (suc n) = go (same_name x r.0) (earlier_is x rs n)
-  where
-    go : (b : Bool) → is_earlier n x rs ≡ is_among x (take n (row_names rs)) → is_below (suc n) (if b then Some 0 else option_map suc (first_at x rs)) ≡ (b || is_among x (take n (row_names rs)))
-    go true h = grind arith
-    go false h = below_suc n (first_at x rs) ∙ h
 
 member-append : (x : Name) (xs ys : List Name) → is_among x (xs ++ ys) ≡ is_among x xs || is_among x ys
 member-append x [] ys = refl
@@ -47,7 +31,7 @@ or_swapped false false = refl
 
 pub within_has : (x : Name) (ns : List Name) (rows : Rows) (n : ℕ) → is_earlier n x rows || is_among x ns ≡ is_among x (ns ++ take n (row_names rows))
 within_has x ns rows n =
-    ap (λ b. b || is_among x ns) (earlier_is x rows n) ∙ or_swapped (is_among x (take n (row_names rows))) (is_among x ns)
+    ap (λ b. b || is_among x ns) (below_is (λ r. r.0) x rows n) ∙ or_swapped (is_among x (take n (row_names rows))) (is_among x ns)
     ∙ sym (member-append x ns (take n (row_names rows)))
 
 pub three_joined : {A : Type 0} (before one two p q b x y z : List A) → one ≡ before ++ x → two ≡ one ++ y → x ≡ p → y ≡ q → z ≡ b → two ++ z ≡ before ++ (p ++ q ++ b)

@@ -2,7 +2,6 @@ pub mod Names
 pub mod Scopes
 pub mod ScopeView
 pub mod ScopesFall
-pub mod Indexed
 pub mod Uses
 pub mod Pieces
 pub mod PieceView

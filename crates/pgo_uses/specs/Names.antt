@@ -1,6 +1,8 @@
 -- Names with numbers.
-use Rattle.std.specs.Prelude.{ℕ, suc, Bool, true, false, ◌||◌, if◌then◌else◌, nat_lt, slice_get, List, [], ◌∷◌, Option, Some, None, option_map, is_some}
+use Rattle.std.specs.Prelude.{ℕ, Bool, false, ◌||◌, slice_get, List, [], ◌∷◌, Option, Some, None, option_map, is_some}
 use Rattle.pgo_base.specs.Lookup.{Name, same_name, find}
+use Rattle.pgo_base.specs.FirstPlace.{first_place}
+pub use Rattle.pgo_base.specs.FirstPlace.{is_below}
 
 abbrev pub Rows : Type 0
 Rows = List (Name × ℕ)
@@ -16,12 +18,12 @@ among_all b (r ∷ rs) x = among_all (same_name x r.0 || b) rs x
 
 -- the place of the first of the name, from 0
 abbrev pub first_at : Name → Rows → Option ℕ
-first_at x [] = None
-first_at x (r ∷ rs) = if same_name x r.0 then Some 0 else option_map suc (first_at x rs)
+first_at x rows = first_place (λ r. r.0) x rows
 
-abbrev pub is_below : ℕ → Option ℕ → Bool
-is_below n None = false
-is_below n (Some i) = nat_lt i n
+-- the number of the row in this place
+abbrev pub number_at : Rows → Option ℕ → Option ℕ
+number_at rows None = None
+number_at rows (Some i) = option_map (λ r. r.1) (slice_get rows i)
 
 -- the name is one of the first n
 abbrev pub is_earlier : ℕ → Name → Rows → Bool

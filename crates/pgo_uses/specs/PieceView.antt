@@ -3,7 +3,7 @@ use Rattle.std.specs.Prelude.{List, map}
 use denote.Ref.{Bor}
 use Rattle.pgo_base.specs.ExprView.{tree}
 use Rattle.pgo_base.specs.Lookup.{Name}
-use Rattle.pgo_syntax.specs.declared.name.PlacedName.{PlacedName}
+pub use Rattle.pgo_syntax.specs.PlacedNames.{lent_names as placed_names}
 use Rattle.pgo_uses.specs.declared.pieces.Piece.{Piece as Lent}
 use Rattle.pgo_uses.specs.declared.pieces.Piece.TheVariants as lent
 use Rattle.pgo_uses.specs.declared.uses.Form.TheVariants as forms
@@ -20,6 +20,3 @@ see (lent.Member e m n) = operand (tree e.now) m n
 -- lent names as the names that they are
 abbrev pub texts : List (Bor Name) → List Name
 texts xs = map (λ x. x.now) xs
-
-abbrev pub placed_names : List (Bor PlacedName) → List PlacedName
-placed_names xs = map (λ x. x.now) xs

@@ -1,5 +1,5 @@
 -- The names in scope as they lie in memory.
-use Rattle.std.specs.Prelude.{List, [], ◌∷◌, take}
+use Rattle.std.specs.Prelude.{[], ◌∷◌, take}
 use Rattle.pgo_uses.specs.declared.scopes.Link.{Link}
 use Rattle.pgo_uses.specs.declared.scopes.Link.TheVariants.{Empty, All, Within}
 use Rattle.pgo_uses.specs.Scopes.{Groups, row_names}

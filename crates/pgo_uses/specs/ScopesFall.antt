@@ -1,5 +1,5 @@
 -- The names in scope that stand around others are in fewer groups than those with the others.
-use Rattle.std.specs.Prelude.{◌≡◌, ◌≤◌, ◌+◌, max, List, [], ◌∷◌, length}
+use Rattle.std.specs.Prelude.{◌≤◌, max, length}
 use Rattle.std.proofs.Common.{arith}
 use Rattle.pgo_uses.specs.declared.scopes.Link.{Link}
 use Rattle.pgo_uses.specs.declared.scopes.Link.TheVariants.{Empty, All, Within}

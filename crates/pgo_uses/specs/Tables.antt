@@ -1,6 +1,6 @@
 -- The names that a specification declares, by kind, and the names that it has anyway.
 use Rattle.std.specs.Prelude.{List, [], ◌∷◌, ◌++◌, length, codes}
-use Rattle.pgo_base.specs.Lookup.{Name}
+pub use Rattle.pgo_model.specs.Written.{content_name as variable_name, value_name}
 use Rattle.pgo_syntax.specs.declared.name.PlacedName.{PlacedName}
 use Rattle.pgo_syntax.specs.declared.declaration.Declaration.{Declaration}
 use Rattle.pgo_syntax.specs.declared.declaration.Definition.{Definition}
@@ -62,10 +62,3 @@ operator_rows =
     (codes "Cardinality", 1) ∷
     (codes "Assert", 2) ∷
     (codes "PrintT", 1) ∷ []
-
--- what a mapped parameter's content is called in a mapping macro, and what is written to it
-abbrev pub variable_name : Name
-variable_name = codes "$variable"
-
-abbrev pub value_name : Name
-value_name = codes "$value"

@@ -1,20 +1,18 @@
 // Names that are declared, each with a number.
-ghost use Rattle.std.specs.Prelude.{◌≡◌, ◌||◌, [], ◌∷◌, ◌++◌, length, IfOk, IfErr};
+ghost use Rattle.std.specs.Prelude.{◌≡◌, ◌||◌, [], ◌∷◌, ◌++◌, length, IfOk};
 ghost use Rattle.pgo_base.specs.Lookup.{Name, same_name, find};
-ghost use Rattle.pgo_base.specs.NameMaps.{found_in};
-ghost use Rattle.pgo_uses.specs.Indexed.{after_note, number_at};
-ghost use Rattle.pgo_uses.specs.Names.{first_at, has_row, among_all, is_earlier, is_at};
+ghost use Rattle.pgo_uses.specs.Names.{first_at, number_at, has_row, among_all, is_earlier, is_at};
 
+use pgo_base::name_map::NameMap;
 use pgo_base::text::Text;
 use std::alloc::{AllocError, Global};
-use std::collections::BTreeMap;
 use std::marker::Model;
 
 /// Names in order, each with a number, as that of its parameters. A name is found without going over the list.
 #[derive(Drop)]
 pub struct Names {
     list: Vec<(Text, usize)>,
-    index: BTreeMap<Vec<u8>, usize>,
+    index: NameMap<usize>,
 }
 
 impl Model for Names {
@@ -22,11 +20,14 @@ impl Model for Names {
 
     ghost Value = { List (List ℕ × ℕ) };
 
-    ghost use Rattle.pgo_uses.specs.Indexed.{IsIndexed};
+    ghost use Rattle.std.specs.Prelude.{◌≡◌};
+    ghost use Rattle.pgo_base.specs.Lookup.{Name};
+    ghost use Rattle.pgo_base.specs.NameMaps.{found};
+    ghost use Rattle.pgo_uses.specs.Names.{first_at};
 
     ghost view = { λ n. n.list.items };
 
-    ghost invariant = { λ n. IsIndexed (λ k. k.items) n.list.items n.index.entries };
+    ghost invariant = { λ n. (x : Name) → found n.index x ≡ first_at x n.list.items };
 }
 
 impl Names {
@@ -36,7 +37,7 @@ impl Names {
     {
         Names {
             list: Vec::new(alloc),
-            index: BTreeMap::new(alloc),
+            index: NameMap::new(alloc),
         }
     }
 
@@ -45,10 +46,9 @@ impl Names {
         ensures { IfOk result (λ _. self.new ≡ self.old ++ (name.now, number) ∷ []) }
     {
         let copy = name.copy(alloc)?;
-        let key = Vec::from_slice(alloc, name.as_bytes())?;
+        let place = self.list.len();
         self.list.reserve(1)?;
-        let place = self.list.as_slice().len();
-        note(&mut self.index, key, place)?;
+        self.index.set_first(alloc, name, place)?;
         self.list.push_reserved((copy, number));
         Ok(())
     }
@@ -64,7 +64,7 @@ impl Names {
     pub fn position(&self, name: &Text) -> Option<usize>
         ensures { result ≡ first_at name.now self.now }
     {
-        self.index.get(name.as_bytes()).copied()
+        self.index.get(name).copied()
     }
 
     /// The number of the one in this place.
@@ -134,19 +134,5 @@ impl Names {
             self.add(alloc, &row.0)?;
         }
         Ok(())
-    }
-}
-
-/// Notes the place of this name, where none is noted.
-fn note(index: &mut BTreeMap<Vec<u8>, usize>, name: Vec<u8>, place: usize) -> Result<(), AllocError>
-    ensures noted { IfOk result (λ _. (x : Name) → found_in (λ k. k.items) index.new.entries x ≡ after_note name.items place (found_in (λ k. k.items) index.old.entries name.items) x (found_in (λ k. k.items) index.old.entries x)) }
-    ensures same { IfErr result (λ _. index.new.entries ≡ index.old.entries) }
-{
-    if index.contains_key(name.as_slice()) {
-        return Ok(());
-    }
-    match index.insert(name, place) {
-        Ok(_) => Ok(()),
-        Err(_) => Err(AllocError),
     }
 }

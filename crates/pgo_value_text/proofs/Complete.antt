@@ -12,7 +12,7 @@ use Rattle.pgo_model.specs.BundleParts.{all_string_bytes}
 use Rattle.pgo_value_text.specs.declared.read.PairForm.TheVariants.{Fields, Mappings}
 use Rattle.pgo_value_text.specs.IsValueText.{most_depth, is_name, all_digits, are_digits, number_of, minus, Spaced, Joined, Parted, Listed, Field, field, AreDistinct, Form, truth, number, negative, string_in_quotes, name, set_text, tuple_text, record_text, function_text, Spells, is_small, IsValueText}
 use Rattle.pgo_value_text.specs.Parsers.{Outcome, Parser, give}
-use Rattle.pgo_value_text.specs.Reading.{begins, expect, front, behind, as_integer, word_value, word_atom, negative_atom, string_from, string_atom, atom, spaced, listed, pair_in, pairs_in, set_of, tuple_of, record_from, record_of, function_of, form, value, if_whole, whole}
+use Rattle.pgo_value_text.specs.Reading.{begins, front, behind, as_integer, word_value, word_atom, negative_atom, string_from, string_atom, atom, spaced, listed, pair_in, pairs_in, set_of, tuple_of, record_of, function_of, form, value, if_whole, whole}
 use Rattle.pgo_value_text.specs.Reading as reading
 use Rattle.pgo_value_text.proofs.Steps.{if_some, cond_true, cond_false, then_at}
 use Rattle.pgo_value_text.proofs.Runs.{run_front, run_behind, words_run, apart_stops}

@@ -10,7 +10,7 @@ use Rattle.pgo_model.specs.ValueText.{is_word_byte, same_bytes, string_text}
 use Rattle.pgo_value_text.specs.declared.read.PairForm.TheVariants.{Fields, Mappings}
 use Rattle.pgo_value_text.specs.IsValueText.{is_name, are_digits, Spaced, Joined, Parted, Field, field, Form, truth, number, negative, string_in_quotes, name, set_text, tuple_text, record_text, function_text, Spells}
 use Rattle.pgo_value_text.specs.Parsers.{Parser}
-use Rattle.pgo_value_text.specs.Reading.{begins, expect, front, behind, positive, as_integer, word_value, word_atom, negative_atom, string_from, string_atom, atom, spaced, listed, between, pair_in, pairs_in, set_of, tuple_of, record_from, record_of, function_of, form, value}
+use Rattle.pgo_value_text.specs.Reading.{begins, expect, front, behind, positive, as_integer, word_value, word_atom, negative_atom, string_from, string_atom, atom, spaced, listed, pair_in, pairs_in, set_of, tuple_of, record_from, record_of, function_of, form, value}
 use Rattle.pgo_value_text.specs.Reading as reading
 use Rattle.pgo_value_text.proofs.Steps.{if_some, bind_then, give_some}
 use Rattle.pgo_value_text.proofs.Runs.{expected, front_behind}

@@ -1,13 +1,8 @@
 -- Parts behind a word, turn by turn, beside a loop that counts up.
-use Rattle.std.proofs.Common.{◌≡◌, ℕ, zero, suc, ◌+◌, ◌-◌, ◌<◌, ◌≤◌, true, false, cond, List, [], ◌∷◌, ◌++◌, length, Some, refl, ap, sym, ◌∙◌, arith, map}
-use Rattle.std.proofs.lemmas.List.{map-append}
+use Rattle.std.proofs.Common.{◌≡◌, ℕ, zero, suc, ◌+◌, ◌-◌, ◌<◌, ◌≤◌, true, false, cond, List, [], ◌∷◌, ◌++◌, length, Some, refl, ap, sym, ◌∙◌, arith}
 use Rattle.pgo_value_text.specs.Parsers.{Outcome, Parser, and_then}
 use Rattle.pgo_value_text.specs.Reading.{begins, expect, followed, parted}
 use Rattle.pgo_value_text.proofs.Steps.{then_at}
-
--- one item more at the end of a list that is seen by f
-pub seen_more : {A B : Type 0} (f : A → B) (as' : List A) (a : A) → map f (as' ++ a ∷ []) ≡ map f as' ++ f a ∷ []
-seen_more f as' a = map-append f as' (a ∷ [])
 
 module _ {A : Type 0} (w : List ℕ) (p : Parser A) where
   pub one_left : (n : ℕ) (done : List A) (bs : List ℕ) → begins w bs ≡ true

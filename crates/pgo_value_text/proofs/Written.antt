@@ -2,6 +2,7 @@
 use Rattle.std.proofs.Common.{◌≡◌, ◌≤◌, ◌^◌, ℕ, zero, suc, ℤ, pos, negsuc, Bool, true, false, ◌&&◌, cond, List, ◌∷◌, ◌++◌, decimal, refl, sym, ◌∙◌, ap, subst, arith, append_assoc}
 use Rattle.std.specs.Prelude.{codes}
 use Rattle.std.proofs.lemmas.Bool.{ltb-true, and_parts}
+use Rattle.pgo_base.proofs.Keyed.{pairs_back}
 use Rattle.pgo_base.specs.Data.{Data, boolean, integer, string, model, set, function, Items, no_items, item, items, members, Pairs, no_pairs, pair, pairs, graph, keys}
 use Rattle.pgo_base.specs.Size.{depth, items_depth, pairs_depth}
 use Rattle.pgo_base.specs.Pairs.{pairs_in_order}
@@ -13,7 +14,7 @@ use Rattle.pgo_value_text.specs.IsValueText.{most_depth, minus, Form, truth, num
 use Rattle.pgo_value_text.specs.Writable.{is_spellable, are_spellable, all_spellable, IsWritable}
 use Rattle.pgo_value_text.proofs.Numbers.{decimal_digits}
 use Rattle.pgo_value_text.proofs.Distinct.{members_in_order, keys_in_order, sorted_distinct}
-use Rattle.pgo_value_text.proofs.WrittenParts.{same_items, same_pairs, AllSpelled, PairsSpelled, items_listed, sequence_listed, fields_parted, mappings_parted, sequence_is}
+use Rattle.pgo_value_text.proofs.WrittenParts.{same_items, AllSpelled, PairsSpelled, items_listed, sequence_listed, fields_parted, mappings_parted, sequence_is}
 
 module _ (P : List ℕ → Data → Type 0) where
   integer_form : (z : ℤ) → fits_i64 z ≡ true → Form P (value_text (integer z)) (integer z)
@@ -34,7 +35,7 @@ module _ (P : List ℕ → Data → Type 0) where
 
   -- a function whose pairs are in order is the function of its pairs
   in_its_order : (ps : Pairs) → IsSorted (keys (graph ps)) → function (pairs (pairs_in_order (graph ps))) ≡ function ps
-  in_its_order ps o = ap (λ l. function (pairs l)) (keys_in_order (graph ps) o) ∙ ap function (same_pairs ps)
+  in_its_order ps o = ap (λ l. function (pairs l)) (keys_in_order (graph ps) o) ∙ ap function (pairs_back ps)
 
   tuple_form : (ps : Pairs) → PairsSpelled P ps → is_sequence_from 1 ps ≡ true → Form P (codes "<<" ++ sequence_text ps ++ codes ">>") (function ps)
   tuple_form ps s h = subst (λ v. Form P (codes "<<" ++ sequence_text ps ++ codes ">>") v) (ap function (sequence_is 1 ps h)) (tuple_text (sequence_text ps) (sequence_listed P ps s))

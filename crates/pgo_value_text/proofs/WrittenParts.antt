@@ -15,10 +15,6 @@ items-members (item x xs) = ap (item x) (items-members xs)
 pub same_items : (xs : Items) → items (members xs) ≡ xs
 same_items = items-members
 
-pub same_pairs : (ps : Pairs) → pairs (graph ps) ≡ ps
-same_pairs no_pairs = refl
-same_pairs (pair k v ps) = ap (pair k v) (same_pairs ps)
-
 -- ---- lists of parts
 
 module _ {A : Type 0} (w : List ℕ) (P : List ℕ → A → Type 0) where

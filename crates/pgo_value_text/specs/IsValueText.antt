@@ -4,17 +4,14 @@ use Rattle.pgo_base.specs.Data.{Data, boolean, integer, string, model, set, func
 use Rattle.pgo_base.specs.Pairs.{pairs_in_order}
 use Rattle.pgo_base.specs.Sets.{in_order, IsIn}
 use Rattle.pgo_model.specs.Operators.{fits_i64, sequence_at, most_members}
-use Rattle.pgo_model.specs.ValueText.{is_identifier, string_text, truth_text}
+use Rattle.pgo_model.specs.ValueText.{string_text, truth_text}
 pub use Rattle.pgo_model.specs.ValueText.{all_digits}
 use Rattle.pgo_model.specs.BundleParts.{all_string_bytes}
+pub use Rattle.pgo_model.specs.BundleParts.{is_read_name as is_name}
 
 -- how deep a text may nest
 abbrev pub most_depth : ℕ
 most_depth = 1024
-
--- how many bytes an identifier may have
-abbrev pub most_bytes : ℕ
-most_bytes = 512
 
 -- ---- words
 
@@ -25,10 +22,6 @@ is_blank b = nat_eq b 32 || nat_eq b 9
 abbrev pub all_blank : List ℕ → Bool
 all_blank [] = true
 all_blank (b ∷ bs) = is_blank b && all_blank bs
-
--- an identifier that may stand in a value text
-abbrev pub is_name : List ℕ → Bool
-is_name x = is_identifier x && nat_le (length x) most_bytes
 
 -- one digit or more; leading zeros may stand among them
 abbrev pub are_digits : List ℕ → Bool

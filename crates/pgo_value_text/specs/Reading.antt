@@ -1,5 +1,5 @@
 -- The reader as functions on bytes, in the shape of the code.
-use Rattle.std.specs.Prelude.{ℕ, zero, suc, ◌+◌, ◌-◌, ◌*◌, ◌^◌, ℤ, pos, Bool, true, false, ◌&&◌, nat_eq, nat_lt, nat_le, if◌then◌else◌, List, [], ◌∷◌, ◌++◌, length, take, drop, codes, Option, Some, None}
+use Rattle.std.specs.Prelude.{ℕ, zero, suc, ◌+◌, ◌-◌, ◌*◌, ◌^◌, ℤ, pos, Bool, true, false, ◌&&◌, nat_eq, nat_lt, nat_le, if◌then◌else◌, List, [], ◌∷◌, ◌++◌, length, take, drop, codes, Option, Some, None, option_and_then}
 use Rattle.std.specs.List.{prefix_len}
 use Rattle.pgo_base.specs.Data.{Data, boolean, integer, string, model, set, function, items, pairs}
 use Rattle.pgo_base.specs.Pairs.{pairs_in_order}
@@ -58,16 +58,11 @@ natural_from n (b ∷ bs) = if is_digit b then (if nat_lt most (n * 10 + (b - 48
 abbrev pub fitting : ℤ → Option ℤ
 fitting z = if fits_i64 z then Some z else None
 
--- what a function makes of some A
-abbrev pub where_some : {A B : Type 0} → Option A → (A → Option B) → Option B
-where_some None f = None
-where_some (Some a) f = f a
-
 unfoldable pub positive : List ℕ → Option ℤ
-positive ds = where_some (natural_from 0 ds) (λ n. fitting (pos n))
+positive ds = option_and_then (λ n. fitting (pos n)) (natural_from 0 ds)
 
 unfoldable pub negative : List ℕ → Option ℤ
-negative ds = if are_digits ds then where_some (natural_from 0 ds) (λ n. fitting (minus n)) else None
+negative ds = if are_digits ds then option_and_then (λ n. fitting (minus n)) (natural_from 0 ds) else None
 
 abbrev pub as_integer : Option ℤ → Option Data
 as_integer None = None

@@ -8,7 +8,7 @@ use pgo_text::bytes::is_digit;
 
 /// The number that digits spell, leading zeros among them, where it has 64 bits.
 #[tactic(auto, unfolding(crate::specs::Reading::natural_from))]
-fn natural(digits: &[u8]) -> Option<u64>
+pub fn natural(digits: &[u8]) -> Option<u64>
     ensures { result ≡ spec.natural_from 0 digits.now }
 {
     let mut value: u128 = 0;

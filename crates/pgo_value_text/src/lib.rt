@@ -5,7 +5,7 @@ mod atom;
 mod built;
 mod cursor;
 pub mod errors;
-mod integer;
+pub mod integer;
 pub mod laws;
 pub mod read;
 mod small;

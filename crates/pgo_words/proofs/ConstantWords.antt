@@ -3,6 +3,7 @@ use Rattle.std.proofs.Common.{◌≡◌, ◌+◌, ◌<◌, ℕ, zero, suc, Bool,
 use Rattle.std.proofs.lemmas.List.{drop_more}
 use Rattle.std.specs.Borrow.{Bor}
 use Rattle.std.specs.Prelude.{Option, is_some}
+use Rattle.std.proofs.lemmas.Bool.{and_parts}
 use Rattle.pgo_base.specs.Data.{Data}
 use Rattle.pgo_base.specs.Lookup.{Name, same_name}
 use Rattle.pgo_model.specs.Names.{same_bytes-self, same_bytes-is, same_name-self, same_name-is}
@@ -16,17 +17,13 @@ use Rattle.pgo_words.proofs.TurnLists.{same_cut, not_lacks}
 
 -- ---- one word
 
-both_true : (a b : Bool) → a && b ≡ true → (a ≡ true) × (b ≡ true)
-both_true true b h = (refl, h)
-both_true false b h = absurd (grind (arith, h))
-
 name_bytes_lack : (x : List ℕ) → all_word_bytes x ≡ true → Lacks 61 x
 name_bytes_lack [] h i lt e = absurd (omega (arith, lt))
 name_bytes_lack (b ∷ bs) h zero lt e =
-    let w = (both_true (is_word_byte b) (all_word_bytes bs) h).0 in
+    let w = (and_parts (is_word_byte b) (all_word_bytes bs) h).0 in
     let n : is_word_byte 61 ≡ true = subst (λ k. is_word_byte k ≡ true) e w in
     absurd (grind (arith, n))
-name_bytes_lack (b ∷ bs) h (suc i) lt e = name_bytes_lack bs (both_true (is_word_byte b) (all_word_bytes bs) h).1 i (omega (arith, lt)) e
+name_bytes_lack (b ∷ bs) h (suc i) lt e = name_bytes_lack bs (and_parts (is_word_byte b) (all_word_bytes bs) h).1 i (omega (arith, lt)) e
 
 name_lacks : (x : List ℕ) → IsTrue (is_name x) → Lacks 61 x
 name_lacks x h = name_bytes_lack x (name_words x h)
@@ -96,7 +93,7 @@ not_false false h = refl
 differ_more : (cs : List (Name × Data)) (c : Name × Data) → names_differ cs ≡ true → has_name c.0 cs ≡ false → names_differ (cs ++ c ∷ []) ≡ true
 differ_more [] c h f = refl
 differ_more (d ∷ cs) c h f =
-    let p = both_true (not (has_name d.0 cs)) (names_differ cs) h in
+    let p = and_parts (not (has_name d.0 cs)) (names_differ cs) h in
     let n = neither (same_bytes c.0 d.0) (has_name c.0 cs) f in
     joined (has_name d.0 (cs ++ c ∷ [])) (names_differ (cs ++ c ∷ []))
     (has_more d.0 cs c (not_false (has_name d.0 cs) p.0) (other_way c.0 d.0 n.0)) (differ_more cs c p.1 n.1)
@@ -118,7 +115,7 @@ repeated [] ds c h n = absurd (grind (arith, h))
 repeated (d ∷ cs) ds c h n = go (same_bytes c.0 d.0) refl (λ k. repeated cs ds c k parts.1)
   where
     parts : (not (has_name d.0 (cs ++ c ∷ ds)) ≡ true) × (names_differ (cs ++ c ∷ ds) ≡ true)
-    parts = both_true (not (has_name d.0 (cs ++ c ∷ ds))) (names_differ (cs ++ c ∷ ds)) n
+    parts = and_parts (not (has_name d.0 (cs ++ c ∷ ds))) (names_differ (cs ++ c ∷ ds)) n
 
     differ : (b : Bool) → b ≡ true → b ≡ false → ⊥
     differ true t f = absurd (grind (arith, f))

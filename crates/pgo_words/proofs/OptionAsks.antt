@@ -4,6 +4,7 @@ use Rattle.std.proofs.lemmas.Fmt.{decimal_is_IsNumeral}
 use Rattle.std.specs.Char.{digit_value}
 use Rattle.std.specs.Option.{unwrap_or}
 use Rattle.std.specs.Str.Parse.{AllDigits}
+use Rattle.std.proofs.lemmas.Bool.{and_parts}
 use Rattle.pgo_base.specs.Data.{Data}
 use Rattle.pgo_base.specs.Lookup.{Name}
 use Rattle.pgo_model.specs.Core.{Settings}
@@ -16,7 +17,7 @@ use Rattle.pgo_words.specs.Options.{is_among, value_of}
 use Rattle.pgo_words.specs.Parts.{HasOptions, Pairs, are_plain, is_plain}
 use Rattle.pgo_words.specs.Settings.{NumberOr, SettingsOf, run_options, step_options}
 use Rattle.pgo_words.specs.Turns.{Item, TurnList, last, more, once, times}
-use Rattle.pgo_words.proofs.OptionCuts.{both, joined}
+use Rattle.pgo_words.proofs.OptionCuts.{joined}
 use Rattle.pgo_words.proofs.OptionParts.{values_by_name}
 
 -- no such byte stands first
@@ -61,7 +62,7 @@ first_of_three false b c e = absurd (true≢false (sym e))
 name_plain : (x : List ℕ) → is_name x ≡ true → is_plain x ≡ true
 name_plain [] e = refl
 name_plain (b ∷ bs) e =
-    let first = both (is_word_byte b) _ (first_of_three (all_word_bytes (b ∷ bs)) (has_letter (b ∷ bs)) _ (both (is_identifier (b ∷ bs)) _ e).0) in
+    let first = and_parts (is_word_byte b) _ (first_of_three (all_word_bytes (b ∷ bs)) (has_letter (b ∷ bs)) _ (and_parts (is_identifier (b ∷ bs)) _ e).0) in
     plain_first b bs (λ f. true≢false (sym first.0 ∙ ap is_word_byte f))
 
 constant_plain : (w : List ℕ) (c : Name × Data) → IsConstant w c → is_plain w ≡ true

@@ -2,12 +2,9 @@
 use Rattle.std.proofs.Common.{◌≡◌, ◌∙◌, ◌&&◌, ◌==◌, ◌≤◌, ◌-◌, ◌+◌, ℕ, Bool, true, false, not, refl, sym, ap, subst, arith, List, [], ◌∷◌, ◌++◌, length, take, drop, true≢false, append-nil, length-drop}
 use Rattle.std.specs.Borrow.{Bor}
 use Rattle.std.proofs.lemmas.List.{append_cancel_right, take_all, drop-drop, map-append, take-append-drop}
+use Rattle.std.proofs.lemmas.Bool.{and_parts}
 use Rattle.pgo_words.specs.Options.{option_words}
 use Rattle.pgo_words.specs.Parts.{Pairs, Parts, are_options, are_plain, begins_option, is_option_name, is_option, is_plain, texts}
-
-pub both : (a b : Bool) → (a && b) ≡ true → (a ≡ true) × (b ≡ true)
-both true b e = (refl, e)
-both false b e = absurd (true≢false (sym e))
 
 pub joined : (a b : Bool) → a ≡ true → b ≡ true → (a && b) ≡ true
 joined a b e f = cc
@@ -17,11 +14,11 @@ pub name_dashed : (w : List ℕ) → is_option_name w ≡ true → is_plain w �
 name_dashed [] e = absurd (true≢false (sym e))
 name_dashed (a ∷ []) e = absurd (true≢false (sym e))
 name_dashed (a ∷ (b ∷ [])) e = absurd (true≢false (sym e))
-name_dashed (a ∷ (b ∷ (x ∷ xs))) e = ap not (both (a == 45) _ e).0
+name_dashed (a ∷ (b ∷ (x ∷ xs))) e = ap not (and_parts (a == 45) _ e).0
 
 -- words that don't begin with `-` begin with no option
 no_name : (w : List ℕ) (ws : List (List ℕ)) → is_option_name w ≡ true → are_plain (w ∷ ws) ≡ true → ⊥
-no_name w ws n p = true≢false (sym (both (is_plain w) _ p).0 ∙ name_dashed w n)
+no_name w ws n p = true≢false (sym (and_parts (is_plain w) _ p).0 ∙ name_dashed w n)
 
 abbrev first_or : List (List ℕ) → List ℕ
 first_or [] = []
@@ -37,12 +34,12 @@ pub stripped : (front os : Pairs) (words rest : List (List ℕ)) → are_options
     → (later : Pairs) × (os ≡ front ++ later) × (words ≡ option_words later ++ rest) × (are_options later ≡ true)
 stripped [] os words rest f g p e = (os, refl, e, g)
 stripped (o ∷ front) [] words rest f g p e =
-    absurd (no_name o.0 (o.1 ∷ (option_words front ++ words)) (both (is_option_name o.0) _ (both (is_option o) _ f).0).0 (ap are_plain e ∙ p))
+    absurd (no_name o.0 (o.1 ∷ (option_words front ++ words)) (and_parts (is_option_name o.0) _ (and_parts (is_option o) _ f).0).0 (ap are_plain e ∙ p))
 stripped (o ∷ front) (q ∷ os) words rest f g p e =
     let name : o.0 ≡ q.0 = ap first_or e in
     let value : o.1 ≡ q.1 = ap (λ ws. first_or (behind ws)) e in
     let same : o ∷ os ≡ q ∷ os = λ i. (name i, value i) ∷ os in
-    let s = stripped front os words rest (both (is_option o) _ f).1 (both (is_option q) _ g).1 p (ap (λ ws. behind (behind ws)) e) in
+    let s = stripped front os words rest (and_parts (is_option o) _ f).1 (and_parts (is_option q) _ g).1 p (ap (λ ws. behind (behind ws)) e) in
     (s.0, sym same ∙ ap (λ os. o ∷ os) s.1, s.2, s.3)
 
 -- the words so far are options
@@ -57,7 +54,7 @@ words_more (d ∷ os) o later = ap (λ ws. d.0 ∷ (d.1 ∷ ws)) (words_more os 
 
 options_more : (os : Pairs) (o : List ℕ × List ℕ) → are_options os ≡ true → is_option o ≡ true → are_options (os ++ o ∷ []) ≡ true
 options_more [] o f e = joined (is_option o) true e refl
-options_more (d ∷ os) o f e = let p = both (is_option d) _ f in joined (is_option d) _ p.0 (options_more os o p.1 e)
+options_more (d ∷ os) o f e = let p = and_parts (is_option d) _ f in joined (is_option d) _ p.0 (options_more os o p.1 e)
 
 pub one_more : (words rest later : List (List ℕ)) (o : List ℕ × List ℕ) → SoFar words rest → rest ≡ o.0 ∷ (o.1 ∷ later) → is_option o ≡ true → SoFar words later
 one_more words rest later o h e f = record {
@@ -75,7 +72,7 @@ stops words rest h none late os behind p =
   where
     go : (later : Pairs) → rest ≡ option_words later ++ behind → are_options later ≡ true → ⊥
     go [] e f = true≢false (sym p.plain ∙ ap are_plain (sym e) ∙ late)
-    go (o ∷ later) e f = true≢false (sym (both (is_option o) _ f).0 ∙ sym (ap begins_option e) ∙ none)
+    go (o ∷ later) e f = true≢false (sym (and_parts (is_option o) _ f).0 ∙ sym (ap begins_option e) ∙ none)
 
 -- a list from a place on
 pub tail_is : (ws : List (Bor (List ℕ))) (end : ℕ) → take (length ws - end) (drop end ws) ≡ drop end ws
@@ -113,4 +110,4 @@ one_cut words os qs rest behind p q =
     nothing_left : (later : Pairs) (rest behind : List (List ℕ)) → are_plain rest ≡ true → rest ≡ option_words later ++ behind → are_options later ≡ true → later ≡ []
     nothing_left [] rest behind p e f = refl
     nothing_left (o ∷ later) rest behind p e f =
-        absurd (no_name o.0 (o.1 ∷ (option_words later ++ behind)) (both (is_option_name o.0) _ (both (is_option o) _ f).0).0 (ap are_plain (sym e) ∙ p))
+        absurd (no_name o.0 (o.1 ∷ (option_words later ++ behind)) (and_parts (is_option_name o.0) _ (and_parts (is_option o) _ f).0).0 (ap are_plain (sym e) ∙ p))

@@ -2,6 +2,7 @@
 use Rattle.std.proofs.Common.{◌≡◌, ◌∙◌, ◌||◌, ◌==◌, ◌+◌, ℕ, Bool, cond, true, false, not, suc, refl, sym, ap, arith, List, [], ◌∷◌, ◌++◌, map, take, Option, Some, None, is_some, true≢false, eqb-true, codes, if◌then◌else◌}
 use Rattle.std.proofs.lemmas.List.{append_cancel_left}
 use Rattle.std.specs.List.{list_all, list_any, before_first, position_or_len}
+use Rattle.std.proofs.lemmas.Bool.{and_parts}
 use Rattle.clap.specs.Lexer.{long_of}
 use Rattle.pgo_model.specs.ValueText.{same_bytes}
 use Rattle.pgo_model.specs.Names.{same_bytes-is, same_bytes-self}
@@ -9,7 +10,7 @@ use Rattle.pgo_words.specs.Commands.{options_of}
 use Rattle.pgo_words.specs.Options.{value_of, is_among, option_words, AreOptions}
 use Rattle.pgo_words.specs.Settings.{run_options, step_options}
 use Rattle.pgo_words.specs.Parts.{HasOptions, Pairs, Parts, are_options, are_plain, is_option_name, is_option, is_plain}
-use Rattle.pgo_words.proofs.OptionCuts.{both, joined, one_cut}
+use Rattle.pgo_words.proofs.OptionCuts.{joined, one_cut}
 use Rattle.pgo_words.proofs.OptionSteps.{dashed}
 use Rattle.pgo_words.proofs.OptionRows.{names_of, is_missing}
 use Rattle.pgo_words.proofs.OptionWalks.{AreWritten, words_of}
@@ -70,8 +71,8 @@ written_name [] e = absurd (true≢false (sym e))
 written_name (a ∷ []) e = absurd (true≢false (sym e))
 written_name (a ∷ (b ∷ [])) e = absurd (true≢false (sym e))
 written_name (a ∷ (b ∷ (x ∷ xs))) e =
-    let p = both (a == 45) _ e in
-    let q = both (b == 45) _ p.1 in
+    let p = and_parts (a == 45) _ e in
+    let q = and_parts (b == 45) _ p.1 in
     let first : a ≡ 45 = eqb-true a 45 p.0 in
     let second : b ≡ 45 = eqb-true b 45 q.0 in
     (x, xs, (λ i. first i ∷ (second i ∷ (x ∷ xs))), long_is x xs (is_not _ q.1))
@@ -79,8 +80,8 @@ written_name (a ∷ (b ∷ (x ∷ xs))) e =
 pub written : (os : Pairs) → are_options os ≡ true → (ps : Pairs) × (os ≡ dashed_all ps) × AreWritten ps
 written [] e = ([], refl, tt)
 written (o ∷ os) e =
-    let p = both (is_option o) _ e in
-    let q = both (is_option_name o.0) _ p.0 in
+    let p = and_parts (is_option o) _ e in
+    let q = and_parts (is_option_name o.0) _ p.0 in
     let w = written_name o.0 q.0 in
     let rest = written os p.1 in
     ((w.0 ∷ w.1, o.1) ∷ rest.0, (λ i. (w.2 i, o.1) ∷ rest.1 i), ((w.0, w.1, refl, w.3, q.1), rest.2))
@@ -89,23 +90,23 @@ written (o ∷ os) e =
 
 among_passes : (p : List ℕ → Bool) (ns : List (List ℕ)) (n : List ℕ) → list_all p ns ≡ true → is_among n ns ≡ true → p n ≡ true
 among_passes p [] n all e = absurd (true≢false (sym e))
-among_passes p (m ∷ ns) n all e = go (same_bytes n m) refl e (among_passes p ns n (both (p m) _ all).1)
+among_passes p (m ∷ ns) n all e = go (same_bytes n m) refl e (among_passes p ns n (and_parts (p m) _ all).1)
   where
     go : (b : Bool) → same_bytes n m ≡ b → (b || is_among n ns) ≡ true → (is_among n ns ≡ true → p n ≡ true) → p n ≡ true
-    go true t e rest = ap p (same_bytes-is n m t) ∙ (both (p m) _ all).0
+    go true t e rest = ap p (same_bytes-is n m t) ∙ (and_parts (p m) _ all).0
     go false t e rest = rest e
 
 formed_by : (ns : List (List ℕ)) (os : Pairs) → list_all is_option_name ns ≡ true → AreOptions ns os → are_plain (map (λ o. o.1) os) ≡ true → are_options os ≡ true
 formed_by ns [] names h v = refl
 formed_by ns (o ∷ os) names h v =
-    let p = both (is_plain o.1) _ v in
+    let p = and_parts (is_plain o.1) _ v in
     joined (is_option o) _ (joined (is_option_name o.0) _ (among_passes is_option_name ns o.0 names h.0) p.0) (formed_by ns os names h.2 p.1)
 
 pub plain_values : (os : Pairs) → are_options os ≡ true → are_plain (map (λ o. o.1) os) ≡ true
 plain_values [] e = refl
 plain_values (o ∷ os) e =
-    let p = both (is_option o) _ e in
-    joined (is_plain o.1) _ (both (is_option_name o.0) _ p.0).1 (plain_values os p.1)
+    let p = and_parts (is_option o) _ e in
+    joined (is_plain o.1) _ (and_parts (is_option_name o.0) _ p.0).1 (plain_values os p.1)
 
 abbrev pub options_for : Bool → List (List ℕ)
 options_for is_step = if is_step then step_options else run_options

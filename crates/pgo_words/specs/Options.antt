@@ -1,6 +1,7 @@
 -- Options among the words of a command: each is a name, and its value as the next word.
-use Rattle.std.specs.Prelude.{◌≡◌, ℕ, Bool, false, ◌||◌, IsTrue, List, [], ◌∷◌, Option, Some, None, if◌then◌else◌}
+use Rattle.std.specs.Prelude.{◌≡◌, ℕ, IsTrue, List, [], ◌∷◌, Option, Some, None, if◌then◌else◌}
 use Rattle.pgo_model.specs.ValueText.{same_bytes}
+pub use Rattle.pgo_model.specs.ValueText.{is_one_of as is_among}
 
 -- the words of these options, in order
 abbrev pub option_words : List (List ℕ × List ℕ) → List (List ℕ)
@@ -11,11 +12,6 @@ option_words (o ∷ os) = o.0 ∷ (o.1 ∷ option_words os)
 abbrev pub value_of : List ℕ → List (List ℕ × List ℕ) → Option (List ℕ)
 value_of name [] = None
 value_of name (o ∷ os) = if same_bytes name o.0 then Some o.1 else value_of name os
-
--- the name is one of these
-abbrev pub is_among : List ℕ → List (List ℕ) → Bool
-is_among name [] = false
-is_among name (n ∷ ns) = same_bytes name n || is_among name ns
 
 -- each option's name is one of these, and no two have the same
 abbrev pub AreOptions : List (List ℕ) → List (List ℕ × List ℕ) → Type 0

@@ -20,7 +20,7 @@ use Rattle.pgo_syntax.specs.declared.bound.Resource as resource
 use Rattle.pgo_syntax.specs.declared.process.Process.{Process}
 use Rattle.pgo_bound.specs.Among.{IsAmong, among_map, from_map, from_flat_map, among_nth, nth_among, nth_map}
 use Rattle.pgo_bound.specs.Sound.{Sound, IsGlobal, HasDomain, index_in}
-use Rattle.pgo_bound.specs.State.{AreDifferent, IsState, id_of, variables_of}
+use Rattle.pgo_bound.specs.State.{AreDifferent, id_of, variables_of}
 use Rattle.pgo_bound.specs.State as bound
 use Rattle.pgo_meaning.specs.System.{member_of, owned, owned_by, resource_of, system_of}
 use Rattle.pgo_sections.proofs.Domains.{same_of}

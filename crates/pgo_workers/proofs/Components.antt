@@ -2,22 +2,19 @@
 use Rattle.std.proofs.Common.{◌≡◌, Bool, true, false, List, [], ◌∷◌, map, Option, Some, None, refl, sym, ap, ◌∙◌, subst, arith}
 use Rattle.std.specs.Prelude.{if◌then◌else◌, not, ◌&&◌, option_map}
 use Rattle.std.specs.Ordering.{is_eq}
+use Rattle.std.proofs.lemmas.Bool.{and_parts}
 use Rattle.pgo_base.specs.Data.{Data, boolean, integer, string, model, set, function, pairs, graph, graph-pairs}
 use Rattle.pgo_base.specs.Exact.{data_itself}
 use Rattle.pgo_base.specs.Lookup.{Name, Vars, same_name, find}
 use Rattle.pgo_model.specs.Core.{same_index}
 use Rattle.pgo_model.specs.Log.{Component, with_part}
-use Rattle.pgo_model.specs.Names.{same_name-self, same_name-is}
+use Rattle.pgo_model.specs.Names.{same_name-self, same_name-is, turned}
 use Rattle.pgo_model.specs.Operators.{same_data, apply, lookup, replace_at}
 use Rattle.pgo_model.specs.Variables.{store}
 use Rattle.pgo_sections.proofs.Domains.{same_of}
 use Rattle.pgo_workers.specs.Worlds.{are_other, same_component}
 
 -- ---- tests
-
-pub and_parts : (a b : Bool) → a && b ≡ true → (a ≡ true) × (b ≡ true)
-and_parts true b h = (refl, h)
-and_parts false b h = absurd (grind (arith, h))
 
 pub not_true : (b : Bool) → (b ≡ true → ⊥) → b ≡ false
 not_true true h = absurd (h refl)
@@ -32,9 +29,6 @@ same_self x = ap is_eq (data_itself x)
 
 pub other_turned : (x y : Data) → same_data x y ≡ false → same_data y x ≡ false
 other_turned x y h = not_true (same_data y x) (λ e. not_both (same_data x y) (subst (λ z. same_data x z ≡ true) (sym (same_of y x e)) (same_self x)) h)
-
-pub name_turned : (x y : Name) → same_name x y ≡ false → same_name y x ≡ false
-name_turned x y h = not_true (same_name y x) (λ e. not_both (same_name x y) (subst (λ z. same_name x z ≡ true) (sym (same_name-is y x e)) (same_name-self x)) h)
 
 pub index_is : (i j : Option Data) → same_index i j ≡ true → i ≡ j
 index_is None None h = refl
@@ -73,7 +67,7 @@ apart_turned c d h = go (same_name c.variable d.variable) refl h
     go true e h =
         let n = same_name-is c.variable d.variable e in
         ap (λ b. if b then are_other d.index c.index else true) (subst (λ z. same_name d.variable z ≡ true) (sym n) (same_name-self d.variable)) ∙ others_turned c.index d.index h
-    go false e h = ap (λ b. if b then are_other d.index c.index else true) (name_turned c.variable d.variable e)
+    go false e h = ap (λ b. if b then are_other d.index c.index else true) (turned c.variable d.variable e)
 
 not_self : (i : Option Data) → are_other i i ≡ true → ⊥
 not_self None h = grind (arith, h)

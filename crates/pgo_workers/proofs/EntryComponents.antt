@@ -15,7 +15,7 @@ use Rattle.pgo_workers.specs.View.{Hold, EachHold, Once, places, resources_of}
 use Rattle.pgo_workers.specs.Worker.{changes_of}
 use Rattle.pgo_workers.specs.Sentences.{IsOwn}
 use Rattle.pgo_workers.specs.Worlds.{Layout, IsLayout, HasAll, component_at, own_component, names_of, resource_change, changed_resources, changed_own, effect_of, same_component, is_component_among, is_component_of, are_components_of, world_of}
-use Rattle.pgo_workers.proofs.Components.{index_self, same_made, apart_not_same, is_apart}
+use Rattle.pgo_workers.proofs.Components.{index_self, same_made, apart_not_same}
 use Rattle.pgo_workers.proofs.LayoutChanges.{Differ, they_differ, nth_there, component_there, own_name_here, own_name_behind, apart_names, shared_apart}
 use Rattle.pgo_workers.proofs.MadeEntries.{EachAt, changed_each, changed_once, owned}
 use Rattle.pgo_workers.proofs.Patched.{patched_own}

@@ -1,13 +1,13 @@
 -- The states along a journal whose entries are each of their own instance.
 use Rattle.std.proofs.Common.{◌≡◌, ℕ, zero, suc, Bool, true, false, List, [], ◌∷◌, ◌++◌, length, refl, sym, ap, ◌∙◌, subst}
 use Rattle.std.specs.Prelude.{if◌then◌else◌, nat_eq, ◌&&◌}
+use Rattle.std.proofs.lemmas.Bool.{and_parts}
 use Rattle.pgo_base.specs.Lookup.{Vars}
 use Rattle.pgo_model.specs.Log.{Effect}
 use Rattle.pgo_model.specs.Machine.{Entry}
 use Rattle.pgo_model.specs.MachineAccounts.{equal_or}
 use Rattle.pgo_workers.specs.View.{along, changed, own_left}
 use Rattle.pgo_workers.specs.Worlds.{Layout, IsLayout, HasAll, world_of}
-use Rattle.pgo_workers.proofs.Components.{and_parts}
 use Rattle.pgo_workers.proofs.Patched.{patched_has, patched_own, patched_else, patched_value}
 
 -- each entry changes components of resources and of its own instance alone

@@ -1,6 +1,8 @@
 -- The state after an entry that changes components of resources and of one instance.
 use Rattle.std.proofs.Common.{◌≡◌, ◌<◌, ℕ, zero, suc, Bool, true, false, List, [], ◌∷◌, length, map, Option, Some, None, refl, sym, ap, ◌∙◌, subst, arith, ◌⊎◌, inl, inr}
-use Rattle.std.specs.Prelude.{if◌then◌else◌, nat_eq, nat_lt, ◌&&◌, option_and_then, is_some, unwrap_or, ◌||◌}
+use Rattle.std.specs.Prelude.{if◌then◌else◌, nat_eq, nat_lt, ◌&&◌, is_some, ◌||◌}
+use Rattle.std.proofs.lemmas.Bool.{and_parts}
+use Rattle.std.proofs.lemmas.Option.{same_Some}
 use Rattle.pgo_base.specs.Data.{Data}
 use Rattle.pgo_base.specs.Lookup.{Name, Vars, same_name}
 use Rattle.pgo_model.specs.Core.{same_index}
@@ -11,7 +13,7 @@ use Rattle.pgo_model.specs.Names.{same_name-self, same_name-is, is_among}
 use Rattle.pgo_model.specs.Operators.{same_data}
 use Rattle.pgo_model.specs.System.{Resource}
 use Rattle.pgo_workers.specs.Worlds.{Layout, are_different, are_other, IsLayout, HasAll, component_of, component_at, own_component, names_at, names_of, same_component, is_component_among, is_component_of, are_components_of}
-use Rattle.pgo_workers.proofs.Components.{and_parts, not_true, not_both, index_is, same_is, same_made, is_apart, apart_turned}
+use Rattle.pgo_workers.proofs.Components.{not_true, not_both, index_is, same_is, same_made, is_apart, apart_turned}
 use Rattle.pgo_workers.proofs.Applied.{Comparable, EachThere}
 
 -- ---- numbers of resources
@@ -23,9 +25,6 @@ nth_there (x ∷ l) (suc n) h = nth_there l n (let z : nat_lt n (length l) ≡ t
 
 pub component_there : (rs : List Resource) (n : ℕ) (r : Resource) → nth rs n ≡ Some r → component_at rs n ≡ record { variable = r.global; index = r.index; owner = OfResource n }
 component_there rs n r h = ap (component_of n) h
-
-some_is : {A : Type 0} (a b : A) → Some a ≡ Some b → a ≡ b
-some_is a b h = cc
 
 pub own_name_here : (x z : Name) (xs : List Name) → x ≡ z → is_among x (z ∷ xs) ≡ true
 own_name_here x z xs e = ap (λ b. b || is_among x xs) (subst (λ z. same_name x z ≡ true) e (same_name-self x))
@@ -88,7 +87,7 @@ module _ (y : Layout) (layout : IsLayout y) where
     where
       go : (b : Bool) → nat_eq m n ≡ b → (same_component c d ≡ true) ⊎ (is_apart c d ≡ true)
       go true e =
-          let same : q ≡ r = some_is q r (sym at_m ∙ ap (nth y.resources) ((equal_or m n true e).0 refl) ∙ at_n) in
+          let same : q ≡ r = same_Some q r (sym at_m ∙ ap (nth y.resources) ((equal_or m n true e).0 refl) ∙ at_n) in
           inl (same_made c d (vc ∙ ap (λ r. r.global) same ∙ sym vd) (ic ∙ ap (λ r. r.index) same ∙ sym id))
       go false e = inr (shared_apart c d m n q r at_m at_n vc ic vd id ((equal_or m n false e).1 refl))
   compared c d (OfShared m q at_m vc ic) (OfOne k b at_k named id) =
@@ -102,7 +101,7 @@ module _ (y : Layout) (layout : IsLayout y) where
       by_name e false t = inr (ap (λ t. if t then are_other c.index d.index else true) t)
 
       go : (t : Bool) → nat_eq j k ≡ t → (same_component c d ≡ true) ⊎ (is_apart c d ≡ true)
-      go true e = by_name (some_is a b (sym at_j ∙ ap (nth y.ids) ((equal_or j k true e).0 refl) ∙ at_k)) (same_name c.variable d.variable) refl
+      go true e = by_name (same_Some a b (sym at_j ∙ ap (nth y.ids) ((equal_or j k true e).0 refl) ∙ at_k)) (same_name c.variable d.variable) refl
       go false e = inr (ones_apart c d j k a b at_j at_k ic id ((equal_or j k false e).1 refl))
 
   -- ---- what the test says of a change of instance k

@@ -5,7 +5,7 @@ use Rattle.pgo_base.specs.Data.{Data}
 use Rattle.pgo_base.specs.Lookup.{Name, Vars, same_name, find}
 use Rattle.pgo_model.specs.Log.{Owner, OfResource, OfInstance, Unowned, Change, Effect, differs}
 use Rattle.pgo_model.specs.Machine.{nth, among}
-use Rattle.pgo_model.specs.Names.{same_name-self, is_among}
+use Rattle.pgo_model.specs.Names.{same_name-self, is_among, turned}
 use Rattle.pgo_model.specs.Operators.{same_data}
 use Rattle.pgo_model.specs.Options.{on}
 use Rattle.pgo_model.specs.System.{Resource}
@@ -16,7 +16,6 @@ use Rattle.pgo_workers.specs.Worker as worker
 use Rattle.pgo_workers.specs.Sentences.{IsOwn}
 use Rattle.pgo_workers.proofs.LayoutChanges.{Differ, they_differ}
 use Rattle.pgo_workers.specs.Worlds.{Layout, IsLayout, component_of, component_at, own_component, names_at, names_of, own_at, own_change, own_behind, resource_changes, resource_change, put_in_order, changed_resources, changed_own, effect_of, world_of}
-use Rattle.pgo_workers.proofs.Components.{name_turned}
 
 -- ---- holds, and the changes of resources
 
@@ -250,7 +249,7 @@ module _ (k : ℕ) (id : Data) (next : Own) where
           → (is_among p.0 (map (λ p. p.0) qs) ≡ false → map {B = Name × Data} (λ q. (q.0, on q.1 (own_change q.0 (changed_own k id (p ∷ all) next)) (λ v. v))) qs ≡ map {B = Name × Data} (λ q. (q.0, on q.1 (own_change q.0 (changed_own k id all next)) (λ v. v))) qs)
           → map {B = Name × Data} (λ q. (q.0, on q.1 (own_change q.0 (changed_own k id (p ∷ all) next)) (λ v. v))) (q ∷ qs) ≡ map {B = Name × Data} (λ q. (q.0, on q.1 (own_change q.0 (changed_own k id all next)) (λ v. v))) (q ∷ qs)
       go true e h ih = absurd (grind (arith, h))
-      go false e h ih = let m = made (name_turned p.0 q.0 e) (find p.0 next) in λ i. (q.0, on q.1 (m i) (λ v. v)) ∷ ih h i
+      go false e h ih = let m = made (turned p.0 q.0 e) (find p.0 next) in λ i. (q.0, on q.1 (m i) (λ v. v)) ∷ ih h i
 
   own_found : (o : Own) → Differ (map (λ p. p.0) o) → map {B = Name × Data} (λ p. (p.0, on p.1 (own_change p.0 (changed_own k id o next)) (λ v. v))) o ≡ map {B = Name × Data} (λ p. (p.0, on p.1 (find p.0 next) (λ v. v))) o
   own_found [] d = refl
@@ -265,7 +264,7 @@ found_behind q next (p ∷ o) h = go (same_name q.0 p.0) refl h (λ h. found_beh
         → (is_among q.0 (map (λ p. p.0) o) ≡ false → map {B = Name × Data} (λ p. (p.0, on p.1 (find p.0 (q ∷ next)) (λ v. v))) o ≡ map {B = Name × Data} (λ p. (p.0, on p.1 (find p.0 next) (λ v. v))) o)
         → map {B = Name × Data} (λ p. (p.0, on p.1 (find p.0 (q ∷ next)) (λ v. v))) (p ∷ o) ≡ map {B = Name × Data} (λ p. (p.0, on p.1 (find p.0 next) (λ v. v))) (p ∷ o)
     go true e h ih = absurd (grind (arith, h))
-    go false e h ih = let n = name_turned q.0 p.0 e in λ i. (p.0, on p.1 (if n i then Some q.1 else find p.0 next) (λ v. v)) ∷ ih h i
+    go false e h ih = let n = turned q.0 p.0 e in λ i. (p.0, on p.1 (if n i then Some q.1 else find p.0 next) (λ v. v)) ∷ ih h i
 
 found_all : (o next : Own) → Differ (map (λ p. p.0) o) → map (λ p. p.0) o ≡ map (λ p. p.0) next → map {B = Name × Data} (λ p. (p.0, on p.1 (find p.0 next) (λ v. v))) o ≡ next
 found_all [] [] d e = refl

@@ -1,6 +1,7 @@
 -- An entry of one instance leads to a state in which what it changes has become so, and all else is as before.
 use Rattle.std.proofs.Common.{◌≡◌, ℕ, Bool, true, false, List, [], ◌∷◌, map, Option, Some, None, refl, sym, ap, ◌∙◌, subst, arith}
 use Rattle.std.specs.Prelude.{if◌then◌else◌, nat_eq, ◌&&◌, is_some, unwrap_or}
+use Rattle.std.proofs.lemmas.Option.{same_Some}
 use Rattle.pgo_base.specs.Data.{Data}
 use Rattle.pgo_base.specs.Lookup.{Name, Vars, same_name}
 use Rattle.pgo_model.specs.Core.{same_index}
@@ -11,14 +12,10 @@ use Rattle.pgo_model.specs.Names.{is_among}
 use Rattle.pgo_model.specs.Options.{on}
 use Rattle.pgo_model.specs.System.{Resource}
 use Rattle.pgo_workers.specs.View.{changed}
-use Rattle.pgo_workers.specs.Walk.{Own}
 use Rattle.pgo_workers.specs.Worlds.{Layout, IsLayout, HasAll, or_nothing, own_component, names_at, names_of, own_at, own_change, own_behind, resource_changes, same_component, is_component_among, are_components_of, world_of}
 use Rattle.pgo_workers.proofs.Components.{index_self, same_made, apart_turned, apart_not_same}
 use Rattle.pgo_workers.proofs.Applied.{given_by, or_that, Applied, applied}
 use Rattle.pgo_workers.proofs.LayoutChanges.{nth_there, component_there, own_name_here, own_name_behind, IsPart, OfShared, OfOne, Whose, IsShared, IsOne, whose, First, first, comparable, part_in, each_there, apart_names, shared_apart, ones_apart}
-
-some_is : {A : Type 0} (a b : A) → Some a ≡ Some b → a ≡ b
-some_is a b h = cc
 
 -- what the later changes don't have isn't given by them
 given_none : (d c : Component) (cs : List Change) → d.variable ≡ c.variable → d.index ≡ c.index → is_component_among c (map (λ d. d.component) cs) ≡ false → given_by d cs ≡ None
@@ -92,7 +89,7 @@ module _ (y : Layout) (layout : IsLayout y) (k : ℕ) where
 
           here : (b : Bool) → nat_eq m n ≡ b → changed (resource_changes (c ∷ cs)) n x ≡ on x (given_by d (c ∷ cs)) (λ v. v)
           here true e =
-              let same : q ≡ r = some_is q r (sym at_m ∙ ap (nth y.resources) ((equal_or m n true e).0 refl) ∙ at_n) in
+              let same : q ≡ r = same_Some q r (sym at_m ∙ ap (nth y.resources) ((equal_or m n true e).0 refl) ∙ at_n) in
               let v : d.variable ≡ c.component.variable = sym (vc ∙ ap (λ r. r.global) same) in
               let i : d.index ≡ c.component.index = sym (ic ∙ ap (λ r. r.index) same) in
               opened ∙ ap (λ b. if b then c.value else changed (resource_changes cs) n x) e
@@ -146,7 +143,7 @@ module _ (y : Layout) (layout : IsLayout y) (k : ℕ) where
         there = ap (λ b. if b then after_changes d.changes s else None) all.1.present ∙ all.1.there
 
     patched_is : (world_of y).patched s d ≡ all.0
-    patched_is = some_is ((world_of y).patched s d) all.0 (sym after_is ∙ ap (λ b. if b then after_changes d.changes s else None) all.1.present ∙ all.1.there)
+    patched_is = same_Some ((world_of y).patched s d) all.0 (sym after_is ∙ ap (λ b. if b then after_changes d.changes s else None) all.1.present ∙ all.1.there)
 
     -- its variables are the same
     pub patched_names : map (λ p. p.0) ((world_of y).patched s d) ≡ map (λ p. p.0) s

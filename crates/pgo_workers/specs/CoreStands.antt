@@ -3,7 +3,7 @@ use Rattle.std.proofs.Common.{◌≡◌, ◌≤◌, ◌<◌, ℕ, suc, ◌+◌, 
 use Rattle.std.specs.Prelude.{if◌then◌else◌, nat_eq, nat_lt}
 use Rattle.pgo_base.specs.Data.{Data}
 use Rattle.pgo_model.specs.Outcome.{Kind, Outcome, Next, Stuck, Nowhere}
-use Rattle.pgo_model.specs.Machine.{Rules, Entry, Note, Record, Step, Noted, Held, Down, Full, Machine, among, nth, put, is_empty, state_at, with_record, attempt_of, tells, goes_on, takes, taking, counted as counting, pre_committing, noting, gives, last_state, section, appended, committing, step}
+use Rattle.pgo_model.specs.Machine.{Entry, Note, Record, Step, Noted, Held, Down, Full, Machine, among, nth, put, is_empty, state_at, with_record, attempt_of, tells, goes_on, takes, taking, counted as counting, pre_committing, gives, last_state, section, appended, committing, step}
 use Rattle.pgo_model.specs.Machine as machine
 use Rattle.pgo_model.specs.MachineAccounts.{equal_or}
 use Rattle.pgo_model.specs.MachineLists.{state_next, nth_below}

@@ -6,7 +6,7 @@ use Rattle.pgo_model.specs.Outcome.{Kind, Outcome, Next}
 use Rattle.pgo_model.specs.Machine.{Rules, Machine, Event, Take, Operate, PreCommit, Commit, Noting, among, pre_commits, last_events, events, nth, put, last_ends, attempt_of, goes_on, taking, pre_committing, noting, gives, last_state, section, has_ended, committing, does, step}
 use Rattle.pgo_workers.specs.Walk.{Own, End, Goes, Sticks, Walk, Stop, Touch, Agrees, visits, ending, taken_after}
 use Rattle.pgo_workers.specs.View.{Hold, View, World, EachHold, resources_of, values_of}
-use Rattle.pgo_workers.specs.Worker.{Program, rules_of, Phase, Resting, Walking, Giving, Worker, with_held, finished, walks_on, attempt, rest_of, readied_of, Goes_on, is_giving, changes_of}
+use Rattle.pgo_workers.specs.Worker.{Program, rules_of, Phase, Resting, Walking, Giving, Worker, attempt, rest_of, readied_of, Goes_on, is_giving}
 use Rattle.pgo_workers.specs.Worker as spec
 use Rattle.pgo_workers.specs.Sentences.{Place, Under, Meets, Runs}
 use Rattle.pgo_workers.specs.Kept.{under, all_taken, before_take, touch_same, stop_touch}

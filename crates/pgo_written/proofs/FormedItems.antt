@@ -1,5 +1,5 @@
 -- The action of a label is well formed, where its expansion is.
-use Rattle.std.proofs.Common.{Bool, true, false, inr, if◌then◌else◌, List, [], ◌∷◌, ◌++◌, codes, Option, Some, None, refl, arith}
+use Rattle.std.proofs.Common.{Bool, true, false, inr, if◌then◌else◌, List, [], ◌∷◌, codes, Option, Some, None, refl, arith}
 use Rattle.std.specs.List.{AllByRecursion}
 use Rattle.pgo_base.specs.declared.expr.Infix.{Infix}
 use Rattle.pgo_base.specs.declared.expr.Infix.TheVariants as infixs
@@ -12,6 +12,7 @@ use Rattle.pgo_expr_write.specs.WellFormed.{IsWellFormed, IsName, AreNames}
 use Rattle.pgo_model.specs.Names.{is_among}
 use Rattle.pgo_sections.specs.Expansion.{Expansion, With, In, Skip, Await, Assert, Print, If, Either, End, Expansions, no_expansions, more_expansions}
 use Rattle.pgo_translate.specs.Items.{equals, at_self, items, arm_trees, assigned_to, assigned, assignments, stays, staying, unless_none, action_body}
+use Rattle.pgo_agrees.proofs.EachToken.{all_joined}
 use Rattle.pgo_written.specs.FormedCode.{IsText, ExpansionFormed, ExpansionsFormed}
 use Rattle.pgo_written.proofs.FormedExpansion.{StandForNames, IfName, found}
 use Rattle.pgo_written.proofs.WrittenNames.{self_is_name}
@@ -20,10 +21,6 @@ use Rattle.pgo_written.proofs.WrittenNames.{self_is_name}
 
 abbrev pub AllWell : List Tree → Type 0
 AllWell ts = AllByRecursion IsWellFormed ts
-
-pub well_append : (ts us : List Tree) → AllWell ts → AllWell us → AllWell (ts ++ us)
-well_append [] us h g = g
-well_append (t ∷ ts) us h g = (h.0, well_append ts us h.1 g)
 
 joined_well : (o : Infix) (a : Tree) (ts : List Tree) → IsWellFormed a → AllWell ts → IsWellFormed (joined_by o a ts)
 joined_well o a [] h g = h
@@ -79,7 +76,7 @@ module _ (vars globals : List Name) where
   assignments_well : (changes : List (Name × Name)) (l : Name) (xs : List Name) → StandForNames changes → IsText l → AreNames xs → AllWell (assignments vars globals changes l xs)
   assignments_well changes l [] c t h = tt
   assignments_well changes l (x ∷ xs) c t h =
-      well_append (assigned vars globals changes l x) (assignments vars globals changes l xs) (assigned_well changes l x c t h.0) (assignments_well changes l xs c t h.1)
+      all_joined IsWellFormed (assigned vars globals changes l x) (assignments vars globals changes l xs) (assigned_well changes l x c t h.0) (assignments_well changes l xs c t h.1)
 
   staying_names : (changes : List (Name × Name)) (xs : List Name) → AreNames xs → AreNames (staying vars globals changes xs)
   staying_names changes [] h = tt
@@ -107,7 +104,7 @@ module _ (vars globals : List Name) where
       items_well (If e a b) h = ((h.0, all_well (items vars globals a) (items_well a h.1), all_well (items vars globals b) (items_well b h.2)), tt)
       items_well (Either arms) h = (any_well (arm_trees vars globals arms) (arms_well arms h), tt)
       items_well (End changes l) h =
-          well_append (assignments vars globals changes l vars) (unless_none vars globals (staying vars globals changes vars)) (assignments_well changes l vars h.0 h.1 names) (unchanged_well (staying vars globals changes vars) (staying_names changes vars names))
+          all_joined IsWellFormed (assignments vars globals changes l vars) (unless_none vars globals (staying vars globals changes vars)) (assignments_well changes l vars h.0 h.1 names) (unchanged_well (staying vars globals changes vars) (staying_names changes vars names))
 
       arms_well : (xs : Expansions) → ExpansionsFormed xs → AllWell (arm_trees vars globals xs)
       arms_well no_expansions h = tt

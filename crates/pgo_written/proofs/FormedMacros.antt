@@ -20,12 +20,12 @@ use Rattle.pgo_expr_write.specs.WellFormed.{AreNames}
 use Rattle.pgo_model.specs.Names.{is_among}
 use Rattle.pgo_meaning.specs.LabelSections.{AreUnlabelled}
 use Rattle.pgo_meaning.specs.MacrosPlaced.{marked, unmarked, Arguments, argument, put_tree, put_step, only, with_step, left_of, put_left, put_assignment, put_origin, with_marked, put_names, under_names, put, put_each, put_among, put_guarded, Body, Bodies, handed, walked, placed, placed_each, placed_among, placed_guarded, bodies_with, bodies}
+use Rattle.pgo_meaning.proofs.Traces.{among_first}
 use Rattle.pgo_written.specs.Formed.{Formed, SomeFormed, RangeFormed}
 use Rattle.pgo_written.specs.FormedCode.{IsShort}
 use Rattle.pgo_written.specs.FormedSpec.{MacroFormed}
 use Rattle.pgo_written.specs.FormedStatements.{Known, OriginFormed, PathFormed, AssignmentsFormed, WithsFormed, in_with, EachTree, StatementFormed, EachFormed, LabeledFormed, GuardedFormed}
 use Rattle.pgo_written.proofs.FormedTrees.{weaker, replaced_formed, range_replaced, bound_name}
-use Rattle.pgo_agrees.proofs.GoodCode.{first_there}
 use Rattle.pgo_agrees.proofs.Stands.{or_second}
 use Rattle.pgo_written.proofs.FormedSections.{one_of}
 use Rattle.pgo_written.proofs.WrittenNames.{name_text}
@@ -95,7 +95,7 @@ standing_more es ns ms w s = record {
     there x false h = s.there x h
 
     formed : (x : Name) (t : Tree) (b : Bool) → (if b then Some (name (marked w.name.name)) else find x es) ≡ Some t → Formed (Known (marked w.name.name ∷ ms)) t
-    formed x t true h = let same : name (marked w.name.name) ≡ t = cc in subst (Formed (Known (marked w.name.name ∷ ms))) same (inr (first_there (marked w.name.name) ms))
+    formed x t true h = let same : name (marked w.name.name) ≡ t = cc in subst (Formed (Known (marked w.name.name ∷ ms))) same (inr (among_first (marked w.name.name) ms))
     formed x t false h = weaker (Known ms) (Known (marked w.name.name ∷ ms)) (known_more (marked w.name.name) ms) t (s.formed x t h)
 
 module _ (es : Arguments) (ns ms : List Name) (s : Standing es ns ms) where

@@ -28,10 +28,11 @@ use Rattle.pgo_meaning.specs.LabelSections.{AreUnlabelled}
 use Rattle.pgo_pluscal.specs.PlusCalOf.{ids_tree, parameter_declaration, local_declaration, own_declarations, process_of, pluscal_of}
 use Rattle.pgo_translate.specs.ModuleOf.{module_of, definitions_of, global_starts, own_starts, for_each_id, process_starts, first_label, first_arm, places_start, start_items}
 use Rattle.pgo_translate.proofs.ByProcess.{module_is, written_process, label_actions, global_names}
+use Rattle.pgo_agrees.proofs.EachToken.{all_joined}
 use Rattle.pgo_written.specs.FormedCode.{IsShort, IsText}
 use Rattle.pgo_written.specs.FormedModule.{DefinedFormed, ActionFormed, WrittenFormed, ModuleFormed}
 use Rattle.pgo_written.specs.FormedSpec.{NameShort, DefinitionFormed, IfStartFormed, DeclarationFormed, ArchetypeFormed, ArgumentFormed, ProcessFormed, SpecFormed}
-use Rattle.pgo_written.proofs.FormedItems.{AllWell, well_append, all_well, any_well, union_well, pc_is_name, stands_well, action_well}
+use Rattle.pgo_written.proofs.FormedItems.{AllWell, all_well, any_well, union_well, pc_is_name, stands_well, action_well}
 use Rattle.pgo_written.proofs.FormedProcesses.{AllYield, LabelExpanded, HandedFormed, handed_formed, archetype_formed, process_formed}
 use Rattle.pgo_written.proofs.FormedTrees.{well_formed, range_well}
 use Rattle.pgo_written.proofs.WrittenNames.{short_name, base_name, written_base, self_is_name, name_text}
@@ -68,10 +69,6 @@ definitions_formed : (ds : List Definition) → AllByRecursion DefinitionFormed 
 definitions_formed [] h = tt
 definitions_formed (d ∷ ds) h =
     ((short_name d.name.name h.0.0, placed_names d.params h.0.1, well_formed d.body h.0.2), definitions_formed ds h.1)
-
-all_append : {A : Type 0} (P : A → Type 0) (xs ys : List A) → AllByRecursion P xs → AllByRecursion P ys → AllByRecursion P (xs ++ ys)
-all_append P [] ys h g = g
-all_append P (x ∷ xs) ys h g = (h.0, all_append P xs ys h.1 g)
 
 -- ---- starts
 
@@ -154,7 +151,7 @@ module _ (s : Spec) (f : SpecFormed s) (y : AllYield s.mappings) (u : AreUnlabel
       go None e = tt
       go (Some a) e =
           let h = formed_archetype p.archetype.name a e in
-          all_append DeclaredWell (filter_map (λ h. parameter_declaration p.name.name h.parameter.name h.argument) (handed_from 1 a.params p.arguments)) (map (local_declaration p.name.name) a.locals) (parameters_well p.name.name g.0 (handed_from 1 a.params p.arguments) (handed_formed 1 a.params p.arguments h.0 g.2)) (locals_well p.name.name g.0 a.locals h.1 (k.locals a e))
+          all_joined DeclaredWell (filter_map (λ h. parameter_declaration p.name.name h.parameter.name h.argument) (handed_from 1 a.params p.arguments)) (map (local_declaration p.name.name) a.locals) (parameters_well p.name.name g.0 (handed_from 1 a.params p.arguments) (handed_formed 1 a.params p.arguments h.0 g.2)) (locals_well p.name.name g.0 a.locals h.1 (k.locals a e))
 
   own_short : (p : Process) → ProcessFormed p → AllByRecursion IsShort (own_names s p)
   own_short p g = go (archetype_named p.archetype.name s.archetypes) refl
@@ -163,7 +160,7 @@ module _ (s : Spec) (f : SpecFormed s) (y : AllYield s.mappings) (u : AreUnlabel
       go None e = tt
       go (Some a) e =
           let h = formed_archetype p.archetype.name a e in
-          all_append IsShort (filter_map (λ h. value_name h.parameter.name.name h.argument) (handed_from 1 a.params p.arguments)) (map (λ d. d.name.name) a.locals) (parameter_names_short p.name.name g.0 (handed_from 1 a.params p.arguments) (handed_formed 1 a.params p.arguments h.0 g.2)) (local_names_short p.name.name g.0 a.locals h.1)
+          all_joined IsShort (filter_map (λ h. value_name h.parameter.name.name h.argument) (handed_from 1 a.params p.arguments)) (map (λ d. d.name.name) a.locals) (parameter_names_short p.name.name g.0 (handed_from 1 a.params p.arguments) (handed_formed 1 a.params p.arguments h.0 g.2)) (local_names_short p.name.name g.0 a.locals h.1)
 
   -- ---- variables
 
@@ -226,7 +223,7 @@ module _ (s : Spec) (f : SpecFormed s) (y : AllYield s.mappings) (u : AreUnlabel
   process_starts_well : (ps : List Process) → AllByRecursion ProcessFormed ps → AllByRecursion (ProcessFits s) ps → AllWell (flat_map process_starts (map (process_of s) ps))
   process_starts_well [] g k = tt
   process_starts_well (p ∷ ps) g k =
-      well_append (process_starts (process_of s p)) (flat_map process_starts (map (process_of s) ps)) (owns_well (ids_tree p.ids) k.0.ids (on [] (archetype_named p.archetype.name s.archetypes) (own_declarations p)) (own_declared p g.0 k.0)) (process_starts_well ps g.1 k.1)
+      all_joined IsWellFormed (process_starts (process_of s p)) (flat_map process_starts (map (process_of s) ps)) (owns_well (ids_tree p.ids) k.0.ids (on [] (archetype_named p.archetype.name s.archetypes) (own_declarations p)) (own_declared p g.0 k.0)) (process_starts_well ps g.1 k.1)
 
   first_text : (ls : List (Name × Expansion)) → AllByRecursion LabelExpanded ls → IsText (first_label ls)
   first_text [] h = done_text
@@ -243,8 +240,8 @@ module _ (s : Spec) (f : SpecFormed s) (y : AllYield s.mappings) (u : AreUnlabel
   module _ (k : AllByRecursion (ProcessFits s) s.processes) where
     init_well : AllWell (start_items (pluscal_of s))
     init_well =
-        well_append (map (λ d. global_starts d.name.name d.initial) s.globals ++ (places_start (map (process_of s) s.processes) ∷ [])) (flat_map process_starts (map (process_of s) s.processes))
-        (well_append (map (λ d. global_starts d.name.name d.initial) s.globals) (places_start (map (process_of s) s.processes) ∷ []) (globals_well s.globals f.globals)
+        all_joined IsWellFormed (map (λ d. global_starts d.name.name d.initial) s.globals ++ (places_start (map (process_of s) s.processes) ∷ [])) (flat_map process_starts (map (process_of s) s.processes))
+        (all_joined IsWellFormed (map (λ d. global_starts d.name.name d.initial) s.globals) (places_start (map (process_of s) s.processes) ∷ []) (globals_well s.globals f.globals)
         ((pc_is_name, inr (for_each_well (name proc_set) (case_of (arms (map first_arm (map (process_of s) s.processes)))) set_is_name (some_arms s.processes f.some f.processes k))), tt))
         (process_starts_well s.processes f.processes k)
 
@@ -254,12 +251,12 @@ module _ (s : Spec) (f : SpecFormed s) (y : AllYield s.mappings) (u : AreUnlabel
     module_formed = subst ModuleFormed (module_is s) (record {
       name = short_name s.name.name f.name;
       constants = placed_names s.constants f.constants;
-      definitions = all_append DefinedFormed (definitions_of s.definitions) (definitions_of (define_of s.define)) (definitions_formed s.definitions f.definitions) (definitions_formed (define_of s.define) f.define);
+      definitions = all_joined DefinedFormed (definitions_of s.definitions) (definitions_of (define_of s.define)) (definitions_formed s.definitions f.definitions) (definitions_formed (define_of s.define) f.define);
       variables = variables_named;
       some_variable = some_variable;
       sets = union_well (map (λ q. q.ids) (map (written_process s) s.processes)) (sets_well s.processes k);
       init = all_well (start_items (pluscal_of s)) init_well;
       processes = all_written s.processes f.processes k;
       ending = ((((self_is_name, tt), inr set_is_name, tt), stands_well done done_text), inr (unchanged_names (variables_of s) variables_named some_variable));
-      next = any_well (map process_step (map (written_process s) s.processes) ++ (name terminating ∷ [])) (well_append (map process_step (map (written_process s) s.processes)) (name terminating ∷ []) (steps_well s.processes f.processes k) (terminating_is_name, tt));
+      next = any_well (map process_step (map (written_process s) s.processes) ++ (name terminating ∷ [])) (all_joined IsWellFormed (map process_step (map (written_process s) s.processes)) (name terminating ∷ []) (steps_well s.processes f.processes k) (terminating_is_name, tt));
     })

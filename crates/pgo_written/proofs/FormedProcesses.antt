@@ -1,5 +1,5 @@
 -- The expansions of a process's labels are well formed, where its specification's text is.
-use Rattle.std.proofs.Common.{◌≡◌, ◌≤◌, ℕ, suc, Bool, true, false, ◌||◌, inl, inr, if◌then◌else◌, List, [], ◌∷◌, ◌++◌, map, Option, Some, None, option_map, refl, ◌∙◌, subst, arith}
+use Rattle.std.proofs.Common.{◌≡◌, ◌≤◌, ℕ, suc, Bool, true, false, ◌||◌, inl, inr, if◌then◌else◌, List, [], ◌∷◌, map, Option, Some, None, option_map, refl, ◌∙◌, subst, arith}
 use Rattle.std.specs.List.{AllByRecursion}
 use Rattle.pgo_base.specs.Lookup.{Name, same_name, find}
 use Rattle.pgo_model.specs.Options.{on}
@@ -33,6 +33,7 @@ use Rattle.pgo_meaning.specs.LabelSections.{AreUnlabelled}
 use Rattle.pgo_meaning.specs.MacrosPlaced.{bodies, placed_among}
 use Rattle.pgo_meaning.specs.Parameters.{block_setting, reads_by, writes_by, mapped_of, all_mapped, place_of, parameter_places, local_places, places_of, setting_of}
 use Rattle.pgo_meaning.specs.Sections.{sections_of}
+use Rattle.pgo_agrees.proofs.EachToken.{all_joined}
 use Rattle.pgo_written.specs.FormedCode.{IsShort, IsBase, Alone, CodeFormed, ExpansionFormed}
 use Rattle.pgo_written.specs.FormedSpec.{NameShort, DeclarationFormed, MacroFormed, MappingFormed, ParameterFormed, ArchetypeFormed, ArgumentFormed, ProcessFormed, SpecFormed}
 use Rattle.pgo_written.specs.FormedStatements.{Known}
@@ -153,10 +154,6 @@ module _ (s : Spec) (f : AllByRecursion MappingFormed s.mappings) (y : AllYield 
   locals_each p short [] g = tt
   locals_each p short (d ∷ ds) g = (written_base p d.name.name short g.0.0, locals_each p short ds g.1)
 
-  append_each : (ps qs : List (Name × Place)) → EachPlace ps → EachPlace qs → EachPlace (ps ++ qs)
-  append_each [] qs h g = g
-  append_each (p ∷ ps) qs h g = (h.0, append_each ps qs h.1 g)
-
   found_place : (ps : List (Name × Place)) → EachPlace ps → (x : Name) (q : Place) → find x ps ≡ Some q → IsBase (variable_of q)
   found_place [] h x q e = absurd (cc)
   found_place (p ∷ ps) h x q e = go (same_name x p.0) e (found_place ps h.1 x q)
@@ -179,7 +176,7 @@ module _ (s : Spec) (f : AllByRecursion MappingFormed s.mappings) (y : AllYield 
     hands = handed_formed 1 a.params p.arguments h.0 g.2
 
     each_place : EachPlace (places_of p.name.name a (process_bindings s p a))
-    each_place = append_each (parameter_places p.name.name (process_bindings s p a)) (local_places p.name.name a.locals) (places_each p.name.name g.0 p.clauses (handed_from 1 a.params p.arguments) hands) (locals_each p.name.name g.0 a.locals h.1)
+    each_place = all_joined _ (parameter_places p.name.name (process_bindings s p a)) (local_places p.name.name a.locals) (places_each p.name.name g.0 p.clauses (handed_from 1 a.params p.arguments) hands) (locals_each p.name.name g.0 a.locals h.1)
 
     setting : SettingFormed (setting_of p.name.name a (process_bindings s p a))
     setting = record {

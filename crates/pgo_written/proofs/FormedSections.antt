@@ -20,8 +20,10 @@ use Rattle.pgo_sections.specs.Code.{Place, Whole, variable_of, Code, Empty, Let,
 use Rattle.pgo_meaning.specs.Labels.{own, labelled, within, within_branches, within_arms, within_order}
 use Rattle.pgo_meaning.specs.MacrosPlaced.{unmarked}
 use Rattle.pgo_meaning.specs.Statements.{Setting, Part, Index, Field, part_tree, index_of, label_of, alone, to_variable, assigned, steps, assign_all, assignment_code, bind_name, bind_names, code, branches, arms, in_order}
-use Rattle.pgo_agrees.proofs.GoodCode.{first_there, less_or_same}
+use Rattle.pgo_meaning.proofs.Traces.{among_first}
+use Rattle.pgo_agrees.proofs.GoodCode.{less_or_same}
 use Rattle.pgo_agrees.proofs.Stands.{Above, or_second}
+use Rattle.pgo_agrees.proofs.EachToken.{all_joined, one_more}
 use Rattle.pgo_written.specs.Formed.{Formed, AllFormed, SomeFormed, RangeFormed}
 use Rattle.pgo_sections.specs.WellFormed.{KnownIndex}
 use Rattle.pgo_written.specs.FormedCode.{IsShort, IsBase, IsText, Alone, CodeFormed, CodesFormed}
@@ -100,7 +102,7 @@ module _ (st : Setting) (r : SettingFormed st) where
     where
       go : (i : ℕ) → (i < j) ⊎ (i ≡ j) → is_among (place i) (place j ∷ ws) ≡ true
       go i (inl l) = in_front (place j) ws (place i) (s.places i l)
-      go i (inr e) = subst (λ n. is_among (place n) (place j ∷ ws) ≡ true) (sym e) (first_there (place j) ws)
+      go i (inr e) = subst (λ n. is_among (place n) (place j ∷ ws) ≡ true) (sym e) (among_first (place j) ws)
 
   fresh : (ns ws : List Name) (k : ℕ) → Scope ns ws k → Scope ns ws 0
   fresh ns ws k s = lower st.places (Known ns) ws 0 k (omega arith) s
@@ -140,7 +142,7 @@ module _ (st : Setting) (r : SettingFormed st) where
           let zs = place k ∷ ws in
           let us = place (suc k) ∷ zs in
           let rest = more us (subst (Scope ns us) (sym w.next) (with_place ns zs (suc k) (with_place ns ws k s))) c (λ ys y a. f ys y (λ x g. a x (in_front (place (suc k)) zs x (in_front (place k) ws x g)))) in
-          subst (λ o. Good ws (starts b bs c o b.value)) (sym w.index) (subst (λ v. Good ws (starts b bs c (Some (place k, w.tree)) v)) (sym w.value) ((refl, omega arith), w.formed ws s, (m.global, first_there (place k) ws, m.reads, rest)))
+          subst (λ o. Good ws (starts b bs c o b.value)) (sym w.index) (subst (λ v. Good ws (starts b bs c (Some (place k, w.tree)) v)) (sym w.value) ((refl, omega arith), w.formed ws s, (m.global, among_first (place k) ws, m.reads, rest)))
 
   evaluated_good : (ns ws : List Name) (e : Tree) (k : ℕ) (f : Tree → ℕ → Code) → Formed (Known ns) e → Scope ns ws k
       → ((us : List Name) (t : Tree) (l : ℕ) → Scope ns us l → Above ws us → Formed (Alone st.places us) t → Good us (f t l)) → Good ws (evaluated st.mapped e k f)
@@ -169,10 +171,6 @@ module _ (st : Setting) (r : SettingFormed st) where
   lasting_more ns ws us [] a h = tt
   lasting_more ns ws us (c ∷ cs) a h = (λ zs k s b. h.0 zs k s (λ x g. b x (a x g)), lasting_more ns ws us cs a h.1)
 
-  lasting_end : (ns ws : List Name) (cs : List Code) (c : Code) → AllLasting ns ws cs → Lasting ns ws c → AllLasting ns ws (cs ++ c ∷ [])
-  lasting_end ns ws [] c h g = (g, tt)
-  lasting_end ns ws (d ∷ cs) c h g = (h.0, lasting_end ns ws cs c h.1 g)
-
   in_turn_good : (ns ws : List Name) (k : ℕ) (cs : List Code) → Scope ns ws k → AllLasting ns ws cs → Good ws (in_turn cs)
   in_turn_good ns ws k [] s h = tt
   in_turn_good ns ws k (c ∷ cs) s h = (h.0 ws k s (above_here ws), in_turn_good ns ws k cs s h.1)
@@ -182,7 +180,7 @@ module _ (st : Setting) (r : SettingFormed st) where
   steps_good ns ws [] k f g s h = h ws [] k tt s (above_here ws)
   steps_good ns ws (step.Index e ∷ path) k f g s h =
       evaluated_good ns ws e k (λ e' k'. Let at_base (place k') e' (steps st path (suc k') (λ ps. f (Index (place k') ∷ ps)))) g.0 s (λ us t l z a p.
-      let rest = steps_good ns (place l ∷ us) path (suc l) (λ ps. f (Index (place l) ∷ ps)) g.1 (with_place ns us l z) (λ ys ps n i y b. h ys (Index (place l) ∷ ps) n (b (place l) (first_there (place l) us), i) y (λ x c. b x (in_front (place l) us x (a x c)))) in
+      let rest = steps_good ns (place l ∷ us) path (suc l) (λ ps. f (Index (place l) ∷ ps)) g.1 (with_place ns us l z) (λ ys ps n i y b. h ys (Index (place l) ∷ ps) n (b (place l) (among_first (place l) us), i) y (λ x c. b x (in_front (place l) us x (a x c)))) in
       ((refl, omega arith), p, rest))
   steps_good ns ws (step.Field x ∷ path) k f g s h =
       steps_good ns ws path k (λ ps. f (Field x ∷ ps)) g.1 s (λ us ps l i z a. h us (Field x ∷ ps) l (g.0, i) z a)
@@ -230,7 +228,7 @@ module _ (st : Setting) (r : SettingFormed st) where
       let here = place n ∷ ys in
       let up : Above ws here = λ x c. in_front (place n) ys x (d x (b x c)) in
       let from : Above us here = λ x c. in_front (place n) ys x (d x c) in
-      let rest = assign_good ns here as' (suc n) (cs ++ assigned st a.left.name.name ps (place n) ∷ []) g.2 (with_place ns ys n y) (lasting_end ns here cs (assigned st a.left.name.name ps (place n)) (lasting_more ns ws here cs up h) (assigned_lasting ns here a.left.name.name ps (place n) (parts_more us here ps from i) (first_there (place n) ys))) in
+      let rest = assign_good ns here as' (suc n) (cs ++ assigned st a.left.name.name ps (place n) ∷ []) g.2 (with_place ns ys n y) (one_more (Lasting ns here) cs (assigned st a.left.name.name ps (place n)) (lasting_more ns ws here cs up h) (assigned_lasting ns here a.left.name.name ps (place n) (parts_more us here ps from i) (among_first (place n) ys))) in
       ((refl, omega arith), p, rest)))
 
   -- an expression that is not evaluated so
@@ -311,10 +309,6 @@ module _ (st : Setting) (r : SettingFormed st) where
     abbrev pub AllGood : List (Name × Code) → Type 0
     AllGood cs = AllByRecursion (λ c. IsName c.0 × Good [] c.1) cs
 
-    joined : (cs ds : List (Name × Code)) → AllGood cs → AllGood ds → AllGood (cs ++ ds)
-    joined [] ds h g = g
-    joined (c ∷ cs) ds h g = (h.0, joined cs ds h.1 g)
-
     nothing_bound : (ns : List Name) → AreNames ns → Scope ns [] 0
     nothing_bound ns a = record { names = λ x h. one_of h (λ n. inl n) (λ e. inl (bound_name x ns a e)); places = λ j h. absurd (omega (arith, h)) }
 
@@ -343,7 +337,7 @@ module _ (st : Setting) (r : SettingFormed st) where
       within_none (skip p) c ns l d g = tt
       within_none (assign p as') c ns l d g = tt
       within_none (if_then p bs) c ns l d g = branches_none bs c ns l d g
-      within_none (if_else p bs t) c ns l d g = joined (within_branches st l bs d) (within st l t d) (branches_none bs c ns l d g.0) (within_none t c ns l d g.1)
+      within_none (if_else p bs t) c ns l d g = all_joined _ (within_branches st l bs d) (within st l t d) (branches_none bs c ns l d g.0) (within_none t c ns l d g.1)
       within_none (while_do p e t) c ns l d g = within_none t c ns l (Goto l) g.1
       within_none (either_of p ts) c ns l d g = arms_none ts c ns l d g
       within_none (await_that p e) c ns l d g = tt
@@ -357,16 +351,16 @@ module _ (st : Setting) (r : SettingFormed st) where
 
       branches_none : (bs : GuardedStatements) (c : Bool) (ns : List Name) (l : Name) (d : Code) → GuardedFormed c false ns bs → AllGood (within_branches st l bs d)
       branches_none no_guarded c ns l d g = tt
-      branches_none (more_guarded p e t bs) c ns l d g = joined (within st l t d) (within_branches st l bs d) (within_none t c ns l d g.1) (branches_none bs c ns l d g.2)
+      branches_none (more_guarded p e t bs) c ns l d g = all_joined _ (within st l t d) (within_branches st l bs d) (within_none t c ns l d g.1) (branches_none bs c ns l d g.2)
 
       arms_none : (ts : Statements) (c : Bool) (ns : List Name) (l : Name) (d : Code) → EachFormed c false ns ts → AllGood (within_arms st l ts d)
       arms_none no_statements c ns l d g = tt
-      arms_none (more_statements t ts) c ns l d g = joined (within st l t d) (within_arms st l ts d) (within_none t c ns l d g.0) (arms_none ts c ns l d g.1)
+      arms_none (more_statements t ts) c ns l d g = all_joined _ (within st l t d) (within_arms st l ts d) (within_none t c ns l d g.0) (arms_none ts c ns l d g.1)
 
       order_none : (ls : LabeledStatements) (c : Bool) (ns : List Name) (l : Name) (d : Code) → LabeledFormed c false ns ls → AllGood (within_order st l ls d)
       order_none no_labeled c ns l d g = tt
       order_none (more_labeled None t ls) c ns l d g =
-          joined (within st l t (Seq (in_order st l ls) d)) (within_order st l ls d) (within_none t c ns l (Seq (in_order st l ls) d) g.1) (order_none ls c ns l d g.2)
+          all_joined _ (within st l t (Seq (in_order st l ls) d)) (within_order st l ls d) (within_none t c ns l (Seq (in_order st l ls) d) g.1) (order_none ls c ns l d g.2)
       order_none (more_labeled (Some x) t ls) c ns l d g = never g.0.0
 
     mutual
@@ -375,7 +369,7 @@ module _ (st : Setting) (r : SettingFormed st) where
       within_good (assign p as') c b ns a l m d g h = tt
       within_good (if_then p bs) c b ns a l m d g h = within_branches_good bs c b ns a l m d g h
       within_good (if_else p bs t) c b ns a l m d g h =
-          joined (within_branches st l bs d) (within st l t d) (within_branches_good bs c b ns a l m d g.0 h) (within_good t c b ns a l m d g.1 h)
+          all_joined _ (within_branches st l bs d) (within st l t d) (within_branches_good bs c b ns a l m d g.0 h) (within_good t c b ns a l m d g.1 h)
       within_good (while_do p e t) c b ns a l m d g h = within_good t c b ns a l m (Goto l) g.1 m
       within_good (either_of p ts) c b ns a l m d g h = within_arms_good ts c b ns a l m d g h
       within_good (await_that p e) c b ns a l m d g h = tt
@@ -391,19 +385,19 @@ module _ (st : Setting) (r : SettingFormed st) where
       within_branches_good : (bs : GuardedStatements) (c b : Bool) (ns : List Name) → AreNames ns → (l : Name) → IsText l → (d : Code) → GuardedFormed c b ns bs → Good [] d → AllGood (within_branches st l bs d)
       within_branches_good no_guarded c b ns a l m d g h = tt
       within_branches_good (more_guarded p e t bs) c b ns a l m d g h =
-          joined (within st l t d) (within_branches st l bs d) (within_good t c b ns a l m d g.1 h) (within_branches_good bs c b ns a l m d g.2 h)
+          all_joined _ (within st l t d) (within_branches st l bs d) (within_good t c b ns a l m d g.1 h) (within_branches_good bs c b ns a l m d g.2 h)
 
       within_arms_good : (ts : Statements) (c b : Bool) (ns : List Name) → AreNames ns → (l : Name) → IsText l → (d : Code) → EachFormed c b ns ts → Good [] d → AllGood (within_arms st l ts d)
       within_arms_good no_statements c b ns a l m d g h = tt
       within_arms_good (more_statements t ts) c b ns a l m d g h =
-          joined (within st l t d) (within_arms st l ts d) (within_good t c b ns a l m d g.0 h) (within_arms_good ts c b ns a l m d g.1 h)
+          all_joined _ (within st l t d) (within_arms st l ts d) (within_good t c b ns a l m d g.0 h) (within_arms_good ts c b ns a l m d g.1 h)
 
       pub within_order_good : (ls : LabeledStatements) (c b : Bool) (ns : List Name) → AreNames ns → (l : Name) → IsText l → (d : Code) → LabeledFormed c b ns ls → Good [] d → AllGood (within_order st l ls d)
       within_order_good no_labeled c b ns a l m d g h = tt
       within_order_good (more_labeled x t ls) c b ns a l m d g h =
           let next = Seq (in_order st l ls) d in
           let rest : Good [] next = (order_good ls c b ns [] l m g.2 (nothing_bound ns a), h) in
-          joined (own st x t next ++ within st (labelled st l x) t next) (within_order st l ls d) (joined (own st x t next) (within st (labelled st l x) t next) (own_good ns a x t c b next g.0 g.1 rest) (within_good t c b ns a (labelled st l x) (labelled_text l m b x g.0) next g.1 rest)) (within_order_good ls c b ns a l m d g.2 h)
+          all_joined _ (own st x t next ++ within st (labelled st l x) t next) (within_order st l ls d) (all_joined _ (own st x t next) (within st (labelled st l x) t next) (own_good ns a x t c b next g.0 g.1 rest) (within_good t c b ns a (labelled st l x) (labelled_text l m b x g.0) next g.1 rest)) (within_order_good ls c b ns a l m d g.2 h)
 
     -- the sections of statements, behind which an instance is done
     pub sections_good : (ls : LabeledStatements) (c b : Bool) → LabeledFormed c b [] ls → AllGood (within_order st [] ls (Goto done))

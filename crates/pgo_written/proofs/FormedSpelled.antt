@@ -1,5 +1,5 @@
 -- Statements that tokens of a specification spell are well formed.
-use Rattle.std.proofs.Common.{◌≡◌, ℕ, Bool, true, false, inl, inr, if◌then◌else◌, nat_eq, List, [], ◌∷◌, ◌++◌, Option, refl, ap, sym, ◌∙◌, subst, arith}
+use Rattle.std.proofs.Common.{◌≡◌, ℕ, Bool, true, false, inl, inr, if◌then◌else◌, nat_eq, List, [], ◌∷◌, Option, refl, ap, sym, ◌∙◌, subst, arith}
 use Rattle.std.specs.List.{AllByRecursion}
 use Rattle.std.proofs.lemmas.Bool.{and_parts}
 use Rattle.pgo_base.specs.Lookup.{Name, same_name}
@@ -11,8 +11,7 @@ use Rattle.pgo_lexer.specs.declared.token.Token.{Token}
 use Rattle.pgo_lexer.specs.declared.token.Token.TheVariants as token
 use Rattle.pgo_model.specs.ValueText.{is_word_byte, all_word_bytes}
 use Rattle.pgo_expr_read.specs.Lookahead.{tokens_of}
-use Rattle.pgo_mpcal_read.specs.Elements.{IsExpression, IsRange, Behind, Items, InBrackets, Row}
-use Rattle.pgo_mpcal_read.specs.Elements as elements
+use Rattle.pgo_mpcal_read.specs.Elements.{IsExpression, IsRange}
 use Rattle.pgo_mpcal_read.specs.Statements.{IsStep, IsLeft, IsAssignment, IsOrigin, IsWithName, Spelled, IsBranch, ElseIfs, Ors, IsLabeled, Rows, IsBody}
 use Rattle.pgo_mpcal_read.specs.Statements as m
 use Rattle.pgo_expr_write.specs.WellFormed.{IsName}
@@ -30,6 +29,7 @@ use Rattle.pgo_syntax.specs.declared.name.PlacedName.{PlacedName}
 use Rattle.pgo_meaning.specs.MacrosPlaced.{unmarked}
 use Rattle.pgo_agrees.proofs.SpokenStatements.{Quiet}
 use Rattle.pgo_agrees.proofs.Stands.{or_second}
+use Rattle.pgo_agrees.proofs.EachToken.{cut, all_items, all_in_brackets, all_in_row}
 use Rattle.pgo_written.specs.Formed.{Formed, RangeFormed}
 use Rattle.pgo_written.specs.FormedCode.{IsShort}
 use Rattle.pgo_written.specs.FormedStatements.{Known, OriginFormed, PathFormed, AssignmentsFormed, WithsFormed, in_with, EachTree, AreIdentifiers, StatementFormed, EachFormed, LabeledFormed, GuardedFormed}
@@ -45,12 +45,7 @@ Short _ = Unit {0}
 
 -- as they stand in a text; b: whether `yield`, `$variable` and `$value` may stand there
 abbrev pub AllOk : Bool → List Lexeme → Type 0
-AllOk b [] = Unit {0}
-AllOk b (l ∷ ls) = (Short l.token × Told l.token × Quiet b l.token) × AllOk b ls
-
-pub cut : (b : Bool) (xs ys : List Lexeme) → AllOk b (xs ++ ys) → AllOk b xs × AllOk b ys
-cut b [] ys h = (tt, h)
-cut b (x ∷ xs) ys h = let q = cut b xs ys h.1 in ((h.0, q.0), q.1)
+AllOk b = AllByRecursion (λ (l : Lexeme). Short l.token × Told l.token × Quiet b l.token)
 
 told_of : (b : Bool) (ls : List Lexeme) → AllOk b ls → AllTold b (tokens_of ls)
 told_of b [] h = tt
@@ -86,27 +81,6 @@ range b ns a {xs} {e} d h = formed_range (Known ns) b (λ x n. inl n) (variable_
 pub plain_range : {xs : List Lexeme} {e : Tree} → IsRange xs e → AllOk false xs → RangeFormed IsName e
 plain_range {xs} {e} d h = formed_range IsName false (λ x n. n) (λ q. absurd (cc)) (λ q. absurd (cc)) d.range (told_of false xs h)
 
--- ---- lists
-
-module _ (b : Bool) {A : Type 0} (Item : List Lexeme → A → Type 0) (Q : A → Type 0) (item : (xs : List Lexeme) (a : A) → Item xs a → AllOk b xs → Q a) where
-  pub all_behind : (v : Symbol) (xs : List Lexeme) (as' : List A) → Behind Item v xs as' → AllOk b xs → AllByRecursion Q as'
-  all_behind v xs as' elements.no_more h = tt
-  all_behind v xs as' (elements.one_more {xs = ys} {ys = zs} {a = a} {as' = bs} i r) h =
-      let q = cut b ys zs h.1 in (item ys a i q.0, all_behind v zs bs r q.1)
-
-  pub all_items : (v : Symbol) (xs : List Lexeme) (as' : List A) → Items Item v xs as' → AllOk b xs → AllByRecursion Q as'
-  all_items v xs as' (elements.items {xs = ys} {ys = zs} {a = a} {as' = bs} i r) h =
-      let q = cut b ys zs h in (item ys a i q.0, all_behind v zs bs r q.1)
-
-  pub all_in_brackets : (xs : List Lexeme) (as' : List A) → InBrackets Item xs as' → AllOk b xs → AllByRecursion Q as'
-  all_in_brackets xs as' elements.empty h = tt
-  all_in_brackets xs as' (elements.some c {xs = ys} {as' = bs} i) h = all_items symbol.Comma ys bs i (cut b ys _ h.1).0
-
-  pub all_in_row : (xs : List Lexeme) (as' : List A) → Row Item xs as' → AllOk b xs → AllByRecursion Q as'
-  all_in_row xs as' elements.nothing h = tt
-  all_in_row xs as' (elements.another {xs = ys} {ys = zs} {a = a} {as' = bs} i r) h =
-      let q = cut b ys zs h in (item ys a i q.0, all_in_row zs bs r q.1)
-
 -- ---- assignments
 
 module _ (b : Bool) (ns : List Name) (a : Base b ns) where
@@ -114,7 +88,7 @@ module _ (b : Bool) (ns : List Name) (a : Base b ns) where
   StepFormed s = PathFormed ns (s ∷ [])
 
   step_formed : (xs : List Lexeme) (s : Step) → IsStep xs s → AllOk b xs → StepFormed s
-  step_formed xs s (m.index c {xs = ys} d) h = (expression b ns a d (cut b ys _ h.1).0, tt)
+  step_formed xs s (m.index c {xs = ys} d) h = (expression b ns a d (cut _ ys _ h.1).0, tt)
   step_formed xs s (m.field {x = x}) h = (name_text x (short_name x h.1.0.0), tt)
 
   path_of : (ss : List Step) → AllByRecursion StepFormed ss → PathFormed ns ss
@@ -123,15 +97,15 @@ module _ (b : Bool) (ns : List Name) (a : Base b ns) where
   path_of (step.Field x ∷ ss) h = (h.0.0, path_of ss h.1)
 
   left_formed : (xs : List Lexeme) (l : Left) → IsLeft xs l → AllOk b xs → PathFormed ns l.path
-  left_formed xs l (m.named {xs = ys} {path = p} r) h = path_of p (all_in_row b IsStep StepFormed step_formed ys p r h.1)
-  left_formed xs l (m.variable {xs = ys} {path = p} r) h = path_of p (all_in_row b IsStep StepFormed step_formed ys p r h.1)
+  left_formed xs l (m.named {xs = ys} {path = p} r) h = path_of p (all_in_row _ IsStep StepFormed step_formed ys p r h.1)
+  left_formed xs l (m.variable {xs = ys} {path = p} r) h = path_of p (all_in_row _ IsStep StepFormed step_formed ys p r h.1)
 
   abbrev OneAssigned : Assignment → Type 0
   OneAssigned t = PathFormed ns t.left.path × Formed (Known ns) t.right
 
   assignment_formed : (xs : List Lexeme) (t : Assignment) → IsAssignment xs t → AllOk b xs → OneAssigned t
   assignment_formed xs t (m.assignment p {xs = ys} {ys = zs} {l = l} {e = e} i d) h =
-      let q = cut b ys _ h in (left_formed ys l i q.0, expression b ns a d q.1.1)
+      let q = cut _ ys _ h in (left_formed ys l i q.0, expression b ns a d q.1.1)
 
   assignments_of : (ts : List Assignment) → AllByRecursion OneAssigned ts → AssignmentsFormed ns ts
   assignments_of [] h = tt
@@ -182,46 +156,46 @@ mutual
   spelled : {u v : Bool} {xs : List Lexeme} {s : Statement} → Spelled u v xs s → (b : Bool) (ns : List Name) → Base b ns → AllOk b xs → StatementFormed true true ns s
   spelled m.skip b ns a h = tt
   spelled (m.assign {xs = xs} {a = t} {as' = ts} i) b ns a h =
-      assignments_of b ns a (t ∷ ts) (all_items b IsAssignment (OneAssigned b ns a) (assignment_formed b ns a) symbol.Bars xs (t ∷ ts) i h)
-  spelled (m.if_then {xs = xs} d e) b ns a h = let q = cut b xs _ h in let r = branch d b ns a q.0 in (r.0, r.1, else_ifs e b ns a q.1)
+      assignments_of b ns a (t ∷ ts) (all_items _ IsAssignment (OneAssigned b ns a) (assignment_formed b ns a) symbol.Bars xs (t ∷ ts) i h)
+  spelled (m.if_then {xs = xs} d e) b ns a h = let q = cut _ xs _ h in let r = branch d b ns a q.0 in (r.0, r.1, else_ifs e b ns a q.1)
   spelled (m.if_else p {xs = xs} {ys = ys} d e g f) b ns a h =
-      let q = cut b xs _ h in let w = cut b ys _ q.1 in let r = branch d b ns a q.0 in ((r.0, r.1, else_ifs e b ns a w.0), spelled f b ns a w.1.1)
-  spelled (m.while_do c {xs = xs} d f) b ns a h = let q = cut b xs _ h.1.1 in (expression b ns a d q.0, spelled f b ns a q.1.1)
+      let q = cut _ xs _ h in let w = cut _ ys _ q.1 in let r = branch d b ns a q.0 in ((r.0, r.1, else_ifs e b ns a w.0), spelled f b ns a w.1.1)
+  spelled (m.while_do c {xs = xs} d f) b ns a h = let q = cut _ xs _ h.1.1 in (expression b ns a d q.0, spelled f b ns a q.1.1)
   spelled (m.either_of q {xs = xs} {ys = ys} d e o) b ns a h =
-      let r = cut b xs _ h.1 in let w = cut b ys _ r.1.1 in (spelled d b ns a r.0, (spelled e b ns a w.0, ors o b ns a w.1))
+      let r = cut _ xs _ h.1 in let w = cut _ ys _ r.1.1 in (spelled d b ns a r.0, (spelled e b ns a w.0, ors o b ns a w.1))
   spelled (m.await_that k d) b ns a h = expression b ns a d h.1
   spelled (m.with_in c {xs = xs} {ns = ws} i f) b ns a h =
-      let q = cut b xs _ h.1.1 in
-      let r = all_items b IsWithName (WithFormed b) (with_formed b) symbol.Comma xs ws i q.0 in
+      let q = cut _ xs _ h.1.1 in
+      let r = all_items _ IsWithName (WithFormed b) (with_formed b) symbol.Comma xs ws i q.0 in
       (withs_of b ns a ws r, inl (identifiers_of b ws r, spelled f b (in_with ns ws) (base_with b ns ws a) q.1.1))
   spelled (m.print_out d) b ns a h = expression b ns a d h.1
   spelled (m.assert_that d) b ns a h = expression b ns a d h.1
   spelled m.go_to b ns a h = h.1.0.0
   spelled (m.call_macro {xs = xs} {es = es} i) b ns a h =
-      trees_of b ns a es (all_in_brackets b IsExpression (Formed (Known ns)) (λ ys e d g. expression b ns a d g) xs es i h.1)
+      trees_of b ns a es (all_in_brackets _ IsExpression (Formed (Known ns)) (λ ys e d g. expression b ns a d g) xs es i h.1)
   spelled (m.yield_as d) b ns a h = expression b ns a d h.1
-  spelled (m.block c {xs = xs} r) b ns a h = rows r b ns a (cut b xs _ h.1).0
+  spelled (m.block c {xs = xs} r) b ns a h = rows r b ns a (cut _ xs _ h.1).0
 
   branch : {u v : Bool} {xs : List Lexeme} {r : ℕ × (Tree × Statement)} → IsBranch u v xs r → (b : Bool) (ns : List Name) → Base b ns → AllOk b xs → Formed (Known ns) r.1.0 × StatementFormed true true ns r.1.1
-  branch (m.branch c {xs = xs} d f) b ns a h = let q = cut b xs _ h.1.1 in (expression b ns a d q.0, spelled f b ns a q.1.1)
+  branch (m.branch c {xs = xs} d f) b ns a h = let q = cut _ xs _ h.1.1 in (expression b ns a d q.0, spelled f b ns a q.1.1)
 
   else_ifs : {u v w z : Bool} {xs : List Lexeme} {bs : List (ℕ × (Tree × Statement))} → ElseIfs u v w z xs bs → (b : Bool) (ns : List Name) → Base b ns → AllOk b xs → GuardedFormed true true ns (guarded bs)
   else_ifs m.no_else_if b ns a h = tt
-  else_ifs (m.else_if {xs = xs} d e) b ns a h = let q = cut b xs _ h.1 in let r = branch d b ns a q.0 in (r.0, r.1, else_ifs e b ns a q.1)
+  else_ifs (m.else_if {xs = xs} d e) b ns a h = let q = cut _ xs _ h.1 in let r = branch d b ns a q.0 in (r.0, r.1, else_ifs e b ns a q.1)
 
   ors : {u v w z : Bool} {xs : List Lexeme} {ss : List Statement} → Ors u v w z xs ss → (b : Bool) (ns : List Name) → Base b ns → AllOk b xs → EachFormed true true ns (statements ss)
   ors m.no_or b ns a h = tt
-  ors (m.or_this {xs = xs} d o) b ns a h = let q = cut b xs _ h.1 in (spelled d b ns a q.0, ors o b ns a q.1)
+  ors (m.or_this {xs = xs} d o) b ns a h = let q = cut _ xs _ h.1 in (spelled d b ns a q.0, ors o b ns a q.1)
 
   row_spelled : {u v : Bool} {xs : List Lexeme} {r : Option PlacedName × Statement} → IsLabeled u v xs r → (b : Bool) (ns : List Name) → Base b ns → AllOk b xs → LabeledFormed true true ns (labeled (r ∷ []))
   row_spelled (m.bare d) b ns a h = (tt, spelled d b ns a h, tt)
-  row_spelled (m.label {xs = xs} f d) b ns a h = ((refl, h.0.0), spelled d b ns a (cut b xs _ h.1.1).1, tt)
+  row_spelled (m.label {xs = xs} f d) b ns a h = ((refl, h.0.0), spelled d b ns a (cut _ xs _ h.1.1).1, tt)
 
   rows : {xs : List Lexeme} {rs : List (Option PlacedName × Statement)} → Rows xs rs → (b : Bool) (ns : List Name) → Base b ns → AllOk b xs → LabeledFormed true true ns (labeled rs)
   rows m.no_row b ns a h = tt
   rows (m.last_row d) b ns a h = row_spelled d b ns a h
   rows (m.row {xs = xs} {zs = zs} d e r) b ns a h =
-      let q = cut b xs _ h in let first = row_spelled d b ns a q.0 in (first.0, first.1, rows r b ns a (cut b zs _ q.1).1)
+      let q = cut _ xs _ h in let first = row_spelled d b ns a q.0 in (first.0, first.1, rows r b ns a (cut _ zs _ q.1).1)
 
 pub body_spelled : {xs : List Lexeme} {rs : List (Option PlacedName × Statement)} → IsBody xs rs → (b : Bool) (ns : List Name) → Base b ns → AllOk b xs → LabeledFormed true true ns (labeled rs)
-body_spelled (m.body c {xs = xs} r) b ns a h = rows r b ns a (cut b xs _ h.1).0
+body_spelled (m.body c {xs = xs} r) b ns a h = rows r b ns a (cut _ xs _ h.1).0

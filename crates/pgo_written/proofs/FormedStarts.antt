@@ -1,6 +1,7 @@
 -- Where nothing refuses the binding, no identifiers and no local variable's set are `Nat`, `Int` or `STRING`.
-use Rattle.std.proofs.Common.{◌≡◌, Bool, true, false, inl, inr, List, [], ◌∷◌, ◌++◌, filter, Option, Some, None, option_map, refl, ap}
+use Rattle.std.proofs.Common.{◌≡◌, false, inl, inr, List, [], ◌∷◌, ◌++◌, filter, Option, Some, None, option_map, refl, ap}
 use Rattle.std.specs.List.{AllByRecursion, filter_map, flat_map}
+use Rattle.std.proofs.lemmas.Bool.{false_from_ne_true}
 use Rattle.pgo_base.specs.Data.{Data}
 use Rattle.pgo_base.specs.Lookup.{Name, same_name}
 use Rattle.pgo_base.specs.Tree.{word}
@@ -51,10 +52,6 @@ start_well ds (Some (In e)) (inl w) h = absurd (cc)
 
 -- ---- what is refused
 
-false_of : (b : Bool) → (b ≡ true → ⊥) → b ≡ false
-false_of true f = absurd (f refl)
-false_of false f = refl
-
 module _ (s : Spec) (consts : List (Name × Data)) (h : bind_refusal s consts ≡ None) (p : Process) (among : IsAmong p s.processes) (a : Archetype) (named : archetype_named p.archetype.name s.archetypes ≡ Some a) where
   passed : Unrefused s.archetypes (defs_of s consts) (runs_of s (defs_of s consts)) (globals_of s (defs_of s consts) (runs_of s (defs_of s consts)))
   passed =
@@ -69,7 +66,7 @@ module _ (s : Spec) (consts : List (Name × Data)) (h : bind_refusal s consts �
   ids_known f =
       let rs = runs_of s (defs_of s consts) in
       let none = empty_map (λ (r : Run). r.process.name.name) (filter (λ (r : Run). has_no_ids r.ids) rs) passed.known in
-      ids_well (defs_of s consts) p.ids f (false_of (has_no_ids (ids_of (defs_of s consts) p.ids)) (λ t. empty_none (run_with (defs_of s consts) p a) (filter (λ (r : Run). has_no_ids r.ids) rs) none (among_filter (λ (r : Run). has_no_ids r.ids) (run_with (defs_of s consts) p a) rs run_there t)))
+      ids_well (defs_of s consts) p.ids f (false_from_ne_true (has_no_ids (ids_of (defs_of s consts) p.ids)) (λ t. empty_none (run_with (defs_of s consts) p a) (filter (λ (r : Run). has_no_ids r.ids) rs) none (among_filter (λ (r : Run). has_no_ids r.ids) (run_with (defs_of s consts) p a) rs run_there t)))
 
   none_lacks : lacking_in (defs_of s consts) NoSet a ≡ []
   none_lacks =

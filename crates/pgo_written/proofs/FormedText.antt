@@ -13,7 +13,7 @@ use Rattle.pgo_expr_read.specs.declared.table.Operator.{Operator}
 use Rattle.pgo_expr_read.specs.declared.table.Operator.TheVariants as operator
 use Rattle.pgo_expr_read.specs.declared.read.Ending.{Ending}
 use Rattle.pgo_expr_read.specs.Kinds as kind
-use Rattle.pgo_expr_read.specs.Kinds.{Kind, Thing, between}
+use Rattle.pgo_expr_read.specs.Kinds.{Kind, ItemOf, between}
 use Rattle.pgo_expr_read.specs.Spells.{Spelled, Range, Item, Behind, Items, names, more_names, applied, extended, product_of_two, appended, joined, infix_of}
 use Rattle.pgo_expr_read.specs.Spells as s
 use Rattle.pgo_sections.specs.Code.{content_name, value_name}
@@ -40,7 +40,7 @@ names_told m (x ∷ xs) h = (h.2.0, names_told m xs h.2.2)
 module _ (N : Name → Type 0) (m : Bool) (names_stand : (x : Name) → IsName x → N x) (variable : Quiet m (t.Symbol symbol.Variable) → N content_name) (value : Quiet m (t.Symbol symbol.Value) → N value_name) where
   -- ---- items
 
-  abbrev ThingFormed : (k : Kind) → Thing k → Type 0
+  abbrev ThingFormed : (k : Kind) → ItemOf k → Type 0
   ThingFormed kind.tree a = Formed N a
   ThingFormed kind.item a = Formed N a
   ThingFormed kind.binder p = AreSomeNames p.0 × ((is_word p.1 ≡ true) ⊎ Formed N p.1)
@@ -50,11 +50,11 @@ module _ (N : Name → Type 0) (m : Bool) (names_stand : (x : Name) → IsName x
   ThingFormed kind.step a = Formed N a
   ThingFormed kind.update p = SomeFormed N (trees p.0) × Formed N p.1
 
-  abbrev ThingsFormed : (k : Kind) → List (Thing k) → Type 0
+  abbrev ThingsFormed : (k : Kind) → List (ItemOf k) → Type 0
   ThingsFormed k [] = Unit {0}
   ThingsFormed k (a ∷ as') = ThingFormed k a × ThingsFormed k as'
 
-  abbrev SomeThings : (k : Kind) → List (Thing k) → Type 0
+  abbrev SomeThings : (k : Kind) → List (ItemOf k) → Type 0
   SomeThings k [] = ⊥
   SomeThings k (a ∷ as') = ThingFormed k a × ThingsFormed k as'
 
@@ -197,7 +197,7 @@ module _ (N : Name → Type 0) (m : Bool) (names_stand : (x : Name) → IsName x
     formed_range (s.any d) h = inr (formed d h)
     formed_range (s.endless is) h = inl refl
 
-    formed_item : {k : Kind} {o : Ending} {ts : List Token} {a : Thing k} → Item k o ts a → AllTold m ts → ThingFormed k a
+    formed_item : {k : Kind} {o : Ending} {ts : List Token} {a : ItemOf k} → Item k o ts a → AllTold m ts → ThingFormed k a
     formed_item (s.tree d) h = formed d h
     formed_item (s.item d) h = formed d h
     formed_item (s.binder {x = x} {xs = xs} r) h = let q = told_parts m (names x xs) _ h in ((q.0.0, names_told m xs q.0.2), formed_range r q.1.2)
@@ -208,9 +208,9 @@ module _ (N : Name → Type 0) (m : Bool) (names_stand : (x : Name) → IsName x
     formed_item (s.field_step {x = x}) h = name_text x h.2.0
     formed_item (s.update {xs = xs} {as' = as'} i d) h = let q = told_parts m xs _ h.2 in (some_steps as' (formed_items i q.0), formed d q.1.2)
 
-    formed_behind : {k : Kind} {o u : Ending} {ts : List Token} {as' : List (Thing k)} → Behind k o u ts as' → AllTold m ts → ThingsFormed k as'
+    formed_behind : {k : Kind} {o u : Ending} {ts : List Token} {as' : List (ItemOf k)} → Behind k o u ts as' → AllTold m ts → ThingsFormed k as'
     formed_behind s.none h = tt
     formed_behind (s.one_more {k = k} {xs = xs} may d b) h = let q = told_parts m xs _ (told_parts m (between k) _ h).1 in (formed_item d q.0, formed_behind b q.1)
 
-    formed_items : {k : Kind} {u : Ending} {ts : List Token} {as' : List (Thing k)} → Items k u ts as' → AllTold m ts → SomeThings k as'
+    formed_items : {k : Kind} {u : Ending} {ts : List Token} {as' : List (ItemOf k)} → Items k u ts as' → AllTold m ts → SomeThings k as'
     formed_items (s.items {xs = xs} d b) h = let q = told_parts m xs _ h in (formed_item d q.0, formed_behind b q.1)

@@ -168,9 +168,6 @@ module _ (N M : Name → Type 0) (up : (x : Name) → N x → M x) where
     some_paths_weaker no_paths h = absurd h
     some_paths_weaker (more_paths ps e us) h = (some_weaker ps h.0, weaker e h.1, paths_weaker us h.2)
 
-  pub range_weaker : (r : Tree) → RangeFormed N r → RangeFormed M r
-  range_weaker r h = either_way h (λ e. e) (weaker r)
-
 -- ---- names replaced
 
 pub member_kept : (p : Infix) (a b : Tree) → (is_word a ≡ true → is_word b ≡ true) → is_member_of_word p a ≡ true → is_member_of_word p b ≡ true

@@ -25,6 +25,7 @@ use Rattle.pgo_expand.specs.Module.{highest, joined, joined_behind, ids_height, 
 use Rattle.pgo_translate.specs.ModuleOf.{module_of, definitions_of, global_starts, own_starts, places_start, process_starts, start_items, first_arm}
 use Rattle.pgo_translate.specs.Items.{action_body}
 use Rattle.pgo_translate.proofs.ByProcess.{module_is, written_process, label_actions, global_names}
+use Rattle.pgo_agrees.proofs.EachToken as each_token
 use Rattle.pgo_written.specs.Low.{IsLow, IsLowDefinition, IsLowProcess}
 use Rattle.pgo_written.proofs.Heights.{Below, none, one, below_append, below_map, joined_low, least, label_low}
 
@@ -60,10 +61,6 @@ each_low f k (x ∷ xs) h = (omega (arith, h), each_low f k xs (omega (arith, h)
 all_mapped : {A B : Type 0} (P : A → Type 0) (Q : B → Type 0) (f : A → B) → ((a : A) → P a → Q (f a)) → (xs : List A) → AllByRecursion P xs → AllByRecursion Q (map f xs)
 all_mapped P Q f g [] h = tt
 all_mapped P Q f g (x ∷ xs) h = (g x h.0, all_mapped P Q f g xs h.1)
-
-all_append : {A : Type 0} (P : A → Type 0) (xs ys : List A) → AllByRecursion P xs → AllByRecursion P ys → AllByRecursion P (xs ++ ys)
-all_append P [] ys h g = g
-all_append P (x ∷ xs) ys h g = (h.0, all_append P xs ys h.1 g)
 
 highest_append : (xs ys : List ℕ) → highest (xs ++ ys) ≡ max (highest xs) (highest ys)
 highest_append [] ys = omega arith
@@ -169,7 +166,7 @@ module_low s k h =
     let next = any_joined_low (below_append (steps_below s s.processes) (one {t = name terminating} {h = 1} (omega arith) none)) in
     let each = each_low (labels_height s) k s.processes (omega (arith, h)) in
     subst (IsLow k) (module_is s) (record {
-      definitions = all_append (IsLowDefinition k) (definitions_of s.definitions) (definitions_of (define_of s.define)) (definitions_low k s.definitions (omega (arith, h, parts))) (define_low k s.define (omega (arith, h, parts)));
+      definitions = each_token.all_joined (IsLowDefinition k) (definitions_of s.definitions) (definitions_of (define_of s.define)) (definitions_low k s.definitions (omega (arith, h, parts))) (define_low k s.define (omega (arith, h, parts)));
       sets = omega (arith, sets, h);
       init = omega (arith, init, h);
       processes = all_mapped (λ p. labels_height s p ≤ k) (IsLowProcess k) (written_process s) (process_low s k (omega (arith, h))) s.processes each;

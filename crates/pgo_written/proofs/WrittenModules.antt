@@ -1,5 +1,5 @@
 -- The module of an accepted specification is written, where no expression of it is too high.
-use Rattle.std.proofs.Common.{◌≡◌, ◌≤◌, ℕ, Bool, true, false, if◌then◌else◌, List, [], ◌∷◌, refl, ap, sym, ◌∙◌, inl, inr}
+use Rattle.std.proofs.Common.{◌≡◌, ◌≤◌, ℕ, Bool, true, false, if◌then◌else◌, List, [], ◌∷◌, refl, ap, sym, ◌∙◌}
 use Rattle.std.specs.List.{AllByRecursion, flat_map}
 use Rattle.pgo_base.specs.Data.{Data}
 use Rattle.pgo_base.specs.Lookup.{Name, same_name}
@@ -15,6 +15,7 @@ use Rattle.pgo_syntax.specs.declared.spec.Spec.{Spec}
 use Rattle.pgo_bound.specs.Among.{IsAmong, all_at, nth_among, none_left, none_right, none_flat_map}
 use Rattle.pgo_bound.specs.Instances.{archetype_among}
 use Rattle.pgo_bound.specs.Sound.{WellNamed, labels_among}
+use Rattle.pgo_bound.specs.Different.{all_from}
 use Rattle.pgo_sections.specs.Nodes.{nodes}
 use Rattle.pgo_labels.specs.declared.errors.LabelError.TheVariants.{YieldRule}
 use Rattle.pgo_labels.specs.declared.finding.Finding.{Finding}
@@ -74,10 +75,6 @@ written_of m f l p = record {
 
 -- ---- what is accepted
 
-all_among : {A : Type 0} (P : A → Type 0) (xs : List A) → ((x : A) → IsAmong x xs → P x) → AllByRecursion P xs
-all_among P [] f = tt
-all_among P (x ∷ xs) f = (f x (inl refl), all_among P xs (λ y m. f y (inr m)))
-
 yields_so : (b : Bool) (fs : List Finding) → (if b then [] else fs) ≡ [] → (fs ≡ [] → ⊥) → b ≡ true
 yields_so true fs h n = refl
 yields_so false fs h n = absurd (n h)
@@ -116,7 +113,7 @@ module _ (text : List ℕ) (s : Spec) (consts : List (Name × Data)) (spells : S
         archetype = r.0;
         named = r.1;
         some = λ e. (let z = sym (ap (λ b. labels_among (labeled b)) first.3) ∙ e in cc);
-        dones = all_among (λ x. same_name x done ≡ false) (labels_among (labeled r.0.body)) (λ x m. (let k = nth_among x (labels_among (labeled r.0.body)) m in none_is_done r.0 free k.0 x k.1));
+        dones = all_from (λ x. same_name x done ≡ false) (labels_among (labeled r.0.body)) (λ x m. (let k = nth_among x (labels_among (labeled r.0.body)) m in none_is_done r.0 free k.0 x k.1));
       }
 
   fits : (p : Process) → IsAmong p s.processes → ProcessFits s p
@@ -131,4 +128,4 @@ module _ (text : List ℕ) (s : Spec) (consts : List (Name × Data)) (spells : S
 
   pub module_written : IsLow 512 (module_of s) → IsWritten (module_of s)
   module_written low =
-      written_of (module_of s) (module_formed s formed all_yield unlabelled (all_among (ProcessFits s) s.processes fits)) low (has_processes s unlabelled formed.some (all_among (HasLabels s) s.processes labelled))
+      written_of (module_of s) (module_formed s formed all_yield unlabelled (all_from (ProcessFits s) s.processes fits)) low (has_processes s unlabelled formed.some (all_from (HasLabels s) s.processes labelled))

@@ -1,5 +1,5 @@
 -- Of which variables and indices the components of a system are, and how many there are.
-use Rattle.std.proofs.Common.{◌≡◌, ◌≤◌, ◌*◌, ℕ, suc, Bool, true, false, if◌then◌else◌, List, [], ◌∷◌, map, length, Some, inl, inr, refl, ap, arith, length-append, ◌⊎◌}
+use Rattle.std.proofs.Common.{◌≡◌, ◌≤◌, ◌*◌, ℕ, suc, Bool, true, false, if◌then◌else◌, List, [], ◌∷◌, length, Some, inl, inr, refl, ap, arith, length-append, ◌⊎◌}
 use Rattle.pgo_base.specs.Data.{Data}
 use Rattle.pgo_base.specs.Lookup.{Name}
 use Rattle.pgo_model.specs.Log.{Component, resource_components, parts_at, own_names, own_components}
@@ -7,10 +7,6 @@ use Rattle.pgo_model.specs.Operators.{contains}
 use Rattle.pgo_model.specs.System.{Member, Owned, Resource}
 use Rattle.pgo_model.specs.Written.{pc}
 use Rattle.pgo_bound.specs.Among.{IsAmong, among_append}
-
-pub map_length : {A B : Type 0} (f : A → B) (xs : List A) → length (map f xs) ≡ length xs
-map_length f [] = refl
-map_length f (x ∷ xs) = let q = map_length f xs in omega (arith, q)
 
 pub resource_from : (d : Component) (rs : List Resource) → IsAmong d (resource_components rs) → (r : Resource) × IsAmong r rs × (d.variable ≡ r.global) × (d.index ≡ r.index)
 resource_from d [] m = absurd m

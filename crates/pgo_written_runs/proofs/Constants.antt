@@ -2,11 +2,12 @@
 use Rattle.std.proofs.Common.{◌≡◌, Bool, true, false, if◌then◌else◌, List, [], ◌∷◌, map, Option, Some, None, refl, ap, subst, option_map}
 use Rattle.std.specs.List.{filter_map, cons_option}
 use Rattle.std.specs.Prelude.{cond, filter, is_none}
+use Rattle.std.proofs.lemmas.Option.{same_Some}
 use Rattle.pgo_base.specs.Data.{Data}
 use Rattle.pgo_base.specs.Lookup.{Name, same_name}
 use Rattle.pgo_syntax.specs.declared.name.PlacedName.{PlacedName}
 use Rattle.pgo_syntax.specs.declared.spec.Spec.{Spec}
-use Rattle.pgo_bound.specs.Among.{empty_map, some_is}
+use Rattle.pgo_bound.specs.Among.{empty_map}
 use Rattle.pgo_bound.specs.BoundOf.{globals_of}
 use Rattle.pgo_bound.specs.Runs.{runs_of}
 use Rattle.pgo_bound.specs.Values.{defs_of, given_value, latest}
@@ -47,7 +48,7 @@ module _ (consts : List (Name × Data)) where
   latest_canonical x o (c ∷ cs) h f v e = latest_canonical x (if same_name x c.0 then Some c.1 else o) cs h.1 (go (same_name x c.0)) v e
     where
       go : (b : Bool) (v : Data) → (if b then Some c.1 else o) ≡ Some v → IsCanonicalValue v
-      go true v k = subst IsCanonicalValue (some_is c.1 v k) h.0
+      go true v k = subst IsCanonicalValue (same_Some c.1 v k) h.0
       go false v k = f v k
 
   constants_are : AreCanonical consts → (cs : List PlacedName) → AreNames (map (λ c. c.name) cs) → AreConstants (filter_map (named_constant consts) cs)

@@ -1,18 +1,17 @@
 -- The names of variables and labels are names of the module, and so identifiers of at most 512 bytes.
-use Rattle.std.proofs.Common.{◌≡◌, ℕ, Bool, true, false, ◌&&◌, if◌then◌else◌, IsTrue, List, [], ◌∷◌, ◌++◌, map, length, Some, inl, inr, refl, ap, sym, ◌∙◌, subst, option_map}
+use Rattle.std.proofs.Common.{◌≡◌, ℕ, ◌&&◌, IsTrue, List, [], ◌∷◌, ◌++◌, map, length, Some, inl, inr, refl, ap, sym, ◌∙◌, subst, option_map}
 use Rattle.std.proofs.lemmas.Bool.{le-leb}
 use Rattle.std.specs.List.{AllByRecursion, flat_map}
 use Rattle.std.specs.Prelude.{nat_le}
 use Rattle.pgo_base.specs.Data.{Data}
-use Rattle.pgo_base.specs.Lookup.{Name, same_name, find}
+use Rattle.pgo_base.specs.Lookup.{Name, find}
 use Rattle.pgo_model.specs.BundleParts.{is_read_name}
 use Rattle.pgo_model.specs.Machine.{nth}
-use Rattle.pgo_model.specs.Names.{same_name-is}
 use Rattle.pgo_model.specs.Written.{pc, written}
 use Rattle.pgo_syntax.specs.declared.bound.Instance.{Instance}
 use Rattle.pgo_syntax.specs.declared.process.Process.{Process}
 use Rattle.pgo_syntax.specs.declared.spec.Spec.{Spec}
-use Rattle.pgo_bound.specs.Among.{IsAmong, among_flat_map, among_left, among_map, among_nth, among_right, from_flat_map, from_map}
+use Rattle.pgo_bound.specs.Among.{IsAmong, among_flat_map, among_left, among_map, among_nth, among_right, from_flat_map, from_map, all_at}
 use Rattle.pgo_bound.specs.BoundOf.{bound_of}
 use Rattle.pgo_bound.specs.Sound.{IsGlobal, IsLabel}
 use Rattle.pgo_bound.specs.State.{own_names, variables_of}
@@ -32,6 +31,8 @@ use Rattle.pgo_pluscal.proofs.OwnNames.{own_names_are}
 use Rattle.pgo_translate.specs.ModuleOf.{declared, label_actions, module_of, variables_in, written_process}
 use Rattle.pgo_agrees.specs.Accepted.{IsAccepted}
 use Rattle.pgo_agrees.proofs.Premises as premises
+use Rattle.pgo_agrees.proofs.Places.{found_there}
+use Rattle.pgo_agrees.proofs.Labels.{find_map}
 
 pub read_name : (x : Name) → IsName x → IsTrue (is_read_name x)
 read_name x h = ap (λ b. b && nat_le (length x) 512) h.0 ∙ le-leb (length x) 512 h.1
@@ -40,30 +41,6 @@ pub name_among : (x : Name) (xs : List Name) → AreNames xs → IsAmong x xs �
 name_among x [] h m = absurd m
 name_among x (y ∷ ys) h (inl e) = subst IsName (sym e) h.0
 name_among x (y ∷ ys) h (inr m) = name_among x ys h.1 m
-
-each_of : {A : Type 0} (P : A → Type 0) (x : A) (xs : List A) → AllByRecursion P xs → IsAmong x xs → P x
-each_of P x [] h a = absurd a
-each_of P x (y ∷ ys) h (inl e) = subst P (sym e) h.0
-each_of P x (y ∷ ys) h (inr a) = each_of P x ys h.1 a
-
-found_in : {A : Type 0} (x : Name) (v : A) (l : List (Name × A)) → find x l ≡ Some v → IsAmong (x, v) l
-found_in x v [] e = absurd (cc)
-found_in {A} x v (p ∷ l) e = go (same_name x p.0) refl e (found_in x v l)
-  where
-    some_same : (a b : A) → Some a ≡ Some b → a ≡ b
-    some_same a b q = cc
-
-    go : (b : Bool) → same_name x p.0 ≡ b → (if b then Some p.1 else find x l) ≡ Some v → (find x l ≡ Some v → IsAmong (x, v) l) → IsAmong (x, v) (p ∷ l)
-    go true q k more = let first = same_name-is x p.0 q in let second = some_same p.1 v k in inl (λ i. (first i, sym second i))
-    go false q k more = inr (more k)
-
-find_map : {A B : Type 0} → (f : A → B) (l : List (Name × A)) (x : Name) → find x (map (λ c. (c.0, f c.1)) l) ≡ option_map f (find x l)
-find_map f [] x = refl
-find_map {A} {B} f (p ∷ l) x = go (same_name x p.0) (find_map f l x)
-  where
-    go : (b : Bool) → find x (map (λ c. (c.0, f c.1)) l) ≡ option_map f (find x l) → (if b then Some (f p.1) else find x (map (λ c. (c.0, f c.1)) l)) ≡ option_map f (if b then Some p.1 else find x l)
-    go true e = refl
-    go false e = e
 
 flat_each : {A B C : Type 0} (f : A → B) (g : B → List C) (h : A → List C) (xs : List A) → ((x : A) → g (f x) ≡ h x) → flat_map g (map f xs) ≡ flat_map h xs
 flat_each f g h [] e = refl
@@ -93,7 +70,7 @@ module _ (s : Spec) (w : IsWritten (module_of s)) where
       let vs = variables_in (pluscal_of s) in
       let gs = declared s.globals in
       let one : IsWrittenProcess (written_process vs gs (process_of s p)) =
-      each_of IsWrittenProcess (written_process vs gs (process_of s p)) (map (written_process vs gs) (map (process_of s) s.processes)) w.processes (among_map (written_process vs gs) (process_of s p) (map (process_of s) s.processes) (among_map (process_of s) p s.processes m)) in
+      all_at IsWrittenProcess (written_process vs gs (process_of s p)) (map (written_process vs gs) (map (process_of s) s.processes)) w.processes (among_map (written_process vs gs) (process_of s p) (map (process_of s) s.processes) (among_map (process_of s) p s.processes m)) in
       (each_action vs gs (process_expansions s p) one.actions a).0
     where
       each_action : (vs gs : List Name) (ls : List (Name × Expansion)) → AllByRecursion IsWrittenAction (label_actions vs gs ls) → IsAmong (l, x) ls → IsName l × Unit {0}
@@ -110,7 +87,7 @@ module _ (s : Spec) (w : IsWritten (module_of s)) where
         let f : Code → Expansion = expansion (variables_of s) (places_of i.process i.archetype i.bindings) in
         let here = find_map f (sections_at b i) l ∙ ap (option_map f) c.1 in
         let tree : find l (trees_of s) ≡ Some (f c.0) = premises.own_labels s consts accepted k i at_k l c.0 c.1 ∙ here in
-        let p = from_flat_map (process_expansions s) (l, f c.0) s.processes (found_in l (f c.0) (trees_of s) tree) in
+        let p = from_flat_map (process_expansions s) (l, f c.0) s.processes (found_there l (f c.0) (trees_of s) tree) in
         read_name l (action_name p.0 l (f c.0) p.1 p.2)
 
     -- the globals of resources

@@ -2,7 +2,9 @@
 use Rattle.std.proofs.Common.{◌≡◌, ◌≤◌, ◌+◌, ℕ, suc, Bool, true, false, if◌then◌else◌, List, [], ◌∷◌, ◌++◌, map, length, Option, Some, None, inl, inr, refl, ap, sym, ◌∙◌, arith}
 use Rattle.std.proofs.Common.{length-append}
 use Rattle.std.specs.List.{AllByRecursion, cons_option, filter_map, flat_map}
-use Rattle.std.specs.Prelude.{filter, cond}
+use Rattle.std.specs.Prelude.{filter}
+use Rattle.std.proofs.lemmas.Option.{same_Some}
+use Rattle.std.proofs.lemmas.List.{length-map}
 use Rattle.pgo_base.specs.Data.{Data}
 use Rattle.pgo_base.specs.Lookup.{Name, same_name}
 use Rattle.pgo_model.specs.Log as log
@@ -17,14 +19,14 @@ use Rattle.pgo_syntax.specs.declared.archetype.Parameter.{Parameter}
 use Rattle.pgo_syntax.specs.declared.process.Argument.{Argument}
 use Rattle.pgo_syntax.specs.declared.process.Process.{Process}
 use Rattle.pgo_syntax.specs.declared.spec.Spec.{Spec}
-use Rattle.pgo_bound.specs.Among.{IsAmong, all_at, among_map, from_map, nth_among, some_is}
+use Rattle.pgo_bound.specs.Among.{IsAmong, all_at, among_map, from_map, nth_among}
 use Rattle.pgo_bound.specs.Instances.{archetype_among}
 use Rattle.pgo_bound.specs.Lookups.{same_of}
 use Rattle.pgo_bound.specs.Runs.{Handed, archetype_named, handed_from}
 use Rattle.pgo_bound.specs.Sound.{IsNumbered}
 use Rattle.pgo_bound.specs.State.{AreDifferent, id_of, names_or_none, own_names, value_name}
 use Rattle.pgo_meaning.specs.System.{ids_of, owned, owned_by}
-use Rattle.pgo_written_runs.proofs.Components.{map_length}
+use Rattle.pgo_agrees.proofs.Places.{from_filter}
 
 contains_among : (v : Data) (xs : List Data) → contains v xs ≡ true → IsAmong v xs
 contains_among v [] h = absurd (let z : false ≡ true = h in grind (arith, z))
@@ -33,15 +35,6 @@ contains_among v (x ∷ xs) h = go (same_data v x) refl h (contains_among v xs)
     go : (b : Bool) → same_data v x ≡ b → (if b then true else contains v xs) ≡ true → (contains v xs ≡ true → IsAmong v xs) → IsAmong v (x ∷ xs)
     go true e k more = inl (same_of v x e)
     go false e k more = inr (more k)
-
-from_filter : {A : Type 0} (f : A → Bool) (x : A) (xs : List A) → IsAmong x (filter f xs) → IsAmong x xs × (f x ≡ true)
-from_filter f x [] m = absurd m
-from_filter {A} f x (y ∷ ys) m = go (f y) refl m (from_filter f x ys)
-  where
-    go : (b : Bool) → f y ≡ b → IsAmong x (cond b (y ∷ filter f ys) (filter f ys)) → (IsAmong x (filter f ys) → IsAmong x ys × (f x ≡ true)) → IsAmong x (y ∷ ys) × (f x ≡ true)
-    go true e (inl q) more = (inl q, ap f q ∙ e)
-    go true e (inr k) more = let r = more k in (inr r.0, r.1)
-    go false e k more = let r = more k in (inr r.0, r.1)
 
 names_append : (id : Data) (xs ys : List Owned) → length (log.own_names id (xs ++ ys)) ≡ length (log.own_names id xs) + length (log.own_names id ys)
 names_append id [] ys = omega arith
@@ -77,7 +70,7 @@ module _ (b : Bound) (numbered : IsNumbered b) (k : ℕ) (i : Instance) (at_k : 
       let f = from_filter (λ (j : Instance). same_name p.name.name j.process) m.0 b.instances m.1 in
       let n = nth_among m.0 b.instances f.0 in
       let number = numbered.identifiers_differ k n.0 i m.0 at_k n.1 m.2 in
-      let same : i ≡ m.0 = some_is i m.0 (sym at_k ∙ ap (nth b.instances) number ∙ n.1) in
+      let same : i ≡ m.0 = same_Some i m.0 (sym at_k ∙ ap (nth b.instances) number ∙ n.1) in
       same_name-is p.name.name m.0.process f.1 ∙ ap (λ (z : Instance). z.process) (sym same)
 
   none_behind : (ps : List Process) → ((q : Process) → IsAmong q ps → contains (id_of i) (ids_of b q) ≡ false) → length (log.own_names (id_of i) (flat_map (owned_by b) ps)) ≡ 0
@@ -137,6 +130,6 @@ process_few s h p = go (archetype_named p.archetype.name s.archetypes) refl
         let given = handed_from 1 a.params p.arguments in
         let n = filter_map_few (λ (h : Handed). value_name h.parameter.name.name h.argument) given in
         let m = handed_few 1 a.params p.arguments in
-        let l = map_length (λ d. d.name.name) a.locals in
+        let l = length-map a.locals (λ d. d.name.name) in
         let x = length-append (filter_map (λ (h : Handed). value_name h.parameter.name.name h.argument) given) (map (λ d. d.name.name) a.locals) in
         omega (arith, short, n, m, l, x)

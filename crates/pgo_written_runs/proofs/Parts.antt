@@ -1,15 +1,16 @@
 -- The values of a state, their parts and their keys are at most 256 deep and can be written; what an entry records is among them.
-use Rattle.std.proofs.Common.{◌≡◌, ◌≤◌, suc, Bool, true, false, if◌then◌else◌, List, [], ◌∷◌, length, Option, Some, None, inl, inr, refl, ap, sym, ◌∙◌, subst, arith, option_and_then}
+use Rattle.std.proofs.Common.{◌≡◌, ◌≤◌, suc, Bool, true, false, if◌then◌else◌, List, [], ◌∷◌, length, Option, Some, None, inl, inr, refl, sym, subst, arith, option_and_then}
 use Rattle.std.proofs.lemmas.Bool.{and_parts, leb-true}
 use Rattle.std.specs.Prelude.{nat_le}
+use Rattle.std.proofs.lemmas.Option.{same_Some}
 use Rattle.pgo_base.specs.Data.{Data, boolean, integer, string, model, set, function, Pairs, no_pairs, pair, graph, keys}
 use Rattle.pgo_base.specs.Lookup.{Name, Vars, same_name, find}
 use Rattle.pgo_base.specs.Size.{depth, pairs_depth}
-use Rattle.pgo_model.specs.Log.{Component, Change, content, differs, changes_between}
+use Rattle.pgo_model.specs.Log.{Component, content, differs, changes_between}
 use Rattle.pgo_model.specs.Operators.{apply, lookup, same_data}
 use Rattle.pgo_model.specs.Options.{on}
 use Rattle.pgo_model.specs.State.{is_shallow, state_depth}
-use Rattle.pgo_bound.specs.Among.{IsAmong, some_is}
+use Rattle.pgo_bound.specs.Among.{IsAmong}
 use Rattle.pgo_run_values.specs.Spellable.{IsSpellable, PairsSpellable, AllSpellable}
 
 -- it can be written, and is at most 256 deep
@@ -24,7 +25,7 @@ found_low x v (p ∷ s) h d e = go (same_name x p.0) e (found_low x v s h.1 part
     parts = and_parts (nat_le (depth p.1) state_depth) (is_shallow s) d
 
     go : (b : Bool) → (if b then Some p.1 else find x s) ≡ Some v → (find x s ≡ Some v → IsLow v) → IsLow v
-    go true k more = subst IsLow (some_is p.1 v k) (h.0, leb-true (depth p.1) 256 parts.0)
+    go true k more = subst IsLow (same_Some p.1 v k) (h.0, leb-true (depth p.1) 256 parts.0)
     go false k more = more k
 
 lookup_low : (i v : Data) (ps : Pairs) → PairsSpellable ps → lookup i (graph ps) ≡ Some v → IsSpellable v × (depth v ≤ pairs_depth ps)
@@ -33,7 +34,7 @@ lookup_low i v (pair k w ps) h e = go (same_data i k) e (lookup_low i v ps h.2)
   where
     go : (b : Bool) → (if b then Some w else lookup i (graph ps)) ≡ Some v → (lookup i (graph ps) ≡ Some v → IsSpellable v × (depth v ≤ pairs_depth ps)) → IsSpellable v × (depth v ≤ pairs_depth (pair k w ps))
     go true q more =
-        let same : w ≡ v = some_is w v q in
+        let same : w ≡ v = same_Some w v q in
         subst (λ z. IsSpellable z × (depth z ≤ pairs_depth (pair k w ps))) same (h.1, omega arith)
     go false q more = let r = more q in (r.0, let n = r.1 in omega (arith, n))
 
@@ -57,7 +58,7 @@ pub content_low : (c : Component) (t : Vars) (v : Data) → AllSpellable t → i
 content_low c t v h d e = go (find c.variable t) refl e
   where
     by_index : (f : Data) → IsLow f → (o : Option Data) → on (Some f) o (λ i. apply f i) ≡ Some v → IsLow v
-    by_index f low None k = subst IsLow (some_is f v k) low
+    by_index f low None k = subst IsLow (same_Some f v k) low
     by_index f low (Some i) k = part_low f i v low k
 
     go : (o : Option Data) → find c.variable t ≡ o → option_and_then (λ v. on (Some v) c.index (λ i. apply v i)) o ≡ Some v → IsLow v
@@ -67,20 +68,6 @@ content_low c t v h d e = go (find c.variable t) refl e
 -- ---- what an entry records
 
 module _ (s t : Vars) where
-  pub changes_from : (cs : List Component) (x : Change) → IsAmong x (changes_between cs s t) → IsAmong x.component cs × (content x.component t ≡ Some x.value)
-  changes_from [] x m = absurd m
-  changes_from (c ∷ cs) x m = go (content c t) refl (differs (content c s) (content c t)) m (changes_from cs x)
-    where
-      behind : IsAmong x.component cs × (content x.component t ≡ Some x.value) → IsAmong x.component (c ∷ cs) × (content x.component t ≡ Some x.value)
-      behind r = (inr r.0, r.1)
-
-      go : (o : Option Data) → content c t ≡ o → (d : Bool) → IsAmong x (on (changes_between cs s t) o (λ v. if d then record { component = c; value = v } ∷ changes_between cs s t else changes_between cs s t))
-          → (IsAmong x (changes_between cs s t) → IsAmong x.component cs × (content x.component t ≡ Some x.value)) → IsAmong x.component (c ∷ cs) × (content x.component t ≡ Some x.value)
-      go None e d m more = behind (more m)
-      go (Some v) e true (inl q) more = (inl (ap (λ (z : Change). z.component) q), ap (λ (z : Change). content z.component t) q ∙ e ∙ ap (λ (z : Change). Some z.value) (sym q))
-      go (Some v) e true (inr m) more = behind (more m)
-      go (Some v) e false m more = behind (more m)
-
   pub changes_few : (cs : List Component) → length (changes_between cs s t) ≤ length cs
   changes_few [] = omega arith
   changes_few (c ∷ cs) = go (content c t) (differs (content c s) (content c t)) (changes_few cs)

@@ -1,34 +1,31 @@
 -- What a run leaves can be written and read back.
-use Rattle.std.proofs.Common.{◌+◌, ◌≡◌, ◌≤◌, ◌<◌, ◌^◌, ◌⊎◌, ℕ, suc, Bool, true, false, if◌then◌else◌, IsTrue, List, [], ◌∷◌, map, length, Option, Some, None, inl, inr, refl, ap, sym, ◌∙◌, subst, arith, length-append, option_and_then}
+use Rattle.std.proofs.Common.{◌+◌, ◌≡◌, ◌≤◌, ◌<◌, ◌^◌, ◌⊎◌, ℕ, suc, Bool, true, false, if◌then◌else◌, IsTrue, List, [], ◌∷◌, map, length, Option, Some, None, inl, inr, refl, ap, sym, ◌∙◌, subst, arith, length-append}
 use Rattle.std.proofs.lemmas.Bool.{and_parts, leb-true}
 use Rattle.std.specs.List.{AllByRecursion}
 use Rattle.std.specs.Prelude.{◌&&◌, nat_le}
-use Rattle.pgo_base.specs.Data.{Data, string, function, graph, keys}
-use Rattle.pgo_base.specs.Lookup.{Name, Vars, find}
+use Rattle.std.proofs.lemmas.List.{length-map}
+use Rattle.pgo_base.specs.Data.{Data, function, graph, keys}
+use Rattle.pgo_base.specs.Lookup.{Name, Vars}
 use Rattle.pgo_base.specs.Size.{depth}
 use Rattle.pgo_model.specs.Accounts.{Accounts, EntriesMade, EntryMade, JointAccounts, Told, journal}
 use Rattle.pgo_model.specs.Choice.{Seeded, words_of}
 use Rattle.pgo_model.specs.Core.{Core, Reaches, Settings, are_at_done, has_full, has_stopped, is_listed, last_ends_from, rules_of, status_of}
 use Rattle.pgo_model.specs.BundleParts.{is_read_name, is_run_status}
 use Rattle.pgo_model.specs.Log as log
-use Rattle.pgo_model.specs.Log.{Change, Component, Effect, changes_between, components_of, label_in, label_of, own_components, resource_components}
+use Rattle.pgo_model.specs.Log.{Change, Component, Effect, changes_between, components_of, own_components, resource_components}
 use Rattle.pgo_model.specs.Machine.{Entry, Finished, Record, Step, Noted, Held, Down, Full, Rules, finished_of, nth, state_at}
 use Rattle.pgo_model.specs.MachineLists.{nth_below}
 use Rattle.pgo_model.specs.ModuleText.{Text}
-use Rattle.pgo_model.specs.Operators.{apply}
-use Rattle.pgo_model.specs.Options.{on}
 use Rattle.pgo_model.specs.State.{is_shallow}
 use Rattle.pgo_model.specs.System.{Member, Resource, System}
 use Rattle.pgo_model.specs.ValueText.{value_text}
-use Rattle.pgo_model.specs.Variables.{place_of}
 use Rattle.pgo_model.specs.Written.{done, pc}
 use Rattle.pgo_syntax.specs.declared.bound.Bound.{Bound}
 use Rattle.pgo_syntax.specs.declared.bound.Instance.{Instance}
 use Rattle.pgo_syntax.specs.declared.bound.Resource as resources
 use Rattle.pgo_syntax.specs.declared.spec.Spec.{Spec}
-use Rattle.pgo_bound.specs.Among.{IsAmong, among_append, among_nth, from_map, nth_among, nth_map}
+use Rattle.pgo_bound.specs.Among.{IsAmong, among_append, among_nth, from_map, nth_among}
 use Rattle.pgo_bound.specs.BoundOf.{bound_of}
-use Rattle.pgo_bound.specs.Declares.{value_in}
 use Rattle.pgo_bound.specs.Sound.{IsLabel, index_in}
 use Rattle.pgo_bound.specs.State.{id_of}
 use Rattle.pgo_meaning.specs.System.{member_of, resource_of, system_of}
@@ -37,6 +34,7 @@ use Rattle.pgo_module_spells.specs.Spells.{SpellsModule}
 use Rattle.pgo_module_spells.specs.Written.{IsWritten}
 use Rattle.pgo_systems.specs.Premises.{IsGoodState, KeepsStates}
 use Rattle.pgo_systems.proofs.States.{identifier_there}
+use Rattle.pgo_systems.proofs.Parts.{change_from}
 use Rattle.pgo_translate.specs.ModuleOf.{constants_with, module_of}
 use Rattle.pgo_value_text.specs.IsValueText.{IsValueText, most_depth}
 use Rattle.pgo_agrees.specs.Accepted.{IsAccepted}
@@ -44,25 +42,16 @@ use Rattle.pgo_agrees.proofs.Premises as premises
 use Rattle.pgo_accept.proofs.Counted.{different}
 use Rattle.pgo_accept.proofs.Variables.{processes_once}
 use Rattle.pgo_accounts.proofs.Steps.{Leads, is_label, leads_from}
+use Rattle.pgo_accounts.proofs.Entries.{label_at}
 use Rattle.pgo_log_text.specs.IsBundle.{AreCanonical, IsCanonicalIndex, IsCanonicalValue}
 use Rattle.pgo_log_text.specs.WrittenRun.{IsWrittenChange, IsWrittenEntry, IsWrittenRecord, IsWrittenResource, IsWrittenRun}
 use Rattle.pgo_run_values.specs.Spellable.{AllSpellable, IsSpellable}
-use Rattle.pgo_written_runs.proofs.Components.{map_length, own_few, own_from, owned_from, resource_from, resources_many}
+use Rattle.pgo_written_runs.proofs.Components.{own_few, own_from, owned_from, resource_from, resources_many}
 use Rattle.pgo_written_runs.proofs.Constants.{constants_canonical, constants_named}
 use Rattle.pgo_written_runs.proofs.Names.{global_name, label_name, own_name, place_name, variables_same}
 use Rattle.pgo_written_runs.proofs.OwnCounts.{own_most, process_few}
-use Rattle.pgo_written_runs.proofs.Parts.{IsLow, changes_few, changes_from, content_low, found_low, key_low}
+use Rattle.pgo_written_runs.proofs.Parts.{IsLow, changes_few, content_low, found_low, key_low}
 use Rattle.pgo_written_runs.proofs.TextLengths.{constants_short, variables_short}
-
--- where an instance stands, said in two ways
-place_same : (o : Option Data) (id : Data) → elim o as (λ o. Option Data) [ None ↦ None | Some f ↦ apply f id ] ≡ option_and_then (λ f. apply f id) o
-place_same None id = refl
-place_same (Some f) id = refl
-
-label_at : (b : Bound) (k : ℕ) (i : Instance) (s : Vars) (l : Name) → nth b.instances k ≡ Some i → value_in s pc (id_of i) ≡ Some (string l) → label_of (system_of b) k s ≡ l
-label_at b k i s l at_k at_l =
-    ap (λ o. on [] o (λ (m : Member). label_in (place_of m.id s))) (nth_map member_of k b.instances i at_k)
-    ∙ ap label_in (place_same (find pc s) (id_of i) ∙ at_l)
 
 -- 0, 20, 21 or 23
 pub one_status : (y : System) (settings : Settings) (f : Finished Effect) → IsTrue (is_run_status (status_of y settings f))
@@ -153,10 +142,10 @@ module _ (s : Spec) (consts : List (Name × Data)) (accepted : IsAccepted s cons
   components_short =
       let a = length-append (resource_components y.resources) (own_components y.own 0 y.members) in
       let c = resources_many y.resources in
-      let d = map_length resource_of b.resources in
+      let d = length-map b.resources resource_of in
       let e = keeps.sound.numbered.few_resources in
       let f = own_few y.own 0 y.members own_short in
-      let g = map_length member_of b.instances in
+      let g = length-map b.instances member_of in
       let h = keeps.sound.numbered.few_instances in
       omega (arith, a, c, d, e, f, g, h)
 
@@ -175,7 +164,7 @@ module _ (s : Spec) (consts : List (Name × Data)) (accepted : IsAccepted s cons
 
     module _ (made : EntriesMade R f) (good : (n : ℕ) → n ≤ length entries → IsGoodState b (at n)) (values : (n : ℕ) → n ≤ length entries → AllSpellable (at n)) (accounts : (k : ℕ) → Accounts R (Reaches y) false f k) (joint : JointAccounts R false f) where
       few_members : length y.members ≤ 64
-      few_members = let g = map_length member_of b.instances in let h = keeps.sound.numbered.few_instances in omega (arith, g, h)
+      few_members = let g = length-map b.instances member_of in let h = keeps.sound.numbered.few_instances in omega (arith, g, h)
 
       module _ (p : ℕ) (e : Entry Effect) (h : nth entries p ≡ Some e) where
         low : p ≤ length entries
@@ -212,7 +201,7 @@ module _ (s : Spec) (consts : List (Name × Data)) (accepted : IsAccepted s cons
         change_written : (j : ℕ) (c : Change) → nth e.change.changes j ≡ Some c → IsWrittenChange c
         change_written j c at_j =
             let among : IsAmong c (changes_between (components_of y) (at p) (at (suc p))) = subst (λ z. IsAmong c z) (ap (λ (z : Effect). z.changes) by.change) (among_nth c e.change.changes j at_j) in
-            let q = changes_from (at p) (at (suc p)) (components_of y) c among in
+            let q = change_from (components_of y) (at p) (at (suc p)) c among in
             let d = component_written c.component q.0 in
             record { variable = d.0; index = d.1; value = canon c.value (content_low c.component (at (suc p)) c.value (values (suc p) low_next) shallow q.1) }
 
@@ -261,14 +250,14 @@ module _ (s : Spec) (consts : List (Name × Data)) (accepted : IsAccepted s cons
             module_count = omega (arith, short);
             names = named;
             constant_count = (
-                let a = map_length {B = Name} (λ p. p.0) (constants_with s consts) in
+                let a = length-map {B = Name} (constants_with s consts) (λ p. p.0) in
                 let c : length (map (λ p. p.0) (constants_with s consts)) ≡ length (module_of s).constants = ap length named in
                 let d = constants_short (module_of s) in
                 omega (arith, a, c, d, short));
             constants = constants_canonical s consts given w.constants;
             variables = variables;
             variable_count = (
-                let a = map_length {B = Name} (λ p. p.0) y.start in
+                let a = length-map {B = Name} y.start (λ p. p.0) in
                 let c : length (map (λ p. p.0) y.start) ≡ length (module_of s).variables = ap length variables in
                 let d = variables_short (module_of s) in
                 omega (arith, a, c, d, short));

@@ -1,7 +1,7 @@
 -- A text has at least as many tokens as an archetype has parameters and locals.
 use Rattle.std.proofs.Common.{◌≤◌, ◌+◌, ◌*◌, ℕ, suc, Bool, List, [], ◌∷◌, ◌++◌, length, arith, length-append}
 use Rattle.std.specs.List.{AllByRecursion}
-use Rattle.pgo_lexer.specs.Layout.{Marked, Bullets, Marks}
+use Rattle.pgo_lexer.specs.Layout.{Marked, Bullets}
 use Rattle.pgo_lexer.specs.Layout as mark
 use Rattle.pgo_lexer.specs.declared.symbol.Bracket.TheVariants as bracket
 use Rattle.pgo_lexer.specs.declared.symbol.Junction.{Junction}
@@ -19,6 +19,7 @@ use Rattle.pgo_mpcal_read.specs.declared.units.Units.{Units}
 use Rattle.pgo_syntax.specs.declared.archetype.Archetype.{Archetype}
 use Rattle.pgo_syntax.specs.declared.declaration.Declaration.{Declaration}
 use Rattle.pgo_syntax.specs.declared.spec.Spec.{Spec}
+use Rattle.pgo_agrees.proofs.EachToken.{one_more}
 
 -- ---- marks
 
@@ -104,15 +105,11 @@ module _ (most : ℕ) where
       let y = length-append ys zs in
       omega (arith, h, n, m, x, y)
 
-  one_more : (xs : List Archetype) (x : Archetype) → AllByRecursion Short xs → Short x → AllByRecursion Short (xs ++ x ∷ [])
-  one_more [] x h g = (g, tt)
-  one_more (y ∷ xs) x h g = (h.0, one_more xs x h.1 g)
-
   unit_short : (b a : Units) (xs : List Lexeme) → IsUnit b xs a → length xs ≤ most → AllByRecursion Short b.archetypes → AllByRecursion Short a.archetypes
   unit_short b a xs (unit.define n d p) h g = g
   unit_short b a xs (unit.macro_definition d p l) h g = g
   unit_short b a xs (unit.mapping d l k) h g = g
-  unit_short b a xs (unit.archetype {xs = ys} {a = r} d p l) h g = one_more b.archetypes r g (archetype_short ys r d h)
+  unit_short b a xs (unit.archetype {xs = ys} {a = r} d p l) h g = one_more Short b.archetypes r g (archetype_short ys r d h)
   unit_short b a xs (unit.globals n d p) h g = g
   unit_short b a xs (unit.process d p) h g = g
 

@@ -1,5 +1,6 @@
 use Rattle.pgo_bound.specs.BoundOf.{bound_of}
-use Rattle.pgo_accounts.proofs.Premises.{all_values, fits, gotos_known}
+use Rattle.pgo_systems.proofs.States.{counted_values}
+use Rattle.pgo_accounts.proofs.Premises.{fits, gotos_known}
 use Rattle.pgo_accounts.proofs.TextGives.{text_gives}
 use Rattle.pgo_accounts.proofs.ValueTexts.{value_counted}
 use Rattle.pgo_accounts.proofs.texts_keep_states.Goals as goal
@@ -22,12 +23,12 @@ pub returns-clause-sound : goal.returns-clause-sound
 returns-clause-sound c text s consts spells passes counted =
     let g = text_gives text s spells in
     let accepted = c.texts_are_accepted.ensures.accepted text s consts spells passes.names passes.labels passes.binding in
-    let starts = all_values c.values_are_given.ensures.are_values (bound_of s consts).start (c.values_are_given.ensures.start s consts counted g.literals.start) in
+    let starts = counted_values (bound_of s consts).start (c.values_are_given.ensures.start s consts counted g.literals.start) in
     (fits s consts accepted g.literals g.macros counted starts).sound
 
 pub returns-clause-kept : goal.returns-clause-kept
 returns-clause-kept c text s consts spells passes counted =
     let g = text_gives text s spells in
     let accepted = c.texts_are_accepted.ensures.accepted text s consts spells passes.names passes.labels passes.binding in
-    let starts = all_values c.values_are_given.ensures.are_values (bound_of s consts).start (c.values_are_given.ensures.start s consts counted g.literals.start) in
+    let starts = counted_values (bound_of s consts).start (c.values_are_given.ensures.start s consts counted g.literals.start) in
     c.system_fits.ensures.kept s consts (fits s consts accepted g.literals g.macros counted starts)

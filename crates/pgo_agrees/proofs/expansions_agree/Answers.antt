@@ -1,4 +1,4 @@
-use Rattle.std.proofs.Common.{◌≡◌, ◌∙◌, ap, sym, subst, ◌↔◌}
+use Rattle.std.proofs.Common.{◌∙◌, ap, sym, subst, ◌↔◌}
 use Rattle.pgo_bound.specs.BoundOf.{bound_of}
 use Rattle.pgo_bound.specs.State.{id_of}
 use Rattle.pgo_meaning.specs.Sect.{Allows}

@@ -1,6 +1,4 @@
-use Rattle.std.proofs.Common.{◌≡◌, get_or, ap, ◌∙◌, arith}
-use Rattle.std.specs.Prelude.{Some, None}
-use Rattle.pgo_base.specs.LastPlace.{defined_name, last_place}
+use Rattle.std.proofs.Common.{get_or, ap, ◌∙◌, arith}
 use Rattle.pgo_base.specs.declared.module.Defined.{Defined}
 use Rattle.std.proofs.Common.{List, take, length}
 use Rattle.pgo_eval.proofs.NewestFound.{newest_at, is_in, none_found}

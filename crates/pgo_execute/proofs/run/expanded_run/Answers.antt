@@ -18,7 +18,7 @@ use Rattle.pgo_log_text.specs.ReadBundle.{IsReadBundle}
 use Rattle.pgo_model.specs.Machine.{finished_of, last_state}
 use Rattle.pgo_model.specs.ModuleView.{module_view}
 use Rattle.pgo_pluscal.specs.PlusCalOf.{pluscal_of}
-use Rattle.pgo_runnable.proofs.Kept.{all_values}
+use Rattle.pgo_systems.proofs.States.{counted_values}
 use Rattle.pgo_syntax.specs.RecordView.{settings_view}
 use Rattle.pgo_syntax.specs.declared.bound.Bound.{Bound}
 use Rattle.pgo_execute.specs.Gives.{IsRunStatus}
@@ -84,7 +84,7 @@ returns c =
         sound = c.texts_keep_states.ensures.sound a.text s consts a.spells n counted;
         declared = subst (λ (b : Bound). Declares b b.start) a.bound_is a.declared;
         bundle = bundle;
-        agrees = c.modules_agree.ensures a.text s consts (pluscal_of s) a.spells n (all_values c.values_are_given.ensures.are_values consts counted) refl;
+        agrees = c.modules_agree.ensures a.text s consts (pluscal_of s) a.spells n (counted_values consts counted) refl;
         alone = c.modules_are_read_back.ensures a.text s consts a.spells n short;
         run = law.run a.text s consts settings left.turns a.spells n counted;
         next = law.next a.text s consts settings left.turns a.spells n counted;

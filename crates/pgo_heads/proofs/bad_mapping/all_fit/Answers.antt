@@ -1,8 +1,8 @@
-use Rattle.std.proofs.Common.{◌≡◌, ◌+◌, ℕ, map, drop, Some, option_map, ap, sym, ◌∙◌}
+use Rattle.std.proofs.Common.{◌+◌, ℕ, map, drop, Some, option_map, ap, sym, ◌∙◌}
 use Rattle.pgo_base.specs.Lookup.{Name}
 use Rattle.pgo_heads.specs.declared.errors.BindError.TheVariants as errors
 use Rattle.pgo_heads.specs.Refusals.{first, bad_places, bad_mappings}
-use Rattle.pgo_heads.specs.Views.{run_view, global_view}
+use Rattle.pgo_heads.specs.Views.{run_view}
 use Rattle.pgo_heads.proofs.Firsts.{first_found, first_none}
 use Rattle.pgo_heads.proofs.Numbered.{drop_step}
 use Rattle.pgo_heads.proofs.bad_mapping.all_fit.Goals as goal

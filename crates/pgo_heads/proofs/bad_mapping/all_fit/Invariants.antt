@@ -1,5 +1,5 @@
-use Rattle.std.proofs.Common.{◌≡◌, ℕ, suc, ◌+◌, ◌≤◌, List, ◌++◌, length, map, drop, None, option_map}
-use Rattle.pgo_heads.specs.Views.{start_view, handed_view, run_view, global_view, part_view, finding_view}
+use Rattle.std.proofs.Common.{◌≡◌, map, drop}
+use Rattle.pgo_heads.specs.Views.{run_view}
 use Rattle.pgo_heads.specs.Refusals as specs
 use Rattle.pgo_heads.proofs.bad_mapping.all_fit.Given as goal
 

@@ -1,4 +1,4 @@
-use Rattle.std.proofs.Common.{◌≡◌, ap, ◌∙◌}
+use Rattle.std.proofs.Common.{ap, ◌∙◌}
 use Rattle.pgo_bound.specs.Runs.{speaking}
 use Rattle.pgo_heads.specs.Spoken.{is_badly_spoken}
 use Rattle.pgo_heads.proofs.SpokenLaws.{badly}

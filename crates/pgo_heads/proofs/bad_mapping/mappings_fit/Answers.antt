@@ -1,4 +1,4 @@
-use Rattle.std.proofs.Common.{◌≡◌, ℕ, map, option_map, subst}
+use Rattle.std.proofs.Common.{ℕ, map, option_map, subst}
 use Rattle.pgo_base.specs.Lookup.{Name}
 use Rattle.pgo_heads.specs.Answers.{Passes}
 use Rattle.pgo_heads.specs.Refusals.{first, bad_mappings}

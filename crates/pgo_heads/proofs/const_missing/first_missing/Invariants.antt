@@ -1,5 +1,5 @@
-use Rattle.std.proofs.Common.{◌≡◌, ℕ, suc, ◌+◌, ◌≤◌, List, ◌++◌, length, map, drop, None, option_map}
-use Rattle.pgo_base.specs.View.{data_of, named_data, pair_of}
+use Rattle.std.proofs.Common.{◌≡◌, map, drop}
+use Rattle.pgo_base.specs.View.{named_data}
 use Rattle.pgo_heads.specs.Refusals as specs
 use Rattle.pgo_heads.proofs.const_missing.first_missing.Given as goal
 

@@ -1,4 +1,4 @@
-use Rattle.std.proofs.Common.{◌≡◌, ◌++◌, ◌+◌, map, drop, arith, ap, sym, ◌∙◌}
+use Rattle.std.proofs.Common.{◌++◌, ◌+◌, map, drop, ap, ◌∙◌}
 use Rattle.std.specs.List.{filter_map}
 use Rattle.pgo_base.specs.View.{named_data}
 use Rattle.pgo_bound.specs.Values.{given_value, given_constant}

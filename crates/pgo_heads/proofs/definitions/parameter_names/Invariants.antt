@@ -1,4 +1,4 @@
-use Rattle.std.proofs.Common.{◌≡◌, ℕ, suc, ◌+◌, ◌≤◌, List, ◌++◌, length, map, drop, None, option_map}
+use Rattle.std.proofs.Common.{◌≡◌, ◌+◌, ◌++◌, drop}
 use Rattle.pgo_syntax.specs.PlacedNames.{names_of}
 use Rattle.pgo_heads.proofs.definitions.parameter_names.Given as goal
 

@@ -1,6 +1,6 @@
-use Rattle.std.proofs.Common.{◌≡◌, ℕ, suc, ◌+◌, ◌≤◌, List, ◌++◌, length, map, drop, None, option_map}
-use Rattle.pgo_base.specs.View.{data_of, named_data, pair_of}
-use Rattle.pgo_heads.specs.Views.{start_view, handed_view, run_view, global_view, part_view}
+use Rattle.std.proofs.Common.{◌≡◌, ◌+◌, ◌++◌, map, drop}
+use Rattle.pgo_base.specs.View.{pair_of}
+use Rattle.pgo_heads.specs.Views.{part_view}
 use Rattle.pgo_bound.specs.BoundOf as bound
 use Rattle.pgo_base.specs.Data.{keys}
 use Rattle.pgo_heads.proofs.globals.add_elements.Given as goal

@@ -1,4 +1,4 @@
-use Rattle.std.proofs.Common.{◌≡◌, Option, Some, Bor, option_map, ap, sym, ◌∙◌}
+use Rattle.std.proofs.Common.{Option, Some, Bor, option_map, ap, sym, ◌∙◌}
 use Rattle.pgo_base.specs.View.{data_of}
 use Rattle.pgo_base.specs.ValueCode.{value_from, value_back}
 use Rattle.pgo_base.specs.declared.value.Value.{Value}

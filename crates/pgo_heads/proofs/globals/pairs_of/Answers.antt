@@ -1,4 +1,4 @@
-use Rattle.std.proofs.Common.{◌≡◌, ap, sym, ◌∙◌}
+use Rattle.std.proofs.Common.{ap, sym, ◌∙◌}
 use Rattle.pgo_base.specs.Data.{keys, graph-pairs}
 use Rattle.pgo_base.specs.View.{data_of}
 use Rattle.pgo_bound.specs.BoundOf.{indices}

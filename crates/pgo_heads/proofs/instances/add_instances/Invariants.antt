@@ -1,8 +1,7 @@
-use Rattle.std.proofs.Common.{◌≡◌, ℕ, suc, ◌+◌, ◌≤◌, List, ◌++◌, length, map, drop, None, option_map}
-use Rattle.pgo_base.specs.View.{data_of, named_data, pair_of}
-use Rattle.pgo_heads.specs.Views.{start_view, handed_view, run_view, global_view, part_view}
+use Rattle.std.proofs.Common.{◌≡◌, ◌+◌, ◌≤◌, ◌++◌, length, map, drop}
+use Rattle.pgo_base.specs.View.{data_of}
+use Rattle.pgo_heads.specs.Views.{run_view}
 use Rattle.pgo_bound.specs.BoundOf as bound
-use Rattle.pgo_base.specs.Data.{Data}
 use Rattle.pgo_heads.proofs.instances.add_instances.Given as goal
 
 abbrev pub invariant-loop-id : goal.invariant-loop-id

@@ -1,4 +1,4 @@
-use Rattle.std.proofs.Common.{◌≡◌, sym, ◌∙◌}
+use Rattle.std.proofs.Common.{sym, ◌∙◌}
 use Rattle.pgo_base.specs.ValueCode.{value_back}
 use Rattle.pgo_heads.proofs.instances.instance_at.Goals as goal
 

@@ -1,4 +1,4 @@
-use Rattle.std.proofs.Common.{◌≡◌, ◌∷◌, [], ◌+◌, ◌++◌, ◌≤◌, length, map, drop, arith, ap, sym, ◌∙◌, length-append}
+use Rattle.std.proofs.Common.{◌+◌, ◌++◌, length, map, drop, arith, ap, ◌∙◌, length-append}
 use Rattle.pgo_bound.specs.BoundOf.{numbered, instance_at, places_of, places_of_run}
 use Rattle.pgo_heads.specs.Views.{run_view}
 use Rattle.pgo_heads.proofs.Numbered.{drop_step, numbered_more, length-numbered}

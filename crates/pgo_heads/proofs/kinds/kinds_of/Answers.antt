@@ -1,4 +1,4 @@
-use Rattle.std.proofs.Common.{◌≡◌, ◌∷◌, [], ◌+◌, map, drop, arith, ap, sym, ◌∙◌}
+use Rattle.std.proofs.Common.{◌+◌, map, drop, ap, sym, ◌∙◌}
 use Rattle.std.proofs.lemmas.List.{drop_all}
 use Rattle.pgo_bound.specs.Runs.{extents_of, extents_in}
 use Rattle.pgo_bound.specs.Kinds.{all_extents}

@@ -1,4 +1,4 @@
-use Rattle.std.proofs.Common.{◌≡◌, ap, sym, ◌∙◌}
+use Rattle.std.proofs.Common.{ap, sym, ◌∙◌}
 use Rattle.pgo_model.specs.Names.{same_name-is}
 use Rattle.pgo_bound.specs.Runs.{is_of_name}
 use Rattle.pgo_heads.specs.NameMaps.{found}

@@ -1,4 +1,4 @@
-use Rattle.std.proofs.Common.{◌≡◌, cond, Some, ap, ◌∙◌}
+use Rattle.std.proofs.Common.{cond, Some, ap, ◌∙◌}
 use Rattle.pgo_base.specs.Lookup.{same_name}
 use Rattle.pgo_heads.specs.NameMaps.{found}
 use Rattle.pgo_heads.proofs.named_globals.put_first.Goals as goal

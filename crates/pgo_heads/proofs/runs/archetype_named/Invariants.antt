@@ -1,4 +1,4 @@
-use Rattle.std.proofs.Common.{◌≡◌, ℕ, suc, ◌+◌, ◌≤◌, List, ◌++◌, length, map, drop, None, option_map}
+use Rattle.std.proofs.Common.{◌≡◌, drop}
 use Rattle.pgo_bound.specs.Runs as runs
 use Rattle.pgo_heads.proofs.runs.archetype_named.Given as goal
 

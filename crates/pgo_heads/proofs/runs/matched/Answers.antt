@@ -1,4 +1,4 @@
-use Rattle.std.proofs.Common.{◌≡◌, ◌++◌, suc, map, arith, ap, sym, ◌∙◌}
+use Rattle.std.proofs.Common.{◌++◌, suc, map, arith, ap, sym, ◌∙◌}
 use Rattle.std.proofs.lemmas.List.{append-nil}
 use Rattle.pgo_heads.specs.Views.{handed_view}
 use Rattle.pgo_heads.proofs.Matching.{handed_end}

@@ -1,5 +1,5 @@
-use Rattle.std.proofs.Common.{◌≡◌, ℕ, suc, ◌+◌, ◌≤◌, List, ◌++◌, length, map, drop, None, option_map}
-use Rattle.pgo_heads.specs.Views.{start_view, handed_view, run_view, global_view, part_view}
+use Rattle.std.proofs.Common.{◌≡◌, suc, ◌+◌, ◌++◌, map, drop}
+use Rattle.pgo_heads.specs.Views.{handed_view}
 use Rattle.pgo_bound.specs.Runs as runs
 use Rattle.pgo_heads.proofs.runs.matched.Given as goal
 

@@ -2,9 +2,9 @@
 use Rattle.std.proofs.Common.{◌-◌, rules, arith, map}
 use Rattle.std.proofs.lemmas.Grind.{common_steps}
 use Rattle.std.specs.Prelude.{codes}
+use Rattle.std.proofs.lemmas.List.{map_push}
 use Rattle.pgo_base.specs.View.{data_of}
 use Rattle.pgo_log_text.specs.Lines.{account, most_parts}
-use Rattle.pgo_value_text.proofs.Turns.{seen_more}
 use Rattle.pgo_log_text.proofs.Turns.{all_read, too_many, part_turn}
 use Rattle.pgo_log_text.proofs.account.accounts.Goals as goal
 
@@ -20,7 +20,7 @@ returns-in_err-account c =
 pub parts-preserved : goal.parts-preserved
 parts-preserved c =
     let e = part_turn (codes "inst ") account most_parts c.parts.count c.parts.count (map data_of c.parts.ids.items) c.parts.cursor c.parts.invariant (search rules) (omega arith) in
-    let m = seen_more data_of c.parts.ids.items c.in_ok-account.field-0 in
+    let m = map_push data_of c.parts.ids.items c.in_ok-account.field-0 in
     first_of (search rules, grind (arith, common_steps))
 
 pub returns : goal.returns

@@ -1,9 +1,9 @@
 -- Each turn of the loop is a turn of the function.
 use Rattle.std.proofs.Common.{rules, arith, map}
 use Rattle.std.proofs.lemmas.Grind.{common_steps}
+use Rattle.std.proofs.lemmas.List.{map_push}
 use Rattle.pgo_model.specs.LogView.{change_view}
 use Rattle.pgo_log_text.specs.Lines.{changes}
-use Rattle.pgo_value_text.proofs.Turns.{seen_more}
 use Rattle.pgo_lexer.proofs.Turns.{one_more, no_more}
 use Rattle.pgo_log_text.proofs.entry.changes.Goals as goal
 
@@ -17,7 +17,7 @@ pub loop-turn-preserved : goal.loop-turn-preserved
 unfolding changes
 loop-turn-preserved c =
     let e = one_more (λ n. changes n (map change_view c.loop-turn.changes) c.loop-turn.cursor) c.args.count c.loop-turn._turn c.loop-turn-test.true c.loop-turn.invariant in
-    let m = seen_more change_view c.loop-turn.changes c.in_ok-change.field-0 in
+    let m = map_push change_view c.loop-turn.changes c.in_ok-change.field-0 in
     first_of (search rules, grind (arith, common_steps))
 
 pub returns : goal.returns

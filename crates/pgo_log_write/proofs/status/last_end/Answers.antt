@@ -1,7 +1,7 @@
 use Rattle.std.proofs.Common.{◌≡◌, ◌∙◌, ◌-◌, suc, length, sym, ap, arith}
 use Rattle.std.specs.Prelude.{option_map}
 use Rattle.pgo_log_write.specs.IsFinished.{ended, record_of}
-use Rattle.pgo_log_write.proofs.Ends.{last_is}
+use Rattle.pgo_syntax.proofs.Ends.{last_is}
 use Rattle.pgo_log_write.proofs.status.last_end.Goals as goal
 
 pub returns : goal.returns

@@ -1,4 +1,4 @@
-use Rattle.std.proofs.Common.{◌≡◌, true, false, Some, None, ap, ◌∙◌}
+use Rattle.std.proofs.Common.{◌≡◌, true, false, Some, ap, ◌∙◌}
 use Rattle.std.specs.Prelude.{if◌then◌else◌, option_map}
 use Rattle.pgo_base.specs.Lookup.{find}
 use Rattle.pgo_uses.specs.Names.{has_row}

@@ -1,4 +1,4 @@
-use Rattle.std.proofs.Common.{◌≡◌, ◌∷◌, ◌++◌, [], true, false, ap, sym, ◌∙◌}
+use Rattle.std.proofs.Common.{◌∷◌, ◌++◌, [], true, false, ap, sym, ◌∙◌}
 use Rattle.pgo_model.specs.ValueText.{same_bytes}
 use Rattle.pgo_model.specs.Written.{default_init_value}
 use Rattle.pgo_module_read.proofs.Defaults.{default_read, default_other, refused}

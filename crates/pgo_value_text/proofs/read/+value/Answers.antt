@@ -2,11 +2,12 @@
 use Rattle.std.proofs.Common.{◌≡◌, ◌-◌, map, rules, arith, sym, subst, ◌∙◌, ap}
 use Rattle.std.proofs.lemmas.Grind.{common_steps}
 use Rattle.std.specs.Prelude.{codes}
+use Rattle.std.proofs.lemmas.List.{map_push}
 use Rattle.pgo_base.specs.Data.{Data}
 use Rattle.pgo_base.specs.View.{data_of, pair_of}
 use Rattle.pgo_value_text.specs.Parsers.{Outcome, Parser, ReadsAs}
 use Rattle.pgo_value_text.specs.Reading.{spaced, value, parted, followed, pair_in, between}
-use Rattle.pgo_value_text.proofs.Turns.{seen_more, none_next, all_read, one_more, first_read}
+use Rattle.pgo_value_text.proofs.Turns.{none_next, all_read, one_more, first_read}
 use Rattle.pgo_value_text.proofs.Values.{too_deep, reads_set, reads_tuple, reads_record, reads_function, reads_atom}
 use Rattle.pgo_value_text.proofs.read.+value.Goals as goal
 
@@ -58,7 +59,7 @@ some_values-returns-in_err-spaced_value-2 t c =
 pub some_values-loop-turn-preserved : goal.some_values-loop-turn-preserved
 some_values-loop-turn-preserved t c =
     let e = one_more (codes ",") (spaced (value c.args.depth)) c.left-turn-end.result c.loop-turn._turn (map data_of c.loop-turn.values.items) c.loop-turn.cursor c.loop-turn.invariant c.loop-turn-test.true (search rules) in
-    let m = seen_more data_of c.loop-turn.values.items c.in_ok-spaced_value-2.field-0 in
+    let m = map_push data_of c.loop-turn.values.items c.in_ok-spaced_value-2.field-0 in
     first_of (search rules, grind (arith, common_steps))
 
 pub some_values-returns : goal.some_values-returns
@@ -87,7 +88,7 @@ pairs-returns-in_err-pair-2 t c =
 pub pairs-loop-turn-preserved : goal.pairs-loop-turn-preserved
 pairs-loop-turn-preserved t c =
     let e = one_more c.between-word.result.now (pair_in c.args.form (value c.args.depth)) c.left-turn-end.result c.loop-turn._turn (map pair_of c.loop-turn.pairs.items) c.loop-turn.cursor c.loop-turn.invariant c.loop-turn-test.true (search rules) in
-    let m = seen_more pair_of c.loop-turn.pairs.items c.in_ok-pair-2.field-0 in
+    let m = map_push pair_of c.loop-turn.pairs.items c.in_ok-pair-2.field-0 in
     first_of (search rules, grind (arith, common_steps))
 
 pub pairs-returns : goal.pairs-returns

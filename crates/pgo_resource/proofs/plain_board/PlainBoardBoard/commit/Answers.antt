@@ -1,11 +1,12 @@
 use Rattle.std.proofs.Common.{◌≡◌, true, [], ◌∷◌, ◌++◌, map, refl, sym, ap, ◌∙◌, subst, arith, vec_len}
+use Rattle.std.proofs.lemmas.List.{map_push}
 use Rattle.pgo_model.specs.LogView.{entry_view}
 use Rattle.pgo_syntax.specs.RecordView.{note_view}
 use Rattle.pgo_workers.specs.Worlds.{world_of}
 use Rattle.pgo_resource.specs.PlainRows.{are_of, values_at}
 use Rattle.pgo_resource.specs.PlainSets.{map_length}
 use Rattle.pgo_resource.specs.PlainBoards.{board_layout, shows_of, here}
-use Rattle.pgo_resource.proofs.PlainSteps.{append_nil, map_push, nothing_grows, are_push, values_push, stands_here, rows_renewed, free_commit}
+use Rattle.pgo_resource.proofs.PlainSteps.{append_nil, nothing_grows, are_push, values_push, stands_here, rows_renewed, free_commit}
 use Rattle.pgo_resource.proofs.plain_board.PlainBoardBoard.commit.Goals as goal
 
 pub returns-then-len-self-clause-err : goal.returns-then-len-self-clause-err

@@ -1,6 +1,5 @@
 use Rattle.std.proofs.Common.{◌∙◌, sym, ap, subst}
 use Rattle.pgo_workers.specs.View.{MayCommit, resources_of}
-use Rattle.pgo_workers.specs.Worker.{with_held}
 use Rattle.pgo_workers.specs.Worlds.{world_of, layout_of}
 use Rattle.pgo_model.specs.LogView.{entry_view}
 use Rattle.pgo_section.proofs.Events.{has_record_room, journal_held, may_commit, was_committed, not_committed, resources_renewed, commits_at, refuses_at}

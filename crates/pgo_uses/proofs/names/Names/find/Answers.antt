@@ -1,6 +1,6 @@
 use Rattle.std.proofs.Common.{ap, sym, ◌∙◌}
-use Rattle.pgo_uses.specs.Indexed.{number_at}
-use Rattle.pgo_uses.proofs.Indexing.{found_at}
+use Rattle.pgo_uses.specs.Names.{number_at}
+use Rattle.pgo_uses.proofs.FirstNumbers.{found_at}
 use Rattle.pgo_uses.proofs.names.Names.find.Goals as goal
 
 pub returns : goal.returns

@@ -1,0 +1,56 @@
+// The last of a name in a list.
+ghost use Rattle.std.specs.Prelude.{◌≡◌, List, take, IfOk};
+ghost use Rattle.pgo_base.specs.LastPlace.{last_place};
+ghost use Rattle.pgo_base.specs.Lookup.{Name};
+ghost use Rattle.pgo_base.specs.NameMaps.{found};
+
+use crate::name_map::NameMap;
+use crate::text::Text;
+use std::alloc::{AllocError, Global};
+
+/// What has a name.
+pub trait Named {
+    ghost name_of: { Self → Name };
+
+    /// The name.
+    fn name(&self) -> &Text
+        ensures { result.now ≡ name_of self.now };
+}
+
+/// The first of these, at most so many.
+pub fn first<T>(list: &[T], count: usize) -> &[T]
+    ensures { result.now ≡ take count list.now }
+{
+    if count < list.len() {
+        &list[..count]
+    } else {
+        list
+    }
+}
+
+/// The place of the last of the name.
+pub fn last_among<T: Named>(list: &[T], name: &Text) -> Option<usize>
+    ensures { result ≡ last_place T.name_of name.now list.now }
+{
+    let mut i = list.len();
+    while i > 0 {
+        i -= 1;
+        if name.is(list[i].name()) {
+            return Some(i);
+        }
+    }
+    None
+}
+
+/// The place of the last of each name.
+///
+/// Err only where there is no memory.
+pub fn last_places<T: Named>(alloc: Global, list: &[T]) -> Result<NameMap<usize>, AllocError>
+    ensures { IfOk result (λ m. (x : Name) → found m x ≡ last_place T.name_of x list.now) }
+{
+    let mut places = NameMap::new(alloc);
+    for i in 0..list.len() {
+        places.set(alloc, list[i].name(), i)?;
+    }
+    Ok(places)
+}
