@@ -19,7 +19,7 @@ use Rattle.pgo_bound.specs.Among.{none_left, none_right, empty_map}
 use Rattle.pgo_heads.specs.declared.errors.BindError.{BindError}
 use Rattle.pgo_heads.specs.declared.errors.BindError.TheVariants as errors
 use Rattle.pgo_bind.proofs.Passing.{none_first, none_next}
-use Rattle.pgo_heads.specs.Refusals.{or_next, first, is_bad_argument, is_bad_handed, bad_arguments, bad_clauses, bad_places, bad_mappings, constants_refused, ids_refused, starts_refused, heads_refused, bind_refusal}
+use Rattle.pgo_heads.specs.Refusals.{or_that, first, is_bad_argument, is_bad_handed, bad_arguments, bad_clauses, bad_places, bad_mappings, constants_refused, ids_refused, starts_refused, heads_refused, bind_refusal}
 
 -- a `ref` parameter that is handed a value
 abbrev pub is_stray : ParameterKind → Argument → Bool
@@ -85,7 +85,7 @@ no_bad_mappings s consts h =
     let gs = globals_of s ds rs in
     let heads = none_next (constants_refused s consts) (heads_refused s.archetypes ds rs gs) h in
     let bad = option_map (λ (p : Name × ℕ). errors.BadMapping p.0 p.1) (first (bad_mappings gs rs)) in
-    let none = none_first bad (or_next (ids_refused rs) (starts_refused s.archetypes ds rs gs)) heads in
+    let none = none_first bad (or_that (ids_refused rs) (starts_refused s.archetypes ds rs gs)) heads in
     none_mapped (λ (p : Name × ℕ). errors.BadMapping p.0 p.1) (bad_mappings gs rs) none
 
 pub arguments_fit : (s : Spec) (consts : List (Name × Data)) → bind_refusal s consts ≡ None → AllByRecursion (ArgumentsFit s.archetypes) s.processes

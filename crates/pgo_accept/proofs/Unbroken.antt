@@ -4,7 +4,7 @@ use Rattle.pgo_syntax.specs.declared.spec.Spec.{Spec}
 use Rattle.pgo_scope.specs.declared.errors.ScopeError.{ScopeError}
 use Rattle.pgo_scope.specs.declared.finding.Finding.{Finding}
 use Rattle.pgo_scope.specs.Findings.{earliest}
-use Rattle.pgo_scope.specs.Refusal.{or_next, first_broken, scope_refusal}
+use Rattle.pgo_scope.specs.Refusal.{or_that, first_broken, scope_refusal}
 use Rattle.pgo_scope.specs.Unknown.{unknown_names}
 use Rattle.pgo_scope.specs.Arity.{wrong_arities}
 use Rattle.pgo_scope.specs.Clash.{name_clashes}
@@ -32,11 +32,11 @@ none_earliest fs h = go (least place fs) refl h
     go None e k = least_empty place fs e
     go (Some f) e k = absurd (cc)
 
-first_none : (o p : Option ScopeError) → or_next o p ≡ None → o ≡ None
+first_none : (o p : Option ScopeError) → or_that o p ≡ None → o ≡ None
 first_none None p h = refl
 first_none (Some e) p h = absurd (cc)
 
-next_none : (o p : Option ScopeError) → or_next o p ≡ None → p ≡ None
+next_none : (o p : Option ScopeError) → or_that o p ≡ None → p ≡ None
 next_none None p h = h
 next_none (Some e) p h = absurd (cc)
 

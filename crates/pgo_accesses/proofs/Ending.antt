@@ -23,7 +23,7 @@ use Rattle.pgo_sections.specs.SectionRun.{ChoiceMade}
 use Rattle.pgo_sections.proofs.Closing.{closed_at}
 use Rattle.pgo_sections.proofs.Domains.{same_of}
 use Rattle.pgo_workers.specs.Walk as walks
-use Rattle.pgo_accesses.specs.Accesses.{Progress, own_next, none_deep, all_shallow, is_too_deep}
+use Rattle.pgo_accesses.specs.Accesses.{Progress, own_next, is_empty, all_shallow, is_too_deep}
 use Rattle.pgo_accesses.proofs.Parts.{same_self, size_is, lookup_low, replaced_low, lookup_here, lookup_other, with_at, put_is, depth_at, made_of, le_of, of_le, not_less}
 use Rattle.pgo_accesses.proofs.Related.{Matches, IsElements, IsResource, MayChange, Elements, AsBound, Related}
 
@@ -143,10 +143,10 @@ module _ (K : Context) (rs : List Resource) (at_start : walks.Own) (d : Words) w
         go false n e ih low = ih e
 
     -- no resource is too deep
-    not_deep : none_deep p.too_deep ≡ true → (c : Touched) (r : ℕ) → number_among rs c ≡ Some r → is_too_deep (K.by_element c.0) (g r) ≡ false
+    not_deep : is_empty p.too_deep ≡ true → (c : Touched) (r : ℕ) → number_among rs c ≡ Some r → is_too_deep (K.by_element c.0) (g r) ≡ false
     not_deep h c r e = sym (R.deep c r e) ∙ go p.too_deep h
       where
-        go : (l : List ℕ) → none_deep l ≡ true → among r l ≡ false
+        go : (l : List ℕ) → is_empty l ≡ true → among r l ≡ false
         go [] h = refl
         go (x ∷ l) h = absurd (grind (arith, h))
 
@@ -165,7 +165,7 @@ module _ (K : Context) (rs : List Resource) (at_start : walks.Own) (d : Words) w
         go true e h = le_of (depth v) 255 e
         go false e h = absurd (grind (arith, h))
 
-    elements_low : (x : Name) → IsElements K rs at_start d x → none_deep p.too_deep ≡ true → (w : Data) → value_now K (Whole x) ch ≡ Some w → depth w ≤ 256
+    elements_low : (x : Name) → IsElements K rs at_start d x → is_empty p.too_deep ≡ true → (w : Data) → value_now K (Whole x) ch ≡ Some w → depth w ≤ 256
     elements_low x is h w e =
         let E = R.elements x is in
         let f = S.elements x is in
@@ -198,7 +198,7 @@ module _ (K : Context) (rs : List Resource) (at_start : walks.Own) (d : Words) w
     pub record Becomes (x : Name) (v : Data) : Type 0 where
       pub becomes : Data
       pub is : closed_value K l ch x v ≡ Some becomes
-      pub low : none_deep p.too_deep ≡ true → all_shallow o ≡ true → depth becomes ≤ 256
+      pub low : is_empty p.too_deep ≡ true → all_shallow o ≡ true → depth becomes ≤ 256
 
     not_global : (x : Name) → same_name x pc ≡ true → is_among x K.globals ≡ false
     not_global x e = ap (λ z. is_among z K.globals) (same_name-is x pc e) ∙ (part_of_own at_start pc S.place.0 S.parts S.place.1).no_global
@@ -234,7 +234,7 @@ module _ (K : Context) (rs : List Resource) (at_start : walks.Own) (d : Words) w
               low = λ none all. part.3 (subst (λ z. depth z ≤ 255) ((λ i. if n i then string l else on u.0 ((R.own x may.0 ∙ f) i) (λ v. v))) (own_low at_start x u.0 all u.1));
             }
 
-        global_case : (w : Data) → same_name x pc ≡ false → find x ch ≡ Some w → is_among x K.globals ≡ true → (none_deep p.too_deep ≡ true → depth w ≤ 256) → Becomes x v
+        global_case : (w : Data) → same_name x pc ≡ false → find x ch ≡ Some w → is_among x K.globals ≡ true → (is_empty p.too_deep ≡ true → depth w ≤ 256) → Becomes x v
         global_case w n f is low = record {
           becomes = w;
           is = (λ i. if n i then put_part K.id (Some v) (Some (string l)) else on (Some v) (f i) (λ v'. value_put (is i) K.id (Some v) (Some v')));
@@ -276,7 +276,7 @@ module _ (K : Context) (rs : List Resource) (at_start : walks.Own) (d : Words) w
     pub record Closes (s : Vars) : Type 0 where
       pub end : Vars
       pub is : closed K l ch s ≡ Some end
-      pub low : none_deep p.too_deep ≡ true → all_shallow o ≡ true → is_shallow end ≡ true
+      pub low : is_empty p.too_deep ≡ true → all_shallow o ≡ true → is_shallow end ≡ true
 
     closes : (s : Vars) → Entries s → Closes s
     closes [] h = record { end = []; is = refl; low = λ none all. refl }
@@ -401,11 +401,11 @@ module _ (K : Context) (rs : List Resource) (at_start : walks.Own) (d : Words) w
             number : (q : ℕ) → Some q ≡ Some r → q ≡ r
             number q f = cc
 
-    none_deep_there : is_shallow t ≡ true → none_deep p.too_deep ≡ true
+    none_deep_there : is_shallow t ≡ true → is_empty p.too_deep ≡ true
     none_deep_there s = go p.too_deep R.only R.deep
       where
         go : (l : List ℕ) → ((r : ℕ) → among r l ≡ true → (c : Touched) × (number_among rs c ≡ Some r) × IsResource K rs at_start d c.0 c.1)
-            → ((c : Touched) (r : ℕ) → number_among rs c ≡ Some r → among r l ≡ is_too_deep (K.by_element c.0) (g r)) → none_deep l ≡ true
+            → ((c : Touched) (r : ℕ) → number_among rs c ≡ Some r → among r l ≡ is_too_deep (K.by_element c.0) (g r)) → is_empty l ≡ true
         go [] only deep = refl
         go (r ∷ l) only deep =
             let here : among r (r ∷ l) ≡ true = ap (λ b. if b then true else among r l) (Rattle.pgo_accesses.proofs.Related.same_number r) in
@@ -430,8 +430,8 @@ module _ (K : Context) (rs : List Resource) (at_start : walks.Own) (d : Words) w
             let low = part_under (find q.0 t) (next_of q.0 q.1) (λ v e. shallow_at t q.0 v s e) (own_at q.0 q.1 h.0) in
             λ i. of_le (depth (next_of q.0 q.1)) 255 low i && go own h.1 i
 
-    pub is_state : is_shallow t ≡ (none_deep p.too_deep && all_shallow o)
+    pub is_state : is_shallow t ≡ (is_empty p.too_deep && all_shallow o)
     is_state =
-        same_test (is_shallow t) (none_deep p.too_deep && all_shallow o)
+        same_test (is_shallow t) (is_empty p.too_deep && all_shallow o)
         (λ s. (λ i. none_deep_there s i && all_shallow_there s i))
-        (λ h. let b = and_parts (none_deep p.too_deep) (all_shallow o) h in end_is.low b.0 b.1)
+        (λ h. let b = and_parts (is_empty p.too_deep) (all_shallow o) h in end_is.low b.0 b.1)

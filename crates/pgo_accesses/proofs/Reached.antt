@@ -19,7 +19,7 @@ use Rattle.pgo_sections.specs.Exec.{MacroEnd, Gives, Stops, count}
 use Rattle.pgo_sections.specs.FreeNames.{free_names}
 use Rattle.pgo_workers.specs.Walk as walks
 use Rattle.pgo_workers.specs.Walk.{Walk, Stop, Touch, Goes, Sticks, Within}
-use Rattle.pgo_accesses.specs.Accesses.{Attempt, Progress, own_next, ended, with_value, if_true, value_of, with_whole, reads_then, evaluating, with_member, putting, printing, using_word, becoming, can_stand, accessing, behind_read, behind_write, read_here, write_here, left_by_read, left_by_write, reading, writing, accesses, accesses_of_arm, no_value, none_deep, all_shallow}
+use Rattle.pgo_accesses.specs.Accesses.{Attempt, Progress, own_next, ended, with_value, if_true, value_of, with_whole, reads_then, evaluating, with_member, putting, printing, using_word, becoming, can_stand, accessing, behind_read, behind_write, read_here, write_here, left_by_read, left_by_write, reading, writing, accesses, accesses_of_arm, no_value, is_empty, all_shallow}
 
 module _ (a : Attempt) (P : ℕ → Type 0) (Q : walks.Own → Type 0) (keeps : (l : Name) (ch : Vars) → Q (own_next l ch a.own)) where
   -- each resource of this global is within reach
@@ -79,7 +79,7 @@ module _ (a : Attempt) (P : ℕ → Type 0) (Q : walks.Own → Type 0) (keeps : 
   write_behind e r p (Stops kind cs) f h = tt
 
   ends : (l : Name) (p : Progress) → In (ended a l p)
-  ends l p = go (Rattle.std.specs.Prelude.◌&&◌ (none_deep p.too_deep) (all_shallow (own_next l p.changes a.own)))
+  ends l p = go (Rattle.std.specs.Prelude.◌&&◌ (is_empty p.too_deep) (all_shallow (own_next l p.changes a.own)))
     where
       go : (b : Bool) → In (if b then Stop (Goes (own_next l p.changes a.own) p.prints) else no_value)
       go true = keeps l p.changes

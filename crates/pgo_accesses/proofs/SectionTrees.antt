@@ -21,7 +21,7 @@ use Rattle.pgo_sections.proofs.Closing.{closed_keys}
 use Rattle.pgo_workers.specs.Walk as walks
 use Rattle.pgo_workers.specs.Walk.{Walk, Ahead, Goes, Sticks, visits, ending, final}
 use Rattle.pgo_accesses.specs.Accesses as accesses
-use Rattle.pgo_accesses.specs.Accesses.{Progress, accesses_of, own_next, none_deep, all_shallow, no_value}
+use Rattle.pgo_accesses.specs.Accesses.{Progress, accesses_of, own_next, is_empty, all_shallow, no_value}
 use Rattle.pgo_accesses.specs.Assigned.{AssignsBound, JumpsAtEnd, NeverYields}
 use Rattle.pgo_accesses.proofs.Ending.{HasPart, Start, Closes, end_is, global_at, own_at, other_at, unchanged_at, is_state}
 use Rattle.pgo_accesses.proofs.Follows.{At, Arrives, UsesHere, follows}
@@ -74,7 +74,7 @@ module _ (K : Context) (rs : List Resource) (at_start : walks.Own) (d : Words) w
     own_of o o' ps ps' e = (cc, cc)
 
     jumped : (l : Name) (run : runs.SectionRun) (p : Progress) (g : ℕ → Data) → At K rs at_start d w f0 (accesses.ended (attempt K rs at_start d) l p) run p g → Agrees w f0 (Jump l run)
-    jumped l run p g h = go (none_deep p.too_deep && all_shallow o) refl h.ahead
+    jumped l run p g h = go (is_empty p.too_deep && all_shallow o) refl h.ahead
       where
         R : Related K rs at_start d run.changes run.choices run.prints p g
         R = h.related
@@ -88,10 +88,10 @@ module _ (K : Context) (rs : List Resource) (at_start : walks.Own) (d : Words) w
         t : Vars
         t = E.end
 
-        state : is_shallow t ≡ (none_deep p.too_deep && all_shallow o)
+        state : is_shallow t ≡ (is_empty p.too_deep && all_shallow o)
         state = is_state K rs at_start d G S l run.changes run.choices run.prints p g R
 
-        end_at : (b : Bool) → (none_deep p.too_deep && all_shallow o) ≡ b → end_of K (Jump l run) ≡ (if b then Next t run.prints else Stuck NoValue)
+        end_at : (b : Bool) → (is_empty p.too_deep && all_shallow o) ≡ b → end_of K (Jump l run) ≡ (if b then Next t run.prints else Stuck NoValue)
         end_at b e = ap (λ q. on (Stuck NoValue) q (if_shallow run.prints)) E.is ∙ ap (λ c. if c then Next t run.prints else Stuck NoValue) (state ∙ e)
 
         left : (own : walks.Own) → own ≡ o → ((r : ℕ) → g r ≡ final w f0 r) → Left t own (final w f0)
@@ -123,7 +123,7 @@ module _ (K : Context) (rs : List Resource) (at_start : walks.Own) (d : Words) w
                 let E = R.elements x is in
                 ap (option_and_then (λ v. apply v i)) (global x (Some i) r e ∙ E.is) ∙ element r (number_among rs (x, Some i)) e (lookup i (graph E.pairs)) (E.each i)
 
-        go : (b : Bool) → (none_deep p.too_deep && all_shallow o) ≡ b → Ahead w f0 (numbers_of rs run.trace) (if b then walks.Stop (Goes o p.prints) else no_value) g → Agrees w f0 (Jump l run)
+        go : (b : Bool) → (is_empty p.too_deep && all_shallow o) ≡ b → Ahead w f0 (numbers_of rs run.trace) (if b then walks.Stop (Goes o p.prints) else no_value) g → Agrees w f0 (Jump l run)
         go true e a = record {
           trace = sym (a.trace ∙ append_none (numbers_of rs run.trace));
           stuck = λ kind k. absurd (let z : Goes o p.prints ≡ Sticks kind = sym a.ends ∙ k in grind (arith, z));

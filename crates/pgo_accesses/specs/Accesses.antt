@@ -8,10 +8,12 @@ use Rattle.pgo_base.specs.Size.{depth}
 use Rattle.pgo_base.specs.Tree.{Tree}
 use Rattle.pgo_model.specs.Choice.{pick}
 use Rattle.pgo_model.specs.Core.{number_among}
+pub use Rattle.pgo_model.specs.Machine.{is_empty}
 use Rattle.pgo_model.specs.Occurrences.{first_occurrences}
 use Rattle.pgo_model.specs.Operators.{members_of, truth_of}
 use Rattle.pgo_model.specs.Options.{on}
 use Rattle.pgo_model.specs.Outcome.{Blocked, NoValue, AssertFails}
+use Rattle.pgo_model.specs.State.{state_depth, part_depth}
 use Rattle.pgo_model.specs.System.{Words, Resource}
 use Rattle.pgo_model.specs.Val.{Meaning, val}
 use Rattle.pgo_model.specs.Written.{pc, self_name}
@@ -65,8 +67,8 @@ marked false r rs = without r rs
 
 -- The greatest depth of a value of a state, and of one that can stand in a set by itself. An element is one level below its global.
 abbrev pub state_limit : Bool → ℕ
-state_limit true = 255
-state_limit false = 256
+state_limit true = part_depth
+state_limit false = state_depth
 
 abbrev pub set_limit : Bool → ℕ
 set_limit true = 2046
@@ -96,10 +98,6 @@ abbrev pub own_next : Name → Vars → walks.Own → walks.Own
 own_next l ch [] = []
 own_next l ch (p ∷ o) = (p.0, if same_name p.0 pc then string l else on p.1 (find p.0 ch) (λ v. v)) ∷ own_next l ch o
 
-abbrev pub none_deep : List ℕ → Bool
-none_deep [] = true
-none_deep (r ∷ rs) = false
-
 -- an own component is one level below its variable
 abbrev pub all_shallow : walks.Own → Bool
 all_shallow [] = true
@@ -107,7 +105,7 @@ all_shallow (p ∷ o) = nat_le (depth p.1) (state_limit true) && all_shallow o
 
 -- the section ends at this written label, where no value is too deep for a state
 abbrev pub ended : Attempt → Name → Progress → Walk
-ended a l p = let o = own_next l p.changes a.own in if none_deep p.too_deep && all_shallow o then Stop (Goes o p.prints) else no_value
+ended a l p = let o = own_next l p.changes a.own in if is_empty p.too_deep && all_shallow o then Stop (Goes o p.prints) else no_value
 
 -- ---- expressions
 

@@ -7,6 +7,7 @@ pub mod StatementLiterals
 pub mod MacroStatements
 pub mod TextGives
 pub mod Labels
+pub mod InstanceLiterals
 pub mod Premises
 pub mod ValueTexts
 pub mod Following

@@ -1,31 +1,38 @@
--- The value of a text has counted sets.
-use Rattle.std.proofs.Common.{◌^◌, ℕ, List, [], ◌∷◌, length, arith}
-use Rattle.std.proofs.lemmas.Bool.{leb-true, lt-ltb}
+-- The value of a text is within limits that the strings and names of such texts are within.
+use Rattle.std.proofs.Common.{◌≡◌, true, ℕ, IsTrue, List, [], ◌∷◌, length, refl}
+use Rattle.std.proofs.lemmas.Bool.{leb-true}
 use Rattle.std.specs.List.{AllByRecursion}
-use Rattle.pgo_base.specs.Data.{Data, items, members, pairs}
+use Rattle.pgo_base.specs.Data.{Data, items, members, pairs, graph}
+use Rattle.pgo_model.specs.BundleParts.{all_string_bytes}
 use Rattle.pgo_model.specs.Operators.{most_members}
-use Rattle.pgo_value_text.specs.IsValueText.{IsValueText}
-use Rattle.pgo_systems.specs.Counted.{IsCounted, AreCounted, PairsCounted}
+use Rattle.pgo_value_text.specs.IsValueText.{IsValueText, is_name}
+use Rattle.pgo_systems.specs.Counted.{IsCounted, counted}
+use Rattle.pgo_systems.specs.Limits.{Limits}
+use Rattle.pgo_systems.specs.Within.{IsWithin, AreWithin, PairsWithin}
 use Rattle.pgo_accept.proofs.TextValues.{OfPair, OfTexts, text_value}
 
-all_counted : (xs : List Data) → AllByRecursion IsCounted xs → AreCounted (items xs)
-all_counted [] hs = tt
-all_counted (x ∷ xs) hs = (hs.0, all_counted xs hs.1)
+module _ (limits : Limits) (strings : (x : List ℕ) → all_string_bytes x ≡ true → IsTrue (limits.text x)) (fields : (x : List ℕ) → is_name x ≡ true → IsTrue (limits.text x)) (names : (x : List ℕ) → is_name x ≡ true → IsTrue (limits.model x)) where
+  all_within : (xs : List Data) → AllByRecursion (IsWithin limits) xs → AreWithin limits (items xs)
+  all_within [] hs = tt
+  all_within (x ∷ xs) hs = (hs.0, all_within xs hs.1)
 
-pairs_counted : (ps : List (Data × Data)) → AllByRecursion (OfPair IsCounted) ps → PairsCounted (pairs ps)
-pairs_counted [] hs = tt
-pairs_counted (p ∷ ps) hs = (hs.0.0, hs.0.1, pairs_counted ps hs.1)
+  pairs_within : (ps : List (Data × Data)) → AllByRecursion (OfPair (IsWithin limits)) ps → PairsWithin limits (pairs ps)
+  pairs_within [] hs = tt
+  pairs_within (p ∷ ps) hs = (hs.0.0, hs.0.1, pairs_within ps hs.1)
 
-counted_texts : OfTexts IsCounted
-counted_texts = record {
-  of_truth = λ b. tt;
-  of_number = λ z fits. fits;
-  of_string = λ s h. tt;
-  of_name = λ x h. tt;
-  of_field = λ x h. tt;
-  of_set = λ xs hs o few. (all_counted xs hs, o, lt-ltb (length (members (items xs))) (2 ^ 63) (let n = leb-true (length (members (items xs))) most_members few in omega (arith, n)));
-  of_function = λ ps hs o few. (pairs_counted ps hs, o);
-}
+  texts_within : OfTexts (IsWithin limits)
+  texts_within = record {
+    of_truth = λ b. tt;
+    of_number = λ z fits. fits;
+    of_string = strings;
+    of_name = names;
+    of_field = fields;
+    of_set = λ xs hs o few. (all_within xs hs, o, limits.few_members (length (members (items xs))) (leb-true (length (members (items xs))) most_members few));
+    of_function = λ ps hs o few. (pairs_within ps hs, o, limits.few_pairs (length (graph (pairs ps))) (leb-true (length (graph (pairs ps))) most_members few));
+  }
+
+  pub value_within : (bs : List ℕ) (v : Data) → IsValueText bs v → IsWithin limits v
+  value_within bs v h = text_value (IsWithin limits) texts_within bs v h
 
 pub value_counted : (bs : List ℕ) (v : Data) → IsValueText bs v → IsCounted v
-value_counted bs v h = text_value IsCounted counted_texts bs v h
+value_counted bs v h = value_within counted (λ x h. refl) (λ x h. refl) (λ x h. refl) bs v h

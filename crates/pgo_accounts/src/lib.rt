@@ -100,7 +100,6 @@ pub fn texts_run_as_written()
     ensures joint { (text : List ℕ) (s : Spec) (consts : List (Name × Data)) (settings : Settings) (turns : List ℕ) → SpellsSpec text s → NothingRefuses s consts → AllCounted consts → JointAccounts (rules_of (system_of (bound_of s consts)) settings) false (finished_of (Core (system_of (bound_of s consts)) settings turns)) }
 {
     texts_are_accepted();
-    values_are_given();
     modules_agree();
     bound_accounts();
     texts_keep_states();

@@ -13,5 +13,5 @@ length-onto (x ∷ xs) ys = omega (arith, length-onto xs (x ∷ ys))
 pub link_falls : (l : Link) → max (deep-Link l) 0 ≤ length (names_of l)
 link_falls Empty = omega arith
 link_falls (More n v e) = omega arith
-link_falls (Named n ns e) = omega (arith, length-onto (map named_view (n.now ∷ ns.now)) e.now)
-link_falls (Bound b bs e) = omega (arith, length-onto (map bound_view (b.now ∷ bs.now)) e.now)
+link_falls (Named n ns p e) = omega (arith, length-onto (map named_view (n.now ∷ ns.now)) e.now)
+link_falls (Bound b bs p e) = omega (arith, length-onto (map bound_view (b.now ∷ bs.now)) e.now)

@@ -1,6 +1,8 @@
--- What an ordered map has under a name.
-use Rattle.std.specs.Prelude.{Bool, List, Option, is_some}
+-- What an ordered map has under a name, and which numbers a set has.
+use Rattle.std.specs.Prelude.{ℕ, Bool, List, Option, is_some}
+use Rattle.std.specs.BTreeSet.{BTreeSet, contains_by}
 use Rattle.std.specs.Map.{lookup}
+use Rattle.std.specs.Ordering.{nat_cmp}
 use Rattle.pgo_base.specs.Lookup.{Name, same_name}
 use Rattle.pgo_base.specs.declared.name_map.NameMap.{NameMap}
 
@@ -15,3 +17,7 @@ found m n = found_in (λ k. k.items) m.map.entries n
 -- whether there is something under it
 abbrev pub has_name : {V : Type 0} → NameMap V → Name → Bool
 has_name m n = is_some (found m n)
+
+-- whether the number is in the set
+abbrev pub has_number : BTreeSet ℕ → ℕ → Bool
+has_number s n = contains_by (nat_cmp n) s

@@ -7,6 +7,7 @@ use Rattle.std.specs.Ordering.{ordering_reverse, match_ordering}
 use Rattle.std.specs.List.{AllByRecursion}
 use Rattle.std.specs.List.Sorted.{IsStrictlySortedBy}
 use Rattle.pgo_base.specs.Data.{Data}
+pub use Rattle.pgo_base.specs.Lists.{IsAmong as IsIn}
 use Rattle.pgo_base.specs.Order.{data_cmp}
 use Rattle.pgo_base.specs.Total.{data_total}
 use Rattle.pgo_base.specs.Exact.{data_exact, data_itself}
@@ -20,10 +21,6 @@ insert_member x (y ∷ ys) = match_ordering (data_cmp x y) (x ∷ y ∷ ys) (y �
 abbrev pub in_order : List Data → List Data
 in_order [] = []
 in_order (x ∷ xs) = insert_member x (in_order xs)
-
-abbrev pub IsIn : Data → List Data → Type 0
-IsIn q [] = ⊥
-IsIn q (y ∷ ys) = (q ≡ y) ⊎ IsIn q ys
 
 abbrev pub IsSorted : List Data → Type 0
 IsSorted = IsStrictlySortedBy data_cmp

@@ -1,9 +1,13 @@
 // The names in scope.
-ghost use Rattle.std.specs.Prelude.{◌≡◌, [], ◌∷◌, map, option_map};
+ghost use Rattle.std.specs.Prelude.{◌≡◌, [], ◌∷◌, map, option_map, slice_get};
 ghost use Rattle.pgo_base.specs.View.{data_of};
 ghost use Rattle.pgo_base.specs.Lookup.{find, nth};
-ghost use Rattle.pgo_base.specs.BindingsView.{onto, named_view, bound_view};
+ghost use Rattle.pgo_base.specs.BindingsView.{onto, named_view, bound_view, value_name, bound_name, ArePlaces, ArePlacesIfAny};
+ghost use Rattle.pgo_base.specs.LastPlace.{last_row};
 
+use crate::last_place::{Named, last_among};
+use crate::name_map::NameMap;
+use crate::named_values::NamedValues;
 use crate::text::Text;
 use crate::value::{Set, Value};
 use std::marker::Model;
@@ -30,14 +34,15 @@ pub struct Bindings<'a> {
     link: Link<'a>,
 }
 
-/// Names before others: one, one or more with values of their own, or one or more that a binder binds.
+/// Names before others: one, one or more with values of their own, or one or more that a binder binds. Beside those
+/// with values there may be a map of the place of the last of each name, beside those of a binder there is one.
 #[cycle(bindings)]
 #[derive(Clone, Copy)]
 enum Link<'a> {
     Empty,
     More(&'a Text, Option<&'a Value>, &'a Bindings<'a>),
-    Named(&'a NamedValue, &'a [NamedValue], &'a Bindings<'a>),
-    Bound(&'a BoundName, &'a [BoundName], &'a Bindings<'a>),
+    Named(&'a NamedValue, &'a [NamedValue], Option<&'a NameMap<usize>>, &'a Bindings<'a>),
+    Bound(&'a BoundName, &'a [BoundName], &'a NameMap<usize>, &'a Bindings<'a>),
 }
 
 impl<'a> Model for Bindings<'a> {
@@ -49,9 +54,11 @@ impl<'a> Model for Bindings<'a> {
 
     ghost coded = { coded_bindings };
 
-    ghost use Rattle.pgo_base.specs.BindingsView.{names_of};
+    ghost use Rattle.pgo_base.specs.BindingsView.{names_of, HasPlaces};
 
     ghost view = { λ e. names_of e.link };
+
+    ghost invariant = { λ e. HasPlaces e.link };
 
     ghost size = { length };
 
@@ -84,19 +91,38 @@ impl<'a> Bindings<'a> {
         match list.split_first() {
             None => Bindings { link: outer.link },
             Some((first, rest)) => Bindings {
-                link: Link::Named(first, rest, outer),
+                link: Link::Named(first, rest, None, outer),
+            },
+        }
+    }
+}
+
+impl<'a> Bindings<'a> {
+    /// The names of `outer`, and these before them, the last one first.
+    pub fn with_named(list: &'a NamedValues, outer: &'a Bindings<'a>) -> Bindings<'a>
+        ensures { result ≡ onto (map named_view list.entry.now) outer.entry.now }
+    {
+        match list.as_slice().split_first() {
+            None => Bindings { link: outer.link },
+            Some((first, rest)) => Bindings {
+                link: Link::Named(first, rest, Some(list.places()), outer),
             },
         }
     }
 
-    /// The names of `outer`, and these before them, the last one first.
-    pub fn with_bound(list: &'a [BoundName], outer: &'a Bindings<'a>) -> Bindings<'a>
+    /// The names of `outer`, and these before them, the last one first. The map has the place of the last of each name.
+    pub fn with_bound(
+        list: &'a [BoundName],
+        places: &'a NameMap<usize>,
+        outer: &'a Bindings<'a>,
+    ) -> Bindings<'a>
+        requires { ArePlaces bound_name list.now places.now }
         ensures { result ≡ onto (map bound_view list.entry.now) outer.entry.now }
     {
         match list.split_first() {
             None => Bindings { link: outer.link },
             Some((first, rest)) => Bindings {
-                link: Link::Bound(first, rest, outer),
+                link: Link::Bound(first, rest, places, outer),
             },
         }
     }
@@ -116,15 +142,85 @@ impl<'a> Bindings<'a> {
                     outer.find(name)
                 }
             }
-            Link::Named(first, rest, outer) => match found_named(name, first, rest) {
+            Link::Named(first, rest, places, outer) => match found_named(
+                name, first, rest, *places,
+            ) {
                 Some(v) => Some(v),
                 None => outer.find(name),
             },
-            Link::Bound(first, rest, outer) => match found_bound(name, first, rest) {
+            Link::Bound(first, rest, places, outer) => match found_bound(
+                name, first, rest, *places,
+            ) {
                 Some(v) => Some(v),
                 None => outer.find(name),
             },
         }
+    }
+}
+
+/// The one in this place.
+fn row_at<'a, T>(list: &'a [T], place: usize) -> Option<&'a T>
+    ensures { option_map (λ r. r.now) result ≡ slice_get list.now place }
+{
+    list.get(place)
+}
+
+/// The one in this place among the first and those behind it.
+fn item_at<'a, T>(first: &'a T, rest: &'a [T], place: usize) -> Option<&'a T>
+    ensures { option_map (λ r. r.now) result ≡ slice_get (first.now ∷ rest.now) place }
+{
+    if place == 0 {
+        Some(first)
+    } else {
+        row_at(rest, place - 1)
+    }
+}
+
+/// The last of the name.
+fn placed<'a, T: Named>(
+    name: &Text,
+    first: &'a T,
+    rest: &'a [T],
+    places: &NameMap<usize>,
+) -> Option<&'a T>
+    requires { ArePlaces T.name_of (first.now ∷ rest.now) places.now }
+    ensures { option_map (λ r. r.now) result ≡ last_row T.name_of name.now (first.now ∷ rest.now) }
+{
+    match places.get(name) {
+        Some(place) => item_at(first, rest, *place),
+        None => None,
+    }
+}
+
+/// The last of the name, found by going over them.
+fn last_of<'a, T: Named>(name: &Text, first: &'a T, rest: &'a [T]) -> Option<&'a T>
+    ensures { option_map (λ r. r.now) result ≡ last_row T.name_of name.now (first.now ∷ rest.now) }
+{
+    match last_among(rest, name) {
+        Some(i) => row_at(rest, i),
+        None => {
+            if name.is(first.name()) {
+                Some(first)
+            } else {
+                None
+            }
+        }
+    }
+}
+
+/// The last of the name.
+fn last_named<'a, T: Named>(
+    name: &Text,
+    first: &'a T,
+    rest: &'a [T],
+    places: Option<&'a NameMap<usize>>,
+) -> Option<&'a T>
+    requires { ArePlacesIfAny T.name_of (first.now ∷ rest.now) places }
+    ensures { option_map (λ r. r.now) result ≡ last_row T.name_of name.now (first.now ∷ rest.now) }
+{
+    match places {
+        Some(places) => placed(name, first, rest, places),
+        None => last_of(name, first, rest),
     }
 }
 
@@ -133,20 +229,14 @@ fn found_named<'a>(
     name: &Text,
     first: &'a NamedValue,
     rest: &'a [NamedValue],
+    places: Option<&'a NameMap<usize>>,
 ) -> Option<Option<&'a Value>>
+    requires { ArePlacesIfAny value_name (first.now ∷ rest.now) places }
     ensures { option_map (λ o. option_map (λ r. data_of r.now) o) result ≡ find name.now (onto (map named_view (first.now ∷ rest.now)) []) }
 {
-    let mut i = rest.len();
-    while i > 0 {
-        i -= 1;
-        if name.is(&rest[i].name) {
-            return Some(rest[i].value.as_ref());
-        }
-    }
-    if name.is(&first.name) {
-        Some(first.value.as_ref())
-    } else {
-        None
+    match last_named(name, first, rest, places) {
+        Some(last) => Some(last.lent()),
+        None => None,
     }
 }
 
@@ -155,20 +245,41 @@ fn found_bound<'a>(
     name: &Text,
     first: &'a BoundName,
     rest: &'a [BoundName],
+    places: &'a NameMap<usize>,
 ) -> Option<Option<&'a Value>>
+    requires { ArePlaces bound_name (first.now ∷ rest.now) places.now }
     ensures { option_map (λ o. option_map (λ r. data_of r.now) o) result ≡ find name.now (onto (map bound_view (first.now ∷ rest.now)) []) }
 {
-    let mut i = rest.len();
-    while i > 0 {
-        i -= 1;
-        if name.is(&rest[i].name) {
-            return Some(rest[i].member());
-        }
+    match last_named(name, first, rest, Some(places)) {
+        Some(last) => Some(last.member()),
+        None => None,
     }
-    if name.is(&first.name) {
-        Some(first.member())
-    } else {
-        None
+}
+
+impl NamedValue {
+    /// Its value, if it has one.
+    fn lent(&self) -> Option<&Value>
+        ensures { option_map (λ r. data_of r.now) result ≡ option_map data_of self.now.value }
+    {
+        self.value.as_ref()
+    }
+}
+
+impl Named for NamedValue {
+    ghost name_of = { value_name };
+
+    /// Its name.
+    fn name(&self) -> &Text {
+        &self.name
+    }
+}
+
+impl Named for BoundName {
+    ghost name_of = { bound_name };
+
+    /// Its name.
+    fn name(&self) -> &Text {
+        &self.name
     }
 }
 

@@ -1,5 +1,6 @@
-// The last of a name in a list.
-ghost use Rattle.std.specs.Prelude.{◌≡◌, List, take, IfOk};
+// The first and the last of a name in a list.
+ghost use Rattle.std.specs.Prelude.{◌≡◌, List, IfOk, option_map};
+ghost use Rattle.pgo_base.specs.FirstPlace.{first_named};
 ghost use Rattle.pgo_base.specs.LastPlace.{last_place};
 ghost use Rattle.pgo_base.specs.Lookup.{Name};
 ghost use Rattle.pgo_base.specs.NameMaps.{found};
@@ -15,17 +16,6 @@ pub trait Named {
     /// The name.
     fn name(&self) -> &Text
         ensures { result.now ≡ name_of self.now };
-}
-
-/// The first of these, at most so many.
-pub fn first<T>(list: &[T], count: usize) -> &[T]
-    ensures { result.now ≡ take count list.now }
-{
-    if count < list.len() {
-        &list[..count]
-    } else {
-        list
-    }
 }
 
 /// The place of the last of the name.
@@ -53,4 +43,23 @@ pub fn last_places<T: Named>(alloc: Global, list: &[T]) -> Result<NameMap<usize>
         places.set(alloc, list[i].name(), i)?;
     }
     Ok(places)
+}
+
+/// The first of each name.
+///
+/// Err only where there is no memory.
+pub fn first_of_each<'a, T: Named>(
+    alloc: Global,
+    list: &'a [T],
+) -> Result<NameMap<&'a T>, AllocError>
+    ensures { IfOk result (λ m. (x : Name) → option_map (λ r. r.now) (found m x) ≡ first_named T.name_of x list.now) }
+{
+    let mut first = NameMap::new(alloc);
+    let mut i = list.len();
+    while i > 0 {
+        i -= 1;
+        let item = &list[i];
+        first.set(alloc, item.name(), item)?;
+    }
+    Ok(first)
 }

@@ -5,8 +5,9 @@ ghost use Rattle.pgo_base.specs.LastPlace.{defined_name, last_place};
 
 use crate::expr::{Names, Sub};
 use crate::items::Items;
-use crate::last_place::{Named, first, last_among};
+use crate::last_place::{Named, last_among};
 use crate::name_map::NameMap;
+use crate::slices::first;
 use crate::text::Text;
 use crate::value::Value;
 use std::alloc::{AllocError, Global};

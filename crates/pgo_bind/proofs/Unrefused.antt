@@ -24,7 +24,7 @@ use Rattle.pgo_bound.specs.Lookups.{same_equal}
 use Rattle.pgo_bound.specs.Once.{StandOnce}
 use Rattle.pgo_heads.specs.declared.errors.BindError.TheVariants as errors
 use Rattle.pgo_heads.specs.declared.findings.Lack.TheVariants.{NoSet, NoMember}
-use Rattle.pgo_heads.specs.Refusals.{first, more_than, first_placed, where_true, at_place, bad_mappings, ids_shared, ids_unknown, instances_past, resources_past, values_unset, sets_empty, ids_refused, starts_refused, heads_refused, or_next, unset_global, empty_global, lacking, archetypes_run, lacking_in, lacking_local, lacks, lacks_in, local_set, unset_in_run, unset_local, unset_handed, unset_argument, is_unset_at, is_value_unset, is_some_unset, is_closed_unset}
+use Rattle.pgo_heads.specs.Refusals.{first, more_than, first_placed, where_true, at_place, bad_mappings, ids_shared, ids_unknown, instances_past, resources_past, values_unset, sets_empty, ids_refused, starts_refused, heads_refused, or_that, unset_global, empty_global, lacking, archetypes_run, lacking_in, lacking_local, lacks, lacks_in, local_set, unset_in_run, unset_local, unset_handed, unset_argument, is_unset_at, is_value_unset, is_some_unset, is_closed_unset}
 use Rattle.pgo_bind.proofs.Passing.{none_first, none_next}
 use Rattle.pgo_bind.proofs.UniqueIds.{once_of}
 
@@ -59,15 +59,15 @@ pub record Unrefused (as' : List Archetype) (ds : List Defined) (rs : List Run) 
 
 pub unrefused : (as' : List Archetype) (ds : List Defined) (rs : List Run) (gs : List GlobalStart) → heads_refused as' ds rs gs ≡ None → Unrefused as' ds rs gs
 unrefused as' ds rs gs h =
-    let fitting = none_first (option_map (λ p. errors.BadMapping p.0 p.1) (first (bad_mappings gs rs))) (or_next (ids_refused rs) (starts_refused as' ds rs gs)) h in
-    let rest = none_next (option_map (λ p. errors.BadMapping p.0 p.1) (first (bad_mappings gs rs))) (or_next (ids_refused rs) (starts_refused as' ds rs gs)) h in
+    let fitting = none_first (option_map (λ p. errors.BadMapping p.0 p.1) (first (bad_mappings gs rs))) (or_that (ids_refused rs) (starts_refused as' ds rs gs)) h in
+    let rest = none_next (option_map (λ p. errors.BadMapping p.0 p.1) (first (bad_mappings gs rs))) (or_that (ids_refused rs) (starts_refused as' ds rs gs)) h in
     let ids = none_first (ids_refused rs) (starts_refused as' ds rs gs) rest in
     let starts = none_next (ids_refused rs) (starts_refused as' ds rs gs) rest in
-    let shared = none_first (option_map (λ id. errors.SameId (value_from id)) (first (ids_shared rs))) (or_next (option_map errors.IdsNoValue (first (ids_unknown rs))) (option_map errors.TooManyInstances (first (instances_past rs)))) ids in
-    let unknown = none_first (option_map errors.IdsNoValue (first (ids_unknown rs))) (option_map errors.TooManyInstances (first (instances_past rs))) (none_next (option_map (λ id. errors.SameId (value_from id)) (first (ids_shared rs))) (or_next (option_map errors.IdsNoValue (first (ids_unknown rs))) (option_map errors.TooManyInstances (first (instances_past rs)))) ids) in
-    let many = none_next (option_map errors.IdsNoValue (first (ids_unknown rs))) (option_map errors.TooManyInstances (first (instances_past rs))) (none_next (option_map (λ id. errors.SameId (value_from id)) (first (ids_shared rs))) (or_next (option_map errors.IdsNoValue (first (ids_unknown rs))) (option_map errors.TooManyInstances (first (instances_past rs)))) ids) in
-    let parts = none_first (option_map errors.TooManyResources (first (resources_past gs))) (or_next (option_map (λ p. errors.InitNoValue p.1) (first_placed (values_unset as' ds rs gs))) (option_map (λ p. errors.InitEmpty p.1) (first_placed (sets_empty as' ds rs gs)))) starts in
-    let initial = none_next (option_map errors.TooManyResources (first (resources_past gs))) (or_next (option_map (λ p. errors.InitNoValue p.1) (first_placed (values_unset as' ds rs gs))) (option_map (λ p. errors.InitEmpty p.1) (first_placed (sets_empty as' ds rs gs)))) starts in
+    let shared = none_first (option_map (λ id. errors.SameId (value_from id)) (first (ids_shared rs))) (or_that (option_map errors.IdsNoValue (first (ids_unknown rs))) (option_map errors.TooManyInstances (first (instances_past rs)))) ids in
+    let unknown = none_first (option_map errors.IdsNoValue (first (ids_unknown rs))) (option_map errors.TooManyInstances (first (instances_past rs))) (none_next (option_map (λ id. errors.SameId (value_from id)) (first (ids_shared rs))) (or_that (option_map errors.IdsNoValue (first (ids_unknown rs))) (option_map errors.TooManyInstances (first (instances_past rs)))) ids) in
+    let many = none_next (option_map errors.IdsNoValue (first (ids_unknown rs))) (option_map errors.TooManyInstances (first (instances_past rs))) (none_next (option_map (λ id. errors.SameId (value_from id)) (first (ids_shared rs))) (or_that (option_map errors.IdsNoValue (first (ids_unknown rs))) (option_map errors.TooManyInstances (first (instances_past rs)))) ids) in
+    let parts = none_first (option_map errors.TooManyResources (first (resources_past gs))) (or_that (option_map (λ p. errors.InitNoValue p.1) (first_placed (values_unset as' ds rs gs))) (option_map (λ p. errors.InitEmpty p.1) (first_placed (sets_empty as' ds rs gs)))) starts in
+    let initial = none_next (option_map errors.TooManyResources (first (resources_past gs))) (or_that (option_map (λ p. errors.InitNoValue p.1) (first_placed (values_unset as' ds rs gs))) (option_map (λ p. errors.InitEmpty p.1) (first_placed (sets_empty as' ds rs gs)))) starts in
     let values = none_first (option_map (λ p. errors.InitNoValue p.1) (first_placed (values_unset as' ds rs gs))) (option_map (λ p. errors.InitEmpty p.1) (first_placed (sets_empty as' ds rs gs))) initial in
     let sets = none_next (option_map (λ p. errors.InitNoValue p.1) (first_placed (values_unset as' ds rs gs))) (option_map (λ p. errors.InitEmpty p.1) (first_placed (sets_empty as' ds rs gs))) initial in
     record {

@@ -4,6 +4,7 @@ use Rattle.std.specs.Prelude.{filter}
 use Rattle.std.specs.List.{AllByRecursion, filter_map, flat_map, list_any, cons_option}
 use Rattle.std.proofs.lemmas.Option.{same_Some}
 use Rattle.pgo_base.specs.Data.{Data}
+pub use Rattle.pgo_base.specs.Lists.{IsAmong}
 use Rattle.pgo_base.specs.Lookup.{Name, Vars, same_name, find}
 use Rattle.pgo_model.specs.Machine.{nth}
 use Rattle.pgo_model.specs.Names.{same_name-self}
@@ -12,11 +13,6 @@ use Rattle.pgo_model.specs.State.{AllValues}
 use Rattle.pgo_model.specs.Value.{IsValue}
 use Rattle.pgo_bound.specs.BoundOf.{numbered}
 use Rattle.pgo_bound.specs.State.{AreDifferent}
-
--- x is an item of the list
-abbrev pub IsAmong : {A : Type 0} → A → List A → Type 0
-IsAmong x [] = ⊥
-IsAmong x (y ∷ ys) = (x ≡ y) ⊎ IsAmong x ys
 
 pub among_map : {A B : Type 0} (f : A → B) (x : A) (xs : List A) → IsAmong x xs → IsAmong (f x) (map f xs)
 among_map f x [] h = h

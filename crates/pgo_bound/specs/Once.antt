@@ -2,6 +2,7 @@
 use Rattle.std.proofs.Common.{◌≡◌, ℕ, zero, suc, Bool, true, false, if◌then◌else◌, List, [], ◌∷◌, ◌++◌, map, Some, refl, ap, sym, ◌∙◌, subst, inl, inr}
 use Rattle.std.proofs.lemmas.Option.{same_Some}
 use Rattle.pgo_base.specs.Data.{Data, string}
+pub use Rattle.pgo_base.specs.Lists.{StandOnce}
 use Rattle.pgo_model.specs.Machine.{nth}
 use Rattle.pgo_model.specs.Operators.{same_data, lookup}
 use Rattle.pgo_bound.specs.Runs.{Run, run_ids, all_ids}
@@ -9,10 +10,6 @@ use Rattle.pgo_bound.specs.BoundOf.{places_of, places_of_run, first_place, first
 use Rattle.pgo_bound.specs.Among.{IsAmong, among_map, among_nth}
 use Rattle.pgo_bound.specs.Lookups.{same_of, same_equal}
 use Rattle.pgo_bound.specs.StartNames.{map-append}
-
-abbrev pub StandOnce : List Data → Type 0
-StandOnce [] = Unit {0}
-StandOnce (x ∷ xs) = (IsAmong x xs → ⊥) × StandOnce xs
 
 -- it stands at one place
 pub once_nth : (xs : List Data) (n m : ℕ) (a b : Data) → StandOnce xs → nth xs n ≡ Some a → nth xs m ≡ Some b → a ≡ b → n ≡ m

@@ -2,6 +2,7 @@
 use Rattle.std.specs.Prelude.{ℕ, suc, Bool, true, false, if◌then◌else◌, nat_eq, List, [], ◌∷◌, map, filter, Option, Some, None, option_map, option_and_then, unwrap_or}
 use Rattle.std.specs.List.{filter_map, flat_map, list_all}
 use Rattle.pgo_base.specs.Data.{Data}
+use Rattle.pgo_base.specs.FirstPlace.{first_named}
 use Rattle.pgo_base.specs.Lookup.{Name, same_name}
 use Rattle.pgo_base.specs.declared.module.Defined.{Defined}
 use Rattle.pgo_model.specs.Operators.{members_of}
@@ -24,6 +25,7 @@ use Rattle.pgo_syntax.specs.declared.process.MappingTarget.{MappingTarget}
 use Rattle.pgo_syntax.specs.declared.process.MappingTarget.TheVariants as clauses
 use Rattle.pgo_syntax.specs.declared.process.Process.{Process}
 use Rattle.pgo_syntax.specs.declared.spec.Spec.{Spec}
+use Rattle.pgo_syntax.specs.UnitNames.{archetype_name, mapping_name}
 use Rattle.pgo_bound.specs.declared.kinds.Kind.{Kind}
 use Rattle.pgo_bound.specs.declared.kinds.Kind.TheVariants.{Unbound, AsWhole, ByElement}
 use Rattle.pgo_bound.specs.Values.{closed_value}
@@ -48,8 +50,7 @@ pub record Run : Type 0 where
   pub ids : Option (List Data)
 
 abbrev pub archetype_named : Name → List Archetype → Option Archetype
-archetype_named x [] = None
-archetype_named x (a ∷ as') = if same_name x a.name.name then Some a else archetype_named x as'
+archetype_named = first_named archetype_name
 
 abbrev pub alone : Option Data → Option (List Data)
 alone = option_map (λ v. v ∷ [])
@@ -109,8 +110,7 @@ abbrev pub speaking : ℕ → Name → List MappingClause → List MappingClause
 speaking n g cs = unless_any (filter (λ c. is_of_number n c.target) cs) (filter (λ c. is_of_name g c.target) cs)
 
 abbrev pub mapping_named : Name → List MappingMacro → Option MappingMacro
-mapping_named x [] = None
-mapping_named x (m ∷ ms) = if same_name x m.name.name then Some m else mapping_named x ms
+mapping_named = first_named mapping_name
 
 -- `ref x[_]` that no clause names is the identity, and `ref x` is unmapped
 abbrev pub mapping_without : Extent → Option Mapping

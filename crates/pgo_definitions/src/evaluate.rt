@@ -82,8 +82,10 @@ fn value_with(
     optional(eval(alloc, defs, e, &env))
 }
 
-/// The value, or none.
-fn optional(answer: Result<Value, EvalStop>) -> Result<Option<Value>, AllocError>
+/// The value of an answer; none where it is NoValue.
+///
+/// Err where there is no memory.
+pub fn optional(answer: Result<Value, EvalStop>) -> Result<Option<Value>, AllocError>
     ensures { (o : Option Data) → Answers answer o → IfOk result (λ v. option_map data_of v ≡ o) }
 {
     match answer {

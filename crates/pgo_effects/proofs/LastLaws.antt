@@ -9,7 +9,7 @@ use Rattle.pgo_base.proofs.LastPlaces.{IsBelow, front_at, last_at, place_below}
 use Rattle.pgo_meaning.specs.MacrosPlaced.{bodies}
 use Rattle.pgo_syntax.specs.declared.macros.Macro.{Macro}
 use Rattle.pgo_effects.specs.Bodies.{body_after, body_at}
-use Rattle.pgo_syntax.specs.MacroName.{macro_name}
+use Rattle.pgo_syntax.specs.UnitNames.{macro_name}
 use Rattle.pgo_effects.proofs.BodyLaws.{bodies_last}
 
 same_body : (ms : List Macro) (m : Macro) (o : Option ℕ) → IsBelow o (length ms) → body_at (ms ++ m ∷ []) o ≡ body_at ms o

@@ -3,10 +3,11 @@ ghost use Rattle.std.specs.Prelude.{◌≡◌, take, IfOk};
 ghost use Rattle.pgo_base.specs.LastPlace.{last_place};
 ghost use Rattle.pgo_base.specs.Lookup.{Name};
 ghost use Rattle.pgo_base.specs.NameMaps.{found};
-ghost use Rattle.pgo_syntax.specs.MacroName.{macro_name};
+ghost use Rattle.pgo_syntax.specs.UnitNames.{macro_name};
 
-use pgo_base::last_place::{first, last_among, last_places};
+use pgo_base::last_place::{last_among, last_places};
 use pgo_base::name_map::NameMap;
+use pgo_base::slices::first;
 use pgo_base::text::Text;
 use pgo_syntax::macros::Macro;
 use std::alloc::{AllocError, Global};
@@ -30,7 +31,7 @@ impl<'a> Model for IndexedMacros<'a> {
     ghost use Rattle.pgo_base.specs.NameMaps.{found};
     ghost use Rattle.pgo_syntax.specs.StatementCode.{coded_statement};
     ghost use Rattle.pgo_syntax.specs.declared.macros.Macro.{Macro};
-    ghost use Rattle.pgo_syntax.specs.MacroName.{macro_name};
+    ghost use Rattle.pgo_syntax.specs.UnitNames.{macro_name};
 
     ghost Value = { List Macro };
 

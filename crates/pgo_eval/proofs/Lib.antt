@@ -13,3 +13,4 @@ pub mod Filters
 pub mod UpdateSteps
 pub mod Operands
 pub mod Walks
+pub mod BoundPlaces

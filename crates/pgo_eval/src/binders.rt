@@ -1,5 +1,6 @@
 // Quantifiers and functions of binders: what is made of an expression at each choice of members.
 ghost use Rattle.std.specs.Prelude.{◌≡◌, map, option_map, IfOk};
+ghost use Rattle.pgo_base.specs.BindingsView.{bound_name, ArePlaces};
 ghost use Rattle.pgo_base.specs.ExprView.{tree, bound_tree};
 ghost use Rattle.pgo_base.specs.Tree.{quantified, fun_of, bound};
 ghost use Rattle.pgo_base.specs.View.{data_of};
@@ -16,6 +17,8 @@ use crate::quantifiers::{is_decided, joined, over_none};
 use crate::scope::Scope;
 use pgo_base::bindings::{Bindings, BoundName};
 use pgo_base::expr::{Expr, Names, Quantifier};
+use pgo_base::last_place::last_places;
+use pgo_base::name_map::NameMap;
 use pgo_base::value::Value;
 use pgo_sets::build::function_of;
 use std::alloc::{AllocError, Global};
@@ -44,13 +47,14 @@ fn bound_names<'a>(
 fn value_bound<'a>(
     alloc: Global,
     names: &[BoundName],
+    places: &NameMap<usize>,
     e: &Expr,
     s: &Scope<'a, 'a, 'a>,
 ) -> Result<Option<Value>, AllocError>
-    requires { AreAt names.now }
+    requires { AreAt names.now × ArePlaces bound_name names.now places.now }
     ensures { IfOk result (λ o. option_map data_of o ≡ val (tree e.now) (with_names (name_values (names_over (over_bound names.now)) (chosen names.now) s.now.names.now) (scope_view s.now))) }
 {
-    let all = Bindings::with_bound(&*names, &*s.names);
+    let all = Bindings::with_bound(&*names, &*places, &*s.names);
     let inner = Scope { names: &all, ..*s };
     owned(alloc, held(alloc, e, &inner)?)
 }
@@ -69,11 +73,16 @@ pub fn quantified<'a>(
     let Some(names) = bound_names(alloc, binders, s)? else {
         return Ok(None);
     };
+    let places = last_places(alloc, names.as_slice())?;
     let mut names = names;
     let mut found = over_none(q);
     let mut more = start(&mut names);
     while more {
-        found = joined(q, found, truth_in(value_bound(alloc, &names, p, s)?));
+        found = joined(
+            q,
+            found,
+            truth_in(value_bound(alloc, &names, &places, p, s)?),
+        );
         more = advance(&mut names);
         if is_decided(q, found) {
             return Ok(from_truth(found));
@@ -95,6 +104,7 @@ pub fn function_value<'a>(
     let Some(names) = bound_names(alloc, binders, s)? else {
         return Ok(None);
     };
+    let places = last_places(alloc, names.as_slice())?;
     let mut names = names;
     if !are_few(&names) {
         return Ok(None);
@@ -102,7 +112,7 @@ pub fn function_value<'a>(
     let mut pairs = Vec::new(alloc);
     let mut more = start(&mut names);
     while more {
-        let v = value_bound(alloc, &names, e, s)?;
+        let v = value_bound(alloc, &names, &places, e, s)?;
         let pair = keyed(alloc, &names, v)?;
         more = advance(&mut names);
         match pair {

@@ -12,8 +12,9 @@ use crate::answers::truth;
 use crate::evaluate::held;
 use crate::held::{Held, lent, owned};
 use crate::scope::Scope;
-use pgo_base::bindings::{Bindings, NamedValue};
+use pgo_base::bindings::Bindings;
 use pgo_base::expr::Expr;
+use pgo_base::named_values::NamedValues;
 use pgo_base::text::Text;
 use pgo_base::value::Value;
 use std::alloc::{AllocError, Global};
@@ -71,11 +72,11 @@ pub fn let_value(
 ) -> Result<Option<Value>, AllocError>
     ensures { IfOk result (λ o. option_map data_of o ≡ val (let_in (named (map named_tree list.now)) (tree e.now)) (scope_view s.now)) }
 {
-    let mut defined = Vec::with_capacity(alloc, list.len())?;
+    let mut defined = NamedValues::new(alloc);
     for d in list {
         let value = value_with(alloc, &defined, &d.1, s)?;
         let name = d.0.copy(alloc)?;
-        defined.push(NamedValue { name, value })?;
+        defined.push(alloc, name, value)?;
     }
     value_with(alloc, &defined, e, s)
 }
@@ -84,13 +85,13 @@ pub fn let_value(
 #[cycle(evaluate)]
 pub fn value_with(
     alloc: Global,
-    list: &[NamedValue],
+    list: &NamedValues,
     e: &Expr,
     s: &Scope<'_, '_, '_>,
 ) -> Result<Option<Value>, AllocError>
     ensures { IfOk result (λ o. option_map data_of o ≡ val (tree e.now) (with_names (onto (map named_view list.now) s.now.names.now) (scope_view s.now))) }
 {
-    let names = Bindings::with_values(&*list, &*s.names);
+    let names = Bindings::with_named(&*list, &*s.names);
     let inner = Scope {
         names: &names,
         ..*s

@@ -9,8 +9,8 @@ ghost use Rattle.pgo_eval.specs.Newest.{IsFound};
 
 use crate::held::Held;
 use crate::words::is_word;
-use pgo_base::bindings::NamedValue;
 use pgo_base::module::{Defined, Defs};
+use pgo_base::named_values::NamedValues;
 use pgo_base::text::Text;
 use pgo_base::value::Value;
 use std::alloc::{AllocError, Global};
@@ -67,17 +67,14 @@ pub fn arguments(
     alloc: Global,
     params: &[Text],
     args: Vec<Value>,
-) -> Result<Vec<NamedValue>, AllocError>
+) -> Result<NamedValues, AllocError>
     requires { length args.items ≡ length params.now }
-    ensures { IfOk result (λ list. onto (map named_view list.items) [] ≡ name_values params.now (map data_of args.items) []) }
+    ensures { IfOk result (λ list. onto (map named_view list) [] ≡ name_values params.now (map data_of args.items) []) }
 {
-    let mut list = Vec::with_capacity(alloc, params.len())?;
+    let mut list = NamedValues::new(alloc);
     for v in args {
-        let name = params[list.len()].copy(alloc)?;
-        list.push(NamedValue {
-            name,
-            value: Some(v),
-        })?;
+        let name = params[list.as_slice().len()].copy(alloc)?;
+        list.push(alloc, name, Some(v))?;
     }
     Ok(list)
 }

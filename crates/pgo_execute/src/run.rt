@@ -45,7 +45,6 @@ use pgo_starts::contents::contents;
 use pgo_starts::own::all_own_at_start;
 use pgo_syntax::bound::Bound;
 use pgo_syntax::records::Settings;
-use pgo_systems::values_are_given;
 use pgo_translate::translate::translate;
 use pgo_written::modules_are_read_back;
 use pgo_written_runs::{read_values_are_canonical, runs_are_read_back};
@@ -146,7 +145,6 @@ pub fn expanded_run(
     spellable_values_are_read_back();
     texts_are_accepted();
     premises_hold();
-    values_are_given();
     texts_keep_states();
     texts_run_as_written();
     workers_follow_machines();

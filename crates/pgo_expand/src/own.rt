@@ -8,7 +8,8 @@ ghost use Rattle.pgo_pluscal.specs.PlusCalOf.{local_declaration, own_declaration
 
 use pgo_base::items::Items;
 use pgo_base::text::Text;
-use pgo_heads::runs::{Handed, archetype_named, matched};
+use pgo_heads::named_archetypes::NamedArchetypes;
+use pgo_heads::runs::{Handed, matched};
 use pgo_syntax::archetype::Archetype;
 use pgo_syntax::binding::Origin;
 use pgo_syntax::declaration::{Declaration, Declarations};
@@ -116,11 +117,11 @@ fn own_by(
 pub fn own_of(
     alloc: Global,
     process: &Process,
-    archetypes: &[Archetype],
+    archetypes: &NamedArchetypes<'_>,
 ) -> Result<Declarations, AllocError>
     ensures { IfOk result (λ ds. ds ≡ own_in archetypes.now process.now) }
 {
-    match archetype_named(&process.archetype.name, archetypes) {
+    match archetypes.get(&process.archetype.name) {
         None => Ok(Items::new(alloc)),
         Some(archetype) => own_by(alloc, process, archetype),
     }

@@ -7,12 +7,12 @@ use Rattle.pgo_base.specs.declared.expr.Word.TheVariants as words
 use Rattle.pgo_base.specs.Lookup.{Name}
 use Rattle.pgo_base.specs.Tree.{Tree, name, primed, number, text, truth, at, word, unary, binary, product, cond_of, case_of, case_other, let_in, quantified, choose, tuple, set_of, filter_of, image, fun_of, fun_set, record_of, record_set, except, index, field, call, unchanged, Trees, no_trees, more_trees, NamedTrees, no_named, more_named, TreePairs, no_arms, more_arms, BoundTrees, no_bound, more_bound, PathTrees, no_paths, more_paths}
 pub use Rattle.pgo_model.specs.BundleParts.{is_string_byte}
-use Rattle.pgo_model.specs.ValueText.{is_identifier}
+use Rattle.pgo_model.specs.ValueText.{is_identifier, most_name_bytes}
 use Rattle.pgo_lexer.specs.Lexemes.{all_are, largest}
 
 -- an identifier of at most 512 bytes
 abbrev pub IsName : Name → Type 0
-IsName x = IsTrue (is_identifier x) × (length x ≤ 512)
+IsName x = IsTrue (is_identifier x) × (length x ≤ most_name_bytes)
 
 abbrev pub AreNames : List Name → Type 0
 AreNames [] = Unit {0}

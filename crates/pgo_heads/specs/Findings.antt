@@ -1,7 +1,7 @@
 -- Of what a rule finds: the first, and the first in the text.
 use Rattle.std.specs.Prelude.{ℕ, Bool, if◌then◌else◌, List, [], ◌∷◌, Option, Some, None}
 use Rattle.pgo_base.specs.Lookup.{Name}
-pub use Rattle.pgo_base.specs.Lookup.{or_that as or_next}
+pub use Rattle.pgo_base.specs.Lookup.{or_that}
 use Rattle.pgo_syntax.specs.declared.name.PlacedName.{PlacedName}
 use Rattle.pgo_syntax.specs.Least.{sooner_of, least}
 

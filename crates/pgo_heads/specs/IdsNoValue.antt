@@ -5,10 +5,10 @@ use Rattle.pgo_base.specs.Data.{Data}
 use Rattle.pgo_base.specs.Size.{depth}
 use Rattle.pgo_base.specs.Lookup.{Name}
 use Rattle.pgo_bound.specs.Runs.{Run}
-use Rattle.pgo_heads.specs.Limits.{most_local_depth}
+use Rattle.pgo_heads.specs.Limits.{part_depth}
 
 abbrev pub is_some_deep : List Data → Bool
-is_some_deep ids = list_any (λ id. nat_lt most_local_depth (depth id)) ids
+is_some_deep ids = list_any (λ id. nat_lt part_depth (depth id)) ids
 
 -- the identifiers have no value, or one of them is too deep
 abbrev pub has_no_ids : Option (List Data) → Bool

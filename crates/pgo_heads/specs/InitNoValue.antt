@@ -18,22 +18,22 @@ use Rattle.pgo_bound.specs.Values.{Start, is_unset, argument_start, start_in, de
 use Rattle.pgo_bound.specs.Runs.{Run, Handed, run_ids, is_some_item}
 use Rattle.pgo_bound.specs.BoundOf.{GlobalStart}
 use Rattle.pgo_heads.specs.Findings.{where_true, at_place}
-use Rattle.pgo_heads.specs.Limits.{most_local_depth, most_global_depth}
+use Rattle.pgo_heads.specs.Limits.{part_depth, state_depth}
 use Rattle.pgo_heads.specs.LocalSets.{lacking}
 
 abbrev pub unset_global : GlobalStart → Option (ℕ × Name)
-unset_global g = where_true (is_unset most_global_depth g.start) (at_place g.declaration.name)
+unset_global g = where_true (is_unset state_depth g.start) (at_place g.declaration.name)
 
 -- the same start at each identifier
 abbrev pub is_unset_somewhere : Start → List Data → Bool
-is_unset_somewhere s ids = list_any (λ id. is_unset most_local_depth s) ids
+is_unset_somewhere s ids = list_any (λ id. is_unset part_depth s) ids
 
 abbrev pub is_some_unset : List Defined → Tree → List Data → Bool
-is_some_unset ds e ids = list_any (λ id. is_unset most_local_depth (argument_start ds e id)) ids
+is_some_unset ds e ids = list_any (λ id. is_unset part_depth (argument_start ds e id)) ids
 
 -- without `self` an expression has its value whatever the identifier is
 abbrev pub is_closed_unset : List Defined → Tree → Bool
-is_closed_unset ds e = if mentions self_name e then false else is_unset most_local_depth (start_of_value (closed_value ds e))
+is_closed_unset ds e = if mentions self_name e then false else is_unset part_depth (start_of_value (closed_value ds e))
 
 -- an expression has no value at some identifier, or too deep a one. Where there is no identifier it is judged by itself,
 -- if `self` doesn't stand in it

@@ -1,7 +1,6 @@
 -- What a map of names, or of numbers, has under one.
 use Rattle.std.specs.Prelude.{ℕ, Bool, false, if◌then◌else◌, Option, Some, None, option_map, unwrap_or}
 use Rattle.std.specs.BTreeMap.{BTreeMap, get_by}
-use Rattle.std.specs.BTreeSet.{BTreeSet, contains_by}
 use Rattle.std.specs.Ordering.{nat_cmp}
 use denote.Ref.{Bor}
 use Rattle.pgo_base.specs.Data.{Data}
@@ -15,7 +14,7 @@ use Rattle.pgo_base.specs.declared.name_map.NameMap.{NameMap}
 use Rattle.pgo_bound.specs.declared.kinds.Kind.{Kind}
 use Rattle.pgo_bound.specs.declared.kinds.Kind.TheVariants.{Unbound}
 use Rattle.pgo_bound.specs.Kinds.{with_extent}
-pub use Rattle.pgo_base.specs.NameMaps.{found, has_name}
+pub use Rattle.pgo_base.specs.NameMaps.{found, has_name, has_number as has_number_in}
 
 unfoldable pub numbered : {V : Type 0} → BTreeMap ℕ V → ℕ → Option V
 numbered m n = get_by (λ k. nat_cmp n k) m
@@ -48,7 +47,3 @@ extent_if n x e = if same_name n x then Some e else None
 abbrev pub with_binding : Kind → Option Extent → Kind
 with_binding k None = k
 with_binding k (Some e) = with_extent k e
-
--- whether the number is in the set
-abbrev pub has_number_in : BTreeSet ℕ → ℕ → Bool
-has_number_in s n = contains_by (nat_cmp n) s

@@ -1,9 +1,8 @@
 // A specification whose mapping macros are found by name.
 ghost use Rattle.std.specs.Prelude.{◌≡◌, option_map, IfOk};
-ghost use Rattle.pgo_base.specs.Lookup.{Name};
 ghost use Rattle.pgo_bound.specs.Runs as specs;
-ghost use Rattle.pgo_heads.specs.NameMaps.{mapping_in};
 
+use pgo_base::last_place::first_of_each;
 use pgo_base::name_map::NameMap;
 use pgo_base::text::Text;
 use pgo_syntax::macros::MappingMacro;
@@ -43,7 +42,7 @@ impl<'a> IndexedSpec<'a> {
     pub fn new(alloc: Global, spec: &'a Spec) -> Result<IndexedSpec<'a>, AllocError>
         ensures { IfOk result (λ s. s ≡ spec.now) }
     {
-        let mappings = first_mappings(alloc, spec.mappings.as_slice())?;
+        let mappings = first_of_each(alloc, spec.mappings.as_slice())?;
         Ok(IndexedSpec { spec, mappings })
     }
 
@@ -60,21 +59,4 @@ impl<'a> IndexedSpec<'a> {
     {
         self.mappings.get(name).copied()
     }
-}
-
-/// The first mapping macro of each name.
-fn first_mappings<'a>(
-    alloc: Global,
-    list: &'a [MappingMacro],
-) -> Result<NameMap<&'a MappingMacro>, AllocError>
-    ensures { IfOk result (λ m. (n : Name) → mapping_in m n ≡ specs.mapping_named n list.now) }
-{
-    let mut first = NameMap::new(alloc);
-    let mut i = list.len();
-    while i > 0 {
-        i -= 1;
-        let m = &list[i];
-        first.set(alloc, &m.name.name, m)?;
-    }
-    Ok(first)
 }

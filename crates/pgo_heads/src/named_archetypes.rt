@@ -1,9 +1,8 @@
 // The archetypes, found by name.
 ghost use Rattle.std.specs.Prelude.{◌≡◌, option_map, IfOk};
-ghost use Rattle.pgo_base.specs.Lookup.{Name};
 ghost use Rattle.pgo_bound.specs.Runs as specs;
-ghost use Rattle.pgo_heads.specs.NameMaps.{archetype_in};
 
+use pgo_base::last_place::first_of_each;
 use pgo_base::name_map::NameMap;
 use pgo_base::text::Text;
 use pgo_syntax::archetype::Archetype;
@@ -42,7 +41,7 @@ impl<'a> NamedArchetypes<'a> {
     pub fn new(alloc: Global, list: &'a [Archetype]) -> Result<NamedArchetypes<'a>, AllocError>
         ensures { IfOk result (λ a. a ≡ list.now) }
     {
-        let first = first_archetypes(alloc, list)?;
+        let first = first_of_each(alloc, list)?;
         Ok(NamedArchetypes { list, first })
     }
 
@@ -52,21 +51,4 @@ impl<'a> NamedArchetypes<'a> {
     {
         self.first.get(name).copied()
     }
-}
-
-/// The first archetype of each name.
-fn first_archetypes<'a>(
-    alloc: Global,
-    list: &'a [Archetype],
-) -> Result<NameMap<&'a Archetype>, AllocError>
-    ensures { IfOk result (λ m. (n : Name) → archetype_in m n ≡ specs.archetype_named n list.now) }
-{
-    let mut first = NameMap::new(alloc);
-    let mut i = list.len();
-    while i > 0 {
-        i -= 1;
-        let a = &list[i];
-        first.set(alloc, &a.name.name, a)?;
-    }
-    Ok(first)
 }

@@ -1,6 +1,7 @@
 -- Which tokens a text has: its pieces one after another from the left, each of them a blank, a comment or a token.
-use Rattle.std.specs.Prelude.{◌≡◌, ◌≤◌, ◌<◌, ◌+◌, ◌-◌, ◌*◌, ◌%◌, ℕ, suc, zero, pos, Bool, true, false, not, ◌&&◌, ◌||◌, nat_eq, nat_le, if◌then◌else◌, IsTrue, List, [], ◌∷◌, ◌++◌, length, fold, Option, Some, None}
-use Rattle.pgo_model.specs.ValueText.{is_digit, is_letter, is_word_byte, is_identifier}
+use Rattle.std.specs.Prelude.{◌≡◌, ◌≤◌, ◌<◌, ◌+◌, ◌-◌, ◌%◌, ℕ, suc, zero, pos, Bool, true, false, not, ◌&&◌, ◌||◌, nat_eq, if◌then◌else◌, IsTrue, List, [], ◌∷◌, ◌++◌, length, fold, Option, Some, None}
+use Rattle.pgo_model.specs.ValueText.{is_digit, is_letter, is_word_byte, is_identifier, most_name_bytes}
+pub use Rattle.pgo_model.specs.ValueText.{number_from as value_from, number_of as value, is_printed}
 use Rattle.pgo_lexer.specs.declared.token.Token.{Token}
 use Rattle.pgo_lexer.specs.declared.token.Token.TheVariants as t
 use Rattle.pgo_lexer.specs.declared.token.Lexeme.{Lexeme}
@@ -66,22 +67,10 @@ opens_line = begins_with 92 42
 
 -- ---- numbers
 
-abbrev pub value_from : ℕ → List ℕ → ℕ
-value_from n [] = n
-value_from n (b ∷ bs) = value_from (n * 10 + (b - 48)) bs
-
--- the value of decimal digits, leading zeros among them
-abbrev pub value : List ℕ → ℕ
-value = value_from 0
-
 abbrev pub largest : ℕ
 largest = 9223372036854775807
 
 -- ---- strings
-
--- 32 to 126
-abbrev pub is_printed : ℕ → Bool
-is_printed b = nat_le 32 b && nat_le b 126
 
 -- a byte of a string that stands for itself
 abbrev pub is_plain : ℕ → Bool
@@ -120,7 +109,7 @@ pub data IsPiece : (front rest : List ℕ) → Option Token → Type 0 where
   number : {b : ℕ} {bs rest : List ℕ} → IsRun is_word_byte (b ∷ bs) rest → IsTrue (all_are is_digit (b ∷ bs)) → value (b ∷ bs) ≤ largest
       → IsPiece (b ∷ bs) rest (Some (t.Number (pos (value (b ∷ bs)))))
   word : {bs rest : List ℕ} {symbol : Symbol} → IsRun is_word_byte bs rest → find bs reserved ≡ Some symbol → IsPiece bs rest (Some (t.Symbol symbol))
-  name : {bs rest : List ℕ} → IsRun is_word_byte bs rest → IsTrue (is_identifier bs) → length bs ≤ 512 → IsPiece bs rest (Some (t.Name bs))
+  name : {bs rest : List ℕ} → IsRun is_word_byte bs rest → IsTrue (is_identifier bs) → length bs ≤ most_name_bytes → IsPiece bs rest (Some (t.Name bs))
   underscore : {rest : List ℕ} → Stops is_word_byte rest → IsPiece (95 ∷ []) rest (Some (t.Symbol s.Underscore))
   string : {bs string rest : List ℕ} → Quoted bs string → IsPiece (34 ∷ (bs ++ 34 ∷ [])) rest (Some (t.Text string))
   slashed : {bs rest : List ℕ} {symbol : Symbol} → IsRun is_letter bs rest → find bs slash_words ≡ Some symbol → IsPiece (92 ∷ bs) rest (Some (t.Symbol symbol))

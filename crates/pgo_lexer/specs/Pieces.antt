@@ -1,7 +1,7 @@
 -- The pieces of a text as functions on lists, in the shape of the code.
 use Rattle.std.specs.Prelude.{◌≤◌, ◌<◌, ◌+◌, ◌-◌, ◌*◌, ℕ, suc, zero, pos, Bool, false, nat_eq, nat_le, nat_lt, if◌then◌else◌, List, [], ◌∷◌, ◌++◌, length, take, drop, Option, Some, None, codes}
 use Rattle.std.specs.List.{prefix_len}
-use Rattle.pgo_model.specs.ValueText.{is_digit, is_letter, is_word_byte, has_letter, same_bytes}
+use Rattle.pgo_model.specs.ValueText.{is_digit, is_letter, is_word_byte, has_letter, same_bytes, most_name_bytes}
 use Rattle.pgo_lexer.specs.declared.token.Token.{Token}
 use Rattle.pgo_lexer.specs.declared.token.Token.TheVariants as t
 use Rattle.pgo_lexer.specs.declared.symbol.Symbol.{Symbol}
@@ -49,7 +49,7 @@ number digits = number_token (number_from 0 digits)
 
 abbrev pub named_by : List ℕ → Option Symbol → Option Token
 named_by word (Some symbol) = Some (t.Symbol symbol)
-named_by word None = if nat_le (length word) 512 then Some (t.Name word) else None
+named_by word None = if nat_le (length word) most_name_bytes then Some (t.Name word) else None
 
 unfoldable pub named : List ℕ → Option Token
 named word = named_by word (find word reserved)

@@ -1,10 +1,10 @@
 -- The reserved words and the signs: how each is spelled.
-use Rattle.std.specs.Prelude.{ℕ, Bool, true, false, not, ◌&&◌, nat_eq, if◌then◌else◌, List, [], ◌∷◌, Option, Some, None, codes}
+use Rattle.std.specs.Prelude.{ℕ, Bool, true, false, not, ◌&&◌, List, [], ◌∷◌, codes}
 use Rattle.pgo_base.specs.declared.expr.Infix.TheVariants as op
 use Rattle.pgo_base.specs.declared.expr.Prefix.TheVariants as pre
 use Rattle.pgo_base.specs.declared.expr.Quantifier.TheVariants as q
 use Rattle.pgo_base.specs.declared.expr.Word.TheVariants as w
-use Rattle.pgo_model.specs.ValueText.{same_bytes}
+pub use Rattle.pgo_model.specs.ValueText.{is_beginning, find_bytes as find}
 use Rattle.pgo_lexer.specs.declared.symbol.Symbol.{Symbol}
 use Rattle.pgo_lexer.specs.declared.symbol.Symbol.TheVariants as s
 use Rattle.pgo_lexer.specs.declared.symbol.Bracket.TheVariants as b
@@ -13,17 +13,6 @@ use Rattle.pgo_lexer.specs.declared.symbol.Keyword.TheVariants as k
 -- a spelling, and what it spells
 abbrev pub Row : Type 0
 Row = List ℕ × Symbol
-
--- the first row with this spelling
-abbrev pub find : List ℕ → List Row → Option Symbol
-find spelling [] = None
-find spelling (r ∷ rs) = if same_bytes spelling r.0 then Some r.1 else find spelling rs
-
--- the first bytes are the beginning of the others
-abbrev pub is_beginning : List ℕ → List ℕ → Bool
-is_beginning [] ys = true
-is_beginning (x ∷ xs) [] = false
-is_beginning (x ∷ xs) (y ∷ ys) = nat_eq x y && is_beginning xs ys
 
 -- no row's spelling begins with these bytes
 abbrev pub begins_no_row : List ℕ → List Row → Bool

@@ -4,7 +4,7 @@ ghost use Rattle.std.specs.List.{All};
 ghost use Rattle.pgo_lexer.specs.Ends as spec;
 ghost use Rattle.pgo_lexer.specs.Prefixes.{AreCounted, AreTokensBefore, IsMarkedTo, LexesTo, token_of};
 
-use crate::bytes::{columns_behind, first, skip};
+use crate::bytes::{columns_behind, skip};
 use crate::errors::TextStop;
 use crate::lexer::MOST_BYTES;
 use crate::marker::{Marker, list_close};
@@ -12,6 +12,7 @@ use crate::piece::{Piece, first_piece};
 use crate::stack::Frame;
 use crate::symbol::Symbol;
 use crate::token::{Lexeme, Token, Tokens};
+use pgo_base::slices::first;
 use std::alloc::{AllocError, Global};
 
 /// Tokens before a fault, with the marks of their junction lists.

@@ -1,5 +1,5 @@
 // The bytes of a text, and how many of some sort stand at its front.
-ghost use Rattle.std.specs.Prelude.{◌≡◌, ◌≤◌, ◌<◌, ◌+◌, ◌-◌, ◌*◌, IsTrue, length, drop, take};
+ghost use Rattle.std.specs.Prelude.{◌≡◌, ◌≤◌, ◌<◌, ◌+◌, ◌-◌, ◌*◌, IsTrue, length, drop};
 ghost use Rattle.std.specs.List.{prefix_len};
 ghost use Rattle.pgo_model.specs.ValueText as text;
 ghost use Rattle.pgo_lexer.specs.Lexemes as spec;
@@ -89,17 +89,6 @@ pub fn is_same(a: &[u8], b: &[u8]) -> bool
     ensures { result ≡ text.same_bytes a.now b.now }
 {
     a == b
-}
-
-/// The first so many bytes, or all where there are fewer.
-pub fn first(bytes: &[u8], count: usize) -> &[u8]
-    ensures { result.now ≡ take count bytes.now }
-{
-    if count < bytes.len() {
-        &bytes[..count]
-    } else {
-        bytes
-    }
 }
 
 /// What stands behind the first so many bytes.

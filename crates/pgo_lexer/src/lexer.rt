@@ -4,17 +4,18 @@ ghost use Rattle.pgo_lexer.specs.Answers.{Gives, ok_as};
 ghost use Rattle.pgo_lexer.specs.Offsets.{IsAt, IsWithin};
 ghost use Rattle.pgo_lexer.specs.Lexing as spec;
 
-use crate::bytes::{columns_behind, first, skip};
+use crate::bytes::{columns_behind, skip};
 use crate::errors::TextStop;
 use crate::piece::{Piece, next_piece};
 use crate::token::{Lexeme, Tokens};
+use pgo_base::slices::first;
 use std::alloc::Global;
 
 /// The most bytes of a text whose columns can be counted; no memory holds as many.
 pub const MOST_BYTES: usize = 1152921504606846976;
 
-/// Adds the token that a piece is, if it is one and the limit allows it.
-fn add(
+/// Adds the token that a piece is, if it is one and the limit allows it. The piece begins in a column and at an offset.
+pub fn add(
     tokens: &mut Tokens,
     limit: u32,
     column: usize,

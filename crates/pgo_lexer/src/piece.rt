@@ -5,8 +5,8 @@ ghost use Rattle.pgo_lexer.specs.Offsets.{IsAt};
 ghost use Rattle.pgo_lexer.specs.Pieces as spec;
 
 use crate::bytes::{
-    all_digits, begins_blank, begins_dollar, begins_string, begins_word, first, has_letter,
-    is_same, letters_length, line_length, opens, opens_line, opens_word, skip, word_length,
+    all_digits, begins_blank, begins_dollar, begins_string, begins_word, has_letter, is_same,
+    letters_length, line_length, opens, opens_line, opens_word, skip, word_length,
 };
 use crate::comment::behind_comment;
 use crate::errors::TextStop;
@@ -15,6 +15,7 @@ use crate::string::content;
 use crate::symbol::Symbol;
 use crate::table::{find_dollar_word, find_reserved, find_sign, find_slash_word};
 use crate::token::Token;
+use pgo_base::slices::first;
 use pgo_base::text::Text;
 use std::alloc::{AllocError, Global};
 

@@ -9,6 +9,7 @@ ghost use Rattle.pgo_lexer.specs.Layout.{Marks};
 ghost use Rattle.pgo_lexer.specs.Tokenized.{Tokenized, IsOrNoMemory, Spans};
 
 use crate::errors::TextStop;
+pub use crate::lexer::add;
 use crate::lexer::lexed;
 pub use crate::marker::marked;
 use crate::token::Tokens;

@@ -5,14 +5,14 @@ use Rattle.std.proofs.lemmas.List.{append-nil, length-map}
 use Rattle.std.proofs.lemmas.Bool.Decides.{nat_tests}
 use Rattle.pgo_base.specs.Data.{Data}
 use Rattle.pgo_base.specs.Lookup.{Name, Vars}
-use Rattle.pgo_model.specs.Machine.{Entry}
+use Rattle.pgo_model.specs.Machine.{Entry, is_empty}
 use Rattle.pgo_model.specs.Log.{Effect, Log}
 use Rattle.pgo_model.specs.ModuleText.{Line, line, flatten}
 use Rattle.pgo_model.specs.Bundle.{value_line, entries_lines}
 use Rattle.pgo_model.specs.BundleParts.{is_run_status}
 use Rattle.pgo_value_text.proofs.Steps.{if_some, cond_true, bind_then, then_at, some_pair}
 use Rattle.pgo_value_text.proofs.Runs.{expected, is_apart}
-use Rattle.pgo_log_text.specs.Bytes.{begins, at_end}
+use Rattle.pgo_log_text.specs.Bytes.{begins}
 use Rattle.pgo_log_text.specs.Lines.{most_parts, run_status, nothing_behind, finish, heading, log_and_end}
 use Rattle.pgo_log_text.specs.IsBundle.{AreCanonical, AreEntries, Account, read_accounts_lines, AreAccounts, log_lines, IsLogText}
 use Rattle.pgo_log_text.proofs.BytesNumbers.{number_some, number_finds}
@@ -40,7 +40,7 @@ heading_finds n r h = then_at _ _ _ tt (10 ∷ r) (this_number_finds n (10 ∷ r
 abbrev last_line : ℕ → ℕ → List ℕ
 last_line n s = codes "end " ++ (decimal n ++ 32 ∷ (decimal s ++ 10 ∷ []))
 
-ends : (bs : List ℕ) → at_end bs ≡ true → bs ≡ []
+ends : (bs : List ℕ) → is_empty bs ≡ true → bs ≡ []
 ends [] h = refl
 ends (b ∷ bs) h = absurd (cc)
 
@@ -64,7 +64,7 @@ status_some bs s r e =
 behind_some : (n : ℕ) (bs : List ℕ) (s : ℕ) (r : List ℕ) → nothing_behind n bs ≡ Some (s, r) → (n ≡ s) × (bs ≡ []) × (r ≡ [])
 unfolding nothing_behind
 behind_some n bs s r e =
-    if_some (at_end bs) _ _ (s, r) ((n ≡ s) × (bs ≡ []) × (r ≡ [])) e
+    if_some (is_empty bs) _ _ (s, r) ((n ≡ s) × (bs ≡ []) × (r ≡ [])) e
     (λ t e. let same = some_pair n s bs r e in let all = ends bs t in (same.0, all, sym same.1 ∙ all))
     (λ _ e. absurd (cc))
 

@@ -23,11 +23,6 @@ taken zero bs = Some ([], bs)
 taken (suc n) [] = None
 taken (suc n) (b ∷ bs) = elim (taken n bs) as (λ o. Outcome (List ℕ)) [ None ↦ None | Some p ↦ Some (b ∷ p.0, p.1) ]
 
--- whether all is read
-abbrev pub at_end : List ℕ → Bool
-at_end [] = true
-at_end (b ∷ bs) = false
-
 -- ---- numbers
 
 -- one byte, or some of which the first is no zero

@@ -2,11 +2,11 @@
 use Rattle.std.specs.Prelude.{ℕ, zero, suc, Bool, true, false, ◌&&◌, nat_eq, if◌then◌else◌, List, [], ◌∷◌, ◌++◌, length, codes, Option, Some, None}
 use Rattle.pgo_base.specs.Data.{Data}
 use Rattle.pgo_base.specs.Lookup.{Name, Vars, same_name}
-use Rattle.pgo_model.specs.Machine.{Entry}
+use Rattle.pgo_model.specs.Machine.{Entry, is_empty}
 use Rattle.pgo_model.specs.Log.{Unowned, Change, Effect, Log}
 use Rattle.pgo_model.specs.BundleParts.{is_run_status}
 use Rattle.pgo_log_text.specs.Parsers.{Parser, and_then, ◌>>=◌, ◌>>◌, pure}
-use Rattle.pgo_log_text.specs.Bytes.{expect, begins, taken, at_end, number, name, value}
+use Rattle.pgo_log_text.specs.Bytes.{expect, begins, taken, number, name, value}
 
 -- ---- fields
 
@@ -257,7 +257,7 @@ run_status = do
 
 -- nothing behind it
 unfoldable pub nothing_behind : ℕ → Parser ℕ
-nothing_behind s bs = if at_end bs then Some (s, bs) else None
+nothing_behind s bs = if is_empty bs then Some (s, bs) else None
 
 -- the last line with the number of entries and the status, and nothing behind it
 unfoldable pub finish : ℕ → Parser ℕ

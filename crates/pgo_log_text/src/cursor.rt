@@ -1,6 +1,7 @@
 // A cursor over the bytes of a text.
 ghost use Rattle.std.specs.Prelude.{◌≡◌, ◌≤◌, length};
 ghost use Rattle.std.specs.List.{prefix_len};
+ghost use Rattle.pgo_model.specs.Machine.{is_empty};
 ghost use Rattle.pgo_model.specs.ValueText as text;
 ghost use Rattle.pgo_log_text.specs.Bytes as spec;
 ghost use Rattle.pgo_log_text.specs.Parsers.{Reads, ReadsAs};
@@ -65,7 +66,7 @@ impl<'a> Cursor<'a> {
 
     /// Whether all is read.
     pub fn is_at_end(&self) -> bool
-        ensures { result ≡ spec.at_end self.now }
+        ensures { result ≡ is_empty self.now }
     {
         match self.rest {
             [] => true,

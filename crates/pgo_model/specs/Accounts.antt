@@ -1,12 +1,12 @@
 -- What the journal and the records of a run say of each attempt.
-use Rattle.std.specs.Prelude.{◌≡◌, ◌≤◌, ◌<◌, ℕ, suc, Bool, true, List, [], ◌∷◌, length, Some, ◌⊎◌}
+use Rattle.std.specs.Prelude.{◌≡◌, ◌≤◌, ◌<◌, ℕ, suc, Bool, true, List, length, Some, ◌⊎◌}
+use Rattle.std.specs.List.{AllByRecursion}
 use Rattle.pgo_base.specs.Data.{Data}
 use Rattle.pgo_model.specs.Outcome.{Outcome, Next, Stuck}
 use Rattle.pgo_model.specs.Machine.{Rules, Entry, Note, Record, Step, Noted, Held, Down, Full, Finished, nth, state_at}
 
 abbrev pub AllIn : (ℕ → Type 0) → List ℕ → Type 0
-AllIn P [] = Unit {0}
-AllIn P (r ∷ rs) = P r × AllIn P rs
+AllIn = AllByRecursion
 
 -- r is a member of the list
 abbrev pub IsAmong : ℕ → List ℕ → Type 0

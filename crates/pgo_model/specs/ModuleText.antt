@@ -1,6 +1,8 @@
 -- The canonical text of a written module, line by line; each line ends in a newline.
 use Rattle.std.specs.Prelude.{ℕ, true, List, [], ◌∷◌, ◌++◌, map, codes}
+pub use Rattle.std.specs.List.{concat as flatten}
 use Rattle.pgo_base.specs.declared.expr.Infix.TheVariants as infixs
+pub use Rattle.pgo_base.specs.Lists.{joined as flat_lines}
 use Rattle.pgo_base.specs.Tree.{Tree, binary}
 use Rattle.pgo_base.specs.Lookup.{Name}
 use Rattle.pgo_model.specs.Val.{Defined, Given, Means}
@@ -15,15 +17,6 @@ Line = List ℕ
 
 abbrev pub line : List ℕ → Line
 line t = t ++ (10 ∷ [])
-
--- the lines, one after another
-abbrev pub flatten : List Line → List ℕ
-flatten [] = []
-flatten (l ∷ ls) = l ++ flatten ls
-
-abbrev pub flat_lines : List (List Line) → List Line
-flat_lines [] = []
-flat_lines (l ∷ ls) = l ++ flat_lines ls
 
 -- the items of a conjunction along its left side
 abbrev pub conjuncts : Tree → List Tree → List Tree

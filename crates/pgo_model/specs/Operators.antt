@@ -2,6 +2,7 @@
 use Rattle.std.specs.Prelude.{ℕ, zero, suc, ◌^◌, ℤ, pos, negsuc, ◌+ℤ◌, ◌-ℤ◌, Bool, true, false, not, ◌&&◌, if◌then◌else◌, nat_lt, int_lt, List, [], ◌∷◌, ◌++◌, length, map, filter, Option, Some, None, option_map, option_and_then}
 use Rattle.std.specs.Ordering.{is_eq}
 use Rattle.pgo_base.specs.Data.{Data, boolean, integer, set, function, items, members, pairs, graph}
+pub use Rattle.pgo_base.specs.Lists.{joined}
 use Rattle.pgo_base.specs.Order.{data_cmp}
 use Rattle.pgo_base.specs.Sets.{in_order}
 use Rattle.pgo_base.specs.Pairs.{pairs_in_order}
@@ -262,11 +263,6 @@ included (m ∷ ms) ns = contains m ns && included ms ns
 -- \subseteq
 abbrev pub subset : Data → Data → Option Data
 subset x y = both (λ ms ns. Some (boolean (included ms ns))) (members_of x) (members_of y)
-
--- these lists, one after another
-abbrev pub joined : List (List Data) → List Data
-joined [] = []
-joined (ms ∷ rest) = ms ++ joined rest
 
 -- UNION
 abbrev pub flatten : Data → Option Data

@@ -8,6 +8,10 @@ use Rattle.pgo_model.specs.Value.{IsValue}
 abbrev pub state_depth : ℕ
 state_depth = 256
 
+-- and of what stands one level below it: an identifier, what a function has at one, an element
+abbrev pub part_depth : ℕ
+part_depth = 255
+
 abbrev pub is_shallow : Vars → Bool
 is_shallow [] = true
 is_shallow (p ∷ ps) = nat_le (depth p.1) state_depth && is_shallow ps

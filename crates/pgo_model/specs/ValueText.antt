@@ -1,5 +1,5 @@
 -- The canonical text of a value.
-use Rattle.std.specs.Prelude.{ℕ, suc, pos, Bool, true, false, ◌&&◌, ◌||◌, nat_eq, nat_le, if◌then◌else◌, List, [], ◌∷◌, ◌++◌, codes, length}
+use Rattle.std.specs.Prelude.{ℕ, suc, ◌+◌, ◌-◌, ◌*◌, pos, Bool, true, false, ◌&&◌, ◌||◌, nat_eq, nat_le, if◌then◌else◌, List, [], ◌∷◌, ◌++◌, Option, Some, None, codes, length}
 use Rattle.std.specs.Fmt.{signed_decimal}
 use Rattle.pgo_base.specs.Data.{Data, boolean, integer, string, model, set, function, Items, no_items, item, Pairs, no_pairs, pair}
 
@@ -27,6 +27,19 @@ abbrev pub all_digits : List ℕ → Bool
 all_digits [] = true
 all_digits (b ∷ bs) = is_digit b && all_digits bs
 
+-- the number that digits behind a number spell
+abbrev pub number_from : ℕ → List ℕ → ℕ
+number_from n [] = n
+number_from n (b ∷ bs) = number_from (n * 10 + (b - 48)) bs
+
+-- the number that digits spell, leading zeros among them
+abbrev pub number_of : List ℕ → ℕ
+number_of = number_from 0
+
+-- 32 to 126
+abbrev pub is_printed : ℕ → Bool
+is_printed b = nat_le 32 b && nat_le b 126
+
 abbrev pub is_letter : ℕ → Bool
 is_letter b = (nat_le 65 b && nat_le b 90) || (nat_le 97 b && nat_le b 122)
 
@@ -48,9 +61,20 @@ same_bytes [] (y ∷ ys) = false
 same_bytes (x ∷ xs) [] = false
 same_bytes (x ∷ xs) (y ∷ ys) = nat_eq x y && same_bytes xs ys
 
+-- the first bytes are the beginning of the others
+abbrev pub is_beginning : List ℕ → List ℕ → Bool
+is_beginning [] ys = true
+is_beginning (x ∷ xs) [] = false
+is_beginning (x ∷ xs) (y ∷ ys) = nat_eq x y && is_beginning xs ys
+
 abbrev pub is_one_of : List ℕ → List (List ℕ) → Bool
 is_one_of x [] = false
 is_one_of x (w ∷ ws) = same_bytes x w || is_one_of x ws
+
+-- what the first row with these bytes has
+abbrev pub find_bytes : {A : Type 0} → List ℕ → List (List ℕ × A) → Option A
+find_bytes x [] = None
+find_bytes x (r ∷ rs) = if same_bytes x r.0 then Some r.1 else find_bytes x rs
 
 -- the words that are no identifiers
 abbrev pub reserved_words : List (List ℕ)
@@ -66,9 +90,17 @@ reserved_words =
 abbrev pub is_identifier : List ℕ → Bool
 is_identifier x = all_word_bytes x && has_letter x && (if is_one_of x reserved_words then false else true)
 
+-- how many bytes a name may have
+abbrev pub most_name_bytes : ℕ
+most_name_bytes = 512
+
+-- an identifier of at most 512 bytes
+abbrev pub is_read_name : List ℕ → Bool
+is_read_name x = is_identifier x && nat_le (length x) most_name_bytes
+
 -- a key that can be a record's field
 abbrev pub is_field : Data → Bool
-is_field (string s) = is_identifier s && nat_le (length s) 512
+is_field (string s) = is_read_name s
 is_field d = false
 
 abbrev pub all_fields : Pairs → Bool

@@ -1,5 +1,5 @@
 -- The module of its lines as functions on lists and trees, in the shape of the code.
-use Rattle.std.specs.Prelude.{nat_le, ℕ, Bool, true, false, ◌&&◌, nat_eq, if◌then◌else◌, List, [], ◌∷◌, ◌++◌, length, map, reverse, take, drop, Option, Some, None}
+use Rattle.std.specs.Prelude.{nat_le, ℕ, Bool, true, false, not, ◌&&◌, nat_eq, if◌then◌else◌, List, [], ◌∷◌, ◌++◌, length, map, reverse, take, drop, Option, Some, None}
 use Rattle.pgo_base.specs.ActionView.{action_pair}
 use Rattle.pgo_base.specs.Lookup.{Name}
 use Rattle.pgo_base.specs.Tree.{Tree, binary, quantified, call}
@@ -10,6 +10,7 @@ use Rattle.pgo_base.specs.declared.module.Module.{Module}
 use Rattle.pgo_base.specs.declared.module.WrittenProcess.{WrittenProcess}
 use Rattle.pgo_lexer.specs.Pieces.{begins}
 use Rattle.pgo_model.specs.ExprText.{expr_text}
+use Rattle.pgo_model.specs.Machine.{is_empty}
 use Rattle.pgo_model.specs.Module as written
 use Rattle.pgo_model.specs.ModuleView.{module_view, process_view}
 use Rattle.pgo_model.specs.ValueText.{same_bytes}
@@ -88,8 +89,7 @@ abbrev pub is_action_of : Name → Name → Bool
 is_action_of p x = same_bytes (take (length p) x) p && begins is_underscore (drop (length p) x)
 
 abbrev pub has_some : {A : Type 0} → List A → Bool
-has_some [] = false
-has_some (a ∷ as') = true
+has_some as' = not (is_empty as')
 
 -- a disjunction of more calls is higher than an expression may be
 abbrev pub most_actions : ℕ

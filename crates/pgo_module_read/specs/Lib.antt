@@ -1,4 +1,3 @@
-pub mod Answers
 pub mod Cutting
 pub mod Reading
 pub mod Building

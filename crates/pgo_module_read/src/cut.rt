@@ -1,22 +1,22 @@
 // The tokens of a module's text.
-ghost use Rattle.std.specs.Prelude.{◌≡◌, ◌≤◌, ◌<◌, ◌+◌, ◌*◌, [], None, length, drop};
+ghost use Rattle.std.specs.Prelude.{◌≡◌, ◌≤◌, ◌*◌, [], None, length, drop};
 ghost use Rattle.pgo_lexer.specs.Answers.{Gives, ok_as};
-ghost use Rattle.pgo_lexer.specs.Lexing.{added};
 ghost use Rattle.pgo_module_spells.specs.Spells as spells;
 ghost use Rattle.pgo_module_read.specs.Cutting as spec;
 
-use pgo_lexer::bytes::{columns_behind, first, opens, skip};
+use pgo_base::slices::first;
+use pgo_lexer::bytes::{columns_behind, opens, skip};
 use pgo_lexer::errors::TextStop;
-use pgo_lexer::piece::{Piece, next_piece};
+use pgo_lexer::piece::next_piece;
 use pgo_lexer::symbol::Symbol;
-use pgo_lexer::token::{Lexeme, Token, Tokens};
-use pgo_lexer::tokenizer::marked;
+use pgo_lexer::token::{Token, Tokens};
+use pgo_lexer::tokenizer::{add, marked};
 use pgo_spec_text::parts::{MOST_BYTES, column_at};
 use pgo_spec_text::search::module_from;
 use std::alloc::Global;
 
 /// The most tokens of a module.
-const MOST_TOKENS: usize = 4294967295;
+const MOST_TOKENS: u32 = 4294967295;
 
 fn is_defines(token: &Token) -> bool
     ensures { result ≡ spells.is_defines token.now }
@@ -57,37 +57,6 @@ fn is_last(row: Option<usize>, start: usize, token: &Option<Token>) -> bool
     }
 }
 
-/// Adds the token that a piece is, if it is one and the limit allows it.
-fn add(
-    tokens: &mut Tokens,
-    limit: usize,
-    column: usize,
-    start: usize,
-    piece: Piece,
-) -> Result<(), TextStop>
-    requires { start + piece.length < 18446744073709551616 }
-    ensures { Gives (added limit column start tokens.old piece.length piece.token) (ok_as tokens.new result) }
-{
-    let stop = start + piece.length;
-    match piece.token {
-        None => Ok(()),
-        Some(token) => {
-            if tokens.len() < limit {
-                let lexeme = Lexeme {
-                    token,
-                    column,
-                    start,
-                    stop,
-                };
-                tokens.push(lexeme)?;
-                Ok(())
-            } else {
-                Err(TextStop::at(start))
-            }
-        }
-    }
-}
-
 /// Adds the tokens of a text from an offset on, which stands in a column, up to the first two `==` that touch. Those before a
 /// place that has no token are added too.
 fn module_tokens(
@@ -95,7 +64,7 @@ fn module_tokens(
     text: &[u8],
     column: usize,
     start: usize,
-    limit: usize,
+    limit: u32,
     tokens: &mut Tokens,
 ) -> Result<(), TextStop>
     requires small { length text.now ≤ 1152921504606846976 }

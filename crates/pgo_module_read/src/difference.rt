@@ -2,6 +2,7 @@
 use crate::rows::expression;
 use crate::same::{same_tree, text_of};
 use pgo_base::expr::{Infix, Sub};
+use pgo_expr_read::stops::within;
 use pgo_lexer::errors::TextStop;
 use pgo_lexer::symbol::{Bracket, Junction, Symbol};
 use pgo_lexer::token::{Lexeme, Token, Tokens};
@@ -169,16 +170,6 @@ fn follow(alloc: Global, wanted: &[Lexeme], given: &[Lexeme]) -> Result<Agreemen
     }
 }
 
-/// The refusal at this offset, or at that of another refusal where that comes first.
-fn sooner(at: usize, stop: TextStop) -> TextStop {
-    match stop {
-        TextStop::Syntax { offset } => TextStop::Syntax {
-            offset: offset.min(at as u64),
-        },
-        TextStop::NoMemory => TextStop::NoMemory,
-    }
-}
-
 /// The refusal of tokens that aren't those of the wanted expression. What is behind them is refused at `behind`; where they differ
 /// by what groups them alone, they are refused at `whole`.
 fn refusal(
@@ -190,7 +181,7 @@ fn refusal(
 ) -> Result<TextStop, TextStop> {
     let wanted = plain_tokens(alloc, wanted)?;
     match follow(alloc, wanted.as_slice(), given)? {
-        Agreement::Differs(at) => Ok(sooner(at, behind)),
+        Agreement::Differs(at) => Ok(within(behind, at)),
         Agreement::Ends => Ok(behind),
         Agreement::Whole => Ok(whole),
     }

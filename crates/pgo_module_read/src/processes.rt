@@ -1,8 +1,7 @@
 // The processes of a module, with their label actions.
 ghost use Rattle.std.specs.Prelude.{◌≡◌, [], IfOk, reverse};
 ghost use Rattle.pgo_lexer.specs.Pieces.{begins};
-ghost use Rattle.pgo_expr_read.specs.Steps.{Makes};
-ghost use Rattle.pgo_module_read.specs.Answers.{Leaves};
+ghost use Rattle.pgo_expr_read.specs.Steps.{Makes, Reads};
 ghost use Rattle.pgo_module_read.specs.Building as spec;
 
 use crate::same::same_tree;
@@ -10,7 +9,8 @@ use crate::steps::{Step, steps_of};
 use pgo_base::expr::Sub;
 use pgo_base::items::Items;
 use pgo_base::module::{Action, Actions, Processes, WrittenProcess};
-use pgo_lexer::bytes::{first, is_same, skip};
+use pgo_base::slices::first;
+use pgo_lexer::bytes::{is_same, skip};
 use pgo_lexer::errors::TextStop;
 use pgo_module_trees::further::process_body;
 use std::alloc::{AllocError, Global};
@@ -78,7 +78,7 @@ fn process(
 /// behind the definition stays.
 #[tactic(auto, using(crate::proofs::Reversed::reversed_more), unfolding(crate::specs::Building::process_from))]
 fn process_from(alloc: Global, s: Step, left: &mut Vec<Action>) -> Result<WrittenProcess, TextStop>
-    ensures { Leaves (spec.process_from s [] (reverse left.old.items)) result (reverse left.new.items) }
+    ensures { Reads (spec.process_from s [] (reverse left.old.items)) result (reverse left.new.items) }
 {
     let mut done = Items::new(alloc);
     for _turn in 0..u64::MAX {

@@ -19,7 +19,7 @@ use Rattle.pgo_sections.specs.Exec.{MacroEnd, Gives, Stops}
 use Rattle.pgo_workers.specs.Walk as walks
 use Rattle.pgo_workers.specs.Walk.{Walk, Stop, Touch, Goes, Sticks}
 use Rattle.pgo_accesses.specs.Accesses as accesses
-use Rattle.pgo_accesses.specs.Accesses.{Attempt, Progress, begun, printing, using_word, becoming, no_value, with_value, if_true, with_member, none_deep, all_shallow, own_next, can_stand, is_too_deep, marked, behind_read, behind_write, left_by_read, left_by_write, read_here, write_here}
+use Rattle.pgo_accesses.specs.Accesses.{Attempt, Progress, begun, printing, using_word, becoming, no_value, with_value, if_true, with_member, is_empty, all_shallow, own_next, can_stand, is_too_deep, marked, behind_read, behind_write, left_by_read, left_by_write, read_here, write_here}
 use Rattle.pgo_code.specs.Steps as steps
 use Rattle.pgo_code.specs.declared.program.Code.{Code}
 use Rattle.pgo_code.specs.declared.program.Variable.{Variable}
@@ -172,7 +172,7 @@ module _ (a : Attempt) where
   labels l ch (p ∷ o) = ap (λ os. (p.0, if same_name p.0 pc then string l else on p.1 (find p.0 ch) (λ v. v)) ∷ os) (labels l ch o)
 
   ended_same : (l : Name) (env : Names) (p : Progress) → accesses.ended a l p ≡ ended l (stand_at a env p)
-  ended_same l env p = ap (λ o. if none_deep p.too_deep && all_shallow o then Stop (Goes o p.prints) else no_value) (labels l p.changes a.own)
+  ended_same l env p = ap (λ o. if is_empty p.too_deep && all_shallow o then Stop (Goes o p.prints) else no_value) (labels l p.changes a.own)
 
   read_same : (e : Bool) (r : ℕ) (p : Progress) (m : MacroEnd (Data × Data)) (f g : Data → Progress → Walk)
       → ((v : Data) (d : List ℕ) (u : ℕ) → f v (record p { too_deep = d; used = u }) ≡ g v (record p { changes = []; too_deep = d; used = u }))

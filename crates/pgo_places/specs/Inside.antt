@@ -18,7 +18,7 @@ use Rattle.pgo_meaning.specs.System.{system_of}
 use Rattle.pgo_workers.specs.Sentences.{IsOwn}
 use Rattle.pgo_workers.specs.Walk.{Own, Walk, Stop, Touch, Sticks, Within}
 use Rattle.pgo_workers.specs.Worlds.{layout_of, world_of}
-use Rattle.pgo_accesses.specs.Accesses.{Attempt, Progress, no_value, with_value, if_true, with_member, none_deep, all_shallow, can_stand, behind_read, behind_write, left_by_read, left_by_write, printing, using_word, read_here, write_here, becoming}
+use Rattle.pgo_accesses.specs.Accesses.{Attempt, Progress, no_value, with_value, if_true, with_member, is_empty, all_shallow, can_stand, behind_read, behind_write, left_by_read, left_by_write, printing, using_word, read_here, write_here, becoming}
 use Rattle.pgo_code.specs.declared.program.Program.{Program}
 use Rattle.pgo_code.specs.Steps.{Unmapped, Evaluation, Target, Resource, Own as OwnTarget, Content, Step, Bind, Pick, Unbind, Assign, Set, Await, Assert, Print, Branch, Choose, Jump, End, Read, Write, Fail, accessing, reading, writing, unbound}
 use Rattle.pgo_places.specs.Flows.{after}
@@ -97,7 +97,7 @@ module _ (a : Attempt) (k : Fixed) (names : List Name) where
       (λ r at. (tt, λ v. keeps_write c.is_element r p (write_here b c.writes at o p.used v) g h))
 
   keeps_ended : (l : Name) (s : Stand) → Named s → Keeps (ended l s)
-  keeps_ended l s n = keeps_cond (none_deep s.progress.too_deep && all_shallow (labelled l s.own)) _ (names_put pc (string l) s.own ∙ n)
+  keeps_ended l s n = keeps_cond (is_empty s.progress.too_deep && all_shallow (labelled l s.own)) _ (names_put pc (string l) s.own ∙ n)
 
   pub resume_keeps : (n : ℕ) (is : List Step) (s : Stand) → Named s → Keeps (resume a k n is s)
   resume_keeps zero is s h = tt

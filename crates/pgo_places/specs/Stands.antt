@@ -15,7 +15,7 @@ use Rattle.pgo_model.specs.Written.{pc}
 use Rattle.pgo_sections.specs.BoundValues.{bindable, value_under}
 use Rattle.pgo_sections.specs.Context.{index_value}
 use Rattle.pgo_workers.specs.Walk.{Own, Walk, Stop, Touch, Goes, Sticks}
-use Rattle.pgo_accesses.specs.Accesses.{Attempt, Progress, printing, using_word, becoming, no_value, with_value, if_true, with_member, none_deep, all_shallow}
+use Rattle.pgo_accesses.specs.Accesses.{Attempt, Progress, printing, using_word, becoming, no_value, with_value, if_true, with_member, is_empty, all_shallow}
 use Rattle.pgo_code.specs.Steps.{Unmapped, Evaluation, Target, Resource, Own as OwnTarget, Step, Bind, Pick, Unbind, Assign, Set, Await, Assert, Print, Branch, Choose, Jump, End, Read, Write, Fail, reading, writing, unbound}
 
 -- what an attempt's names are: the name of the instance's identifier, and for each variable, in its order, the own component that it
@@ -113,7 +113,7 @@ putting k (OwnTarget y) v s f = f (assigned k y v s)
 
 -- the section ends at this written label, where no value is too deep for a state
 abbrev pub ended : Name → Stand → Walk
-ended l s = let o = labelled l s.own in if none_deep s.progress.too_deep && all_shallow o then Stop (Goes o s.progress.prints) else no_value
+ended l s = let o = labelled l s.own in if is_empty s.progress.too_deep && all_shallow o then Stop (Goes o s.progress.prints) else no_value
 
 abbrev pub with_words : Words → Attempt → Attempt
 with_words d a = record a { words = d }

@@ -1,13 +1,11 @@
 // The values of expressions.
-ghost use Rattle.std.specs.Prelude.{◌≡◌, map, option_map, Option, IfOk};
+ghost use Rattle.std.specs.Prelude.{◌≡◌, map, option_map, IfOk};
 ghost use Rattle.std.proofs.Props.{props};
 ghost use Rattle.pgo_base.specs.Code.{coded_data};
-ghost use Rattle.pgo_base.specs.Data.{Data};
 ghost use Rattle.pgo_base.specs.View.{data_of};
 ghost use Rattle.pgo_model.specs.Val.{Meaning};
 ghost use Rattle.pgo_sections.specs.BoundValues.{bindable};
 ghost use Rattle.pgo_definitions.specs.Meant.{meant};
-ghost use Rattle.pgo_sets.specs.Answers.{Answers};
 ghost use Rattle.pgo_places.specs.Stands.{value_in, cleared};
 ghost use Rattle.pgo_places.specs.PlaceView.{stand_view, fixed_view, attempt_view};
 
@@ -18,8 +16,8 @@ use pgo_base::expr::Sub;
 use pgo_base::module::Defs;
 use pgo_base::scope::{Env, State};
 use pgo_base::value::Value;
+use pgo_definitions::evaluate::optional;
 use pgo_eval::eval::eval;
-use pgo_sets::errors::EvalStop;
 use pgo_syntax::bound::Bound;
 use std::alloc::{AllocError, Global};
 
@@ -30,17 +28,6 @@ pub struct Frame<'a> {
     pub definitions: &'a Defs,
     pub fixed: &'a Fixed,
     ghost same: { meant definitions.now ≡ meant bound.now.defs } by { Prim.hlevel (props, coded_data) },
-}
-
-/// The value, or none.
-fn optional(answer: Result<Value, EvalStop>) -> Result<Option<Value>, AllocError>
-    ensures { (o : Option Data) → Answers answer o → IfOk result (λ v. option_map data_of v ≡ o) }
-{
-    match answer {
-        Ok(v) => Ok(Some(v)),
-        Err(EvalStop::NoValue) => Ok(None),
-        Err(EvalStop::NoMemory) => Err(AllocError),
-    }
 }
 
 /// What the expression is here.

@@ -1,18 +1,9 @@
 -- The names that an expression binds, and which of them are bound around each of its operands.
-use Rattle.std.specs.Prelude.{ℕ, zero, suc, nat_lt, if◌then◌else◌, List, [], ◌∷◌, length, take}
+use Rattle.std.specs.Prelude.{ℕ, zero, suc, nat_lt, if◌then◌else◌, List, length, take}
 use Rattle.pgo_base.specs.Lookup.{Name}
+pub use Rattle.pgo_base.specs.BoundNames.{bound_by as names_by}
 use Rattle.pgo_base.specs.Tree.{Tree, let_in, quantified, choose, filter_of, image, fun_of, BoundTrees, no_bound, more_bound}
-use Rattle.pgo_sections.specs.Bound.{names_of, names_bound, below}
-
--- in the order of the text
-abbrev pub names_by : Tree → List Name
-names_by (let_in ds e) = names_of ds
-names_by (quantified q bs p) = names_bound bs
-names_by (choose x r p) = x ∷ []
-names_by (filter_of x r p) = x ∷ []
-names_by (image e x r) = x ∷ []
-names_by (fun_of bs e) = names_bound bs
-names_by _ = []
+use Rattle.pgo_sections.specs.Bound.{below}
 
 abbrev pub count_bound : BoundTrees → ℕ
 count_bound no_bound = 0

@@ -1,5 +1,5 @@
 -- The values of each state along a run can be written.
-use Rattle.std.proofs.Common.{true, ◌≡◌, ◌≤◌, ℕ, zero, suc, List, [], ◌∷◌, ◌++◌, map, length, Some, inl, refl, sym, subst, arith}
+use Rattle.std.proofs.Common.{true, ◌≡◌, ◌≤◌, ℕ, zero, suc, List, [], ◌∷◌, ◌++◌, map, length, Some, inl, inr, refl, sym, subst, arith}
 use Rattle.std.specs.List.{flat_map}
 use Rattle.pgo_base.specs.Data.{Data}
 use Rattle.pgo_base.specs.Lookup.{Name, Vars, same_name}
@@ -27,14 +27,13 @@ use Rattle.pgo_systems.specs.Premises.{AllAtLabels, IsGoodState, KeepsStates}
 use Rattle.pgo_agrees.specs.Accepted.{IsOfText}
 use Rattle.pgo_accounts.proofs.Steps.{Leads, leads_from}
 use Rattle.pgo_accounts.proofs.Entries.{nth_there}
-use Rattle.pgo_run_values.specs.Spellable.{AllSpellable, IsSpellable}
-use Rattle.pgo_run_values.specs.WrittenStatements.{LiteralsWrittenIn}
-use Rattle.pgo_run_values.specs.WrittenTexts.{AllLiteralsWritten}
-use Rattle.pgo_run_values.proofs.InstanceLiterals.{text_fits}
+use Rattle.pgo_run_values.specs.Spellable.{AllLiteralsWritten, AllSpellable, IsSpellable, spellable}
+use Rattle.pgo_systems.specs.StatementLiterals.{InstanceWithin}
+use Rattle.pgo_accounts.proofs.InstanceLiterals.{text_fits}
 use Rattle.pgo_run_values.proofs.Places.{label_bytes, places_spellable}
-use Rattle.pgo_run_values.proofs.StatementCode.{sections_fit}
-use Rattle.pgo_run_values.proofs.Starts.{definitions_fit, run_fits, start_spellable}
-use Rattle.pgo_run_values.proofs.States.{sect_spellable}
+use Rattle.pgo_systems.proofs.StatementCode.{sections_fit}
+use Rattle.pgo_systems.proofs.Starts.{definitions_fit, run_fits, start_within}
+use Rattle.pgo_systems.proofs.States.{sect_within}
 
 module _ (s : Spec) (consts : List (Name × Data)) (text : IsOfText s) (literals : AllLiteralsWritten s) (spelled : AllSpellable consts) (keeps : KeepsStates (bound_of s consts)) where
   abbrev b : Bound
@@ -47,7 +46,7 @@ module _ (s : Spec) (consts : List (Name × Data)) (text : IsOfText s) (literals
   pub ids_spellable : (k : ℕ) (i : Instance) → nth b.instances k ≡ Some i → IsSpellable (id_of i)
   ids_spellable k i at_k =
       let f = instance_from s (runs_of s (defs_of s consts)) i k at_k in
-      let run = run_fits s consts spelled literals.start f.0 f.1 in
+      let run = run_fits spellable s consts spelled literals.start f.0 f.1 in
       subst (λ (z : Instance). IsSpellable (id_of z)) (sym f.2.2.1.1) (subst IsSpellable (sym (data_from f.2.0)) (run.ids f.2.0 f.2.1))
 
   places : (t : Vars) → IsState b t → AllAtLabels b t → (p : Name × Data) → IsAmong p t → same_name p.0 pc ≡ true → IsSpellable p.1
@@ -59,10 +58,10 @@ module _ (s : Spec) (consts : List (Name × Data)) (text : IsOfText s) (literals
       let rs = runs_of s ds in
       let front = map global_value (globals_of s ds rs) in
       let here : IsAmong (pc, first_places rs) b.start = among_left (pc, first_places rs) (front ++ ((pc, first_places rs) ∷ [])) (flat_map (locals_of ds) rs) (among_right (pc, first_places rs) front ((pc, first_places rs) ∷ []) (inl refl)) in
-      start_spellable s consts spelled literals.start (places b.start keeps.sound.start keeps.sound.labels (pc, first_places rs) here (same_name-self pc))
+      start_within spellable s consts spelled literals.start (places b.start keeps.sound.start keeps.sound.labels (pc, first_places rs) here (same_name-self pc))
 
-  written_in : (k : ℕ) (i : Instance) → nth b.instances k ≡ Some i → LiteralsWrittenIn b i
-  written_in k i at_k = record { definitions = definitions_fit s consts spelled literals.start; sections = sections_fit b i (text_fits s consts literals k i at_k) }
+  written_in : (k : ℕ) (i : Instance) → nth b.instances k ≡ Some i → InstanceWithin spellable b i
+  written_in k i at_k = record { definitions = definitions_fit spellable s consts spelled literals.start; sections = sections_fit spellable b i (text_fits spellable s consts literals k i at_k) }
 
   module _ (settings : Settings) (turns : List ℕ) where
     abbrev R : Rules Vars Effect
@@ -86,5 +85,5 @@ module _ (s : Spec) (consts : List (Name × Data)) (text : IsOfText s) (literals
           let words = words_of (Seeded settings.seed e.0.instance e.0.attempt) in
           let x : Leads b e.0.instance (at n) (at (suc n)) words by.prints = leads_from b e.0.instance (at n) (at (suc n)) words by.prints by.outcome in
           let low : n ≤ length entries = omega (arith, le) in
-          sect_spellable b e.0.instance x.instance (at n) words (at (suc n)) by.prints x.there (written_in e.0.instance x.instance x.there) (is_state n low) (all_spellable n low)
-          (places (at (suc n)) (is_state (suc n) le) (good (suc n) le).labels) by.outcome
+          sect_within spellable b e.0.instance x.instance (at n) words (at (suc n)) by.prints x.there (written_in e.0.instance x.instance x.there) (is_state n low) (all_spellable n low)
+          (inr (places (at (suc n)) (is_state (suc n) le) (good (suc n) le).labels)) by.outcome

@@ -1,11 +1,9 @@
 -- What `pc` has in a state in which instances stand at labels can be written.
-use Rattle.std.proofs.Common.{◌≡◌, ◌≤◌, ◌⊎◌, ℕ, suc, Bool, true, false, if◌then◌else◌, IsTrue, List, [], ◌∷◌, ◌++◌, map, length, Some, inl, inr, refl, ap, sym, ◌∙◌, subst, arith, option_and_then}
+use Rattle.std.proofs.Common.{◌≡◌, ◌≤◌, ◌⊎◌, ℕ, Bool, true, false, if◌then◌else◌, IsTrue, List, [], ◌∷◌, ◌++◌, map, length, Some, inl, inr, refl, ap, sym, ◌∙◌, subst, arith, option_and_then}
 use Rattle.std.proofs.lemmas.Bool.{and_parts, le-leb}
 use Rattle.std.specs.List.Sorted.{IsStrictlySortedBy}
-use Rattle.std.specs.Ordering.{match_ordering}
 use Rattle.std.specs.Prelude.{◌&&◌}
-use Rattle.std.specs.declared.cmp.Ordering.{Ordering}
-use Rattle.std.specs.declared.cmp.Ordering.TheVariants.{Less, Equal, Greater}
+use Rattle.std.specs.declared.cmp.Ordering.TheVariants.{Less, Equal}
 use Rattle.std.proofs.lemmas.Option.{same_Some}
 use Rattle.std.proofs.lemmas.List.{length-map}
 use Rattle.pgo_base.proofs.Keyed.{pairs_back}
@@ -13,7 +11,7 @@ use Rattle.pgo_base.specs.Data.{Data, string, function, Pairs, graph, keys}
 use Rattle.pgo_base.specs.Exact.{data_itself}
 use Rattle.pgo_base.specs.Lookup.{Name, Vars, same_name, find}
 use Rattle.pgo_base.specs.Order.{data_cmp}
-use Rattle.pgo_base.specs.Sets.{IsSorted, in_order, insert_member}
+use Rattle.pgo_base.specs.Sets.{IsSorted}
 use Rattle.pgo_model.specs.BundleParts.{is_string_byte, all_string_bytes}
 use Rattle.pgo_model.specs.Machine.{nth}
 use Rattle.pgo_model.specs.Names.{same_name-is}
@@ -31,12 +29,12 @@ use Rattle.pgo_bound.specs.Lookups.{same_equal, same_of}
 use Rattle.pgo_bound.specs.Sound.{IsLabel, labels_among}
 use Rattle.pgo_bound.specs.State.{AreDifferent, IsState, id_of, identifiers, variables_of}
 use Rattle.pgo_systems.specs.Premises.{AllAtLabels}
-use Rattle.pgo_systems.proofs.Lists.{length_keys, of_ordered}
+use Rattle.pgo_systems.proofs.Lists.{length_keys, of_ordered, ordered_few}
 use Rattle.pgo_agrees.specs.Accepted.{ArchetypeOfText, IsOfText, LabelOfText, ProcessOfText}
 use Rattle.pgo_agrees.proofs.Instances.{runs_as}
-use Rattle.pgo_run_values.specs.Spellable.{IsSpellable, PairsSpellable}
+use Rattle.pgo_run_values.specs.Spellable.{IsSpellable, PairsSpellable, spellable}
 use Rattle.pgo_run_values.proofs.Bytes.{name_bytes}
-use Rattle.pgo_run_values.proofs.Operators.{pairs_ordered}
+use Rattle.pgo_systems.proofs.Operators.{pairs_ordered}
 
 -- ---- labels
 
@@ -84,21 +82,6 @@ value_found x v (p ∷ t) h e = go (same_name x p.0) e (value_found x v t h.1)
     go true k more = subst IsValue (same_Some p.1 v k) h.0
     go false k more = more k
 
--- ---- few
-
-longer : (x : Data) (ys : List Data) → length (insert_member x ys) ≤ suc (length ys)
-longer x [] = omega arith
-longer x (y ∷ ys) = go (data_cmp x y) (longer x ys)
-  where
-    go : (o : Ordering) → length (insert_member x ys) ≤ suc (length ys) → length (match_ordering o (x ∷ y ∷ ys) (y ∷ ys) (y ∷ insert_member x ys)) ≤ suc (length (y ∷ ys))
-    go Less h = omega arith
-    go Equal h = omega arith
-    go Greater h = omega (arith, h)
-
-ordered_few : (xs : List Data) → length (in_order xs) ≤ length xs
-ordered_few [] = omega arith
-ordered_few (x ∷ xs) = let a = longer x (in_order xs) in let b = ordered_few xs in omega (arith, a, b)
-
 -- ---- `pc`
 module _ (b : Bound) (labels : (k : ℕ) (i : Instance) → nth b.instances k ≡ Some i → (l : Name) → IsLabel i l → all_string_bytes l ≡ true) (ids : (k : ℕ) (i : Instance) → nth b.instances k ≡ Some i → IsSpellable (id_of i)) (few : length b.instances ≤ 64) (t : Vars) (is : IsState b t) (at : AllAtLabels b t) (differ : AreDifferent (variables_of b.spec)) where
   abbrev ps : Pairs
@@ -123,7 +106,7 @@ module _ (b : Bound) (labels : (k : ℕ) (i : Instance) → nth b.instances k �
 
   pc_spellable : IsSpellable (function ps)
   pc_spellable = (
-    subst PairsSpellable (pairs_back ps) (pairs_ordered (graph ps) one_pair),
+    subst PairsSpellable (pairs_back ps) (pairs_ordered spellable (graph ps) one_pair),
     sorted,
     le-leb (length (graph ps)) most_members (
         let a = length_keys (graph ps) in

@@ -1,4 +1,1 @@
 pub mod Spellable
-pub mod WrittenLiterals
-pub mod WrittenStatements
-pub mod WrittenTexts

@@ -1,67 +1,50 @@
 -- Values that can be written and read back, but for their depth: integers have 64 bits, strings have only newlines, tabs and bytes 32 to
 -- 126, model values are identifiers of at most 512 bytes, and sets and functions are in order and have at most 65,536 members.
-use Rattle.std.specs.Prelude.{◌≡◌, IsTrue, nat_le, List, [], ◌∷◌, length, Option, Some, option_and_then}
-use Rattle.pgo_base.specs.Data.{Data, boolean, integer, string, model, set, function, Items, no_items, item, members, Pairs, no_pairs, pair, graph, keys}
-use Rattle.pgo_base.specs.Lookup.{Name, Names, Vars, find}
-use Rattle.pgo_base.specs.Sets.{IsSorted}
+use Rattle.std.specs.Prelude.{◌≤◌, ◌^◌, ℕ, pos, nat_le, IsTrue, refl}
+use Rattle.std.proofs.Common.{arith}
+use Rattle.std.proofs.lemmas.Bool.{le-leb, leb-true, lt-ltb}
+use Rattle.pgo_base.specs.Data.{Data, Pairs}
+use Rattle.pgo_base.specs.Lookup.{Vars}
 use Rattle.pgo_model.specs.BundleParts.{all_string_bytes}
 use Rattle.pgo_model.specs.Operators.{fits_i64, most_members}
-use Rattle.pgo_model.specs.Val.{Scope, Meaning, call_def}
+use Rattle.pgo_syntax.specs.declared.spec.Spec.{Spec}
 use Rattle.pgo_value_text.specs.IsValueText.{is_name}
-use Rattle.pgo_bound.specs.Among.{IsAmong}
-use Rattle.pgo_sections.specs.Context.{Context}
+use Rattle.pgo_systems.specs.Limits.{Limits}
+use Rattle.pgo_systems.specs.StatementLiterals.{SpecificationWithin}
+use Rattle.pgo_systems.specs.Within.{IsWithin, PairsWithin, AllWithin}
 
-abbrev mutual
-  pub IsSpellable : Data → Type 0
-  IsSpellable (boolean b) = Unit {0}
-  IsSpellable (integer z) = IsTrue (fits_i64 z)
-  IsSpellable (string s) = IsTrue (all_string_bytes s)
-  IsSpellable (model s) = IsTrue (is_name s)
-  IsSpellable (set xs) = AreSpellable xs × IsSorted (members xs) × IsTrue (nat_le (length (members xs)) most_members)
-  IsSpellable (function ps) = PairsSpellable ps × IsSorted (keys (graph ps)) × IsTrue (nat_le (length (graph ps)) most_members)
+abbrev pub IsFew : ℕ → Type 0
+IsFew n = IsTrue (nat_le n most_members)
 
-  pub AreSpellable : Items → Type 0
-  AreSpellable no_items = Unit {0}
-  AreSpellable (item x xs) = IsSpellable x × AreSpellable xs
+pub few_fit : (n : ℕ) → IsFew n → IsTrue (fits_i64 (pos n))
+few_fit n h = lt-ltb n (2 ^ 63) (let l = leb-true n most_members h in omega (arith, l))
 
-  pub PairsSpellable : Pairs → Type 0
-  PairsSpellable no_pairs = Unit {0}
-  PairsSpellable (pair k v ps) = IsSpellable k × IsSpellable v × PairsSpellable ps
+pub fewer : (m n : ℕ) → m ≤ n → IsFew n → IsFew m
+fewer m n le h = le-leb m most_members (let l = leb-true n most_members h in omega (arith, le, l))
 
-abbrev pub EachSpellable : List Data → Type 0
-EachSpellable xs = (x : Data) → IsAmong x xs → IsSpellable x
+abbrev pub spellable : Limits
+spellable = record {
+  text = all_string_bytes;
+  model = is_name;
+  members = λ n. nat_le n most_members;
+  pairs = λ n. nat_le n most_members;
+  few_members = λ n l. le-leb n most_members l;
+  few_pairs = λ n l. le-leb n most_members l;
+  members_fit = few_fit;
+  pairs_over = fewer;
+  default = refl;
+}
 
--- such a value, where there is one
-abbrev pub Spellable : Option Data → Type 0
-Spellable o = (v : Data) → o ≡ Some v → IsSpellable v
+abbrev pub IsSpellable : Data → Type 0
+IsSpellable = IsWithin spellable
+
+abbrev pub PairsSpellable : Pairs → Type 0
+PairsSpellable = PairsWithin spellable
 
 -- each variable has such a value
 abbrev pub AllSpellable : Vars → Type 0
-AllSpellable [] = Unit {0}
-AllSpellable (p ∷ ps) = IsSpellable p.1 × AllSpellable ps
+AllSpellable = AllWithin spellable
 
--- each name in scope that has a value has such a one
-abbrev pub NamesSpellable : Names → Type 0
-NamesSpellable ns = (x : Name) (v : Data) → find x ns ≡ Some (Some v) → IsSpellable v
-
--- definitions give such values of such arguments
-abbrev pub CallsSpellable : List Meaning → Type 0
-CallsSpellable ms = (x : Name) (args : List Data) → EachSpellable args → Spellable (call_def x args ms)
-
--- all that an expression sees are such values
-pub record ScopeSpellable (s : Scope) : Type 0 where
-  pub names : NamesSpellable s.names
-  pub part : Spellable s.part
-  pub now : (x : Name) → Spellable (find x s.now)
-  pub next : (x : Name) → Spellable (option_and_then (find x) s.next)
-  pub calls : CallsSpellable s.defs
-
--- each variable that is found in a list has such a value
-abbrev pub FoundSpellable : Vars → Type 0
-FoundSpellable s = (x : Name) → Spellable (find x s)
-
--- the instance's identifier, the state in which the section began, and what the definitions give
-pub record ContextSpellable (k : Context) : Type 0 where
-  pub start : FoundSpellable k.start
-  pub id : IsSpellable k.id
-  pub calls : CallsSpellable k.defs
+-- each literal of the specification can be written: those from which the start is made, and those in statements
+abbrev pub AllLiteralsWritten : Spec → Type 0
+AllLiteralsWritten = SpecificationWithin spellable

@@ -18,8 +18,7 @@ ghost use Rattle.pgo_systems.specs.Counted.{AllCounted, IsCounted};
 ghost use Rattle.pgo_mpcal_read.specs.Texts.{SpellsSpec};
 ghost use Rattle.pgo_value_text.specs.IsValueText.{IsValueText, most_depth};
 ghost use Rattle.pgo_accept.specs.Answers.{NothingRefuses};
-ghost use Rattle.pgo_run_values.specs.Spellable.{AllSpellable, IsSpellable};
-ghost use Rattle.pgo_run_values.specs.WrittenTexts.{AllLiteralsWritten};
+ghost use Rattle.pgo_run_values.specs.Spellable.{AllLiteralsWritten, AllSpellable, IsSpellable};
 
 use pgo_accounts::texts_keep_states;
 use pgo_agrees::texts_are_accepted;

@@ -1,69 +1,82 @@
--- A name that is written as none before it clashes with none.
-use Rattle.std.proofs.Common.{◌≡◌, ◌<◌, ◌+◌, ℕ, zero, suc, take, length, get_or, arith, Bool, true, false, not, ◌&&◌, ◌||◌, List, [], ◌∷◌, ◌++◌, refl, ap, sym, ◌∙◌, append_assoc}
-use Rattle.std.specs.Prelude.{if◌then◌else◌}
+-- The first name that clashes with one is found by how they are written.
+use Rattle.std.proofs.Common.{◌≡◌, ◌<◌, ◌≤◌, ◌+◌, ℕ, zero, suc, take, length, get_or, arith, Bool, true, false, not, ◌&&◌, List, [], ◌∷◌, ◌++◌, refl, ap, sym, ◌∙◌, append_assoc}
+use Rattle.std.specs.Prelude.{if◌then◌else◌, Option, Some, None, option_map}
 use Rattle.std.proofs.lemmas.List.{append-nil}
-use Rattle.pgo_base.specs.Lookup.{same_name}
-use Rattle.pgo_uses.specs.Names.{Rows, has_row}
-use Rattle.pgo_uses.proofs.Among.{among_cons}
-use Rattle.pgo_scope.specs.declared.errors.ScopeError.TheVariants as errors
+use Rattle.std.proofs.lemmas.Option.{slice_get_past}
+use Rattle.pgo_base.specs.Lookup.{Name, same_name, find}
+use Rattle.pgo_uses.specs.Names.{Rows, first_at}
 use Rattle.pgo_scope.specs.declared.finding.Finding.{Finding}
 use Rattle.pgo_scope.specs.declared.module_names.ModuleName.{ModuleName}
-use Rattle.pgo_scope.specs.Clash.{clash, clash_with}
-use Rattle.pgo_scope.specs.Seen.{any_rows, unbound_row, unbound_rows, may_clash}
+use Rattle.pgo_scope.specs.Clash.{clash_with}
+use Rattle.pgo_scope.specs.Seen.{any_rows, unbound_row, unbound_rows, clash_place, clash_of, clash_at}
 
 pub any_more : (ts : List ModuleName) (t : ModuleName) → any_rows (ts ++ t ∷ []) ≡ any_rows ts ++ (t.written, 0) ∷ []
 any_more [] t = refl
 any_more (u ∷ us) t = ap (λ l. (u.written, 0) ∷ l) (any_more us t)
 
-pub unbound_more : (ts : List ModuleName) (t : ModuleName) → unbound_rows (ts ++ t ∷ []) ≡ unbound_rows ts ++ unbound_row t
-unbound_more [] t = append-nil (unbound_row t)
-unbound_more (u ∷ us) t = ap (λ l. unbound_row u ++ l) (unbound_more us t) ∙ sym (append_assoc (unbound_row u) (unbound_rows us) (unbound_row t))
+behind : (n m k : ℕ) → m ≡ n + suc k → m ≡ suc n + k
+behind n m k h = omega (arith, h)
 
-or_left : (a b : Bool) → a || b ≡ false → a ≡ false
-or_left true b h = h
-or_left false b h = refl
+here : (n m : ℕ) → m ≡ n + zero → n ≡ m
+here n m h = omega (arith, h)
 
-or_right : (a b : Bool) → a || b ≡ false → b ≡ false
-or_right true b h = absurd (cc)
-or_right false b h = h
+pub unbound_more : (n m : ℕ) (ts : List ModuleName) (t : ModuleName) → m ≡ n + length ts → unbound_rows n (ts ++ t ∷ []) ≡ unbound_rows n ts ++ unbound_row m t
+unbound_more n m [] t h = append-nil (unbound_row n t) ∙ ap (λ k. unbound_row k t) (here n m h)
+unbound_more n m (u ∷ us) t h =
+    ap (λ l. unbound_row n u ++ l) (unbound_more (suc n) m us t (behind n m (length us) h))
+    ∙ sym (append_assoc (unbound_row n u) (unbound_rows (suc n) us) (unbound_row m t))
 
--- no clash with the first, and none behind it
-step : (t u : ModuleName) (us : List ModuleName) → clash t u ≡ false → clash_with us t ≡ [] → clash_with (u ∷ us) t ≡ []
-step t u us c h = ap (λ b. if b then record { place = t.place; error = errors.NameClash u.shown t.shown } ∷ [] else clash_with us t) c ∙ h
-
-apart : (t u : ModuleName) → same_name t.written u.written ≡ false → clash t u ≡ false
-apart t u h = ap (λ b. b && not (t.bound && u.bound)) h
-
-none_at_all : (t : ModuleName) (us : List ModuleName) → has_row t.written (any_rows us) ≡ false → clash_with us t ≡ []
-none_at_all t [] h = refl
-none_at_all t (u ∷ us) h =
-    let e : same_name t.written u.written || has_row t.written (any_rows us) ≡ false = sym (among_cons t.written (u.written, 0) (any_rows us)) ∙ h in
-    step t u us (apart t u (or_left _ _ e)) (none_at_all t us (or_right _ _ e))
-
-both_bound : (s b c : Bool) → b ≡ true → c ≡ true → s && not (b && c) ≡ false
-both_bound true b c h i = (λ k. not (h k && i k))
-both_bound false b c h i = refl
-
-none_unbound : (t : ModuleName) (us : List ModuleName) → t.bound ≡ true → has_row t.written (unbound_rows us) ≡ false → clash_with us t ≡ []
-none_unbound t [] b h = refl
-none_unbound t (u ∷ us) b h = go u.bound refl h (none_unbound t us b)
+-- each place is one more
+one_on : (x : Name) (n : ℕ) (us : List ModuleName) → find x (unbound_rows (suc n) us) ≡ option_map suc (find x (unbound_rows n us))
+one_on x n [] = refl
+one_on x n (u ∷ us) = go u.bound (one_on x (suc n) us)
   where
-    go : (c : Bool) → u.bound ≡ c → has_row t.written ((if c then [] else (u.written, 0) ∷ []) ++ unbound_rows us) ≡ false → (has_row t.written (unbound_rows us) ≡ false → clash_with us t ≡ []) → clash_with (u ∷ us) t ≡ []
-    go true k e f = step t u us (both_bound (same_name t.written u.written) t.bound u.bound b k) (f e)
-    go false k e f =
-        let g : same_name t.written u.written || has_row t.written (unbound_rows us) ≡ false = sym (among_cons t.written (u.written, 0) (unbound_rows us)) ∙ e in
-        step t u us (apart t u (or_left _ _ g)) (f (or_right _ _ g))
+    either : (b : Bool) → find x (unbound_rows (suc (suc n)) us) ≡ option_map suc (find x (unbound_rows (suc n) us)) → (if b then Some (suc n) else find x (unbound_rows (suc (suc n)) us)) ≡ option_map suc (if b then Some n else find x (unbound_rows (suc n) us))
+    either true h = refl
+    either false h = h
 
-pub no_clash : (us : List ModuleName) (t : ModuleName) → may_clash (any_rows us) (unbound_rows us) t ≡ false → clash_with us t ≡ []
-no_clash us t h = go t.bound refl h
+    go : (c : Bool) → find x (unbound_rows (suc (suc n)) us) ≡ option_map suc (find x (unbound_rows (suc n) us)) → find x ((if c then [] else (u.written, suc n) ∷ []) ++ unbound_rows (suc (suc n)) us) ≡ option_map suc (find x ((if c then [] else (u.written, n) ∷ []) ++ unbound_rows (suc n) us))
+    go true h = h
+    go false h = either (same_name x u.written) h
+
+-- a name before all of them
+one_before : (t u : ModuleName) (us : List ModuleName) (o : Option ℕ) → clash_at us t o ≡ clash_at (u ∷ us) t (option_map suc o)
+one_before t u us None = refl
+one_before t u us (Some i) = refl
+
+pub none_there : (out : List Finding) (us : List ModuleName) (t : ModuleName) (o : Option ℕ) (i : ℕ) → o ≡ Some i → length us ≤ i → out ≡ out ++ clash_at us t o
+none_there out us t o i e h = sym (append-nil out) ∙ ap (λ l. out ++ l) (sym (ap (clash_at us t) e ∙ ap (clash_of t) (slice_get_past us i h)))
+
+of_any : (t : ModuleName) (us : List ModuleName) → t.bound ≡ false → clash_at us t (first_at t.written (any_rows us)) ≡ clash_with us t
+of_any t [] h = refl
+of_any t (u ∷ us) h =
+    go (same_name t.written u.written) (of_any t us h) ∙ sym (ap (λ b. if same_name t.written u.written && not (b && u.bound) then clash_of t (Some u) else clash_with us t) h)
   where
-    go : (b : Bool) → t.bound ≡ b → (if b then has_row t.written (unbound_rows us) else has_row t.written (any_rows us)) ≡ false → clash_with us t ≡ []
-    go true k e = none_unbound t us k e
-    go false k e = none_at_all t us e
+    go : (s : Bool) → clash_at us t (first_at t.written (any_rows us)) ≡ clash_with us t → clash_at (u ∷ us) t (if s then Some 0 else option_map suc (first_at t.written (any_rows us))) ≡ (if s && true then clash_of t (Some u) else clash_with us t)
+    go true e = refl
+    go false e = sym (one_before t u us (first_at t.written (any_rows us))) ∙ e
 
-pub nothing_found : (out : List Finding) (any unbound : Rows) (us : List ModuleName) (t : ModuleName) → any ≡ any_rows us → unbound ≡ unbound_rows us → may_clash any unbound t ≡ false → out ≡ out ++ clash_with us t
-nothing_found out any unbound us t e f h =
-    sym (append-nil out) ∙ ap (λ l. out ++ l) (sym (no_clash us t ((λ i. may_clash (sym e i) (sym f i) t) ∙ h)))
+of_unbound : (t : ModuleName) (us : List ModuleName) → t.bound ≡ true → clash_at us t (find t.written (unbound_rows 0 us)) ≡ clash_with us t
+of_unbound t [] h = refl
+of_unbound t (u ∷ us) h =
+    go (same_name t.written u.written) u.bound refl (ap (clash_at (u ∷ us) t) (one_on t.written 0 us) ∙ sym (one_before t u us (find t.written (unbound_rows 0 us))) ∙ of_unbound t us h)
+    ∙ sym (ap (λ b. if same_name t.written u.written && not (b && u.bound) then clash_of t (Some u) else clash_with us t) h)
+  where
+    go : (s c : Bool) → same_name t.written u.written ≡ s → clash_at (u ∷ us) t (find t.written (unbound_rows 1 us)) ≡ clash_with us t → clash_at (u ∷ us) t (find t.written ((if c then [] else (u.written, 0) ∷ []) ++ unbound_rows 1 us)) ≡ (if s && not (true && c) then clash_of t (Some u) else clash_with us t)
+    go true true k e = e
+    go false true k e = e
+    go true false k e = ap (λ b. clash_at (u ∷ us) t (if b then Some 0 else find t.written (unbound_rows 1 us))) k
+    go false false k e = ap (λ b. clash_at (u ∷ us) t (if b then Some 0 else find t.written (unbound_rows 1 us))) k ∙ e
+
+pub first_clash : (us : List ModuleName) (t : ModuleName) → clash_at us t (clash_place (any_rows us) (unbound_rows 0 us) t) ≡ clash_with us t
+first_clash us t = go t.bound refl
+  where
+    go : (b : Bool) → t.bound ≡ b → clash_at us t (if b then find t.written (unbound_rows 0 us) else first_at t.written (any_rows us)) ≡ clash_with us t
+    go true k = of_unbound t us k
+    go false k = of_any t us k
+
+pub found_there : (out made : List Finding) (any unbound : Rows) (us : List ModuleName) (t : ModuleName) → any ≡ any_rows us → unbound ≡ unbound_rows 0 us → made ≡ out ++ clash_at us t (clash_place any unbound t) → made ≡ out ++ clash_with us t
+found_there out made any unbound us t e f h = h ∙ ap (λ l. out ++ l) ((λ i. clash_at us t (clash_place (e i) (f i) t)) ∙ first_clash us t)
 
 pub take_more : {A : Type 0} (xs : List A) (i : ℕ) (x : A) → i < length xs → x ≡ get_or xs i x → take (i + 1) xs ≡ take i xs ++ x ∷ []
 take_more [] i x h e = absurd (omega arith)

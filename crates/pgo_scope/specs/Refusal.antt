@@ -1,6 +1,6 @@
 -- Why a specification's names are refused: the first rule that something breaks, at its first place in the text.
 use Rattle.std.specs.Prelude.{◌≡◌, ◌⊎◌, List, [], ◌∷◌, map, Option, Some, None, Result, Ok, Err}
-pub use Rattle.pgo_base.specs.Lookup.{or_that as or_next}
+pub use Rattle.pgo_base.specs.Lookup.{or_that}
 use Rattle.pgo_syntax.specs.declared.spec.Spec.{Spec}
 use Rattle.pgo_scope.specs.declared.errors.ScopeError.{ScopeError}
 use Rattle.pgo_scope.specs.declared.errors.ScopeError.TheVariants as errors
@@ -13,7 +13,7 @@ use Rattle.pgo_scope.specs.Rules.{context_of, found_by}
 -- the first of these rules that has a finding
 abbrev pub first_broken : List (List Finding) → Option ScopeError
 first_broken [] = None
-first_broken (fs ∷ rest) = or_next (earliest fs) (first_broken rest)
+first_broken (fs ∷ rest) = or_that (earliest fs) (first_broken rest)
 
 -- the rules, in the order in which they are checked
 abbrev pub all_rules : List Rule

@@ -1,7 +1,6 @@
 -- What the mapping clauses of processes name, as it lies in memory.
 use Rattle.std.specs.Prelude.{ℕ, suc, Bool, false, ◌&&◌, ◌||◌, slice_get, List, [], ◌∷◌, Option, Some, None}
-use Rattle.std.specs.BTreeSet.{BTreeSet, contains_by}
-use Rattle.std.specs.Ordering.{nat_cmp}
+use Rattle.std.specs.BTreeSet.{BTreeSet}
 use Rattle.pgo_base.specs.Lookup.{Name, same_name}
 use Rattle.pgo_syntax.specs.declared.archetype.Archetype.{Archetype}
 use Rattle.pgo_syntax.specs.declared.archetype.Parameter.{Parameter}
@@ -14,11 +13,9 @@ use Rattle.pgo_scope.specs.declared.mapped.Mapped.{Mapped}
 use Rattle.pgo_scope.specs.declared.targets.Targets.{Targets}
 use Rattle.pgo_scope.specs.declared.targets.NamedParameters.{NamedParameters}
 use Rattle.pgo_base.specs.NameMaps.{found}
+pub use Rattle.pgo_base.specs.NameMaps.{has_number}
 use Rattle.pgo_scope.specs.UnitRows.{Kinds, parameter_rows}
 use Rattle.pgo_scope.specs.Mapped.{names_argument, some_clause, mapped_kind}
-
-abbrev pub has_number : BTreeSet ℕ → ℕ → Bool
-has_number s n = contains_by (nat_cmp n) s
 
 -- the argument is one of these globals as a `ref`
 abbrev pub ref_among : Rows → Option Argument → Bool

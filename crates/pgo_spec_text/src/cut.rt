@@ -6,7 +6,8 @@ ghost use Rattle.pgo_spec_text.specs.SpecText as text;
 ghost use Rattle.pgo_spec_text.specs.Cutting as spec;
 
 use crate::search::is_algorithm_comment;
-use pgo_lexer::bytes::{columns_behind, first, skip};
+use pgo_base::slices::first;
+use pgo_lexer::bytes::{columns_behind, skip};
 use pgo_lexer::errors::TextStop;
 use pgo_lexer::piece::{Piece, next_piece};
 use pgo_lexer::symbol::{Bracket, Symbol};

@@ -8,7 +8,8 @@ ghost use Rattle.pgo_spec_text.specs.SpecText.{IsSpecText, IsOrNoMemory};
 
 use crate::cut::{Head, algorithm, header};
 use crate::search::{inside, module_from, row_from};
-use pgo_lexer::bytes::{columns_behind, first, skip};
+use pgo_base::slices::first;
+use pgo_lexer::bytes::{columns_behind, skip};
 use pgo_lexer::errors::TextStop;
 use pgo_lexer::token::Tokens;
 use pgo_lexer::tokenizer::marked;

@@ -5,7 +5,8 @@ ghost use Rattle.pgo_lexer.specs.Symbols as symbols;
 ghost use Rattle.pgo_spec_text.specs.SpecText as text;
 ghost use Rattle.pgo_spec_text.specs.Searching as spec;
 
-use pgo_lexer::bytes::{begins_word, first, opens, skip};
+use pgo_base::slices::first;
+use pgo_lexer::bytes::{begins_word, opens, skip};
 use pgo_lexer::comment::behind_comment;
 
 /// Opens an algorithm in its comment ("the Modular PlusCal paper").

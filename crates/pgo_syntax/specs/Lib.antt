@@ -15,4 +15,4 @@ pub mod StatementView
 pub mod StatementFalls
 pub mod RecordView
 pub mod Least
-pub mod MacroName
+pub mod UnitNames

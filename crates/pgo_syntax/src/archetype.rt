@@ -1,11 +1,14 @@
 // Archetypes and their parameters.
 ghost use Rattle.std.specs.Prelude.{◌≡◌, [], ◌∷◌, ◌++◌, IfOk};
+ghost use Rattle.pgo_syntax.specs.UnitNames.{archetype_name};
 
 use crate::declaration::Declarations;
 use crate::name::PlacedName;
 use crate::statement::Block;
 use pgo_base::items::{Copied, Items};
+use pgo_base::last_place::Named;
 use pgo_base::results::both;
+use pgo_base::text::Text;
 use std::alloc::{AllocError, Global};
 
 /// How much of a global a parameter, an argument or a mapping clause speaks of: the global as a whole, or with `[_]` one
@@ -69,6 +72,15 @@ impl Copied for Archetype {
             locals,
             body,
         })
+    }
+}
+
+impl Named for Archetype {
+    ghost name_of = { archetype_name };
+
+    /// Its name.
+    fn name(&self) -> &Text {
+        &self.name.name
     }
 }
 

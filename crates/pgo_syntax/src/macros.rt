@@ -1,6 +1,6 @@
 // Macros and mapping macros.
 ghost use Rattle.std.specs.Prelude.{◌≡◌, [], ◌∷◌, ◌++◌, IfOk};
-ghost use Rattle.pgo_syntax.specs.MacroName.{macro_name};
+ghost use Rattle.pgo_syntax.specs.UnitNames.{macro_name, mapping_name};
 
 use crate::name::{PlacedName, PlacedNames};
 use crate::statement::Block;
@@ -64,6 +64,15 @@ impl Copied for MappingMacro {
             read: self.read.copy(alloc)?,
             write: self.write.copy(alloc)?,
         })
+    }
+}
+
+impl Named for MappingMacro {
+    ghost name_of = { mapping_name };
+
+    /// Its name.
+    fn name(&self) -> &Text {
+        &self.name.name
     }
 }
 

@@ -5,7 +5,7 @@ use Rattle.std.proofs.lemmas.Bool.Decides.{nat_tests}
 use Rattle.std.specs.Int.{int_div_euclid, int_rem_euclid}
 use Rattle.std.specs.Prelude.{IsTrue, nat_lt}
 use Rattle.pgo_base.specs.Data.{Data, integer}
-use Rattle.pgo_model.specs.Operators.{fits_i64, most_members, span, count_to, upward}
+use Rattle.pgo_model.specs.Operators.{fits_i64, span, count_to, upward}
 use Rattle.pgo_bound.specs.Among.{IsAmong}
 
 pub low : (n : ℕ) → nat_lt n (2 ^ 63) ≡ true → n < 2 ^ 63
@@ -13,10 +13,6 @@ low n h = grind (arith, nat_tests)
 
 pub low_test : (n : ℕ) → n < 2 ^ 63 → nat_lt n (2 ^ 63) ≡ true
 low_test n h = grind (arith, nat_tests)
-
--- few are not too many for an integer
-pub few_fits : (n : ℕ) → nat_lt most_members n ≡ false → IsTrue (fits_i64 (pos n))
-few_fits n h = low_test n (let l : n ≤ 65536 = grind (arith, nat_tests) in omega (arith, l))
 
 -- what is between two integers of 64 bits is one
 between : (a : ℤ) (k d : ℕ) → k ≤ d → IsTrue (fits_i64 a) → IsTrue (fits_i64 (a +ℤ pos d)) → IsTrue (fits_i64 (a +ℤ pos k))

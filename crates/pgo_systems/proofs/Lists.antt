@@ -1,16 +1,17 @@
--- What stands among members that are put in order, and what the building of values tests.
-use Rattle.std.proofs.Common.{◌≡◌, ◌⊎◌, ℕ, suc, ◌<◌, ℤ, pos, Bool, true, false, List, [], ◌∷◌, length, map, Option, Some, None, refl, sym, ap, ◌∙◌, subst, inl, inr, arith}
+-- What stands among members and pairs that are put in order, what the building of values tests, and what holds of each in lists.
+use Rattle.std.proofs.Common.{◌≡◌, ◌⊎◌, ℕ, suc, ◌<◌, ◌≤◌, ℤ, pos, Bool, true, false, List, [], ◌∷◌, ◌++◌, length, map, Option, Some, None, refl, sym, ap, ◌∙◌, subst, inl, inr, arith}
 use Rattle.std.proofs.lemmas.Bool.Decides.{nat_tests}
 use Rattle.std.specs.Prelude.{if◌then◌else◌, nat_lt, cond}
 use Rattle.std.specs.List.{AllByRecursion}
 use Rattle.std.specs.List.Sorted.{IsStrictlySortedBy}
-use Rattle.std.specs.Ordering.{int_cmp}
+use Rattle.std.specs.Ordering.{int_cmp, match_ordering}
+use Rattle.std.specs.declared.cmp.Ordering.{Ordering}
 use Rattle.std.specs.declared.cmp.Ordering.TheVariants.{Less, Equal, Greater}
 use Rattle.std.proofs.lemmas.Option.{same_Some}
 use Rattle.pgo_base.specs.Data.{Data, boolean, integer, string, model, set, function, Items, members, keys}
 use Rattle.pgo_base.specs.Order.{data_cmp}
-use Rattle.pgo_base.specs.Pairs.{pairs_in_order}
-use Rattle.pgo_base.specs.Sets.{in_order, IsSorted, IsIn, same_sorted, sorted-in_order, in-in_order, in_order-in}
+use Rattle.pgo_base.specs.Pairs.{pairs_in_order, insert_pair}
+use Rattle.pgo_base.specs.Sets.{in_order, insert_member, IsSorted, IsIn, same_sorted, sorted-in_order, in-in_order, in_order-in}
 use Rattle.pgo_base.specs.Size.{depth}
 use Rattle.pgo_model.specs.Operators.{each, both, built, most_depth, most_members, members_of, on_integers, choices, spread, put, sublists, where_few, sequence_at}
 use Rattle.pgo_bound.specs.Among.{IsAmong, among_append, from_map}
@@ -18,6 +19,12 @@ use Rattle.pgo_bound.specs.Keyed.{keys_ordered}
 
 pub none_is : {A : Type 0} (a : A) → None ≡ Some a → ⊥
 none_is a h = cc
+
+-- ---- what holds of each
+
+pub all_joined : {A : Type 0} (P : A → Type 0) (xs ys : List A) → AllByRecursion P xs → AllByRecursion P ys → AllByRecursion P (xs ++ ys)
+all_joined P [] ys hs gs = gs
+all_joined P (x ∷ xs) ys hs gs = (hs.0, all_joined P xs ys hs.1 gs)
 
 -- ---- what is built
 
@@ -119,6 +126,46 @@ length_keys (p ∷ ps) = ap suc (length_keys ps)
 -- pairs in order are as many as their keys in order
 pub length_ordered : (ps : List (Data × Data)) → length (pairs_in_order ps) ≡ length (in_order (keys ps))
 length_ordered ps = sym (length_keys (pairs_in_order ps)) ∙ ap length (keys_ordered ps)
+
+longer : (x : Data) (ys : List Data) → length (insert_member x ys) ≤ suc (length ys)
+longer x [] = omega arith
+longer x (y ∷ ys) = go (data_cmp x y) (longer x ys)
+  where
+    go : (o : Ordering) → length (insert_member x ys) ≤ suc (length ys) → length (match_ordering o (x ∷ y ∷ ys) (y ∷ ys) (y ∷ insert_member x ys)) ≤ suc (length (y ∷ ys))
+    go Less h = omega arith
+    go Equal h = omega arith
+    go Greater h = omega (arith, h)
+
+-- members and pairs in order are no more than before
+pub ordered_few : (xs : List Data) → length (in_order xs) ≤ length xs
+ordered_few [] = omega arith
+ordered_few (x ∷ xs) = let a = longer x (in_order xs) in let b = ordered_few xs in omega (arith, a, b)
+
+pub ordered_pairs_few : (ps : List (Data × Data)) → length (pairs_in_order ps) ≤ length ps
+ordered_pairs_few ps = let a = length_ordered ps in let b = ordered_few (keys ps) in let c = length_keys ps in omega (arith, a, b, c)
+
+insert_among : (p q : Data × Data) (qs : List (Data × Data)) → IsAmong q (insert_pair p qs) → (q ≡ p) ⊎ IsAmong q qs
+insert_among p q [] h = h
+insert_among p q (r ∷ qs) h = go (data_cmp p.0 r.0) h (insert_among p q qs)
+  where
+    move : (q ≡ p) ⊎ IsAmong q qs → (q ≡ p) ⊎ IsAmong q (r ∷ qs)
+    move (inl e) = inl e
+    move (inr m) = inr (inr m)
+
+    go : (o : Ordering) → IsAmong q (match_ordering o (p ∷ r ∷ qs) (p ∷ qs) (r ∷ insert_pair p qs)) → (IsAmong q (insert_pair p qs) → (q ≡ p) ⊎ IsAmong q qs) → (q ≡ p) ⊎ IsAmong q (r ∷ qs)
+    go Less g f = g
+    go Equal (inl e) f = inl e
+    go Equal (inr m) f = inr (inr m)
+    go Greater (inl e) f = inr (inl e)
+    go Greater (inr m) f = move (f m)
+
+pub ordered_among : (q : Data × Data) (ps : List (Data × Data)) → IsAmong q (pairs_in_order ps) → IsAmong q ps
+ordered_among q [] h = h
+ordered_among q (p ∷ ps) h = go (insert_among p q (pairs_in_order ps) h) (ordered_among q ps)
+  where
+    go : (q ≡ p) ⊎ IsAmong q (pairs_in_order ps) → (IsAmong q (pairs_in_order ps) → IsAmong q ps) → (q ≡ p) ⊎ IsAmong q ps
+    go (inl e) f = inl e
+    go (inr m) f = inr (f m)
 
 -- ---- lists of members
 

@@ -15,250 +15,244 @@ use Rattle.pgo_sections.specs.Context.{Context, value_before, value_now, content
 use Rattle.pgo_sections.specs.Exec.{MacroEnd, Gives, Stops, with_choices, if_gives, touching, read_unmapped, becoming, count, Reads, Writes, exec_with, exec_arm_with}
 use Rattle.pgo_sections.specs.BoundValues.{bindable, value_under, put_part}
 use Rattle.pgo_sections.specs.SectionRun.{ChoiceMade, SectionRun, printed, picked_number, chosen, Out, Go, Jump, Yielded, Stop, with_value, if_true, picked, go_on}
-use Rattle.pgo_systems.specs.Counted.{IsCounted, EachCounted, Counted, NamesCounted, FoundCounted, CallsCounted, ContextCounted}
-use Rattle.pgo_systems.specs.Literals.{LiteralsFit, CodeFits, AllCodeFits}
-use Rattle.pgo_systems.proofs.Operators.{none_counted, some_counted, then_counted, apply_counted, members_all}
-use Rattle.pgo_systems.proofs.Trees.{named_more, put_counted, tree_counted}
+use Rattle.pgo_systems.specs.Within.{IsWithin, EachWithin, Within, NamesWithin, FoundWithin, CallsWithin, ContextWithin}
+use Rattle.pgo_systems.specs.Literals.{LiteralsWithin, CodeWithin, AllCodeWithin}
+use Rattle.pgo_systems.proofs.Operators.{none_within, some_within, then_within, apply_within, members_all}
+use Rattle.pgo_systems.proofs.Trees.{named_more, put_within, tree_within}
 use Rattle.pgo_systems.proofs.Definitions.{no_names}
+use Rattle.pgo_systems.specs.Limits.{Limits}
 
--- ---- values that are bound and put back
+module _ (limits : Limits) where
+  -- ---- values that are bound and put back
 
-bindable_counted : (o : Option Data) → Counted o → Counted (bindable o)
-bindable_counted None h v e = absurd (cc)
-bindable_counted (Some w) h v e = go (set_from (w ∷ [])) e
-  where
-    go : (o : Option Data) → option_map (λ x. w) o ≡ Some v → IsCounted v
-    go None k = absurd (cc)
-    go (Some s) k = h v k
-
-except_counted : (f i v : Data) → IsCounted f → IsCounted v → Counted (except f i v)
-except_counted f i v h g = put_counted (i ∷ []) (λ part. Some v) (λ o k. some_counted v g) (Some f) (some_counted f h)
-
-pub part_counted : (i : Data) (f v : Option Data) → Counted f → Counted v → Counted (put_part i f v)
-part_counted i f v h g = then_counted v (λ w. option_and_then (λ x. except x i w) f) (λ w e. then_counted f (λ x. except x i w) (λ x q. except_counted x i w (h x q) (g w e)))
-
--- one more variable
-pub more_found : (x : Name) (w : Data) (s : Vars) → IsCounted w → FoundCounted s → FoundCounted ((x, w) ∷ s)
-more_found x w s h f y = go (same_name y x)
-  where
-    go : (b : Bool) → Counted (if b then Some w else find y s)
-    go true = some_counted w h
-    go false = f y
-
--- ---- names in scope
-
--- what is found in two lists together is found in one of them
-found_either : (x : Name) (o : Option Data) (a b : Names) → find x (a ++ b) ≡ Some o → (find x a ≡ Some o) ⊎ (find x b ≡ Some o)
-found_either x o [] b k = inr k
-found_either x o (q ∷ a) b k = at (same_name x q.0) k (found_either x o a b)
-  where
-    at : (c : Bool) → (if c then Some q.1 else find x (a ++ b)) ≡ Some o → (find x (a ++ b) ≡ Some o → (find x a ≡ Some o) ⊎ (find x b ≡ Some o))
-        → ((if c then Some q.1 else find x a) ≡ Some o) ⊎ (find x b ≡ Some o)
-    at true k r = inl k
-    at false k r = r k
-
-names_joined : (a b : Names) → NamesCounted a → NamesCounted b → NamesCounted (a ++ b)
-names_joined a b h g x v e = ⊎_elim (λ k. h x v k) (λ k. g x v k) (found_either x (Some v) a b e)
-
-under_counted : (x : Name) (env : Names) → NamesCounted env → Counted (value_under x env)
-under_counted x env h v e = go (find x env) refl e
-  where
-    go : (o : Option (Option Data)) → find x env ≡ o → option_and_then (λ o. o) o ≡ Some v → IsCounted v
-    go None q k = absurd (cc)
-    go (Some w) q k = h x v (q ∙ ap Some k)
-
-index_counted : (i : Option Name) (env : Names) (j : Option Data) → NamesCounted env → index_value i env ≡ Some j → Counted j
-index_counted None env j h e = subst Counted (same_Some None j e) none_counted
-index_counted (Some x) env j h e = go (value_under x env) refl e
-  where
-    go : (o : Option Data) → value_under x env ≡ o → option_map (λ v. Some v) o ≡ Some j → Counted j
-    go None q k = absurd (cc)
-    go (Some w) q k = subst Counted (same_Some (Some w) j k) (some_counted w (under_counted x env h w q))
-
-picked_counted : (ms : List Data) (i : ℕ) (m : Data) → EachCounted ms → IsCounted m → IsCounted (get_or ms i m)
-picked_counted [] i m h o = o
-picked_counted (x ∷ xs) zero m h o = h x (inl refl)
-picked_counted (x ∷ xs) (suc i) m h o = picked_counted xs i m (λ y k. h y (inr k)) o
-
--- ---- along code
-
-module _ (k : Context) (counted : ContextCounted k) where
-  before_counted : (p : Place) → Counted (value_before k p)
-  before_counted (Whole x) = counted.start x
-  before_counted (Own x) = then_counted (find x k.start) (λ f. apply f k.id) (λ f e. apply_counted f k.id (counted.start x f e))
-
-  now_counted : (p : Place) (ch : Vars) → FoundCounted ch → Counted (value_now k p ch)
-  now_counted p ch h = go (find (variable_of p) ch) (h (variable_of p))
+  bindable_within : (o : Option Data) → Within limits o → Within limits (bindable o)
+  bindable_within None h v e = absurd (cc)
+  bindable_within (Some w) h v e = go (set_from (w ∷ [])) e
     where
-      go : (o : Option Data) → Counted o → Counted (on (value_before k p) o (λ v. Some v))
-      go None g = before_counted p
-      go (Some v) g = g
+      go : (o : Option Data) → option_map (λ x. w) o ≡ Some v → IsWithin limits v
+      go None k = absurd (cc)
+      go (Some s) k = h v k
 
-  view_counted : (ps : List (Name × Place)) (ch : Vars) → FoundCounted ch → NamesCounted (view k ps ch)
-  view_counted [] ch h = named_more self_name (Some k.id) [] (some_counted k.id counted.id) no_names
-  view_counted (p ∷ ps) ch h = named_more p.0 (value_now k p.1 ch) (view k ps ch) (now_counted p.1 ch h) (view_counted ps ch h)
+  except_within : (f i v : Data) → IsWithin limits f → IsWithin limits v → Within limits (except f i v)
+  except_within f i v h g = put_within limits (i ∷ []) (λ part. Some v) (λ o k. some_within limits v g) (Some f) (some_within limits f h)
 
-  expression_counted : (e : Tree) (env : Names) (ch : Vars) → LiteralsFit e → NamesCounted env → FoundCounted ch → Counted (value_of k e env ch)
-  expression_counted e env ch l n h =
-      tree_counted e (record { names = env ++ view k k.places ch; part = None; now = []; next = None; defs = k.defs }) l (record {
-        names = names_joined env (view k k.places ch) n (view_counted k.places ch h);
-        part = none_counted;
-        now = λ x. none_counted;
-        next = λ x. none_counted;
-        calls = counted.calls;
-      })
+  pub part_within : (i : Data) (f v : Option Data) → Within limits f → Within limits v → Within limits (put_part i f v)
+  part_within i f v h g = then_within limits v (λ w. option_and_then (λ x. except x i w) f) (λ w e. then_within limits f (λ x. except x i w) (λ x q. except_within x i w (h x q) (g w e)))
 
-  content_counted : (g : Name) (j : Option Data) (ch : Vars) → FoundCounted ch → Counted (content k g j ch)
-  content_counted g None ch h = now_counted (Whole g) ch h
-  content_counted g (Some i) ch h = then_counted (value_now k (Whole g) ch) (λ f. apply f i) (λ f e. apply_counted f i (now_counted (Whole g) ch h f e))
-
-  with_counted : (g : Name) (j v : Option Data) (ch : Vars) → Counted v → FoundCounted ch → Counted (with_content k g j v ch)
-  with_counted g None v ch c h = c
-  with_counted g (Some i) v ch c h = part_counted i (value_now k (Whole g) ch) v (now_counted (Whole g) ch h) c
-
-  put_found : (g : Name) (j v : Option Data) (ch ch' : Vars) → Counted v → FoundCounted ch → put_content k g j v ch ≡ Some ch' → FoundCounted ch'
-  put_found g j v ch ch' c h e = go (bindable (with_content k g j v ch)) (bindable_counted (with_content k g j v ch) (with_counted g j v ch c h)) e
+  -- one more variable
+  pub more_found : (x : Name) (w : Data) (s : Vars) → IsWithin limits w → FoundWithin limits s → FoundWithin limits ((x, w) ∷ s)
+  more_found x w s h f y = go (same_name y x)
     where
-      go : (o : Option Data) → Counted o → option_map (λ w. (g, w) ∷ ch) o ≡ Some ch' → FoundCounted ch'
-      go None q e = absurd (cc)
-      go (Some w) q e = subst FoundCounted (same_Some ((g, w) ∷ ch) ch' e) (more_found g w ch (q w refl) h)
+      go : (b : Bool) → Within limits (if b then Some w else find y s)
+      go true = some_within limits w h
+      go false = f y
 
-  new_found : (g : Name) (j v : Option Data) (ch ch' : Vars) → Counted v → FoundCounted ch → put_new k g j v ch ≡ Some ch' → FoundCounted ch'
-  new_found g j None ch ch' c h e = subst FoundCounted (same_Some ch ch' e) h
-  new_found g j (Some v) ch ch' c h e = put_found g j (Some v) ch ch' c h e
+  -- ---- names in scope
 
--- how code ends: its changes are values, and what a block yields is one
-abbrev pub OutCounted : Out → Type 0
-OutCounted (Go run) = FoundCounted run.changes
-OutCounted (Jump l run) = FoundCounted run.changes
-OutCounted (Yielded v run) = IsCounted v × FoundCounted run.changes
-OutCounted (Stop kind run) = Unit {0}
+  -- what is found in two lists together is found in one of them
+  found_either : (x : Name) (o : Option Data) (a b : Names) → find x (a ++ b) ≡ Some o → (find x a ≡ Some o) ⊎ (find x b ≡ Some o)
+  found_either x o [] b k = inr k
+  found_either x o (q ∷ a) b k = at (same_name x q.0) k (found_either x o a b)
+    where
+      at : (c : Bool) → (if c then Some q.1 else find x (a ++ b)) ≡ Some o → (find x (a ++ b) ≡ Some o → (find x a ≡ Some o) ⊎ (find x b ≡ Some o))
+          → ((if c then Some q.1 else find x a) ≡ Some o) ⊎ (find x b ≡ Some o)
+      at true k r = inl k
+      at false k r = r k
 
-abbrev pub EndCounted : {A : Type 0} → (A → Type 0) → MacroEnd A → Type 0
-EndCounted P (Gives a cs) = P a
-EndCounted P (Stops kind cs) = Unit {0}
+  names_joined : (a b : Names) → NamesWithin limits a → NamesWithin limits b → NamesWithin limits (a ++ b)
+  names_joined a b h g x v e = ⊎_elim (λ k. h x v k) (λ k. g x v k) (found_either x (Some v) a b e)
 
-abbrev pub ReadCounted : Data × Option Data → Type 0
-ReadCounted r = IsCounted r.0 × Counted r.1
+  under_within : (x : Name) (env : Names) → NamesWithin limits env → Within limits (value_under x env)
+  under_within x env h v e = go (find x env) refl e
+    where
+      go : (o : Option (Option Data)) → find x env ≡ o → option_and_then (λ o. o) o ≡ Some v → IsWithin limits v
+      go None q k = absurd (cc)
+      go (Some w) q k = h x v (q ∙ ap Some k)
 
-abbrev pub ReadsCounted : Reads → Type 0
-ReadsCounted reads =
-    (block : Code) (defs : List Meaning) (id old : Data) (d : Words) (choices : List ChoiceMade) → CodeFits block → CallsCounted defs → IsCounted id → IsCounted old → EndCounted ReadCounted (reads block defs id old d choices)
+  picked_within : (ms : List Data) (i : ℕ) (m : Data) → EachWithin limits ms → IsWithin limits m → IsWithin limits (get_or ms i m)
+  picked_within [] i m h o = o
+  picked_within (x ∷ xs) zero m h o = h x (inl refl)
+  picked_within (x ∷ xs) (suc i) m h o = picked_within xs i m (λ y k. h y (inr k)) o
 
-abbrev pub WritesCounted : Writes → Type 0
-WritesCounted writes =
-    (block : Code) (defs : List Meaning) (id old v : Data) (d : Words) (choices : List ChoiceMade) → CodeFits block → CallsCounted defs → IsCounted id → IsCounted old → IsCounted v → EndCounted IsCounted (writes block defs id old v d choices)
+  -- ---- along code
 
-value_out : {A : Type 0} (o : Option A) (run : SectionRun) (f : A → Out) → ((v : A) → o ≡ Some v → OutCounted (f v)) → OutCounted (with_value o run f)
-value_out None run f h = tt
-value_out (Some v) run f h = h v refl
+  module _ (k : Context) (within : ContextWithin limits k) where
+    before_within : (p : Place) → Within limits (value_before k p)
+    before_within (Whole x) = within.start x
+    before_within (Own x) = then_within limits (find x k.start) (λ f. apply f k.id) (λ f e. apply_within limits f k.id (within.start x f e))
 
-picked_out : (ms : List Data) (d : Words) (run : SectionRun) (f : Data → SectionRun → Out) → EachCounted ms → ((v : Data) (n i : ℕ) → IsCounted v → OutCounted (f v (chosen n i run))) → OutCounted (picked ms d run f)
-picked_out [] d run f c h = tt
-picked_out (m ∷ ms) d run f c h =
-    h (get_or (m ∷ ms) (picked_number d run (length (m ∷ ms))) m) (length (m ∷ ms)) (picked_number d run (length (m ∷ ms))) (picked_counted (m ∷ ms) (picked_number d run (length (m ∷ ms))) m c (c m (inl refl)))
+    now_within : (p : Place) (ch : Vars) → FoundWithin limits ch → Within limits (value_now k p ch)
+    now_within p ch h = go (find (variable_of p) ch) (h (variable_of p))
+      where
+        go : (o : Option Data) → Within limits o → Within limits (on (value_before k p) o (λ v. Some v))
+        go None g = before_within p
+        go (Some v) g = g
 
-true_out : (o : Option Bool) (run : SectionRun) (a b : Out) → OutCounted a → OutCounted b → OutCounted (if_true o run a b)
-true_out (Some true) run a b h g = h
-true_out (Some false) run a b h g = g
-true_out None run a b h g = tt
+    view_within : (ps : List (Name × Place)) (ch : Vars) → FoundWithin limits ch → NamesWithin limits (view k ps ch)
+    view_within [] ch h = named_more limits self_name (Some k.id) [] (some_within limits k.id within.id) (no_names limits)
+    view_within (p ∷ ps) ch h = named_more limits p.0 (value_now k p.1 ch) (view k ps ch) (now_within p.1 ch h) (view_within ps ch h)
 
-go_out : (o : Out) (f : SectionRun → Out) → OutCounted o → ((run : SectionRun) → FoundCounted run.changes → OutCounted (f run)) → OutCounted (go_on o f)
-go_out (Go run) f h g = g run h
-go_out (Jump l run) f h g = h
-go_out (Yielded v run) f h g = h
-go_out (Stop kind run) f h g = tt
+    expression_within : (e : Tree) (env : Names) (ch : Vars) → LiteralsWithin limits e → NamesWithin limits env → FoundWithin limits ch → Within limits (value_of k e env ch)
+    expression_within e env ch l n h =
+        tree_within limits e (record { names = env ++ view k k.places ch; part = None; now = []; next = None; defs = k.defs }) l (record {
+          names = names_joined env (view k k.places ch) n (view_within k.places ch h);
+          part = none_within limits;
+          now = λ x. none_within limits;
+          next = λ x. none_within limits;
+          calls = within.calls;
+        })
 
-gives_out : {A : Type 0} (P : A → Type 0) (m : MacroEnd A) (run : SectionRun) (f : A → SectionRun → Out) → EndCounted P m → ((a : A) (cs : List ChoiceMade) → P a → OutCounted (f a (with_choices cs run))) → OutCounted (if_gives m run f)
-gives_out P (Gives a cs) run f e h = h a cs e
-gives_out P (Stops kind cs) run f e h = tt
+    content_within : (g : Name) (j : Option Data) (ch : Vars) → FoundWithin limits ch → Within limits (content k g j ch)
+    content_within g None ch h = now_within (Whole g) ch h
+    content_within g (Some i) ch h = then_within limits (value_now k (Whole g) ch) (λ f. apply f i) (λ f e. apply_within limits f i (now_within (Whole g) ch h f e))
 
-module _ (reads : Reads) (writes : Writes) (rc : ReadsCounted reads) (wc : WritesCounted writes) (k : Context) (counted : ContextCounted k) where
-  mutual
-    pub code_counted : (c : Code) (env : Names) (d : Words) (run : SectionRun) → CodeFits c → NamesCounted env → FoundCounted run.changes → OutCounted (exec_with reads writes k c env d run)
-    code_counted Empty env d run l n h = h
-    code_counted Skip env d run l n h = h
-    code_counted (Let b w e c) env d run l n h =
-        let now = read_unmapped k e run in
-        let o = value_of k e env run.changes in
-        value_out (bindable o) now (λ v. exec_with reads writes k c ((w, Some v) ∷ env) d now) (λ v q.
-        let x = bindable_counted o (expression_counted k counted e env run.changes l.0 n h) v q in
-        code_counted c ((w, Some v) ∷ env) d now l.1 (named_more w (Some v) env (some_counted v x) n) h)
-    code_counted (Pick b w e c) env d run l n h =
-        let now = read_unmapped k e run in
-        let o = value_of k e env run.changes in
-        let f = λ (v : Data) (then' : SectionRun). exec_with reads writes k c ((w, Some v) ∷ env) d then' in
-        value_out (option_and_then members_of o) now (λ ms. picked ms d now f) (λ ms q.
-        picked_out ms d now f (members_all o ms (expression_counted k counted e env run.changes l.0 n h) q) (λ v m i x.
-        code_counted c ((w, Some v) ∷ env) d (chosen m i now) l.1 (named_more w (Some v) env (some_counted v x) n) h))
-    code_counted (Become p w) env d run l n h =
-        value_out (value_under w env) run (λ v. Go (becoming p v run)) (λ v q. more_found (variable_of p) v run.changes (under_counted w env n v q) h)
-    code_counted (Set b p e) env d run l n h =
-        let now = read_unmapped k e run in
-        let o = value_of k e env run.changes in
-        value_out (bindable o) now (λ v. Go (becoming p v now)) (λ v q.
-        more_found (variable_of p) v run.changes (bindable_counted o (expression_counted k counted e env run.changes l n h) v q) h)
-    code_counted (Await e) env d run l n h =
-        let now = read_unmapped k e run in true_out (truth_of (value_of k e env run.changes)) now (Go now) (Stop Blocked now) h tt
-    code_counted (Assert e) env d run l n h =
-        let now = read_unmapped k e run in true_out (truth_of (value_of k e env run.changes)) now (Go now) (Stop AssertFails now) h tt
-    code_counted (Print e) env d run l n h =
-        let now = read_unmapped k e run in value_out (value_of k e env run.changes) now (λ v. Go (printed v now)) (λ v q. h)
-    code_counted (If e x y) env d run l n h =
-        let now = read_unmapped k e run in
-        true_out (truth_of (value_of k e env run.changes)) now (exec_with reads writes k x env d now) (exec_with reads writes k y env d now) (code_counted x env d now l.1 n h) (code_counted y env d now l.2 n h)
-    code_counted (Either cs) env d run l n h =
-        let i = picked_number d run (count cs) in arm_counted cs i env d (chosen (count cs) i run) l n h
-    code_counted (Seq x y) env d run l n h =
-        go_out (exec_with reads writes k x env d run) (λ now. exec_with reads writes k y env d now) (code_counted x env d run l.0 n h) (λ now g. code_counted y env d now l.1 n g)
-    code_counted (Goto x) env d run l n h = h
-    code_counted (Yield e) env d run l n h =
-        let o = value_of k e env run.changes in
-        value_out (bindable o) run (λ v. Yielded v run) (λ v q. (bindable_counted o (expression_counted k counted e env run.changes l n h) v q, h))
-    code_counted (Read w g i block c) env d run l n h =
-        value_out (index_value i env) run (λ j.
-        with_value (bindable (content k g j run.changes)) (touching k g j run) (λ old.
-        if_gives (reads block k.defs k.id old d run.choices) (touching k g j run) (λ r then'.
-        with_value (put_new k g j r.1 run.changes) then' (λ ch.
-        exec_with reads writes k c ((w, Some r.0) ∷ env) d (record then' { changes = ch }))))) (λ j q.
-        let now = touching k g j run in
-        let o = content k g j run.changes in
-        value_out (bindable o) now (λ old. if_gives (reads block k.defs k.id old d run.choices) now (λ r then'.
-        with_value (put_new k g j r.1 run.changes) then' (λ ch.
-        exec_with reads writes k c ((w, Some r.0) ∷ env) d (record then' { changes = ch })))) (λ old p.
-        gives_out ReadCounted (reads block k.defs k.id old d run.choices) now (λ r then'.
-        with_value (put_new k g j r.1 run.changes) then' (λ ch.
-        exec_with reads writes k c ((w, Some r.0) ∷ env) d (record then' { changes = ch })))
-        (rc block k.defs k.id old d run.choices l.0 counted.calls counted.id (bindable_counted o (content_counted k counted g j run.changes h) old p)) (λ r cs a.
-        value_out (put_new k g j r.1 run.changes) (with_choices cs now) (λ ch.
-        exec_with reads writes k c ((w, Some r.0) ∷ env) d (record (with_choices cs now) { changes = ch })) (λ ch z.
-        code_counted c ((w, Some r.0) ∷ env) d (record (with_choices cs now) { changes = ch }) l.1 (named_more w (Some r.0) env (some_counted r.0 a.0) n) (new_found k counted g j r.1 run.changes ch a.1 h z)))))
-    code_counted (Write g i w block) env d run l n h =
-        value_out (index_value i env) run (λ j.
-        with_value (bindable (content k g j run.changes)) (touching k g j run) (λ old.
-        with_value (value_under w env) (touching k g j run) (λ v.
-        if_gives (writes block k.defs k.id old v d run.choices) (touching k g j run) (λ new then'.
-        with_value (put_content k g j (Some new) run.changes) then' (λ ch.
-        Go (record then' { changes = ch })))))) (λ j q.
-        let now = touching k g j run in
-        let o = content k g j run.changes in
-        value_out (bindable o) now (λ old. with_value (value_under w env) now (λ v.
-        if_gives (writes block k.defs k.id old v d run.choices) now (λ new then'.
-        with_value (put_content k g j (Some new) run.changes) then' (λ ch.
-        Go (record then' { changes = ch }))))) (λ old p.
-        value_out (value_under w env) now (λ v.
-        if_gives (writes block k.defs k.id old v d run.choices) now (λ new then'.
-        with_value (put_content k g j (Some new) run.changes) then' (λ ch.
-        Go (record then' { changes = ch })))) (λ v u.
-        gives_out IsCounted (writes block k.defs k.id old v d run.choices) now (λ new then'.
-        with_value (put_content k g j (Some new) run.changes) then' (λ ch.
-        Go (record then' { changes = ch })))
-        (wc block k.defs k.id old v d run.choices l counted.calls counted.id (bindable_counted o (content_counted k counted g j run.changes h) old p) (under_counted w env n v u)) (λ new cs a.
-        value_out (put_content k g j (Some new) run.changes) (with_choices cs now) (λ ch.
-        Go (record (with_choices cs now) { changes = ch })) (λ ch z.
-        put_found k counted g j (Some new) run.changes ch (some_counted new a) h z)))))
+    with_within : (g : Name) (j v : Option Data) (ch : Vars) → Within limits v → FoundWithin limits ch → Within limits (with_content k g j v ch)
+    with_within g None v ch c h = c
+    with_within g (Some i) v ch c h = part_within i (value_now k (Whole g) ch) v (now_within (Whole g) ch h) c
 
-    arm_counted : (cs : Codes) (i : ℕ) (env : Names) (d : Words) (run : SectionRun) → AllCodeFits cs → NamesCounted env → FoundCounted run.changes → OutCounted (exec_arm_with reads writes k cs i env d run)
-    arm_counted no_codes i env d run l n h = tt
-    arm_counted (more_codes c cs) zero env d run l n h = code_counted c env d run l.0 n h
-    arm_counted (more_codes c cs) (suc i) env d run l n h = arm_counted cs i env d run l.1 n h
+    put_found : (g : Name) (j v : Option Data) (ch ch' : Vars) → Within limits v → FoundWithin limits ch → put_content k g j v ch ≡ Some ch' → FoundWithin limits ch'
+    put_found g j v ch ch' c h e = go (bindable (with_content k g j v ch)) (bindable_within (with_content k g j v ch) (with_within g j v ch c h)) e
+      where
+        go : (o : Option Data) → Within limits o → option_map (λ w. (g, w) ∷ ch) o ≡ Some ch' → FoundWithin limits ch'
+        go None q e = absurd (cc)
+        go (Some w) q e = subst (FoundWithin limits) (same_Some ((g, w) ∷ ch) ch' e) (more_found g w ch (q w refl) h)
+
+    new_found : (g : Name) (j v : Option Data) (ch ch' : Vars) → Within limits v → FoundWithin limits ch → put_new k g j v ch ≡ Some ch' → FoundWithin limits ch'
+    new_found g j None ch ch' c h e = subst (FoundWithin limits) (same_Some ch ch' e) h
+    new_found g j (Some v) ch ch' c h e = put_found g j (Some v) ch ch' c h e
+
+  -- how code ends: its changes are values, and what a block yields is one
+  abbrev pub OutWithin : Out → Type 0
+  OutWithin (Go run) = FoundWithin limits run.changes
+  OutWithin (Jump l run) = FoundWithin limits run.changes
+  OutWithin (Yielded v run) = IsWithin limits v × FoundWithin limits run.changes
+  OutWithin (Stop kind run) = Unit {0}
+
+  abbrev pub EndWithin : {A : Type 0} → (A → Type 0) → MacroEnd A → Type 0
+  EndWithin P (Gives a cs) = P a
+  EndWithin P (Stops kind cs) = Unit {0}
+
+  abbrev pub ReadWithin : Data × Option Data → Type 0
+  ReadWithin r = IsWithin limits r.0 × Within limits r.1
+
+  abbrev pub ReadsWithin : Reads → Type 0
+  ReadsWithin reads =
+      (block : Code) (defs : List Meaning) (id old : Data) (d : Words) (choices : List ChoiceMade) → CodeWithin limits block → CallsWithin limits defs → IsWithin limits id → IsWithin limits old → EndWithin ReadWithin (reads block defs id old d choices)
+
+  abbrev pub WritesWithin : Writes → Type 0
+  WritesWithin writes =
+      (block : Code) (defs : List Meaning) (id old v : Data) (d : Words) (choices : List ChoiceMade) → CodeWithin limits block → CallsWithin limits defs → IsWithin limits id → IsWithin limits old → IsWithin limits v → EndWithin (IsWithin limits) (writes block defs id old v d choices)
+
+  value_out : {A : Type 0} (o : Option A) (run : SectionRun) (f : A → Out) → ((v : A) → o ≡ Some v → OutWithin (f v)) → OutWithin (with_value o run f)
+  value_out None run f h = tt
+  value_out (Some v) run f h = h v refl
+
+  picked_out : (ms : List Data) (d : Words) (run : SectionRun) (f : Data → SectionRun → Out) → EachWithin limits ms → ((v : Data) (n i : ℕ) → IsWithin limits v → OutWithin (f v (chosen n i run))) → OutWithin (picked ms d run f)
+  picked_out [] d run f c h = tt
+  picked_out (m ∷ ms) d run f c h =
+      h (get_or (m ∷ ms) (picked_number d run (length (m ∷ ms))) m) (length (m ∷ ms)) (picked_number d run (length (m ∷ ms))) (picked_within (m ∷ ms) (picked_number d run (length (m ∷ ms))) m c (c m (inl refl)))
+
+  true_out : (o : Option Bool) (run : SectionRun) (a b : Out) → OutWithin a → OutWithin b → OutWithin (if_true o run a b)
+  true_out (Some true) run a b h g = h
+  true_out (Some false) run a b h g = g
+  true_out None run a b h g = tt
+
+  go_out : (o : Out) (f : SectionRun → Out) → OutWithin o → ((run : SectionRun) → FoundWithin limits run.changes → OutWithin (f run)) → OutWithin (go_on o f)
+  go_out (Go run) f h g = g run h
+  go_out (Jump l run) f h g = h
+  go_out (Yielded v run) f h g = h
+  go_out (Stop kind run) f h g = tt
+
+  gives_out : {A : Type 0} (P : A → Type 0) (m : MacroEnd A) (run : SectionRun) (f : A → SectionRun → Out) → EndWithin P m → ((a : A) (cs : List ChoiceMade) → P a → OutWithin (f a (with_choices cs run))) → OutWithin (if_gives m run f)
+  gives_out P (Gives a cs) run f e h = h a cs e
+  gives_out P (Stops kind cs) run f e h = tt
+
+  module _ (reads : Reads) (writes : Writes) (rc : ReadsWithin reads) (wc : WritesWithin writes) (k : Context) (within : ContextWithin limits k) where
+    mutual
+      pub code_within : (c : Code) (env : Names) (d : Words) (run : SectionRun) → CodeWithin limits c → NamesWithin limits env → FoundWithin limits run.changes → OutWithin (exec_with reads writes k c env d run)
+      code_within Empty env d run l n h = h
+      code_within Skip env d run l n h = h
+      code_within (Let b w e c) env d run l n h =
+          let now = read_unmapped k e run in
+          let o = value_of k e env run.changes in
+          value_out (bindable o) now (λ v. exec_with reads writes k c ((w, Some v) ∷ env) d now) (λ v q.
+          let x = bindable_within o (expression_within k within e env run.changes l.0 n h) v q in
+          code_within c ((w, Some v) ∷ env) d now l.1 (named_more limits w (Some v) env (some_within limits v x) n) h)
+      code_within (Pick b w e c) env d run l n h =
+          let now = read_unmapped k e run in
+          let o = value_of k e env run.changes in
+          let f = λ (v : Data) (then' : SectionRun). exec_with reads writes k c ((w, Some v) ∷ env) d then' in
+          value_out (option_and_then members_of o) now (λ ms. picked ms d now f) (λ ms q.
+          picked_out ms d now f (members_all limits o ms (expression_within k within e env run.changes l.0 n h) q) (λ v m i x.
+          code_within c ((w, Some v) ∷ env) d (chosen m i now) l.1 (named_more limits w (Some v) env (some_within limits v x) n) h))
+      code_within (Become p w) env d run l n h =
+          value_out (value_under w env) run (λ v. Go (becoming p v run)) (λ v q. more_found (variable_of p) v run.changes (under_within w env n v q) h)
+      code_within (Set b p e) env d run l n h =
+          let now = read_unmapped k e run in
+          let o = value_of k e env run.changes in
+          value_out (bindable o) now (λ v. Go (becoming p v now)) (λ v q.
+          more_found (variable_of p) v run.changes (bindable_within o (expression_within k within e env run.changes l n h) v q) h)
+      code_within (Await e) env d run l n h =
+          let now = read_unmapped k e run in true_out (truth_of (value_of k e env run.changes)) now (Go now) (Stop Blocked now) h tt
+      code_within (Assert e) env d run l n h =
+          let now = read_unmapped k e run in true_out (truth_of (value_of k e env run.changes)) now (Go now) (Stop AssertFails now) h tt
+      code_within (Print e) env d run l n h =
+          let now = read_unmapped k e run in value_out (value_of k e env run.changes) now (λ v. Go (printed v now)) (λ v q. h)
+      code_within (If e x y) env d run l n h =
+          let now = read_unmapped k e run in
+          true_out (truth_of (value_of k e env run.changes)) now (exec_with reads writes k x env d now) (exec_with reads writes k y env d now) (code_within x env d now l.1 n h) (code_within y env d now l.2 n h)
+      code_within (Either cs) env d run l n h =
+          let i = picked_number d run (count cs) in arm_within cs i env d (chosen (count cs) i run) l n h
+      code_within (Seq x y) env d run l n h =
+          go_out (exec_with reads writes k x env d run) (λ now. exec_with reads writes k y env d now) (code_within x env d run l.0 n h) (λ now g. code_within y env d now l.1 n g)
+      code_within (Goto x) env d run l n h = h
+      code_within (Yield e) env d run l n h =
+          let o = value_of k e env run.changes in
+          value_out (bindable o) run (λ v. Yielded v run) (λ v q. (bindable_within o (expression_within k within e env run.changes l n h) v q, h))
+      code_within (Read w g i block c) env d run l n h =
+          value_out (index_value i env) run (λ j.
+          with_value (bindable (content k g j run.changes)) (touching k g j run) (λ old.
+          if_gives (reads block k.defs k.id old d run.choices) (touching k g j run) (λ r then'.
+          with_value (put_new k g j r.1 run.changes) then' (λ ch.
+          exec_with reads writes k c ((w, Some r.0) ∷ env) d (record then' { changes = ch }))))) (λ j q.
+          let now = touching k g j run in
+          let o = content k g j run.changes in
+          value_out (bindable o) now (λ old. if_gives (reads block k.defs k.id old d run.choices) now (λ r then'.
+          with_value (put_new k g j r.1 run.changes) then' (λ ch.
+          exec_with reads writes k c ((w, Some r.0) ∷ env) d (record then' { changes = ch })))) (λ old p.
+          gives_out ReadWithin (reads block k.defs k.id old d run.choices) now (λ r then'.
+          with_value (put_new k g j r.1 run.changes) then' (λ ch.
+          exec_with reads writes k c ((w, Some r.0) ∷ env) d (record then' { changes = ch })))
+          (rc block k.defs k.id old d run.choices l.0 within.calls within.id (bindable_within o (content_within k within g j run.changes h) old p)) (λ r cs a.
+          value_out (put_new k g j r.1 run.changes) (with_choices cs now) (λ ch.
+          exec_with reads writes k c ((w, Some r.0) ∷ env) d (record (with_choices cs now) { changes = ch })) (λ ch z.
+          code_within c ((w, Some r.0) ∷ env) d (record (with_choices cs now) { changes = ch }) l.1 (named_more limits w (Some r.0) env (some_within limits r.0 a.0) n) (new_found k within g j r.1 run.changes ch a.1 h z)))))
+      code_within (Write g i w block) env d run l n h =
+          value_out (index_value i env) run (λ j.
+          with_value (bindable (content k g j run.changes)) (touching k g j run) (λ old.
+          with_value (value_under w env) (touching k g j run) (λ v.
+          if_gives (writes block k.defs k.id old v d run.choices) (touching k g j run) (λ new then'.
+          with_value (put_content k g j (Some new) run.changes) then' (λ ch.
+          Go (record then' { changes = ch })))))) (λ j q.
+          let now = touching k g j run in
+          let o = content k g j run.changes in
+          value_out (bindable o) now (λ old. with_value (value_under w env) now (λ v.
+          if_gives (writes block k.defs k.id old v d run.choices) now (λ new then'.
+          with_value (put_content k g j (Some new) run.changes) then' (λ ch.
+          Go (record then' { changes = ch }))))) (λ old p.
+          value_out (value_under w env) now (λ v.
+          if_gives (writes block k.defs k.id old v d run.choices) now (λ new then'.
+          with_value (put_content k g j (Some new) run.changes) then' (λ ch.
+          Go (record then' { changes = ch })))) (λ v u.
+          gives_out (IsWithin limits) (writes block k.defs k.id old v d run.choices) now (λ new then'.
+          with_value (put_content k g j (Some new) run.changes) then' (λ ch.
+          Go (record then' { changes = ch })))
+          (wc block k.defs k.id old v d run.choices l within.calls within.id (bindable_within o (content_within k within g j run.changes h) old p) (under_within w env n v u)) (λ new cs a.
+          value_out (put_content k g j (Some new) run.changes) (with_choices cs now) (λ ch.
+          Go (record (with_choices cs now) { changes = ch })) (λ ch z.
+          put_found k within g j (Some new) run.changes ch (some_within limits new a) h z)))))
+
+      arm_within : (cs : Codes) (i : ℕ) (env : Names) (d : Words) (run : SectionRun) → AllCodeWithin limits cs → NamesWithin limits env → FoundWithin limits run.changes → OutWithin (exec_arm_with reads writes k cs i env d run)
+      arm_within no_codes i env d run l n h = tt
+      arm_within (more_codes c cs) zero env d run l n h = code_within c env d run l.0 n h
+      arm_within (more_codes c cs) (suc i) env d run l n h = arm_within cs i env d run l.1 n h

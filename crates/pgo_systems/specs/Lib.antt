@@ -1,3 +1,5 @@
+pub mod Limits
+pub mod Within
 pub mod Counted
 pub mod Literals
 pub mod Premises

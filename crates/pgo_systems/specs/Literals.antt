@@ -1,4 +1,4 @@
--- The literals of expressions and of code are integers of 64 bits.
+-- The literals of expressions and of code are within limits: integers of 64 bits, and strings and names of fields that the limits allow.
 use Rattle.std.specs.Prelude.{IsTrue, Option, Some, None}
 use Rattle.std.specs.List.{AllByRecursion}
 use Rattle.pgo_syntax.specs.declared.binding.Origin.{Origin}
@@ -11,108 +11,122 @@ use Rattle.pgo_base.specs.Tree.{Tree, name, primed, number, text, truth, at, wor
 use Rattle.pgo_model.specs.Operators.{fits_i64}
 use Rattle.pgo_model.specs.Val.{Defined, Given, Means}
 use Rattle.pgo_sections.specs.Code.{Code, Empty, Skip, Let, Pick, Become, Set, Await, Assert, Print, If, Either, Seq, Goto, Yield, Read, Write, Codes, no_codes, more_codes}
-use Rattle.pgo_systems.specs.Counted.{IsCounted}
+use Rattle.pgo_systems.specs.Limits.{Limits}
+use Rattle.pgo_systems.specs.Counted.{counted}
+use Rattle.pgo_systems.specs.Within.{IsWithin}
 
-abbrev mutual
-  pub LiteralsFit : Tree → Type 0
-  LiteralsFit (name x) = Unit {0}
-  LiteralsFit (primed x) = Unit {0}
-  LiteralsFit (number z) = IsTrue (fits_i64 z)
-  LiteralsFit (text t) = Unit {0}
-  LiteralsFit (truth b) = Unit {0}
-  LiteralsFit at = Unit {0}
-  LiteralsFit (word w) = Unit {0}
-  LiteralsFit (unary o a) = LiteralsFit a
-  LiteralsFit (binary o a b) = LiteralsFit a × LiteralsFit b
-  LiteralsFit (product ts) = AllFit ts
-  LiteralsFit (cond_of p a b) = LiteralsFit p × LiteralsFit a × LiteralsFit b
-  LiteralsFit (case_of gs) = ArmsFit gs
-  LiteralsFit (case_other gs e) = ArmsFit gs × LiteralsFit e
-  LiteralsFit (let_in ds e) = NamedFit ds × LiteralsFit e
-  LiteralsFit (quantified q bs p) = BoundFit bs × LiteralsFit p
-  LiteralsFit (choose x r p) = LiteralsFit r × LiteralsFit p
-  LiteralsFit (tuple ts) = AllFit ts
-  LiteralsFit (set_of ts) = AllFit ts
-  LiteralsFit (filter_of x r p) = LiteralsFit r × LiteralsFit p
-  LiteralsFit (image e x r) = LiteralsFit e × LiteralsFit r
-  LiteralsFit (fun_of bs e) = BoundFit bs × LiteralsFit e
-  LiteralsFit (fun_set a b) = LiteralsFit a × LiteralsFit b
-  LiteralsFit (record_of ds) = NamedFit ds
-  LiteralsFit (record_set ds) = NamedFit ds
-  LiteralsFit (except f us) = LiteralsFit f × PathsFit us
-  LiteralsFit (index f ts) = LiteralsFit f × AllFit ts
-  LiteralsFit (field r x) = LiteralsFit r
-  LiteralsFit (call x ts) = AllFit ts
-  LiteralsFit (unchanged xs) = Unit {0}
+module _ (limits : Limits) where
+  abbrev mutual
+    pub LiteralsWithin : Tree → Type 0
+    LiteralsWithin (name x) = Unit {0}
+    LiteralsWithin (primed x) = Unit {0}
+    LiteralsWithin (number z) = IsTrue (fits_i64 z)
+    LiteralsWithin (text t) = IsTrue (limits.text t)
+    LiteralsWithin (truth b) = Unit {0}
+    LiteralsWithin at = Unit {0}
+    LiteralsWithin (word w) = Unit {0}
+    LiteralsWithin (unary o a) = LiteralsWithin a
+    LiteralsWithin (binary o a b) = LiteralsWithin a × LiteralsWithin b
+    LiteralsWithin (product ts) = TreesWithin ts
+    LiteralsWithin (cond_of p a b) = LiteralsWithin p × LiteralsWithin a × LiteralsWithin b
+    LiteralsWithin (case_of gs) = ArmsWithin gs
+    LiteralsWithin (case_other gs e) = ArmsWithin gs × LiteralsWithin e
+    LiteralsWithin (let_in ds e) = NamedTreesWithin ds × LiteralsWithin e
+    LiteralsWithin (quantified q bs p) = BoundWithin bs × LiteralsWithin p
+    LiteralsWithin (choose x r p) = LiteralsWithin r × LiteralsWithin p
+    LiteralsWithin (tuple ts) = TreesWithin ts
+    LiteralsWithin (set_of ts) = TreesWithin ts
+    LiteralsWithin (filter_of x r p) = LiteralsWithin r × LiteralsWithin p
+    LiteralsWithin (image e x r) = LiteralsWithin e × LiteralsWithin r
+    LiteralsWithin (fun_of bs e) = BoundWithin bs × LiteralsWithin e
+    LiteralsWithin (fun_set a b) = LiteralsWithin a × LiteralsWithin b
+    LiteralsWithin (record_of ds) = NamedTreesWithin ds
+    LiteralsWithin (record_set ds) = NamedTreesWithin ds
+    LiteralsWithin (except f us) = LiteralsWithin f × PathsWithin us
+    LiteralsWithin (index f ts) = LiteralsWithin f × TreesWithin ts
+    LiteralsWithin (field r x) = IsTrue (limits.text x) × LiteralsWithin r
+    LiteralsWithin (call x ts) = TreesWithin ts
+    LiteralsWithin (unchanged xs) = Unit {0}
 
-  pub AllFit : Trees → Type 0
-  AllFit no_trees = Unit {0}
-  AllFit (more_trees t ts) = LiteralsFit t × AllFit ts
+    pub TreesWithin : Trees → Type 0
+    TreesWithin no_trees = Unit {0}
+    TreesWithin (more_trees t ts) = LiteralsWithin t × TreesWithin ts
 
-  pub NamedFit : NamedTrees → Type 0
-  NamedFit no_named = Unit {0}
-  NamedFit (more_named x t ds) = LiteralsFit t × NamedFit ds
+    pub NamedTreesWithin : NamedTrees → Type 0
+    NamedTreesWithin no_named = Unit {0}
+    NamedTreesWithin (more_named x t ds) = IsTrue (limits.text x) × LiteralsWithin t × NamedTreesWithin ds
 
-  pub ArmsFit : TreePairs → Type 0
-  ArmsFit no_arms = Unit {0}
-  ArmsFit (more_arms g e gs) = LiteralsFit g × LiteralsFit e × ArmsFit gs
+    pub ArmsWithin : TreePairs → Type 0
+    ArmsWithin no_arms = Unit {0}
+    ArmsWithin (more_arms g e gs) = LiteralsWithin g × LiteralsWithin e × ArmsWithin gs
 
-  pub BoundFit : BoundTrees → Type 0
-  BoundFit no_bound = Unit {0}
-  BoundFit (more_bound xs r bs) = LiteralsFit r × BoundFit bs
+    pub BoundWithin : BoundTrees → Type 0
+    BoundWithin no_bound = Unit {0}
+    BoundWithin (more_bound xs r bs) = LiteralsWithin r × BoundWithin bs
 
-  pub PathsFit : PathTrees → Type 0
-  PathsFit no_paths = Unit {0}
-  PathsFit (more_paths ps e us) = AllFit ps × LiteralsFit e × PathsFit us
+    pub PathsWithin : PathTrees → Type 0
+    PathsWithin no_paths = Unit {0}
+    PathsWithin (more_paths ps e us) = TreesWithin ps × LiteralsWithin e × PathsWithin us
 
--- a constant is a value, and the literals in a definition's body fit
-abbrev pub DefinedFits : Defined → Type 0
-DefinedFits (Given x v) = IsCounted v
-DefinedFits (Means x ps e) = LiteralsFit e
+  -- a constant is within the limits, and so are the literals in a definition's body
+  abbrev pub DefinedWithin : Defined → Type 0
+  DefinedWithin (Given x v) = IsWithin limits v
+  DefinedWithin (Means x ps e) = LiteralsWithin e
 
--- the literals of each expression in code, and in the blocks of its mapping macros
-abbrev mutual
-  pub CodeFits : Code → Type 0
-  CodeFits Empty = Unit {0}
-  CodeFits Skip = Unit {0}
-  CodeFits (Let b w e c) = LiteralsFit e × CodeFits c
-  CodeFits (Pick b w e c) = LiteralsFit e × CodeFits c
-  CodeFits (Become p w) = Unit {0}
-  CodeFits (Set b p e) = LiteralsFit e
-  CodeFits (Await e) = LiteralsFit e
-  CodeFits (Assert e) = LiteralsFit e
-  CodeFits (Print e) = LiteralsFit e
-  CodeFits (If e c d) = LiteralsFit e × CodeFits c × CodeFits d
-  CodeFits (Either cs) = AllCodeFits cs
-  CodeFits (Seq c d) = CodeFits c × CodeFits d
-  CodeFits (Goto l) = Unit {0}
-  CodeFits (Yield e) = LiteralsFit e
-  CodeFits (Read w g i block c) = CodeFits block × CodeFits c
-  CodeFits (Write g i w block) = CodeFits block
+  -- the literals of each expression in code, and in the blocks of its mapping macros
+  abbrev mutual
+    pub CodeWithin : Code → Type 0
+    CodeWithin Empty = Unit {0}
+    CodeWithin Skip = Unit {0}
+    CodeWithin (Let b w e c) = LiteralsWithin e × CodeWithin c
+    CodeWithin (Pick b w e c) = LiteralsWithin e × CodeWithin c
+    CodeWithin (Become p w) = Unit {0}
+    CodeWithin (Set b p e) = LiteralsWithin e
+    CodeWithin (Await e) = LiteralsWithin e
+    CodeWithin (Assert e) = LiteralsWithin e
+    CodeWithin (Print e) = LiteralsWithin e
+    CodeWithin (If e c d) = LiteralsWithin e × CodeWithin c × CodeWithin d
+    CodeWithin (Either cs) = AllCodeWithin cs
+    CodeWithin (Seq c d) = CodeWithin c × CodeWithin d
+    CodeWithin (Goto l) = Unit {0}
+    CodeWithin (Yield e) = LiteralsWithin e
+    CodeWithin (Read w g i block c) = CodeWithin block × CodeWithin c
+    CodeWithin (Write g i w block) = CodeWithin block
 
-  pub AllCodeFits : Codes → Type 0
-  AllCodeFits no_codes = Unit {0}
-  AllCodeFits (more_codes c cs) = CodeFits c × AllCodeFits cs
+    pub AllCodeWithin : Codes → Type 0
+    AllCodeWithin no_codes = Unit {0}
+    AllCodeWithin (more_codes c cs) = CodeWithin c × AllCodeWithin cs
 
--- ---- the expressions from which the start is made
+  -- ---- the expressions from which the start is made
 
-abbrev pub OriginFits : Origin → Type 0
-OriginFits (Equals e) = LiteralsFit e
-OriginFits (In e) = LiteralsFit e
+  abbrev pub OriginWithin : Origin → Type 0
+  OriginWithin (Equals e) = LiteralsWithin e
+  OriginWithin (In e) = LiteralsWithin e
 
-abbrev pub InitialFits : Option Origin → Type 0
-InitialFits None = Unit {0}
-InitialFits (Some o) = OriginFits o
+  abbrev pub InitialWithin : Option Origin → Type 0
+  InitialWithin None = Unit {0}
+  InitialWithin (Some o) = OriginWithin o
 
-abbrev pub ArgumentFits : Argument → Type 0
-ArgumentFits (arguments.Ref g e) = Unit {0}
-ArgumentFits (arguments.Value place e) = LiteralsFit e
+  abbrev pub ArgumentWithin : Argument → Type 0
+  ArgumentWithin (arguments.Ref g e) = Unit {0}
+  ArgumentWithin (arguments.Value place e) = LiteralsWithin e
 
--- the literals of definitions, of initial values, and of identifiers and arguments of processes
-pub record StartFits (s : Spec) : Type 0 where
-  pub definitions : AllByRecursion (λ d. LiteralsFit d.body) s.definitions
-  pub define : AllByRecursion (λ d. LiteralsFit d.body) (define_of s.define)
-  pub globals : AllByRecursion (λ d. InitialFits d.initial) s.globals
-  pub locals : AllByRecursion (λ a. AllByRecursion (λ d. InitialFits d.initial) a.locals) s.archetypes
-  pub identifiers : AllByRecursion (λ p. OriginFits p.ids) s.processes
-  pub arguments : AllByRecursion (λ p. AllByRecursion ArgumentFits p.arguments) s.processes
+  -- the literals of definitions, of initial values, and of identifiers and arguments of processes
+  pub record StartWithin (s : Spec) : Type 0 where
+    pub definitions : AllByRecursion (λ d. LiteralsWithin d.body) s.definitions
+    pub define : AllByRecursion (λ d. LiteralsWithin d.body) (define_of s.define)
+    pub globals : AllByRecursion (λ d. InitialWithin d.initial) s.globals
+    pub locals : AllByRecursion (λ a. AllByRecursion (λ d. InitialWithin d.initial) a.locals) s.archetypes
+    pub identifiers : AllByRecursion (λ p. OriginWithin p.ids) s.processes
+    pub arguments : AllByRecursion (λ p. AllByRecursion ArgumentWithin p.arguments) s.processes
+
+-- ---- the literals are integers of 64 bits
+
+abbrev pub LiteralsFit : Tree → Type 0
+LiteralsFit = LiteralsWithin counted
+
+abbrev pub CodeFits : Code → Type 0
+CodeFits = CodeWithin counted
+
+abbrev pub StartFits : Spec → Type 0
+StartFits = StartWithin counted

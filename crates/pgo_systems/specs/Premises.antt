@@ -1,9 +1,7 @@
 -- What is asked of a bound specification, so that its system's states are kept.
 use Rattle.std.specs.Prelude.{◌≡◌, ℕ, false, ◌⊎◌, map, Some}
-use Rattle.std.specs.List.{AllByRecursion}
 use Rattle.pgo_base.specs.Lookup.{Name, Vars, find}
 use Rattle.pgo_model.specs.Machine.{nth}
-use Rattle.pgo_model.specs.ModuleView.{defined_view}
 use Rattle.pgo_model.specs.Written.{done}
 use Rattle.pgo_syntax.specs.declared.bound.Bound.{Bound}
 use Rattle.pgo_syntax.specs.declared.bound.Instance.{Instance}
@@ -17,14 +15,13 @@ use Rattle.pgo_meaning.specs.System.{system_of}
 use Rattle.pgo_meaning.specs.SystemStates.{GlobalsBound}
 use Rattle.pgo_sections.specs.Code.{Own, Code, Empty, Skip, Let, Pick, Become, Set, Await, Assert, Print, If, Either, Seq, Goto, Yield, Read, Write, Codes, no_codes, more_codes}
 use Rattle.pgo_meaning.specs.TreesAgree.{sections_at}
-use Rattle.pgo_systems.specs.Counted.{AllCounted}
-use Rattle.pgo_systems.specs.Literals.{CodeFits, DefinedFits}
+use Rattle.pgo_systems.specs.Counted.{AllCounted, counted}
+use Rattle.pgo_systems.specs.StatementLiterals.{InstanceWithin}
 
 -- constants are values, and the literals in definitions and in the instance's sections are integers of 64 bits: the readers of
 -- texts make no others
-pub record LiteralsFitIn (b : Bound) (i : Instance) : Type 0 where
-  pub definitions : AllByRecursion DefinedFits (map defined_view b.defs)
-  pub sections : (l : Name) (c : Code) → find l (sections_at b i) ≡ Some c → CodeFits c
+abbrev pub LiteralsFitIn : Bound → Instance → Type 0
+LiteralsFitIn = InstanceWithin counted
 
 -- a state with the domains of the start, whose sets are counted
 pub record IsCountedState (b : Bound) (s : Vars) : Type 0 where

@@ -2,6 +2,7 @@
 use Rattle.std.specs.Prelude.{ℕ, zero, suc, ◌+◌, true, List, [], ◌∷◌, ◌++◌, take, length}
 use Rattle.pgo_base.specs.Tree.{Tree, name, primed, number, text, truth, at, word, unary, binary, product, cond_of, case_of, case_other, let_in, quantified, choose, tuple, set_of, filter_of, image, fun_of, fun_set, record_of, record_set, except, index, field, call, unchanged, Trees, no_trees, more_trees, NamedTrees, no_named, more_named, TreePairs, no_arms, more_arms, BoundTrees, no_bound, more_bound, PathTrees, no_paths, more_paths}
 use Rattle.pgo_base.specs.Lookup.{Name}
+pub use Rattle.pgo_base.specs.BoundNames.{bound_by}
 use Rattle.pgo_uses.specs.declared.uses.Around.{Around}
 use Rattle.pgo_uses.specs.declared.uses.Form.{Form}
 use Rattle.pgo_uses.specs.declared.uses.Form.TheVariants.{Alone, Applied, Bound, Field}
@@ -15,16 +16,6 @@ pub data Piece : Type 0 where
   used : Name → Form → Piece
   binds : Name → ℕ → Piece
   operand : Tree → Manner → ℕ → Piece
-
--- the names that an expression binds, in the order of the text
-abbrev pub bound_by : Tree → List Name
-bound_by (let_in ds e) = let_names ds
-bound_by (quantified q bs p) = binder_names bs
-bound_by (choose x r p) = x ∷ []
-bound_by (filter_of x r p) = x ∷ []
-bound_by (image e x r) = x ∷ []
-bound_by (fun_of bs e) = binder_names bs
-bound_by _ = []
 
 abbrev pub operands : Trees → List Piece
 operands no_trees = []

@@ -10,7 +10,7 @@ use Rattle.pgo_model.specs.Operators.{fits_i64, sequence_at}
 use Rattle.pgo_model.specs.ValueText.{is_digit, is_word_byte, all_word_bytes, same_bytes, all_escaped}
 use Rattle.pgo_model.specs.BundleParts.{all_string_bytes}
 use Rattle.pgo_value_text.specs.declared.read.PairForm.TheVariants.{Fields, Mappings}
-use Rattle.pgo_value_text.specs.IsValueText.{most_depth, is_name, all_digits, are_digits, number_of, minus, Spaced, Joined, Parted, Listed, Field, field, AreDistinct, Form, truth, number, negative, string_in_quotes, name, set_text, tuple_text, record_text, function_text, Spells, is_small, IsValueText}
+use Rattle.pgo_value_text.specs.IsValueText.{most_depth, is_name, all_digits, are_digits, number_of, minus, Spaced, Joined, Parted, Listed, Field, field, StandOnce, Form, truth, number, negative, string_in_quotes, name, set_text, tuple_text, record_text, function_text, Spells, is_small, IsValueText}
 use Rattle.pgo_value_text.specs.Parsers.{Outcome, Parser, give}
 use Rattle.pgo_value_text.specs.Reading.{begins, front, behind, as_integer, word_value, word_atom, negative_atom, string_from, string_atom, atom, spaced, listed, pair_in, pairs_in, set_of, tuple_of, record_of, function_of, form, value, if_whole, whole}
 use Rattle.pgo_value_text.specs.Reading as reading
@@ -172,7 +172,7 @@ module _ (p : Parser Data) (P : List ℕ → Data → Type 0) (f : Finds p P IsA
   unfolding pair_in
   finds_one_mapping = finds_joined (codes ":>") (λ r. refl) (spaced p) (Spaced P) (finds_spaced p P f o) (spaced p) (Spaced P) (finds_spaced p P f o)
 
-  record_form : (bs : List ℕ) (ps : List (Data × Data)) (r : List ℕ) → Parted (codes ",") (Joined (codes "|->") (Spaced Field) (Spaced P)) bs ps → AreDistinct (keys ps)
+  record_form : (bs : List ℕ) (ps : List (Data × Data)) (r : List ℕ) → Parted (codes ",") (Joined (codes "|->") (Spaced Field) (Spaced P)) bs ps → StandOnce (keys ps)
       → form p (91 ∷ (bs ++ 93 ∷ r)) ≡ Some (function (pairs (pairs_in_order ps)), r)
   unfolding form record_of
   record_form bs ps r l d =

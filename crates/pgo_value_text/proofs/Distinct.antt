@@ -12,7 +12,7 @@ use Rattle.pgo_base.specs.Exact.{data_exact, data_itself}
 use Rattle.pgo_base.specs.Pairs.{insert_pair, pairs_in_order}
 use Rattle.pgo_base.specs.Sets.{IsIn, IsSorted, insert_member, in_order}
 use Rattle.pgo_base.proofs.Keyed.{sorted_pairs_in_order}
-use Rattle.pgo_value_text.specs.IsValueText.{AreDistinct}
+use Rattle.pgo_value_text.specs.IsValueText.{StandOnce}
 
 abbrev Below : Data → List Data → Type 0
 Below x ys = AllByRecursion (λ y. data_cmp x y ≡ Less) ys
@@ -48,7 +48,7 @@ unfolding IsStrictlySortedBy
 keys_in_order [] s = refl
 keys_in_order (p ∷ ps) s = ap (insert_pair p) (keys_in_order ps s.1) ∙ insert_first p ps s.0
 
-pub sorted_distinct : (xs : List Data) → IsSorted xs → AreDistinct xs
+pub sorted_distinct : (xs : List Data) → IsSorted xs → StandOnce xs
 unfolding IsStrictlySortedBy
 sorted_distinct [] s = tt
 sorted_distinct (x ∷ xs) s = (λ h. no_less x (below_in x x xs s.0 h), sorted_distinct xs s.1)
@@ -135,7 +135,7 @@ order_length : (ps : List (Data × Data)) → length (pairs_in_order ps) ≤ len
 order_length [] = omega arith
 order_length (p ∷ ps) = omega (arith, insert_length p (pairs_in_order ps), order_length ps)
 
-pub distinct_fields : (ps : List (Data × Data)) → length (pairs_in_order ps) ≡ length ps → AreDistinct (keys ps)
+pub distinct_fields : (ps : List (Data × Data)) → length (pairs_in_order ps) ≡ length ps → StandOnce (keys ps)
 distinct_fields [] h = tt
 distinct_fields (p ∷ ps) h =
     let most = insert_length p (pairs_in_order ps) in
@@ -143,6 +143,6 @@ distinct_fields (p ∷ ps) h =
     let rest : length (pairs_in_order ps) ≡ length ps = omega arith in
     (λ g. let same = old_key p (pairs_in_order ps) (sorted_pairs_in_order ps) (keys_in p.0 ps g) in omega arith, distinct_fields ps rest)
 
-pub fields_distinct : (ps : List (Data × Data)) → AreDistinct (keys ps) → length (pairs_in_order ps) ≡ length ps
+pub fields_distinct : (ps : List (Data × Data)) → StandOnce (keys ps) → length (pairs_in_order ps) ≡ length ps
 fields_distinct [] h = refl
 fields_distinct (p ∷ ps) h = new_key p (pairs_in_order ps) (λ g. h.0 (in_keys p.0 ps g)) ∙ ap suc (fields_distinct ps h.1)

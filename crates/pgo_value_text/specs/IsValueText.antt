@@ -1,13 +1,13 @@
 -- Which texts are texts of which value, by cases over bytes.
-use Rattle.std.specs.Prelude.{ℕ, zero, suc, ◌+◌, ◌-◌, ◌*◌, ℤ, pos, negsuc, Bool, true, false, ◌&&◌, ◌||◌, nat_eq, nat_le, IsTrue, List, [], ◌∷◌, ◌++◌, codes, length}
+use Rattle.std.specs.Prelude.{ℕ, zero, suc, ◌+◌, ◌-◌, ℤ, pos, negsuc, Bool, true, false, ◌&&◌, ◌||◌, nat_eq, nat_le, IsTrue, List, [], ◌∷◌, ◌++◌, codes, length}
 use Rattle.pgo_base.specs.Data.{Data, boolean, integer, string, model, set, function, Items, no_items, item, items, members, Pairs, no_pairs, pair, pairs, graph, keys}
+pub use Rattle.pgo_base.specs.Lists.{StandOnce}
 use Rattle.pgo_base.specs.Pairs.{pairs_in_order}
-use Rattle.pgo_base.specs.Sets.{in_order, IsIn}
+use Rattle.pgo_base.specs.Sets.{in_order}
 use Rattle.pgo_model.specs.Operators.{fits_i64, sequence_at, most_members}
 use Rattle.pgo_model.specs.ValueText.{string_text, truth_text}
-pub use Rattle.pgo_model.specs.ValueText.{all_digits}
+pub use Rattle.pgo_model.specs.ValueText.{all_digits, number_from, number_of, is_read_name as is_name}
 use Rattle.pgo_model.specs.BundleParts.{all_string_bytes}
-pub use Rattle.pgo_model.specs.BundleParts.{is_read_name as is_name}
 
 -- how deep a text may nest
 abbrev pub most_depth : ℕ
@@ -27,15 +27,6 @@ all_blank (b ∷ bs) = is_blank b && all_blank bs
 abbrev pub are_digits : List ℕ → Bool
 are_digits [] = false
 are_digits (b ∷ bs) = all_digits (b ∷ bs)
-
--- the number that digits behind a number spell
-abbrev pub number_from : ℕ → List ℕ → ℕ
-number_from n [] = n
-number_from n (b ∷ bs) = number_from (n * 10 + (b - 48)) bs
-
--- the number that digits spell
-abbrev pub number_of : List ℕ → ℕ
-number_of = number_from 0
 
 -- the integer of a number behind a `-`
 abbrev pub minus : ℕ → ℤ
@@ -72,11 +63,6 @@ pub data Listed {A : Type 0} (P : List ℕ → A → Type 0) : List ℕ → List
 pub data Field : List ℕ → Data → Type 0 where
   field : {x : List ℕ} → IsTrue (is_name x) → Field x (string x)
 
--- none stands twice
-abbrev pub AreDistinct : List Data → Type 0
-AreDistinct [] = Unit {0}
-AreDistinct (x ∷ xs) = (IsIn x xs → ⊥) × AreDistinct xs
-
 -- a text of a value whose parts are spelled as P says; blanks stand between its tokens alone
 pub data Form (P : List ℕ → Data → Type 0) : List ℕ → Data → Type 0 where
   -- TRUE, FALSE
@@ -94,7 +80,7 @@ pub data Form (P : List ℕ → Data → Type 0) : List ℕ → Data → Type 0 
   -- <<a, b>>
   tuple_text : (bs : List ℕ) {xs : List Data} → Listed P bs xs → Form P (codes "<<" ++ (bs ++ codes ">>")) (function (pairs (sequence_at 1 xs)))
   -- [a |-> 1, b |-> 2]: fields in any order, none twice
-  record_text : (bs : List ℕ) {ps : List (Data × Data)} → Parted (codes ",") (Joined (codes "|->") (Spaced Field) (Spaced P)) bs ps → AreDistinct (keys ps)
+  record_text : (bs : List ℕ) {ps : List (Data × Data)} → Parted (codes ",") (Joined (codes "|->") (Spaced Field) (Spaced P)) bs ps → StandOnce (keys ps)
       → Form P (codes "[" ++ (bs ++ codes "]")) (function (pairs (pairs_in_order ps)))
   -- (k :> v @@ l :> w): in any order, and of several pairs with one key the left one holds
   function_text : (bs : List ℕ) {ps : List (Data × Data)} → Parted (codes "@@") (Joined (codes ":>") (Spaced P) (Spaced P)) bs ps

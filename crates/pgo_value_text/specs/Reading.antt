@@ -1,11 +1,12 @@
 -- The reader as functions on bytes, in the shape of the code.
-use Rattle.std.specs.Prelude.{ℕ, zero, suc, ◌+◌, ◌-◌, ◌*◌, ◌^◌, ℤ, pos, Bool, true, false, ◌&&◌, nat_eq, nat_lt, nat_le, if◌then◌else◌, List, [], ◌∷◌, ◌++◌, length, take, drop, codes, Option, Some, None, option_and_then}
+use Rattle.std.specs.Prelude.{ℕ, zero, suc, ◌+◌, ◌-◌, ◌*◌, ◌^◌, ℤ, pos, Bool, true, false, ◌&&◌, nat_eq, nat_lt, if◌then◌else◌, List, [], ◌∷◌, ◌++◌, length, take, drop, codes, Option, Some, None, option_and_then}
 use Rattle.std.specs.List.{prefix_len}
 use Rattle.pgo_base.specs.Data.{Data, boolean, integer, string, model, set, function, items, pairs}
 use Rattle.pgo_base.specs.Pairs.{pairs_in_order}
 use Rattle.pgo_base.specs.Sets.{in_order}
 use Rattle.pgo_model.specs.Operators.{fits_i64, sequence_at}
 use Rattle.pgo_model.specs.ValueText.{is_digit, is_word_byte, same_bytes}
+pub use Rattle.pgo_model.specs.ValueText.{is_printed as is_printable, is_beginning as begins}
 use Rattle.pgo_value_text.specs.IsValueText.{is_blank, is_name, are_digits, minus, most_depth, is_small}
 use Rattle.pgo_value_text.specs.declared.read.PairForm.{PairForm}
 use Rattle.pgo_value_text.specs.declared.read.PairForm.TheVariants.{Fields, Mappings}
@@ -18,12 +19,6 @@ abbrev pub expect : List ℕ → Parser (Unit {0})
 expect [] bs = Some (tt, bs)
 expect (w ∷ ws) [] = None
 expect (w ∷ ws) (b ∷ bs) = if nat_eq w b then expect ws bs else None
-
--- whether these bytes are next
-abbrev pub begins : List ℕ → List ℕ → Bool
-begins [] bs = true
-begins (w ∷ ws) [] = false
-begins (w ∷ ws) (b ∷ bs) = nat_eq w b && begins ws bs
 
 -- the bytes at the front that pass a test, and those behind them
 abbrev pub front : (ℕ → Bool) → List ℕ → List ℕ
@@ -95,9 +90,6 @@ abbrev pub unescaped : ℕ → Option ℕ
 unescaped b =
     if nat_eq b 34 then Some 34 else if nat_eq b 92 then Some 92 else if nat_eq b 110 then Some 10
     else if nat_eq b 116 then Some 9 else None
-
-abbrev pub is_printable : ℕ → Bool
-is_printable b = nat_le 32 b && nat_le b 126
 
 -- the bytes of a string behind these, up to its closing quote; a `\` may stand before the next byte
 unfoldable pub string_from : (escaping : Bool) → List ℕ → Parser (List ℕ)

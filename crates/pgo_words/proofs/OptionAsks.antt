@@ -13,7 +13,7 @@ use Rattle.pgo_model.specs.ValueText.{all_word_bytes, has_letter, is_identifier,
 use Rattle.pgo_value_text.specs.IsValueText.{is_name}
 use Rattle.pgo_words.specs.Asks.{HasParts}
 use Rattle.pgo_words.specs.Constants.{AreConstants, IsConstant}
-use Rattle.pgo_words.specs.Options.{is_among, value_of}
+use Rattle.pgo_words.specs.Options.{is_one_of, find_bytes}
 use Rattle.pgo_words.specs.Parts.{HasOptions, Pairs, are_plain, is_plain}
 use Rattle.pgo_words.specs.Settings.{NumberOr, SettingsOf, run_options, step_options}
 use Rattle.pgo_words.specs.Turns.{Item, TurnList, last, more, once, times}
@@ -86,13 +86,13 @@ either true b e = inl refl
 either false b e = inr e
 
 module _ (options : Pairs) (s : Settings) (set : SettingsOf options s) where
-  run_value : (n v : List ℕ) → is_among n run_options ≡ true → value_of n options ≡ Some v → is_plain v ≡ true
+  run_value : (n v : List ℕ) → is_one_of n run_options ≡ true → find_bytes n options ≡ Some v → is_plain v ≡ true
   run_value n v among e = elim (either (same_bytes n (codes "--seed")) _ among) [
-    | inl a ↦ number_plain 0 (2 ^ 64) s.seed _ v (omega arith) (ap (λ m. value_of m options) (sym (same_bytes-is n _ a)) ∙ e) set.seed
+    | inl a ↦ number_plain 0 (2 ^ 64) s.seed _ v (omega arith) (ap (λ m. find_bytes m options) (sym (same_bytes-is n _ a)) ∙ e) set.seed
     | inr rest ↦ elim (either (same_bytes n (codes "--attempts")) _ rest) [
-      | inl a ↦ number_plain 10000 100001 s.attempts _ v (omega arith) (ap (λ m. value_of m options) (sym (same_bytes-is n _ a)) ∙ e) set.attempts
+      | inl a ↦ number_plain 10000 100001 s.attempts _ v (omega arith) (ap (λ m. find_bytes m options) (sym (same_bytes-is n _ a)) ∙ e) set.attempts
       | inr later ↦ elim (either (same_bytes n (codes "--steps")) _ later) [
-        | inl a ↦ number_plain 10000 100001 s.steps _ v (omega arith) (ap (λ m. value_of m options) (sym (same_bytes-is n _ a)) ∙ e) set.steps
+        | inl a ↦ number_plain 10000 100001 s.steps _ v (omega arith) (ap (λ m. find_bytes m options) (sym (same_bytes-is n _ a)) ∙ e) set.steps
         | inr none ↦ absurd (true≢false (sym none))
       ]
     ]
@@ -108,18 +108,18 @@ module _ (options : Pairs) (s : Settings) (set : SettingsOf options s) where
     rest_plain = constants_plain p.rest consts p.consts_are.each;
   }
 
-  step_value : (list turns : List ℕ) → value_of (codes "--turns") options ≡ Some list → TurnList list turns
-      → (n v : List ℕ) → is_among n step_options ≡ true → value_of n options ≡ Some v → is_plain v ≡ true
+  step_value : (list turns : List ℕ) → find_bytes (codes "--turns") options ≡ Some list → TurnList list turns
+      → (n v : List ℕ) → is_one_of n step_options ≡ true → find_bytes n options ≡ Some v → is_plain v ≡ true
   step_value list turns is spells n v among e = elim (either (same_bytes n (codes "--turns")) _ among) [
     | inl a ↦
-        let same = sym is ∙ ap (λ m. value_of m options) (sym (same_bytes-is n _ a)) ∙ e in
+        let same = sym is ∙ ap (λ m. find_bytes m options) (sym (same_bytes-is n _ a)) ∙ e in
         ap is_plain (sym (ap (λ o. unwrap_or o []) same)) ∙ list_plain list turns spells
     | inr rest ↦ run_value n v rest e
   ]
 
   -- what `step` asks for
   pub step_parts : (behind : List (List ℕ)) (consts : List (Name × Data)) (p : HasParts step_options behind options consts) (list turns : List ℕ)
-      → value_of (codes "--turns") options ≡ Some list → TurnList list turns → HasOptions true behind options p.rest
+      → find_bytes (codes "--turns") options ≡ Some list → TurnList list turns → HasOptions true behind options p.rest
   step_parts behind consts p list turns is spells = record {
     words_are = p.words_are;
     options_are = p.options_are;

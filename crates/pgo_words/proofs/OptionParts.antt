@@ -7,7 +7,7 @@ use Rattle.clap.specs.Lexer.{long_of}
 use Rattle.pgo_model.specs.ValueText.{same_bytes}
 use Rattle.pgo_model.specs.Names.{same_bytes-is, same_bytes-self}
 use Rattle.pgo_words.specs.Commands.{options_of}
-use Rattle.pgo_words.specs.Options.{value_of, is_among, option_words, AreOptions}
+use Rattle.pgo_words.specs.Options.{find_bytes, is_one_of, option_words, AreOptions}
 use Rattle.pgo_words.specs.Settings.{run_options, step_options}
 use Rattle.pgo_words.specs.Parts.{HasOptions, Pairs, Parts, are_options, are_plain, is_option_name, is_option, is_plain}
 use Rattle.pgo_words.proofs.OptionCuts.{joined, one_cut}
@@ -27,11 +27,11 @@ pub words_same : (os : Pairs) → option_words (dashed_all os) ≡ words_of os
 words_same [] = refl
 words_same (o ∷ os) = ap (λ ws. dashed o.0 ∷ (o.1 ∷ ws)) (words_same os)
 
-pub values_same : (n : List ℕ) (os : Pairs) → value_of (dashed n) (dashed_all os) ≡ value_of n os
+pub values_same : (n : List ℕ) (os : Pairs) → find_bytes (dashed n) (dashed_all os) ≡ find_bytes n os
 values_same n [] = refl
 values_same n (o ∷ os) = ap (λ v. cond (same_bytes n o.0) (Some o.1) v) (values_same n os)
 
-among_same : (n : List ℕ) (ns : List (List ℕ)) → is_among (dashed n) (dashed_names ns) ≡ is_among n ns
+among_same : (n : List ℕ) (ns : List (List ℕ)) → is_one_of (dashed n) (dashed_names ns) ≡ is_one_of n ns
 among_same n [] = refl
 among_same n (m ∷ ns) = ap (λ b. same_bytes n m || b) (among_same n ns)
 
@@ -88,11 +88,11 @@ written (o ∷ os) e =
 
 -- ---- options as the words of a command have them
 
-among_passes : (p : List ℕ → Bool) (ns : List (List ℕ)) (n : List ℕ) → list_all p ns ≡ true → is_among n ns ≡ true → p n ≡ true
+among_passes : (p : List ℕ → Bool) (ns : List (List ℕ)) (n : List ℕ) → list_all p ns ≡ true → is_one_of n ns ≡ true → p n ≡ true
 among_passes p [] n all e = absurd (true≢false (sym e))
 among_passes p (m ∷ ns) n all e = go (same_bytes n m) refl e (among_passes p ns n (and_parts (p m) _ all).1)
   where
-    go : (b : Bool) → same_bytes n m ≡ b → (b || is_among n ns) ≡ true → (is_among n ns ≡ true → p n ≡ true) → p n ≡ true
+    go : (b : Bool) → same_bytes n m ≡ b → (b || is_one_of n ns) ≡ true → (is_one_of n ns ≡ true → p n ≡ true) → p n ≡ true
     go true t e rest = ap p (same_bytes-is n m t) ∙ (and_parts (p m) _ all).0
     go false t e rest = rest e
 
@@ -127,16 +127,16 @@ parts_of is_step words os rest h = record {
 }
 
 -- what must be there is `--turns` of `step`
-pub turns_there : (is_step : Bool) (os : Pairs) → is_missing (options_of is_step) os ≡ false → is_step ≡ true → is_some (value_of (codes "--turns") (dashed_all os)) ≡ true
-turns_there true os e t = ap is_some (values_same (codes "turns") os) ∙ go (is_some (value_of (codes "turns") os)) e
+pub turns_there : (is_step : Bool) (os : Pairs) → is_missing (options_of is_step) os ≡ false → is_step ≡ true → is_some (find_bytes (codes "--turns") (dashed_all os)) ≡ true
+turns_there true os e t = ap is_some (values_same (codes "turns") os) ∙ go (is_some (find_bytes (codes "turns") os)) e
   where
     go : (b : Bool) → (not b || false) ≡ false → b ≡ true
     go true e = refl
     go false e = absurd (true≢false e)
 turns_there false os e t = absurd (true≢false (sym t))
 
-pub none_missing : (is_step : Bool) (os : Pairs) → (is_step ≡ true → is_some (value_of (codes "--turns") (dashed_all os)) ≡ true) → is_missing (options_of is_step) os ≡ false
-none_missing true os h = go (is_some (value_of (codes "turns") os)) (sym (ap is_some (values_same (codes "turns") os)) ∙ h refl)
+pub none_missing : (is_step : Bool) (os : Pairs) → (is_step ≡ true → is_some (find_bytes (codes "--turns") (dashed_all os)) ≡ true) → is_missing (options_of is_step) os ≡ false
+none_missing true os h = go (is_some (find_bytes (codes "turns") os)) (sym (ap is_some (values_same (codes "turns") os)) ∙ h refl)
   where
     go : (b : Bool) → b ≡ true → (not b || false) ≡ false
     go true e = refl
@@ -157,12 +157,12 @@ none_some v e = true≢false (sym (ap is_some e))
 
 -- where no name's value begins with `-`, no option's does
 pub values_by_name : (names : List (List ℕ)) (os : Pairs) → AreOptions names os
-    → ((n v : List ℕ) → is_among n names ≡ true → value_of n os ≡ Some v → is_plain v ≡ true) → are_plain (map (λ o. o.1) os) ≡ true
+    → ((n v : List ℕ) → is_one_of n names ≡ true → find_bytes n os ≡ Some v → is_plain v ≡ true) → are_plain (map (λ o. o.1) os) ≡ true
 values_by_name names [] h each = refl
 values_by_name names (o ∷ os) h each =
-    let first : value_of o.0 (o ∷ os) ≡ Some o.1 = rw (same_bytes-self o.0) refl in
+    let first : find_bytes o.0 (o ∷ os) ≡ Some o.1 = rw (same_bytes-self o.0) refl in
     joined (is_plain o.1) _ (each o.0 o.1 h.0 first) (values_by_name names os h.2 (λ n v among e. each n v among (later n v (same_bytes n o.0) refl e)))
   where
-    later : (n v : List ℕ) (b : Bool) → same_bytes n o.0 ≡ b → value_of n os ≡ Some v → value_of n (o ∷ os) ≡ Some v
-    later n v true t e = absurd (none_some v (sym h.1 ∙ ap (λ m. value_of m os) (sym (same_bytes-is n o.0 t)) ∙ e))
+    later : (n v : List ℕ) (b : Bool) → same_bytes n o.0 ≡ b → find_bytes n os ≡ Some v → find_bytes n (o ∷ os) ≡ Some v
+    later n v true t e = absurd (none_some v (sym h.1 ∙ ap (λ m. find_bytes m os) (sym (same_bytes-is n o.0 t)) ∙ e))
     later n v false t e = rw t e

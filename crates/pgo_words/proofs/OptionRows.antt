@@ -11,7 +11,7 @@ use Rattle.clap.specs.declared.parser.matches.ValueSource.TheVariants.{CommandLi
 use Rattle.clap.specs.declared.error.kind.ErrorKind.TheVariants as kind
 use Rattle.pgo_model.specs.ValueText.{same_bytes}
 use Rattle.pgo_model.specs.Names.{same_bytes-is, same_bytes-self}
-use Rattle.pgo_words.specs.Options.{value_of, is_among}
+use Rattle.pgo_words.specs.Options.{find_bytes, is_one_of}
 use Rattle.pgo_words.proofs.OptionSteps.{option_rule, at, self_same}
 
 -- ---- the rules
@@ -38,11 +38,11 @@ swapped (x ∷ xs) [] = refl
 swapped (x ∷ xs) (y ∷ ys) = let h = swapped xs ys in grind (arith, h)
 
 abbrev pub IsFound : List (Bool × Text) → Text → Type 0
-IsFound ps n = (r : Bool) × (is_among n (names_of ps) ≡ true) × (arg_by_long (option_rules ps) n ≡ Some (option_rule r n))
+IsFound ps n = (r : Bool) × (is_one_of n (names_of ps) ≡ true) × (arg_by_long (option_rules ps) n ≡ Some (option_rule r n))
     × (arg_by_id (option_rules ps) n ≡ Some (option_rule r n))
 
 abbrev pub IsNone : List (Bool × Text) → Text → Type 0
-IsNone ps n = (is_among n (names_of ps) ≡ false) × (arg_by_long (option_rules ps) n ≡ None)
+IsNone ps n = (is_one_of n (names_of ps) ≡ false) × (arg_by_long (option_rules ps) n ≡ None)
 
 pub found : (ps : List (Bool × Text)) (n : Text) → IsFound ps n ⊎ IsNone ps n
 found [] n = inr (refl, refl)
@@ -69,31 +69,31 @@ abbrev pub option_rows : List (Text × Text) → List Row
 option_rows [] = []
 option_rows (o ∷ os) = option_row o ∷ option_rows os
 
-pub rows_first : (n : Text) (os : List (Text × Text)) → first_of n (option_rows os) ≡ value_of n os
+pub rows_first : (n : Text) (os : List (Text × Text)) → first_of n (option_rows os) ≡ find_bytes n os
 rows_first n [] = refl
 rows_first n (o ∷ os) =
     let same : bytes_eq o.0 n ≡ same_bytes n o.0 = bytes_same o.0 n ∙ swapped o.0 n in
     rw same (go (same_bytes n o.0) (rows_first n os))
   where
-    go : (b : Bool) → first_of n (option_rows os) ≡ value_of n os
-        → Rattle.std.specs.Prelude.option_and_then (λ (r : Row). Rattle.std.specs.Prelude.slice_get r.values 0) (cond b (Some (option_row o)) (find (λ r. bytes_eq r.id n) (option_rows os))) ≡ cond b (Some o.1) (value_of n os)
+    go : (b : Bool) → first_of n (option_rows os) ≡ find_bytes n os
+        → Rattle.std.specs.Prelude.option_and_then (λ (r : Row). Rattle.std.specs.Prelude.slice_get r.values 0) (cond b (Some (option_row o)) (find (λ r. bytes_eq r.id n) (option_rows os))) ≡ cond b (Some o.1) (find_bytes n os)
     go true h = refl
     go false h = h
 
-pub rows_given : (n : Text) (os : List (Text × Text)) → is_given n (option_rows os) ≡ is_some (value_of n os)
+pub rows_given : (n : Text) (os : List (Text × Text)) → is_given n (option_rows os) ≡ is_some (find_bytes n os)
 rows_given n [] = refl
 rows_given n (o ∷ os) = rw (bytes_same o.0 n ∙ swapped o.0 n) (go (same_bytes n o.0) (rows_given n os))
   where
-    go : (b : Bool) → is_given n (option_rows os) ≡ is_some (value_of n os)
-        → Rattle.std.specs.Option.option_map_or (λ (r : Row). Rattle.clap.specs.Facts.explicit_source r.source) (cond b (Some (option_row o)) (find (λ r. bytes_eq r.id n) (option_rows os))) false ≡ is_some (cond b (Some o.1) (value_of n os))
+    go : (b : Bool) → is_given n (option_rows os) ≡ is_some (find_bytes n os)
+        → Rattle.std.specs.Option.option_map_or (λ (r : Row). Rattle.clap.specs.Facts.explicit_source r.source) (cond b (Some (option_row o)) (find (λ r. bytes_eq r.id n) (option_rows os))) false ≡ is_some (cond b (Some o.1) (find_bytes n os))
     go true h = refl
     go false h = h
 
-pub rows_has : (n : Text) (os : List (Text × Text)) → has_row n (option_rows os) ≡ is_some (value_of n os)
+pub rows_has : (n : Text) (os : List (Text × Text)) → has_row n (option_rows os) ≡ is_some (find_bytes n os)
 rows_has n [] = refl
 rows_has n (o ∷ os) = rw (bytes_same o.0 n ∙ swapped o.0 n) (go (same_bytes n o.0) (rows_has n os))
   where
-    go : (b : Bool) → has_row n (option_rows os) ≡ is_some (value_of n os) → (b || has_row n (option_rows os)) ≡ is_some (cond b (Some o.1) (value_of n os))
+    go : (b : Bool) → has_row n (option_rows os) ≡ is_some (find_bytes n os) → (b || has_row n (option_rows os)) ≡ is_some (cond b (Some o.1) (find_bytes n os))
     go true h = refl
     go false h = h
 
@@ -143,7 +143,7 @@ no_default_fault (p ∷ ps) rows = go (has_row p.1 rows) (no_default_fault ps ro
 -- a required option isn't there
 abbrev pub is_missing : List (Bool × Text) → List (Text × Text) → Bool
 is_missing [] os = false
-is_missing (p ∷ ps) os = (p.0 && not (is_some (value_of p.1 os))) || is_missing ps os
+is_missing (p ∷ ps) os = (p.0 && not (is_some (find_bytes p.1 os))) || is_missing ps os
 
 pub missing_rule : (ps : List (Bool × Text)) (os : List (Text × Text)) → list_any (λ a. a.required && not (is_given a.id (option_rows os))) (option_rules ps) ≡ is_missing ps os
 missing_rule [] os = refl

@@ -8,7 +8,7 @@ use Rattle.clap.specs.Kinds.{Kinds, or_else}
 use Rattle.clap.specs.Simple.{Shape}
 use Rattle.clap.specs.declared.error.kind.ErrorKind.TheVariants as kind
 use Rattle.clap.specs.declared.error.kind.ErrorKind.{ErrorKind}
-use Rattle.pgo_words.specs.Options.{is_among}
+use Rattle.pgo_words.specs.Options.{is_one_of}
 use Rattle.pgo_words.specs.Parts.{is_plain}
 use Rattle.pgo_words.proofs.OptionSteps.{at, dashed, name_walked, value_walked, name_fault, unknown_fault, value_fault}
 use Rattle.pgo_words.proofs.OptionRows.{option_rules, names_of, found, IsFound, IsNone, option_shape}
@@ -23,7 +23,7 @@ AreWritten (o ∷ os) = IsWritten o × AreWritten os
 
 abbrev pub AreKnown : List (Bool × Text) → List (Text × Text) → Type 0
 AreKnown ps [] = Unit {0}
-AreKnown ps (o ∷ os) = (is_among o.0 (names_of ps) ≡ true) × AreKnown ps os
+AreKnown ps (o ∷ os) = (is_one_of o.0 (names_of ps) ≡ true) × AreKnown ps os
 
 -- the words of these options
 abbrev pub words_of : List (Text × Text) → List Text
@@ -99,7 +99,7 @@ module _ (name : Text) (ps : List (Bool × Text)) where
       subst (λ n. long_of (dashed n) ≡ Some (n, None) → IsNone ps n → walk_fault s [] (at rows p) (dashed n ∷ (o.1 ∷ rest)) ≡ kind.UnknownArgument ∷ []) (sym w.2)
       (λ long g. unknown_parts rows p w.0 w.1 o.1 rest long g) w.3 f
 
-  pub known : (n : Text) → is_among n (names_of ps) ≡ true → IsFound ps n
+  pub known : (n : Text) → is_one_of n (names_of ps) ≡ true → IsFound ps n
   known n e = elim (found ps n) [ inl f ↦ f | inr f ↦ absurd (true≢false (sym e ∙ f.0)) ]
 
   -- where nothing fails, the command has each name

@@ -9,7 +9,7 @@ use Rattle.pgo_model.specs.ValueText.{same_bytes}
 use Rattle.pgo_words.specs.Asks.{Command, Compile, Expand, Step, Run, Check, Load, Request, HasParts, AsksStep, AsksRun, AsksBy, Asks}
 use Rattle.pgo_words.specs.Constants.{Constants}
 use Rattle.pgo_words.specs.Items.{SpelledOnly}
-use Rattle.pgo_words.specs.Options.{value_of}
+use Rattle.pgo_words.specs.Options.{find_bytes}
 use Rattle.pgo_words.specs.Parts.{HasOptions, HasValues, Pairs, ReadsOptions, now_of, texts}
 use Rattle.pgo_words.specs.Reads.{ValuesGive, GivesBoth, BothOnly, BehindOnly, IsWordOf, RequestOnly, word_of, name_of}
 use Rattle.pgo_words.specs.Settings.{NumberOr, SettingsOf, run_options, step_options}
@@ -151,7 +151,7 @@ module _ (behind : List (Bor (List ℕ))) (o : Options) (read : ReadsOptions tru
       let h = step_has (texts behind) ts cs s a in
       let e = same_options true behind o read a.options h.0 h.1 in (
         these_give true behind o read a.options h.0 cs s h.1 a.settings_are h.2,
-        read.2.turns ∙ ap (value_of (codes "--turns")) (sym e.0) ∙ a.list_is,
+        read.2.turns ∙ ap (find_bytes (codes "--turns")) (sym e.0) ∙ a.list_is,
       )
 
   module _ (list : List ℕ) (v : now_of o.turns ≡ Some list) where

@@ -4,7 +4,7 @@ use Rattle.pgo_base.specs.Data.{Data}
 use Rattle.pgo_base.specs.Lookup.{Name}
 use Rattle.pgo_model.specs.Core.{Settings}
 use Rattle.pgo_words.specs.Constants.{Constants}
-use Rattle.pgo_words.specs.Options.{option_words, value_of, AreOptions}
+use Rattle.pgo_words.specs.Options.{option_words, find_bytes, AreOptions}
 use Rattle.pgo_words.specs.Settings.{SettingsOf, run_options, step_options, default_settings}
 use Rattle.pgo_words.specs.Turns.{TurnList, most_turns}
 
@@ -46,7 +46,7 @@ pub record AsksStep (turns : List ℕ) (words : List (List ℕ)) (consts : List 
   pub parts : HasParts step_options behind options consts
   pub settings_are : SettingsOf options settings
   pub list : List ℕ
-  pub list_is : value_of (codes "--turns") options ≡ Some list
+  pub list_is : find_bytes (codes "--turns") options ≡ Some list
   pub spells : TurnList list turns
   pub few : length turns ≤ most_turns
 

@@ -2,7 +2,7 @@
 use Rattle.std.specs.Prelude.{◌≡◌, ◌≤◌, ◌==◌, ◌&&◌, drop, length, ℕ, Bool, true, false, not, List, [], ◌∷◌, ◌++◌, Option, Some, None, is_some, map, option_map, codes, if◌then◌else◌}
 use Rattle.std.specs.Borrow.{Bor}
 use Rattle.std.specs.List.{list_all, list_any}
-use Rattle.pgo_words.specs.Options.{option_words, value_of, AreOptions}
+use Rattle.pgo_words.specs.Options.{option_words, find_bytes, AreOptions}
 use Rattle.pgo_words.specs.Settings.{run_options, step_options}
 use Rattle.pgo_words.specs.declared.options.Options.{Options}
 
@@ -57,7 +57,7 @@ begins_option (name ∷ (value ∷ words)) = is_option (name, value)
 pub record HasOptions (is_step : Bool) (words : List (List ℕ)) (options : Pairs) (rest : List (List ℕ)) : Type 0 where
   pub words_are : words ≡ option_words options ++ rest
   pub options_are : AreOptions (if is_step then step_options else run_options) options
-  pub turns_given : is_step ≡ true → is_some (value_of (codes "--turns") options) ≡ true
+  pub turns_given : is_step ≡ true → is_some (find_bytes (codes "--turns") options) ≡ true
   pub values_plain : are_plain (map (λ o. o.1) options) ≡ true
   pub rest_plain : are_plain rest ≡ true
 
@@ -66,10 +66,10 @@ now_of value = option_map (λ s. s.now) value
 
 -- the options' values
 pub record HasValues (options : Pairs) (o : Options) : Type 0 where
-  pub turns : now_of o.turns ≡ value_of (codes "--turns") options
-  pub seed : now_of o.seed ≡ value_of (codes "--seed") options
-  pub attempts : now_of o.attempts ≡ value_of (codes "--attempts") options
-  pub steps : now_of o.steps ≡ value_of (codes "--steps") options
+  pub turns : now_of o.turns ≡ find_bytes (codes "--turns") options
+  pub seed : now_of o.seed ≡ find_bytes (codes "--seed") options
+  pub attempts : now_of o.attempts ≡ find_bytes (codes "--attempts") options
+  pub steps : now_of o.steps ≡ find_bytes (codes "--steps") options
 
 abbrev pub ReadsOptions : Bool → List (Bor (List ℕ)) → Option Options → Type 0
 ReadsOptions is_step words None = (options : Pairs) (rest : List (List ℕ)) → HasOptions is_step (texts words) options rest → ⊥

@@ -1,7 +1,7 @@
 -- The settings of a run that its options give.
 use Rattle.std.specs.Prelude.{◌≡◌, ◌<◌, ◌^◌, ℕ, List, [], ◌∷◌, Option, Some, None, codes, decimal}
 use Rattle.pgo_model.specs.Core.{Settings}
-use Rattle.pgo_words.specs.Options.{value_of}
+use Rattle.pgo_words.specs.Options.{find_bytes}
 
 -- the names of the options of `run` and of `step`
 abbrev pub run_options : List (List ℕ)
@@ -18,9 +18,9 @@ NumberOr default limit (Some text) n = (text ≡ decimal n) × (n < limit)
 -- a seed is below 2^64 and 0 where none is given; attempts and steps are at most 100,000 and 10,000 where none are given; no
 -- pre-commit is set to fail
 pub record SettingsOf (options : List (List ℕ × List ℕ)) (s : Settings) : Type 0 where
-  pub seed : NumberOr 0 (2 ^ 64) (value_of (codes "--seed") options) s.seed
-  pub attempts : NumberOr 10000 100001 (value_of (codes "--attempts") options) s.attempts
-  pub steps : NumberOr 10000 100001 (value_of (codes "--steps") options) s.steps
+  pub seed : NumberOr 0 (2 ^ 64) (find_bytes (codes "--seed") options) s.seed
+  pub attempts : NumberOr 10000 100001 (find_bytes (codes "--attempts") options) s.attempts
+  pub steps : NumberOr 10000 100001 (find_bytes (codes "--steps") options) s.steps
   pub none_down : s.down ≡ []
 
 -- the settings where no options are given

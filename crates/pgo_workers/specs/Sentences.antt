@@ -1,6 +1,8 @@
 -- What a worker's records say of its board and of the journal, and what worker and board meet in.
 use Rattle.std.specs.Prelude.{◌≡◌, ◌≤◌, ◌<◌, ℕ, suc, true, false, List, [], ◌∷◌, ◌++◌, length, map, Option, Some, None, ◌⊎◌}
+use Rattle.std.specs.List.{AllByRecursion}
 use Rattle.pgo_base.specs.Data.{Data}
+pub use Rattle.pgo_base.specs.Lists.{joined as flat}
 use Rattle.pgo_model.specs.Outcome.{Kind, Next, Stuck}
 use Rattle.pgo_model.specs.Machine.{Entry, Note, Record, Step, Noted, Held, Down, Full, among, nth, last_ends}
 use Rattle.pgo_model.specs.Accounts.{ComesAfter, journal}
@@ -32,10 +34,6 @@ pub data Sub {A : Type 0} : List A → List A → Type 0 where
   SHere : (x : A) → {xs ys : List A} → Sub xs ys → Sub (x ∷ xs) (x ∷ ys)
   SOver : (y : A) → {xs ys : List A} → Sub xs ys → Sub xs (y ∷ ys)
 
-abbrev pub flat : {A : Type 0} → List (List A) → List A
-flat [] = []
-flat (x ∷ xs) = x ++ flat xs
-
 abbrev pub last_of : {A : Type 0} → List A → Option A
 last_of [] = None
 last_of (x ∷ []) = Some x
@@ -59,8 +57,7 @@ abbrev pub Shows : Walk → Taking → Type 0
 Shows w m = (others : List ℕ) × OthersAt m others × ((f : ℕ → Data) → Agrees m.held f → ReachedAfter m.resource others (visits w f))
 
 abbrev pub EachTaking : (Taking → Type 0) → List Taking → Type 0
-EachTaking P [] = Unit {0}
-EachTaking P (m ∷ ms) = P m × EachTaking P ms
+EachTaking = AllByRecursion
 
 -- on all values that agree, the section's code ends without a note
 abbrev pub Ends : Walk → List At → Type 0

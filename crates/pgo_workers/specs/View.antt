@@ -1,5 +1,6 @@
 -- What a board shows to contracts, and what its calls do.
 use Rattle.std.specs.Prelude.{◌≡◌, ◌≤◌, ◌<◌, ◌+◌, ◌-◌, ℕ, zero, suc, Bool, true, false, List, [], ◌∷◌, ◌++◌, length, Option, Some, None, ◌⊎◌, if◌then◌else◌, nat_eq, nat_lt}
+use Rattle.std.specs.List.{AllByRecursion}
 use Rattle.pgo_base.specs.Data.{Data}
 use Rattle.pgo_base.specs.Lookup.{Name}
 use Rattle.pgo_model.specs.Machine.{Entry, Note, among}
@@ -94,8 +95,7 @@ committed (h ∷ hs) = record h { content = record h.content { base = h.content.
 
 -- what holds of each hold
 abbrev pub EachHold : (Hold → Type 0) → List Hold → Type 0
-EachHold P [] = Unit {0}
-EachHold P (h ∷ hs) = P h × EachHold P hs
+EachHold = AllByRecursion
 
 abbrev pub MayNumber : Hold → Type 0
 MayNumber h = (h.content.number ≡ None) ⊎ (h.content.number ≡ Some h.resource)

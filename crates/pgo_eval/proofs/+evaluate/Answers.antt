@@ -2,7 +2,8 @@ use Rattle.std.proofs.Common.{◌≡◌, ◌≤◌, ◌+◌, [], map, length, ar
 use Rattle.std.proofs.lemmas.Bool.Decides.{nat_tests}
 use Rattle.std.proofs.lemmas.List.{length-map}
 use Rattle.std.specs.Prelude.{Bool, true, false, Some, None, Option, option_map, option_and_then, IfOk, if◌then◌else◌, not, nat_lt}
-use Rattle.pgo_base.specs.BindingsView.{onto, named_view}
+use Rattle.pgo_base.specs.BindingsView.{onto, named_view, bound_name, ArePlaces}
+use Rattle.pgo_base.specs.LastPlace.{last_place}
 use Rattle.pgo_base.specs.Data.{Data}
 use Rattle.pgo_base.specs.declared.bindings.NamedValue.{NamedValue}
 use Rattle.pgo_base.specs.ExprView.{tree, named_tree, arm_tree, bound_tree, path_tree}
@@ -17,6 +18,7 @@ use Rattle.pgo_eval.specs.ScopeView.{scope_view, next_view}
 use Rattle.pgo_eval.proofs.Operands.{unary_values, binary_values, membership_holds}
 use Rattle.pgo_eval.proofs.Walks.{arms_done, let_more, several, assert_two, assert_other}
 use Rattle.pgo_eval.specs.Choices.{over_bound, AreAt, join, over_choices, still_left, sets_of}
+use Rattle.pgo_eval.proofs.BoundPlaces.{still_placed}
 use Rattle.pgo_eval.proofs.Ranges.{ranges_more, set_at}
 use Rattle.pgo_eval.proofs.Choices.{names_at}
 use Rattle.pgo_eval.proofs.Quantify.{asks, none_join, asked_here, asked_more, asked_all, asked_enough, fewer_left, quantified_is}
@@ -41,9 +43,9 @@ control::let_value-loop-d-preserved t c =
     let s = scope_view c.args.s.now in
     let ns = c.args.s.now.names.now in
     let n : NamedValue = record { name = c.in_ok-name.name; value = c.in_ok-value.value } in
-    let v : option_map data_of c.in_ok-value.value ≡ val (tree c.d-item.result.1) (with_names (onto (map named_view c.loop-d.defined.items) ns) s) =
-    c.in_ok-value.ensures ∙ ap (λ list. val (tree c.d-item.result.1) (with_names (onto (map named_view list) ns) s)) c.deref.ensures.value in
-    let_more (let_scope (named (map named_tree c.args.list.now)) s) c.args.list.now c.loop-d.d-index c.d-item.result c.loop-d.defined.items c.push.new.self.items n ns s c.loop-d-test.true c.d-item.is c.in_ok-push.ensures.items c.in_ok-name.ensures v c.loop-d.invariant
+    let v : option_map data_of c.in_ok-value.value ≡ val (tree c.d-item.result.1) (with_names (onto (map named_view c.loop-d.defined) ns) s) =
+    c.in_ok-value.ensures in
+    let_more (let_scope (named (map named_tree c.args.list.now)) s) c.args.list.now c.loop-d.d-index c.d-item.result c.loop-d.defined c.push.new.self n ns s c.loop-d-test.true c.d-item.is c.in_ok-push.ensures c.in_ok-name.ensures v c.loop-d.invariant
 
 pub evaluate::evaluated-returns-in_ok-held-in-Prefix : goal.evaluate::evaluated-returns-in_ok-held-in-Prefix
 evaluate::evaluated-returns-in_ok-held-in-Prefix t c =
@@ -108,7 +110,7 @@ binders::bound_names-returns-then-not-branch t c =
 pub binders::value_bound-returns : goal.binders::value_bound-returns
 binders::value_bound-returns t c =
     let s = scope_view c.args.s.now in
-    subst (λ x. IfOk c.owned.result (λ o. option_map data_of o ≡ x)) (c.in_ok-held.ensures ∙ ap (λ ns. val (tree c.args.e.now) (with_names ns s)) (c.with_bound-all.ensures ∙ names_at c.args.names.now c.args.s.now.names.now c.requires)) c.owned.ensures
+    subst (λ x. IfOk c.owned.result (λ o. option_map data_of o ≡ x)) (c.in_ok-held.ensures ∙ ap (λ ns. val (tree c.args.e.now) (with_names ns s)) (c.with_bound-all.ensures ∙ names_at c.args.names.now c.args.s.now.names.now c.requires.0)) c.owned.ensures
 
 pub binders::quantified-loop-more-init : goal.binders::quantified-loop-more-init
 binders::quantified-loop-more-init t c =
@@ -117,7 +119,15 @@ binders::quantified-loop-more-init t c =
     record { over = refl; at = c.start-more.ensures.at; all = sym (none_join c.args.q X) ∙ ap (λ o. join c.args.q o X) (sym c.over_none-found.ensures) }
 
 pub binders::quantified-value_bound-requires : goal.binders::quantified-value_bound-requires
-binders::quantified-value_bound-requires t c = (omega arith, subst AreAt (sym c.deref.ensures.value) (c.loop-more.invariant.at c.loop-more-test.true))
+binders::quantified-value_bound-requires t c = (
+  omega arith,
+  (
+    subst AreAt (sym c.deref.ensures.value) (c.loop-more.invariant.at c.loop-more-test.true),
+    subst (λ bs. ArePlaces bound_name bs c.in_ok-places.places) (sym c.deref.ensures.value)
+        (still_placed c.in-Some.names.items c.loop-more.names.items c.in_ok-places.places (c.loop-more.invariant.over ∙ c.start-more.ensures.over)
+        (λ x. c.in_ok-places.ensures x ∙ ap (last_place bound_name x) c.as_slice.ensures.value)),
+  ),
+)
 
 pub binders::quantified-advance-more-requires : goal.binders::quantified-advance-more-requires
 binders::quantified-advance-more-requires t c = c.loop-more.invariant.at c.loop-more-test.true
@@ -162,7 +172,15 @@ pub binders::function_value-loop-more-init : goal.binders::function_value-loop-m
 binders::function_value-loop-more-init t c = record { over = refl; at = c.start-more.ensures.at; all = nothing_yet c.new-pairs.result.items _ c.new-pairs.ensures.items }
 
 pub binders::function_value-value_bound-requires : goal.binders::function_value-value_bound-requires
-binders::function_value-value_bound-requires t c = (omega arith, subst AreAt (sym c.deref-in-loop-more.ensures.value) (c.loop-more.invariant.at c.loop-more-test.true))
+binders::function_value-value_bound-requires t c = (
+  omega arith,
+  (
+    subst AreAt (sym c.deref-in-loop-more.ensures.value) (c.loop-more.invariant.at c.loop-more-test.true),
+    subst (λ bs. ArePlaces bound_name bs c.in_ok-places.places) (sym c.deref-in-loop-more.ensures.value)
+        (still_placed c.in-Some.names.items c.loop-more.names.items c.in_ok-places.places (c.loop-more.invariant.over ∙ c.start-more.ensures.over)
+        (λ x. c.in_ok-places.ensures x ∙ ap (last_place bound_name x) c.as_slice.ensures.value)),
+  ),
+)
 
 pub binders::function_value-keyed-requires : goal.binders::function_value-keyed-requires
 binders::function_value-keyed-requires t c = subst AreAt (sym c.deref-in-loop-more-2.ensures.value) (c.loop-more.invariant.at c.loop-more-test.true)

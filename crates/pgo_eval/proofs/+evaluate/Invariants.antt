@@ -85,7 +85,7 @@ invariant-control::case_value-loop-arm l =
 
 abbrev pub invariant-control::let_value-loop-d : goal.invariant-control::let_value-loop-d
 invariant-control::let_value-loop-d l =
-    let_scope (named (map named_tree l.list)) (scope_view l.s) ≡ let_scope (named (map named_tree (drop l.d-index l.list))) (with_names (onto (map named_view l.defined.items) l.s.names.now) (scope_view l.s))
+    let_scope (named (map named_tree l.list)) (scope_view l.s) ≡ let_scope (named (map named_tree (drop l.d-index l.list))) (with_names (onto (map named_view l.defined) l.s.names.now) (scope_view l.s))
 
 abbrev pub invariant-binders::bound_names-loop-b : goal.invariant-binders::bound_names-loop-b
 invariant-binders::bound_names-loop-b l =

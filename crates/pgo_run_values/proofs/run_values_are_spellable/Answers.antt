@@ -1,8 +1,16 @@
+use Rattle.std.proofs.Common.{ℕ, List}
+use Rattle.pgo_syntax.specs.declared.spec.Spec.{Spec}
 use Rattle.pgo_bound.specs.BoundOf.{bound_of}
+use Rattle.pgo_mpcal_read.specs.Texts.{SpellsSpec}
+use Rattle.pgo_accounts.proofs.TextGives.{text_within}
+use Rattle.pgo_run_values.specs.Spellable.{AllLiteralsWritten, spellable}
+use Rattle.pgo_run_values.proofs.Bytes.{name_bytes, quoted_bytes}
 use Rattle.pgo_run_values.proofs.Along.{all_spellable, ids_spellable, start_all}
-use Rattle.pgo_run_values.proofs.TextGives.{text_gives}
 use Rattle.pgo_run_values.proofs.Writable.{all_counted}
 use Rattle.pgo_run_values.proofs.run_values_are_spellable.Goals as goal
+
+text_gives : (text : List ℕ) (s : Spec) → SpellsSpec text s → AllLiteralsWritten s
+text_gives text s spells = (text_within spellable name_bytes quoted_bytes text s spells).literals
 
 pub returns-clause-literals : goal.returns-clause-literals
 returns-clause-literals c text s spells = text_gives text s spells

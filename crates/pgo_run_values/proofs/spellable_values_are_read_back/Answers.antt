@@ -1,4 +1,6 @@
-use Rattle.pgo_run_values.proofs.ValueTexts.{value_spellable}
+use Rattle.pgo_accounts.proofs.ValueTexts.{value_within}
+use Rattle.pgo_run_values.specs.Spellable.{spellable}
+use Rattle.pgo_run_values.proofs.Bytes.{short_bytes}
 use Rattle.pgo_run_values.proofs.Writable.{all_counted, is_counted, is_writable}
 use Rattle.pgo_run_values.proofs.spellable_values_are_read_back.Goals as goal
 
@@ -6,7 +8,7 @@ pub returns-clause-texts : goal.returns-clause-texts
 returns-clause-texts c v h low = c.canonical_text_is_value_text.ensures v (is_writable v h low)
 
 pub returns-clause-read : goal.returns-clause-read
-returns-clause-read c text v h = value_spellable text v h
+returns-clause-read c text v h = value_within spellable (λ x k. k) short_bytes (λ x k. k) text v h
 
 pub returns-clause-counted : goal.returns-clause-counted
 returns-clause-counted c v h = is_counted v h

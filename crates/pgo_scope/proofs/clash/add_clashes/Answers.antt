@@ -1,5 +1,6 @@
 use Rattle.std.proofs.Common.{rules, ◌≡◌, ◌+◌, [], ◌∷◌, ◌++◌, take, ap, sym, ◌∙◌, arith}
 use Rattle.std.proofs.lemmas.Grind.{common_steps}
+use Rattle.std.proofs.lemmas.List.{length-take-le}
 use Rattle.pgo_uses.specs.Names.{Rows}
 use Rattle.pgo_scope.specs.Seen.{any_rows, unbound_row, unbound_rows}
 use Rattle.pgo_scope.proofs.Clashing.{any_more, unbound_more, take_more}
@@ -14,5 +15,5 @@ loop-i-preserved c =
     let more : take (i + 1) xs ≡ take i xs ++ x ∷ [] = take_more xs i x (omega arith) c.index-names-i.is in (
       first_of (search rules, grind (arith, common_steps)),
       c.in_ok-meet.ensures.any ∙ ap (λ l. l ++ row) c.loop-i.invariant.1 ∙ sym (ap any_rows more ∙ any_more (take i xs) x),
-      c.in_ok-meet.ensures.unbound ∙ ap (λ l. l ++ unbound_row x) c.loop-i.invariant.2 ∙ sym (ap unbound_rows more ∙ unbound_more (take i xs) x),
+      c.in_ok-meet.ensures.unbound ∙ ap (λ l. l ++ unbound_row i x) c.loop-i.invariant.2 ∙ sym (ap (unbound_rows 0) more ∙ unbound_more 0 i (take i xs) x (omega (arith, length-take-le i xs (omega arith)))),
     )

@@ -1,7 +1,7 @@
 use Rattle.std.proofs.Common.{rules, ◌≡◌, ◌<◌, ◌∙◌, Some, length, length-take, subst, ap, sym, arith}
 use Rattle.pgo_base.specs.NameMaps.{found}
 use Rattle.pgo_base.specs.LastPlace.{last_place}
-use Rattle.pgo_syntax.specs.MacroName.{macro_name}
+use Rattle.pgo_syntax.specs.UnitNames.{macro_name}
 use Rattle.pgo_base.proofs.LastPlaces.{last_kept}
 use Rattle.pgo_effects.proofs.indexed_macros.IndexedMacros.before.Goals as goal
 
