@@ -43,7 +43,7 @@ module _ (words : List (List ℕ)) (input : Option (List ℕ)) (size : ℕ) (ask
   no_bundle s (inr h) e = let n : 40 ≡ 31 = ap number_of (sym h ∙ e) in omega (arith, n)
 
   pub load_lines : (r : Result Output Ended) → IfErr r (λ e. StopsSpec (load_text size) (load_consts size) e.status)
-      → IfErr r (λ e. HasLine (RefusedWith (load_text size) (load_consts size)) e.status e.line) → IfErr r (λ e. HasOwnLine (RefusesSpec words input) e.status e.line)
+      → IfErr r (λ e. HasLine (RefusedWith (load_text size) (load_consts size)) e.status e.line) → IfErr r (λ e. HasOwnLine input (RefusesSpec words input) e.status e.line)
   load_lines (Ok m) stops lines = tt
   load_lines (Err e) stops lines = inl (refused_line e.status e.line lines, no_bundle e.status stops)
 

@@ -16,12 +16,13 @@ use Rattle.pgo_front.specs.declared.target.Target.{Target}
 use Rattle.pgo_front.specs.Asked.{AsksExecution, AsksCheck, AsksTranslation, ExecutesOnly, TranslatesOnly}
 use Rattle.pgo_front.specs.Spells.{most_bytes}
 use Rattle.pgo_front.specs.Statuses.{number_of, line_of, IsSilent}
+use Rattle.pgo_log_text.specs.LineNumbers.{IsLineOf}
 use Rattle.pgo_front.specs.Verdicts.{IsRunVerdict, IsBadVerdict, most_bundle_bytes}
 use Rattle.pgo_accept.specs.Answers.{IsExpandable}
 use Rattle.pgo_accept.specs.Refusals.{RefusedWith}
 use Rattle.pgo_front.specs.Translations.{NotTranslated}
 use Rattle.pgo_front.specs.Answers.{AsksSomeExecution, Asked, IsRefused, RefusedBy, RefusesSpec, WritesBundle, WritesVerdict, EndsWell, WritesPrefix, Stops, IsRefusal, SaysRefusal, SaysBundleLine}
-use Rattle.pgo_front.specs.Makes.{IsRunEnd, IsVerdictStatus, MakesRun, MakesAsked, MakesTranslation, MakesJudged, MakesVerdict, StopsFor, StopsInput, StopsJudging, StopsCheck, StopsSpecInput, HasLine, RefusesInput, HasBundleLine, IsNoBundleEnd, HasOwnLine, bytes_of}
+use Rattle.pgo_front.specs.Makes.{IsRunEnd, IsVerdictStatus, MakesRun, MakesAsked, MakesTranslation, MakesJudged, MakesVerdict, StopsFor, StopsInput, StopsJudging, StopsCheck, StopsSpecInput, HasLine, RefusesInput, NamesLine, HasBundleLine, IsNoBundleEnd, HasOwnLine, bytes_of}
 use Rattle.pgo_front.proofs.ConstantValues.{translation_constants}
 
 -- ---- why a command stopped
@@ -266,59 +267,60 @@ no_specification input before now s (inr (inr (inr h))) e = let n : 40 ≡ 11 = 
 
 pub spec_lines : (consts : List (Name × Data)) (input : Option (List ℕ)) (before now : ℕ) (R Q : (line : List ℕ) → Type 0) (r : Result Output Ended)
     → ((e : Ended) → HasLine R e.status e.line → HasLine Q e.status e.line) → IfErr r (λ e. StopsSpecInput consts input before now e.status)
-    → IfErr r (λ e. HasLine R e.status e.line) → IfErr r (λ e. HasOwnLine Q e.status e.line)
+    → IfErr r (λ e. HasLine R e.status e.line) → IfErr r (λ e. HasOwnLine input Q e.status e.line)
 spec_lines consts input before now R Q (Ok m) f stops lines = tt
 spec_lines consts input before now R Q (Err e) f stops lines = inl (f e lines, no_bundle consts input before now e.status stops)
 
 pub check_lines : (input : Option (List ℕ)) (before now : ℕ) (Q : (line : List ℕ) → Type 0) (r : Result Output Ended)
-    → IfErr r (λ e. StopsCheck input before now e.status) → IfErr r (λ e. HasBundleLine e.status e.line) → IfErr r (λ e. HasOwnLine Q e.status e.line)
+    → IfErr r (λ e. StopsCheck input before now e.status) → IfErr r (λ e. HasBundleLine input e.status e.line) → IfErr r (λ e. HasOwnLine input Q e.status e.line)
 check_lines input before now Q (Ok m) stops lines = tt
 check_lines input before now Q (Err e) stops lines = go lines
   where
-    go : HasBundleLine e.status e.line → HasOwnLine Q e.status e.line
+    go : HasBundleLine input e.status e.line → HasOwnLine input Q e.status e.line
     go (inl h) = inr h
     go (inr h) = inl (subst (HasLine Q e.status) (sym h.1) (no_specification input before now e.status stops), h.0)
 
 -- an end of another number has no line
-no_line : (Q : (line : List ℕ) → Type 0) (s : Status) (line : Option (List ℕ)) (n : ℕ) → number_of s ≡ n → (n ≡ 11 → ⊥) → (n ≡ 31 → ⊥) → line ≡ None
-    → HasOwnLine Q s line
-no_line Q s line n is a b none = inl (subst (HasLine Q s) (sym none) (λ e. a (sym is ∙ ap number_of e)), λ e. b (sym is ∙ ap number_of e))
+no_line : (input : Option (List ℕ)) (Q : (line : List ℕ) → Type 0) (s : Status) (line : Option (List ℕ)) (n : ℕ) → number_of s ≡ n → (n ≡ 11 → ⊥) → (n ≡ 31 → ⊥) → line ≡ None
+    → HasOwnLine input Q s line
+no_line input Q s line n is a b none = inl (subst (HasLine Q s) (sym none) (λ e. a (sym is ∙ ap number_of e)), λ e. b (sym is ∙ ap number_of e))
 
 -- what was made has none
 pub made_line : (words : List (List ℕ)) (input : Option (List ℕ)) (Q : (line : List ℕ) → Type 0) (s : Status) (line : Option (List ℕ)) (m : Output) → s ≡ m.status → line ≡ None
-    → MakesAsked words input m → HasOwnLine Q s line
+    → MakesAsked words input m → HasOwnLine input Q s line
 made_line words input Q s line m e none h = made h
   where
-    ran : IsRunEnd m.status → HasOwnLine Q s line
-    ran (inl f) = no_line Q s line 0 (ap number_of (e ∙ f)) (λ n. omega (arith, n)) (λ n. omega (arith, n)) none
-    ran (inr (inl f)) = no_line Q s line 20 (ap number_of (e ∙ f)) (λ n. omega (arith, n)) (λ n. omega (arith, n)) none
-    ran (inr (inr (inl f))) = no_line Q s line 21 (ap number_of (e ∙ f)) (λ n. omega (arith, n)) (λ n. omega (arith, n)) none
-    ran (inr (inr (inr f))) = no_line Q s line 23 (ap number_of (e ∙ f)) (λ n. omega (arith, n)) (λ n. omega (arith, n)) none
+    ran : IsRunEnd m.status → HasOwnLine input Q s line
+    ran (inl f) = no_line input Q s line 0 (ap number_of (e ∙ f)) (λ n. omega (arith, n)) (λ n. omega (arith, n)) none
+    ran (inr (inl f)) = no_line input Q s line 20 (ap number_of (e ∙ f)) (λ n. omega (arith, n)) (λ n. omega (arith, n)) none
+    ran (inr (inr (inl f))) = no_line input Q s line 21 (ap number_of (e ∙ f)) (λ n. omega (arith, n)) (λ n. omega (arith, n)) none
+    ran (inr (inr (inr f))) = no_line input Q s line 23 (ap number_of (e ∙ f)) (λ n. omega (arith, n)) (λ n. omega (arith, n)) none
 
-    judged : IsVerdictStatus m → HasOwnLine Q s line
-    judged (inl f) = no_line Q s line 0 (ap number_of (e ∙ f)) (λ n. omega (arith, n)) (λ n. omega (arith, n)) none
-    judged (inr f) = no_line Q s line 30 (ap number_of (e ∙ f)) (λ n. omega (arith, n)) (λ n. omega (arith, n)) none
+    judged : IsVerdictStatus m → HasOwnLine input Q s line
+    judged (inl f) = no_line input Q s line 0 (ap number_of (e ∙ f)) (λ n. omega (arith, n)) (λ n. omega (arith, n)) none
+    judged (inr f) = no_line input Q s line 30 (ap number_of (e ∙ f)) (λ n. omega (arith, n)) (λ n. omega (arith, n)) none
 
-    made : MakesAsked words input m → HasOwnLine Q s line
+    made : MakesAsked words input m → HasOwnLine input Q s line
     made (inl h) = ran h.1
     made (inr (inl h)) = judged h.1
-    made (inr (inr (inl h))) = no_line Q s line 0 (ap number_of (e ∙ h.1)) (λ n. omega (arith, n)) (λ n. omega (arith, n)) none
-    made (inr (inr (inr h))) = no_line Q s line 0 (ap number_of (e ∙ h.0)) (λ n. omega (arith, n)) (λ n. omega (arith, n)) none
+    made (inr (inr (inl h))) = no_line input Q s line 0 (ap number_of (e ∙ h.1)) (λ n. omega (arith, n)) (λ n. omega (arith, n)) none
+    made (inr (inr (inr h))) = no_line input Q s line 0 (ap number_of (e ∙ h.0)) (λ n. omega (arith, n)) (λ n. omega (arith, n)) none
 
 -- ---- the command `check`
 
 -- of a text that is no bundle
-pub judging_stopped : (text : List ℕ) (s : Status) (line : Option (List ℕ)) → IsNoBundle text → IsNoBundleEnd s line → StopsJudging text s
-judging_stopped text s line none (inl h) = inl (h.0, none)
-judging_stopped text s line none (inr h) = inr h.0
+pub judging_stopped : (text : List ℕ) (n : ℕ) (s : Status) (line : Option (List ℕ)) → IsNoBundle text → IsNoBundleEnd n s line → StopsJudging text s
+judging_stopped text n s line none (inl h) = inl (h.0, none)
+judging_stopped text n s line none (inr h) = inr h.0
 
-pub end_line : (s : Status) (line : Option (List ℕ)) → IsNoBundleEnd s line → HasBundleLine s line
-end_line s line (inl h) = inl h
-end_line s line (inr h) = inr (λ e. let n : 40 ≡ 31 = numbered h.0 e in omega (arith, n), h.1)
+pub end_line : (text : List ℕ) (n : ℕ) (s : Status) (line : Option (List ℕ)) → IsLineOf text n → IsNoBundleEnd n s line → HasBundleLine (Some text) s line
+end_line text n s line there (inl h) = inl (h.0, subst (NamesLine (Some text)) (sym h.1) (n, refl, there))
+end_line text n s line there (inr h) = inr (λ e. let n : 40 ≡ 31 = numbered h.0 e in omega (arith, n), h.1)
 
-pub verdict_line_none : (r : Result Output Ended) → IfErr r (λ e. e.status ≡ status.NoMemory) → IfErr r (λ e. e.line ≡ None) → IfErr r (λ e. HasBundleLine e.status e.line)
-verdict_line_none (Ok m) stopped none = tt
-verdict_line_none (Err e) stopped none = inr (λ b. let n : 40 ≡ 31 = numbered stopped b in omega (arith, n), none)
+pub verdict_line_none : (input : Option (List ℕ)) (r : Result Output Ended) → IfErr r (λ e. e.status ≡ status.NoMemory) → IfErr r (λ e. e.line ≡ None)
+    → IfErr r (λ e. HasBundleLine input e.status e.line)
+verdict_line_none input (Ok m) stopped none = tt
+verdict_line_none input (Err e) stopped none = inr (λ b. let n : 40 ≡ 31 = numbered stopped b in omega (arith, n), none)
 
 pub check_made : (words : List (List ℕ)) (input : Option (List ℕ)) (r : Result Output Ended) → AsksCheck words → IfOk r IsVerdictStatus
     → IfOk r (λ m. IfSome input (λ text. (length text ≤ most_bundle_bytes) × MakesJudged text m)) → IfOk r (MakesAsked words input)
@@ -337,21 +339,33 @@ check_refuses input before now s (inr (inl h)) = subst IsRefusal (sym h.0) tt
 check_refuses input before now s (inr (inr (inl h))) = subst IsRefusal (sym h.0) tt
 check_refuses input before now s (inr (inr (inr e))) = subst IsRefusal (sym e) tt
 
+-- the input tells the text
+told_line : (input : Option (List ℕ)) (text : List ℕ) (s : Status) (line : Option (List ℕ)) → IfSome input (λ bs. text ≡ bs) → HasBundleLine (Some text) s line → HasBundleLine input s line
+told_line input text s line told (inr h) = inr h
+told_line input text s None told (inl h) = absurd h.1
+told_line None text s (Some l) told (inl h) = inl (h.0, (h.1.0, h.1.1, tt))
+told_line (Some bs) text s (Some l) told (inl h) = inl (h.0, (h.1.0, h.1.1, subst (λ t. IsLineOf t h.1.0) told h.1.2))
+
+pub told_lines : (input : Option (List ℕ)) (text : List ℕ) (r : Result Output Ended) → IfSome input (λ bs. text ≡ bs) → IfErr r (λ e. HasBundleLine (Some text) e.status e.line)
+    → IfErr r (λ e. HasBundleLine input e.status e.line)
+told_lines input text (Ok m) told lines = tt
+told_lines input text (Err e) told lines = told_line input text e.status e.line told lines
+
 -- ---- what came to the error output
 
 -- the line of a refused specification
-pub said_refusal : (words : List (List ℕ)) (input old new : Option (List ℕ)) (s : Status) (line : Option (List ℕ)) (Quiet : Type 0) → HasOwnLine (RefusesSpec words input) s line
+pub said_refusal : (words : List (List ℕ)) (input old new : Option (List ℕ)) (s : Status) (line : Option (List ℕ)) (Quiet : Type 0) → HasOwnLine input (RefusesSpec words input) s line
     → (line_of s ≡ None → Quiet → IfSome line (λ l. Grows old new l)) → s ≡ status.SpecRefused → Quiet → SaysRefusal words input old new
 said_refusal words input old new s None Quiet (inl h) said e quiet = absurd (h.0 e)
 said_refusal words input old new s (Some l) Quiet (inl h) said e quiet = (l, said (ap line_of e) quiet, h.0.1)
 said_refusal words input old new s line Quiet (inr h) said e quiet = absurd (let n : 31 ≡ 11 = numbered h.0 e in omega (arith, n))
 
 -- and of a text that is no bundle
-pub said_bundle : (old new : Option (List ℕ)) (Q : (line : List ℕ) → Type 0) (s : Status) (line : Option (List ℕ)) (Quiet : Type 0) → HasOwnLine Q s line
-    → (line_of s ≡ None → Quiet → IfSome line (λ l. Grows old new l)) → s ≡ status.BadBundle → Quiet → SaysBundleLine old new
-said_bundle old new Q s line Quiet (inl h) said e quiet = absurd (h.1 e)
-said_bundle old new Q s None Quiet (inr h) said e quiet = absurd h.1
-said_bundle old new Q s (Some l) Quiet (inr h) said e quiet = (h.1.0, subst (Grows old new) h.1.1 (said (ap line_of e) quiet))
+pub said_bundle : (input old new : Option (List ℕ)) (Q : (line : List ℕ) → Type 0) (s : Status) (line : Option (List ℕ)) (Quiet : Type 0) → HasOwnLine input Q s line
+    → (line_of s ≡ None → Quiet → IfSome line (λ l. Grows old new l)) → s ≡ status.BadBundle → Quiet → SaysBundleLine input old new
+said_bundle input old new Q s line Quiet (inl h) said e quiet = absurd (h.1 e)
+said_bundle input old new Q s None Quiet (inr h) said e quiet = absurd h.1
+said_bundle input old new Q s (Some l) Quiet (inr h) said e quiet = (h.1.0, subst (Grows old new) h.1.1 (said (ap line_of e) quiet), h.1.2)
 
 -- where the command did its work there is none
 pub silent_status : (s : Status) → IsSilent s → line_of s ≡ None
@@ -368,7 +382,7 @@ silent_status status.WriteFault h = absurd h
 silent_status status.TooLong h = absurd h
 silent_status status.NoMemory h = absurd h
 
-pub silent_line : (Q : (line : List ℕ) → Type 0) (s : Status) (line : Option (List ℕ)) → IsSilent s → HasOwnLine Q s line → line ≡ None
-silent_line Q s None quiet h = refl
-silent_line Q s (Some l) quiet (inl h) = absurd (subst IsSilent h.0.0 quiet)
-silent_line Q s (Some l) quiet (inr h) = absurd (subst IsSilent h.0 quiet)
+pub silent_line : (input : Option (List ℕ)) (Q : (line : List ℕ) → Type 0) (s : Status) (line : Option (List ℕ)) → IsSilent s → HasOwnLine input Q s line → line ≡ None
+silent_line input Q s None quiet h = refl
+silent_line input Q s (Some l) quiet (inl h) = absurd (subst IsSilent h.0.0 quiet)
+silent_line input Q s (Some l) quiet (inr h) = absurd (subst IsSilent h.0 quiet)

@@ -19,6 +19,7 @@ use Rattle.pgo_front.specs.Asked.{AsksExecution, AsksCheck, AsksTranslation, Ask
 use Rattle.pgo_front.specs.Spells.{most_bytes}
 use Rattle.pgo_front.specs.Statuses.{line_of}
 use Rattle.pgo_log_text.specs.ReadBundle.{IsNoBundle}
+use Rattle.pgo_log_text.specs.LineNumbers.{IsLineOf}
 use Rattle.pgo_front.specs.Verdicts.{IsRunVerdict, verdict_line, bundle_line, most_bundle_bytes}
 use Rattle.pgo_front.specs.Translations.{Translated, NotTranslated}
 use Rattle.pgo_front.specs.Loads.{Loaded, NotLoaded, LoadRefusedBy}
@@ -223,9 +224,9 @@ SaysLine s old new = IfSome (line_of s) (λ l. Grows old new l)
 abbrev pub SaysRefusal : List (List ℕ) → (input old new : Option (List ℕ)) → Type 0
 SaysRefusal words input old new = (line : List ℕ) × Grows old new line × RefusesSpec words input line
 
--- the error output has grown by a line that names a line of a text that is no bundle
-abbrev pub SaysBundleLine : (old new : Option (List ℕ)) → Type 0
-SaysBundleLine old new = (n : ℕ) × Grows old new (bundle_line n)
+-- the error output has grown by a line that names a line of the input, which is no bundle
+abbrev pub SaysBundleLine : (input old new : Option (List ℕ)) → Type 0
+SaysBundleLine input old new = (n : ℕ) × Grows old new (bundle_line n) × IfSome input (λ text. IsLineOf text n)
 
 -- the words ask for a run under this schedule with these settings and constants, and the input tells this text
 pub record IsToldToExecute (schedule : Schedule) (settings : Settings) (words : List (List ℕ)) (input : Option (List ℕ)) (consts : List (Name × Data)) (text : List ℕ) : Type 0 where

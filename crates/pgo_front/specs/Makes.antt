@@ -26,6 +26,7 @@ use Rattle.pgo_front.specs.Loads.{Loaded, load_line}
 use Rattle.pgo_front.specs.Spells.{most_bytes}
 use Rattle.pgo_front.specs.Statuses.{number_of}
 use Rattle.pgo_log_text.specs.ReadBundle.{IsNoBundle}
+use Rattle.pgo_log_text.specs.LineNumbers.{IsLineOf}
 use Rattle.pgo_front.specs.Verdicts.{verdict_line, bundle_line, most_bundle_bytes}
 use Rattle.pgo_front.specs.Translations.{TranslatesTo, Translated}
 use Rattle.pgo_accept.specs.Answers.{IsExpandable}
@@ -116,18 +117,18 @@ StopsCheck input before now s =
     ((s ≡ status.BadBundle) × IfSome input (λ text. (length text ≤ most_bundle_bytes) × IsNoBundle text))
     ⊎ StopsReading most_bundle_bytes input before now s
 
--- a line that names a line of a text that is no bundle
-abbrev pub NamesLine : Option (List ℕ) → Type 0
-NamesLine None = ⊥
-NamesLine (Some l) = (n : ℕ) × (l ≡ bundle_line n)
+-- a line that names a line of the input, which is no bundle
+abbrev pub NamesLine : (input line : Option (List ℕ)) → Type 0
+NamesLine input None = ⊥
+NamesLine input (Some l) = (n : ℕ) × (l ≡ bundle_line n) × IfSome input (λ text. IsLineOf text n)
 
 -- such a line comes with a text that is no bundle, and no line without one
-abbrev pub HasBundleLine : Status → Option (List ℕ) → Type 0
-HasBundleLine s line = ((s ≡ status.BadBundle) × NamesLine line) ⊎ ((s ≡ status.BadBundle → ⊥) × (line ≡ None))
+abbrev pub HasBundleLine : (input : Option (List ℕ)) → Status → (line : Option (List ℕ)) → Type 0
+HasBundleLine input s line = ((s ≡ status.BadBundle) × NamesLine input line) ⊎ ((s ≡ status.BadBundle → ⊥) × (line ≡ None))
 
--- the text is no bundle, and its line says so; or there was no memory
-abbrev pub IsNoBundleEnd : Status → Option (List ℕ) → Type 0
-IsNoBundleEnd s line = ((s ≡ status.BadBundle) × NamesLine line) ⊎ ((s ≡ status.NoMemory) × (line ≡ None))
+-- the text is no bundle, and its line says so, with this number; or there was no memory
+abbrev pub IsNoBundleEnd : ℕ → Status → Option (List ℕ) → Type 0
+IsNoBundleEnd n s line = ((s ≡ status.BadBundle) × (line ≡ Some (bundle_line n))) ⊎ ((s ≡ status.NoMemory) × (line ≡ None))
 
 -- ---- the commands `expand` and `compile`
 
@@ -152,8 +153,8 @@ pub record MakesLoad (size : ℕ) (m : Output) : Type 0 where
 -- ---- all of them
 
 -- the line of the end of a command: that of a refused specification, or of a text that is no bundle; no other end has one
-abbrev pub HasOwnLine : (R : (line : List ℕ) → Type 0) → Status → Option (List ℕ) → Type 0
-HasOwnLine R s line = (HasLine R s line × (s ≡ status.BadBundle → ⊥)) ⊎ ((s ≡ status.BadBundle) × NamesLine line)
+abbrev pub HasOwnLine : (input : Option (List ℕ)) (R : (line : List ℕ) → Type 0) → Status → Option (List ℕ) → Type 0
+HasOwnLine input R s line = (HasLine R s line × (s ≡ status.BadBundle → ⊥)) ⊎ ((s ≡ status.BadBundle) × NamesLine input line)
 
 -- what a command made of its words and its input
 abbrev pub MakesOfRun : List (List ℕ) → (input : Option (List ℕ)) → Output → Type 0

@@ -1,5 +1,5 @@
 // The command `check`: whether the log of a bundle is a run of its module.
-ghost use Rattle.std.specs.Prelude.{◌≡◌, ◌≤◌, ◌⊎◌, length, None, IfOk, IfErr, IfSome, OnOk};
+ghost use Rattle.std.specs.Prelude.{◌≡◌, ◌≤◌, ◌⊎◌, length, Some, None, IfOk, IfErr, IfSome, OnOk};
 ghost use Rattle.pgo_front.specs.Verdicts.{most_bundle_bytes, why_text};
 ghost use Rattle.pgo_front.specs.Answers.{IsAtEnd, ReadsAll};
 ghost use Rattle.pgo_front.specs.Makes.{HasBundleLine, IsVerdictStatus, MakesJudged, MakesVerdict, StopsCheck, StopsJudging};
@@ -24,7 +24,7 @@ pub fn make_check<S: Source>(alloc: Global, input: &mut S) -> Result<Output, End
     ensures ok { IfOk result (λ m. IfSome (S.left input.old) (λ text. (length text ≤ most_bundle_bytes) × MakesJudged text m)) }
     ensures either { IfOk result IsVerdictStatus }
     ensures err { IfErr result (λ e. StopsCheck (S.left input.old) (S.faults input.old) (S.faults input.new) e.status) }
-    ensures line { IfErr result (λ e. HasBundleLine e.status e.line) }
+    ensures line { IfErr result (λ e. HasBundleLine (S.left input.old) e.status e.line) }
     ensures ended { OnOk result (IsAtEnd (S.left input.old) (S.left input.new)) }
     ensures steady { OnOk result (S.faults input.new ≡ S.faults input.old) }
     ensures failed { IfErr result (λ e. (e.status ≡ Status.ReadFault) ⊎ (S.faults input.new ≡ S.faults input.old)) }
@@ -41,7 +41,7 @@ fn check_text(alloc: Global, text: &[u8]) -> Result<Output, Ended>
     ensures ok { IfOk result (MakesJudged text.now) }
     ensures either { IfOk result IsVerdictStatus }
     ensures err { IfErr result (λ e. StopsJudging text.now e.status) }
-    ensures line { IfErr result (λ e. HasBundleLine e.status e.line) }
+    ensures line { IfErr result (λ e. HasBundleLine (Some text.now) e.status e.line) }
 {
     match judge(alloc, text) {
         Ok(judgement) => make_verdict(alloc, judgement.verdict),

@@ -120,7 +120,7 @@ pub fn pgo<S: Source, O: Sink, E: Sink>(
     ensures says { ¬ Rose (E.faults err.old) (E.faults err.new) → SaysLine result (E.held err.old) (E.held err.new) }
     ensures says_refusal { result ≡ Status.SpecRefused → ¬ Rose (E.faults err.old) (E.faults err.new) →
         SaysRefusal words.now (S.left input.old) (E.held err.old) (E.held err.new) }
-    ensures says_bundle { result ≡ Status.BadBundle → ¬ Rose (E.faults err.old) (E.faults err.new) → SaysBundleLine (E.held err.old) (E.held err.new) }
+    ensures says_bundle { result ≡ Status.BadBundle → ¬ Rose (E.faults err.old) (E.faults err.new) → SaysBundleLine (S.left input.old) (E.held err.old) (E.held err.new) }
     ensures silent { IsSilent result → err.new ≡ err.old }
 {
     let ended = run(alloc, words, input, out);
@@ -155,7 +155,7 @@ fn run<S: Source, O: Sink>(alloc: Global, words: &[Word], input: &mut S, out: &m
     ensures full { result.status ≡ Status.Full → WritesBundle words.now (S.left input.old) 23 (O.held out.old) (O.held out.new) }
     ensures not_a_run { result.status ≡ Status.NotARun → WritesVerdict words.now (S.left input.old) IsBadVerdict (O.held out.old) (O.held out.new) }
     ensures stopped { IsRefusal result.status → Stops words.now (S.left input.old) (S.faults input.old) (S.faults input.new) result.status }
-    ensures line { HasOwnLine (RefusesSpec words.now (S.left input.old)) result.status result.line }
+    ensures line { HasOwnLine (S.left input.old) (RefusesSpec words.now (S.left input.old)) result.status result.line }
     ensures write_fault { result.status ≡ Status.WriteFault → Rose (O.faults out.old) (O.faults out.new) }
     ensures prefix { result.status ≡ Status.WriteFault → WritesPrefix words.now (S.left input.old) (O.held out.old) (O.held out.new) }
     ensures read_failed { (result.status ≡ Status.ReadFault) ⊎ (S.faults input.new ≡ S.faults input.old) }
@@ -232,7 +232,7 @@ fn write_text<O: Sink>(out: &mut O, text: &[u8]) -> Result<(), Failed>
 fn make<S: Source>(alloc: Global, words: &[Word], input: &mut S) -> Result<Output, Ended>
     ensures ok { IfOk result (MakesAsked words.now (S.left input.old)) }
     ensures err { IfErr result (λ e. Stops words.now (S.left input.old) (S.faults input.old) (S.faults input.new) e.status) }
-    ensures line { IfErr result (λ e. HasOwnLine (RefusesSpec words.now (S.left input.old)) e.status e.line) }
+    ensures line { IfErr result (λ e. HasOwnLine (S.left input.old) (RefusesSpec words.now (S.left input.old)) e.status e.line) }
     ensures refusal { IfErr result (λ e. IsRefusal e.status) }
     ensures unread { ReadsNothing words.now → input.new ≡ input.old }
     ensures ended { ¬ AsksSomeLoad words.now → OnOk result (IsAtEnd (S.left input.old) (S.left input.new)) }

@@ -49,7 +49,7 @@ impl Ended {
 
     /// A text is no bundle, from this line on; or there was no memory.
     pub fn as_no_bundle(alloc: Global, line: usize) -> Ended
-        ensures { IsNoBundleEnd result.status result.line }
+        ensures { IsNoBundleEnd line result.status result.line }
     {
         match bundle_line(alloc, line) {
             Ok(line) => Ended {

@@ -5,3 +5,4 @@ pub mod Lines
 pub mod ReadBundle
 pub mod LogOf
 pub mod WrittenRun
+pub mod LineNumbers

@@ -5,6 +5,7 @@ ghost use Rattle.pgo_model.specs.Log.{Log as WrittenLog};
 ghost use Rattle.pgo_model.specs.LogView.{log_view};
 ghost use Rattle.pgo_model.specs.Module.{Module as WrittenModule};
 ghost use Rattle.pgo_model.specs.ModuleView.{module_view};
+ghost use Rattle.pgo_log_text.specs.LineNumbers.{NamesLineOf};
 ghost use Rattle.pgo_log_text.specs.LogOf.{log_of as log_written};
 ghost use Rattle.pgo_log_text.specs.WrittenRun.{IsWrittenRun};
 ghost use Rattle.pgo_model.specs.Bundle.{Bundle};
@@ -40,6 +41,19 @@ use std::alloc::Global;
 ///
 /// Source: this project's choice.
 pub fn read_bundle(alloc: Global, text: &[u8]) -> Result<(Module, Consts, Log), LogStop>
+    ensures bundle { IfOk result (λ b. IsReadBundle text.now (module_view b.0) b.1 (log_view b.2)) }
+    ensures only { IfOk result (λ b. IsOnlyBundle text.now (module_view b.0) b.1 (log_view b.2)) }
+    ensures refused { IfErr result (IsRefused text.now) }
+    ensures line { IfErr result (NamesLineOf text.now) }
+{
+    match parts_of(alloc, text) {
+        Ok(parts) => Ok(parts),
+        Err(stop) => Err(stop.within(text)),
+    }
+}
+
+/// The same; that the line is one of the text is not said.
+fn parts_of(alloc: Global, text: &[u8]) -> Result<(Module, Consts, Log), LogStop>
     ensures bundle { IfOk result (λ b. IsReadBundle text.now (module_view b.0) b.1 (log_view b.2)) }
     ensures only { IfOk result (λ b. IsOnlyBundle text.now (module_view b.0) b.1 (log_view b.2)) }
     ensures refused { IfErr result (IsRefused text.now) }

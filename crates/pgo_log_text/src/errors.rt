@@ -1,7 +1,9 @@
 // Why a bundle was not read.
-ghost use Rattle.std.specs.Prelude.{◌≡◌};
-ghost use Rattle.pgo_log_text.specs.ReadBundle.{stop_of};
+ghost use Rattle.std.specs.Prelude.{◌≡◌, ℕ, List};
+ghost use Rattle.pgo_log_text.specs.LineNumbers.{NamesLineOf};
+ghost use Rattle.pgo_log_text.specs.ReadBundle.{IsRefused, stop_of};
 
+use crate::line::within;
 use std::alloc::{AllocError, AllocFailed};
 use thiserror::Error;
 
@@ -14,6 +16,21 @@ pub enum LogStop {
     /// There was no memory.
     #[error("out of memory")]
     NoMemory,
+}
+
+impl LogStop {
+    /// The same, at a line of this text.
+    pub fn within(self, text: &[u8]) -> LogStop
+        ensures same { (other : List ℕ) → IsRefused other self → IsRefused other result }
+        ensures line { NamesLineOf text.now result }
+    {
+        match self {
+            LogStop::BadLog { line } => LogStop::BadLog {
+                line: within(text, line),
+            },
+            LogStop::NoMemory => LogStop::NoMemory,
+        }
+    }
 }
 
 /// Why a part of a bundle was not read.

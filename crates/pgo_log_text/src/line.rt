@@ -1,4 +1,7 @@
-// The lines of a text by their numbers, which no clause cites.
+// The lines of a text by their numbers. That a line is one of the text is proved; which line is named, no clause says.
+ghost use Rattle.std.specs.Prelude.{◌≡◌};
+ghost use Rattle.pgo_log_text.specs.LineNumbers as spec;
+
 use crate::lines::are_named;
 use pgo_base::consts::Consts;
 use pgo_base::expr::Names;
@@ -6,6 +9,26 @@ use pgo_lexer::bytes::skip;
 use pgo_lexer::errors::TextStop;
 use pgo_module_read::refusal::refusal;
 use std::alloc::Global;
+
+/// How many lines end in the text.
+fn newlines(text: &[u8]) -> usize
+    ensures { result ≡ spec.newlines text.now }
+{
+    let mut count = 0;
+    for b in text {
+        if *b == b'\n' {
+            count += 1;
+        }
+    }
+    count
+}
+
+/// The line of this number, or the first or the last of the text where it has none of that number.
+pub fn within(text: &[u8], line: usize) -> usize
+    ensures { spec.IsLineOf text.now result }
+{
+    line.max(1).min(newlines(text).saturating_add(1))
+}
 
 /// The line of the byte at this place, where the first line has this number.
 pub fn line_at(text: &[u8], place: usize, first: usize) -> usize {

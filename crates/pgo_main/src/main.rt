@@ -117,7 +117,7 @@ fn run<S: Source, O: Sink, E: Sink>(
     ensures says { ¬ Rose (E.faults err.old) (E.faults err.new) → SaysLine result (E.held err.old) (E.held err.new) }
     ensures says_refusal { result ≡ Status.SpecRefused → ¬ Rose (E.faults err.old) (E.faults err.new) →
         SaysRefusal (words_of arguments) (S.left input.old) (E.held err.old) (E.held err.new) }
-    ensures says_bundle { result ≡ Status.BadBundle → ¬ Rose (E.faults err.old) (E.faults err.new) → SaysBundleLine (E.held err.old) (E.held err.new) }
+    ensures says_bundle { result ≡ Status.BadBundle → ¬ Rose (E.faults err.old) (E.faults err.new) → SaysBundleLine (S.left input.old) (E.held err.old) (E.held err.new) }
     ensures silent { IsSilent result → err.new ≡ err.old }
 {
     match words(alloc, arguments) {

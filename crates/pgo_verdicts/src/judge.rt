@@ -1,5 +1,6 @@
 // The verdict on a text.
 ghost use Rattle.std.specs.Prelude.{◌≡◌, length, IfOk, IfErr};
+ghost use Rattle.pgo_log_text.specs.LineNumbers.{NamesLineOf};
 ghost use Rattle.pgo_log_text.specs.ReadBundle.{IsRefused};
 ghost use Rattle.pgo_verdicts.specs.Judged.{Judged};
 
@@ -25,6 +26,7 @@ pub struct Judgement {
 pub fn judge(alloc: Global, text: &[u8]) -> Result<Judgement, LogStop>
     ensures judged { IfOk result (λ j. (d : Judged text.now j.verdict) × (j.instances ≡ length d.log.ids)) }
     ensures refused { IfErr result (IsRefused text.now) }
+    ensures line { IfErr result (NamesLineOf text.now) }
 {
     let (module, consts, log) = read_bundle(alloc, text)?;
     match check(alloc, &module, &consts, &log) {

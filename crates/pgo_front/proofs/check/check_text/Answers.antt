@@ -1,16 +1,19 @@
-use Rattle.std.proofs.Common.{inr, subst}
+use Rattle.std.proofs.Common.{Some, inr, subst}
 use Rattle.std.proofs.lemmas.Result.{IfOk-weaker, IfErr-weaker}
+use Rattle.pgo_log_text.specs.LineNumbers.{NamesLineOf}
 use Rattle.pgo_log_text.specs.ReadBundle.{IsRefused}
 use Rattle.pgo_front.proofs.Making.{verdict_status, judging_stopped, end_line, verdict_line_none}
 use Rattle.pgo_front.proofs.check.check_text.Goals as goal
 
 pub returns-in-Err-BadLog-clause-err : goal.returns-in-Err-BadLog-clause-err
 returns-in-Err-BadLog-clause-err c =
-    judging_stopped c.args.text.now c.as_no_bundle.result.status c.as_no_bundle.result.line
+    judging_stopped c.args.text.now _ c.as_no_bundle.result.status c.as_no_bundle.result.line
     (subst (IsRefused c.args.text.now) c.in-Err-BadLog.field-0-is c.in-Err-BadLog.ensures.refused) c.as_no_bundle.ensures
 
 pub returns-in-Err-BadLog-clause-line : goal.returns-in-Err-BadLog-clause-line
-returns-in-Err-BadLog-clause-line c = end_line c.as_no_bundle.result.status c.as_no_bundle.result.line c.as_no_bundle.ensures
+returns-in-Err-BadLog-clause-line c =
+    end_line c.args.text.now _ c.as_no_bundle.result.status c.as_no_bundle.result.line
+    (subst (NamesLineOf c.args.text.now) c.in-Err-BadLog.field-0-is c.in-Err-BadLog.ensures.line) c.as_no_bundle.ensures
 
 pub returns-in-Ok-clause-ok : goal.returns-in-Ok-clause-ok
 returns-in-Ok-clause-ok c =
@@ -23,4 +26,4 @@ pub returns-in-Ok-clause-err : goal.returns-in-Ok-clause-err
 returns-in-Ok-clause-err c = IfErr-weaker c.make_verdict.result _ _ (λ e h. inr h) c.make_verdict.ensures.err
 
 pub returns-in-Ok-clause-line : goal.returns-in-Ok-clause-line
-returns-in-Ok-clause-line c = verdict_line_none c.make_verdict.result c.make_verdict.ensures.err c.make_verdict.ensures.line
+returns-in-Ok-clause-line c = verdict_line_none (Some c.args.text.now) c.make_verdict.result c.make_verdict.ensures.err c.make_verdict.ensures.line

@@ -94,10 +94,10 @@ returns-clause-says_refusal g c refused quiet =
 
 pub returns-clause-says_bundle : goal.returns-clause-says_bundle
 returns-clause-says_bundle g c refused quiet =
-    said_bundle _ _ (RefusesSpec c.args.words.now (g.S.Source.left c.args.input.now)) c.run-ended.result.status c.run-ended.result.line _ c.run-ended.ensures.line
+    said_bundle (g.S.Source.left c.args.input.now) _ _ (RefusesSpec c.args.words.now (g.S.Source.left c.args.input.now)) c.run-ended.result.status c.run-ended.result.line _ c.run-ended.ensures.line
     c.say.ensures.says_refusal refused quiet
 
 pub returns-clause-silent : goal.returns-clause-silent
 returns-clause-silent g c quiet =
     c.say.ensures.silent (silent_status c.run-ended.result.status quiet)
-    (silent_line (RefusesSpec c.args.words.now (g.S.Source.left c.args.input.now)) c.run-ended.result.status c.run-ended.result.line quiet c.run-ended.ensures.line)
+    (silent_line (g.S.Source.left c.args.input.now) (RefusesSpec c.args.words.now (g.S.Source.left c.args.input.now)) c.run-ended.result.status c.run-ended.result.line quiet c.run-ended.ensures.line)
