@@ -9,7 +9,6 @@ use Rattle.pgo_syntax.specs.declared.spec.Spec.{Spec}
 use Rattle.pgo_uses.specs.AllUses.{all_uses}
 use Rattle.pgo_uses.specs.Tables.{tables_of}
 use Rattle.pgo_scope.specs.Arity.{arity_use, arity_heads}
-use Rattle.pgo_scope.specs.Findings.{each_use}
 use Rattle.pgo_scope.specs.Refusal.{scope_refusal}
 use Rattle.pgo_scope.specs.Unknown.{unknown_use, unknown_heads}
 use Rattle.pgo_labels.specs.declared.finding.Finding.{Finding}
@@ -44,8 +43,8 @@ later_rules s = (flat_map label_in_with s.archetypes ++ flat_map label_in_macro 
 well_named : (s : Spec) → scope_refusal s ≡ None → label_refusal s ≡ None → AllByRecursion (ArgumentsFit s.archetypes) s.processes → WellNamed s
 well_named s h g f =
     let k = names_kept s h in
-    let heads = none_right (each_use (unknown_use (tables_of s) s.archetypes) (all_uses s)) (unknown_heads (tables_of s) s.processes) k.unknown in
-    let numbers = none_right (each_use (arity_use (tables_of s)) (all_uses s)) (arity_heads (tables_of s) s.processes) k.arities in
+    let heads = none_right (flat_map (unknown_use (tables_of s) s.archetypes) (all_uses s)) (unknown_heads (tables_of s) s.processes) k.unknown in
+    let numbers = none_right (flat_map (arity_use (tables_of s)) (all_uses s)) (arity_heads (tables_of s) s.processes) k.arities in
     let labeled = first_label_rule (flat_map needs_label s.archetypes) (later_rules s) g in
     record {
       variables_differ = different (variables_of s) (variables_once s k.clashes f);

@@ -1,6 +1,6 @@
 -- A good state of a bound specification, as its instances' sections find it.
 use Rattle.std.proofs.Common.{◌≡◌, ℕ, suc, ◌≤◌, Bool, true, false, ◌||◌, List, [], ◌∷◌, ◌++◌, map, length, Option, Some, None, inl, inr, refl, sym, ap, ◌∙◌, subst, arith, cond, option_and_then}
-use Rattle.std.specs.Prelude.{if◌then◌else◌, filter, is_some}
+use Rattle.std.specs.Prelude.{if◌then◌else◌, not, ◌&&◌, filter, is_some}
 use Rattle.std.specs.declared.cmp.Ordering.{Ordering}
 use Rattle.std.specs.declared.cmp.Ordering.TheVariants.{Less, Equal, Greater}
 use Rattle.std.specs.Ordering.{is_eq, match_ordering}
@@ -41,8 +41,9 @@ use Rattle.pgo_meaning.proofs.Traces.{number_there, among_is}
 use Rattle.pgo_sections.specs.Code.{Whole}
 use Rattle.pgo_sections.specs.Context.{Context, part_at}
 use Rattle.pgo_sections.proofs.Closing as closing
+use Rattle.pgo_sections.specs.PlainTest.{distinct_names}
 use Rattle.pgo_workers.specs.Walk as walks
-use Rattle.pgo_workers.specs.Worlds.{Layout, layout_of, or_nothing, own_at, value_in, component_at, names_at, are_different, HasAll}
+use Rattle.pgo_workers.specs.Worlds.{Layout, layout_of, or_nothing, own_at, value_in, component_at, names_at, HasAll}
 use Rattle.pgo_workers.proofs.BoundLayout.{layout_sound, state_has}
 use Rattle.pgo_workers.proofs.Components.{index_self}
 use Rattle.pgo_workers.proofs.LayoutChanges.{component_there, own_name_behind, own_name_here}
@@ -377,9 +378,9 @@ module _ (b : Bound) (R : Runnable b) where
         (ap (λ z. is_among z globals) o.2 ∙ own_apart o.0 o.1, same_name-not x pc (λ e. let z : true ≡ false = sym h ∙ ap (λ z. is_among z own_list) e ∙ pc_not in grind (arith, z)))
       where
         pc_not : is_among pc own_list ≡ false
-        pc_not = go (is_among pc own_list) refl (sym (ap (λ o. are_different (names_at L o)) at_id) ∙ (layout_sound b R.sound R.differ).names_differ k)
+        pc_not = go (is_among pc own_list) refl (sym (ap (λ o. distinct_names (names_at L o)) at_id) ∙ (layout_sound b R.sound R.differ).names_differ k)
           where
-            go : (t : Bool) → is_among pc own_list ≡ t → (if t then false else are_different own_list) ≡ true → t ≡ false
+            go : (t : Bool) → is_among pc own_list ≡ t → (not t && distinct_names own_list) ≡ true → t ≡ false
             go true e h = absurd (grind (arith, h))
             go false e h = refl
 

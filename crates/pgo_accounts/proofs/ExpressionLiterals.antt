@@ -16,9 +16,9 @@ use Rattle.pgo_expr_read.specs.Kinds.{Kind, ItemOf, between}
 use Rattle.pgo_expr_read.specs.Spells.{Spelled, Range, Item, Behind, Items, names, applied, extended, product_of_two, appended, joined, infix_of}
 use Rattle.pgo_expr_read.specs.Spells as s
 use Rattle.pgo_agrees.proofs.EachToken.{cut}
-use Rattle.pgo_systems.specs.Literals.{LiteralsWithin, TreesWithin, ArmsWithin, NamedTreesWithin, BoundWithin, PathsWithin}
+use Rattle.pgo_values.specs.Literals.{LiteralsWithin, TreesWithin, ArmsWithin, NamedTreesWithin, BoundWithin, PathsWithin}
 use Rattle.pgo_accounts.proofs.Tokens.{AllPlain}
-use Rattle.pgo_systems.specs.Limits.{Limits}
+use Rattle.pgo_values.specs.Limits.{Limits}
 
 module _ (limits : Limits) where
   -- ---- items
@@ -97,7 +97,7 @@ module _ (limits : Limits) where
     pub fits : {f : Form} {o : Ending} {ts : List Token} {a : Tree} → Spelled f o ts a → AllPlain limits ts → LiteralsWithin limits a
     fits s.name h = tt
     fits s.primed h = tt
-    fits s.number h = h.0
+    fits s.number h = limits.numbers_fit _ h.0
     fits s.text h = h.0
     fits s.truth h = tt
     fits s.at h = tt

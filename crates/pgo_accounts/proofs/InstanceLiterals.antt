@@ -21,7 +21,7 @@ use Rattle.pgo_bound.specs.Runs.{run_with, mapping_named, mapping_by, speaking, 
 use Rattle.pgo_bound.specs.Values.{defs_of}
 use Rattle.pgo_agrees.proofs.Instances.{runs_as}
 use Rattle.pgo_systems.specs.StatementLiterals.{BlocksWithin, LabeledWithin, SpecificationWithin, TargetWithin, TextWithin}
-use Rattle.pgo_systems.specs.Limits.{Limits}
+use Rattle.pgo_values.specs.Limits.{Limits}
 
 pub all_map : {A B : Type 0} (f : A → B) (P : B → Type 0) (xs : List A) → ((x : A) → P (f x)) → AllByRecursion P (map f xs)
 all_map f P [] h = tt

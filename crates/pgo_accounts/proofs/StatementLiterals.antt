@@ -15,11 +15,12 @@ use Rattle.pgo_syntax.specs.declared.binding.Origin.{Origin}
 use Rattle.pgo_syntax.specs.declared.binding.WithName.{WithName}
 use Rattle.pgo_syntax.specs.declared.name.PlacedName.{PlacedName}
 use Rattle.pgo_agrees.proofs.EachToken.{cut, tokens_each, all_items, all_in_brackets, all_in_row}
-use Rattle.pgo_systems.specs.Literals.{LiteralsWithin, OriginWithin}
+use Rattle.pgo_values.specs.Literals.{LiteralsWithin}
+use Rattle.pgo_systems.specs.Literals.{OriginWithin}
 use Rattle.pgo_systems.specs.StatementLiterals.{StepWithin, AssignmentWithin, StatementWithin, StatementsWithin, LabeledWithin, GuardedWithin}
 use Rattle.pgo_accounts.proofs.Tokens.{IsPlain}
 use Rattle.pgo_accounts.proofs.ExpressionLiterals.{fits, fits_range}
-use Rattle.pgo_systems.specs.Limits.{Limits}
+use Rattle.pgo_values.specs.Limits.{Limits}
 
 module _ (limits : Limits) where
   -- the numbers, strings and names among these tokens are within the limits

@@ -30,7 +30,8 @@ use Rattle.pgo_syntax.specs.declared.process.Argument.{Argument}
 use Rattle.pgo_syntax.specs.declared.process.Process.{Process}
 use Rattle.pgo_syntax.specs.declared.spec.Spec.{Spec}
 use Rattle.pgo_bound.specs.Values as values
-use Rattle.pgo_systems.specs.Literals.{LiteralsWithin, InitialWithin, OriginWithin, ArgumentWithin}
+use Rattle.pgo_values.specs.Literals.{LiteralsWithin}
+use Rattle.pgo_systems.specs.Literals.{InitialWithin, OriginWithin, ArgumentWithin}
 use Rattle.pgo_systems.specs.StatementLiterals.{BlocksWithin, LabeledWithin, SpecificationWithin}
 use Rattle.pgo_agrees.proofs.EachToken.{one_more, cut, all_in_brackets, all_in_row, all_marked}
 use Rattle.pgo_accounts.specs.Texts.{NeverJumps}
@@ -39,7 +40,7 @@ use Rattle.pgo_accounts.proofs.StatementLiterals.{ArePlain, expression, origin_f
 use Rattle.pgo_accounts.proofs.MacroStatements.{AllMay, all_may, body_quiet}
 use Rattle.pgo_model.specs.ValueText.{is_identifier}
 use Rattle.pgo_systems.specs.Counted.{counted}
-use Rattle.pgo_systems.specs.Limits.{Limits}
+use Rattle.pgo_values.specs.Limits.{Limits}
 
 pub all_first : {A : Type 0} (P Q : A → Type 0) (xs : List A) → AllByRecursion (λ x. P x × Q x) xs → AllByRecursion P xs
 all_first P Q [] h = tt

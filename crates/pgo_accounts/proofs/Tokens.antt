@@ -4,7 +4,7 @@ use Rattle.std.specs.List.{AllByRecursion}
 use Rattle.pgo_lexer.specs.declared.token.Token.{Token}
 use Rattle.pgo_lexer.specs.declared.token.Token.TheVariants as t
 use Rattle.pgo_model.specs.Operators.{fits_i64}
-use Rattle.pgo_systems.specs.Limits.{Limits}
+use Rattle.pgo_values.specs.Limits.{Limits}
 
 module _ (limits : Limits) where
   -- a number is an integer of 64 bits, and a string, as a name, is within the limits

@@ -7,8 +7,8 @@ use Rattle.pgo_model.specs.BundleParts.{all_string_bytes}
 use Rattle.pgo_model.specs.Operators.{most_members}
 use Rattle.pgo_value_text.specs.IsValueText.{IsValueText, is_name}
 use Rattle.pgo_systems.specs.Counted.{IsCounted, counted}
-use Rattle.pgo_systems.specs.Limits.{Limits}
-use Rattle.pgo_systems.specs.Within.{IsWithin, AreWithin, PairsWithin}
+use Rattle.pgo_values.specs.Limits.{Limits}
+use Rattle.pgo_values.specs.Within.{IsWithin, AreWithin, PairsWithin}
 use Rattle.pgo_accept.proofs.TextValues.{OfPair, OfTexts, text_value}
 
 module _ (limits : Limits) (strings : (x : List ℕ) → all_string_bytes x ≡ true → IsTrue (limits.text x)) (fields : (x : List ℕ) → is_name x ≡ true → IsTrue (limits.text x)) (names : (x : List ℕ) → is_name x ≡ true → IsTrue (limits.model x)) where
@@ -23,7 +23,7 @@ module _ (limits : Limits) (strings : (x : List ℕ) → all_string_bytes x ≡ 
   texts_within : OfTexts (IsWithin limits)
   texts_within = record {
     of_truth = λ b. tt;
-    of_number = λ z fits. fits;
+    of_number = limits.numbers_fit;
     of_string = strings;
     of_name = names;
     of_field = fields;

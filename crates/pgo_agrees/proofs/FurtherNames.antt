@@ -38,7 +38,7 @@ use Rattle.pgo_meaning.proofs.LabelSections.{sections_are}
 use Rattle.pgo_translate.specs.Premises.{process_names, further_names}
 use Rattle.pgo_agrees.specs.Accepted.{IsOfText, ArchetypeOfText, LabelOfText}
 use Rattle.pgo_agrees.proofs.Further.{IsFurther, is_proc_set, is_terminating, is_process, is_written}
-use Rattle.pgo_agrees.proofs.Kept.{NoFindings, NoLabelFindings, none_of_name}
+use Rattle.pgo_agrees.proofs.Kept.{NoFindings, NoLabelFindings}
 use Rattle.pgo_agrees.proofs.Labels.{label_own, label_among, label_written}
 use Rattle.pgo_agrees.proofs.Meanings.{process_unit}
 use Rattle.pgo_agrees.proofs.Names.{single, written_single, identifier_letter}
@@ -126,7 +126,7 @@ module _ (s : Spec) (k : NoFindings s) (labels : NoLabelFindings s) where
     process_single p a =
         let front = s.name ∷ s.extends in
         let units = s.algorithm ∷ unit_names s in
-        nothing_if (has_double p.name.name) p.name.place (errors.DoubleUnderscore p.name.name) (none_of_name double_name (head_names s) k.double_heads p.name (among_left p.name (front ++ units) (named_by s.processes) (among_right p.name front units (inr (process_unit s k fit of_text p a)))))
+        nothing_if (has_double p.name.name) p.name.place (errors.DoubleUnderscore p.name.name) (none_flat_map double_name p.name (head_names s) k.double_heads (among_left p.name (front ++ units) (named_by s.processes) (among_right p.name front units (inr (process_unit s k fit of_text p a)))))
 
     label_single : (a : Archetype) → IsAmong a s.archetypes → (y : Name) → IsAmong y (labels_among (labeled a.body)) → has_double y ≡ false
     label_single a h y b =

@@ -24,12 +24,12 @@ use Rattle.pgo_scope.specs.Twice.{is_reserved, reserved_name}
 use Rattle.pgo_scope.specs.Underscores.{has_double}
 use Rattle.pgo_scope.specs.Unknown.{is_constant, is_common, means, is_unknown}
 use Rattle.pgo_scope.specs.declared.errors.ScopeError.TheVariants as errors
-use Rattle.pgo_bound.specs.Among.{IsAmong, among_left, among_right}
+use Rattle.pgo_bound.specs.Among.{IsAmong, among_left, among_right, none_flat_map}
 use Rattle.pgo_accept.proofs.Heads.{nothing_if}
 use Rattle.pgo_accept.proofs.Fitting.{ArgumentsFit}
 use Rattle.pgo_sections.specs.WellFormed.{NotMade}
 use Rattle.pgo_agrees.specs.Accepted.{IsOfText}
-use Rattle.pgo_agrees.proofs.Kept.{NoFindings, none_of_name}
+use Rattle.pgo_agrees.proofs.Kept.{NoFindings}
 use Rattle.pgo_agrees.proofs.Names.{single, written_marked, has_mark}
 use Rattle.pgo_agrees.proofs.Stands.{or_in}
 use Rattle.pgo_agrees.proofs.WrittenNames.{writes_some, counted, shared_among}
@@ -151,14 +151,14 @@ module _ (s : Spec) (k : NoFindings s) (fit : AllByRecursion (ArgumentsFit s.arc
 
   pub reserved_apart : (x : Name) → is_reserved x ≡ true → has_mark x ≡ false → IsTaken s x → ⊥
   reserved_apart x h m (inl (a_global d a e)) =
-      let n = nothing_if (is_reserved d.name.name) d.name.place (errors.Twice d.name.name) (none_of_name reserved_name (unit_names s) k.reserved d.name (global_unit d.name (global_shared s d a))) in
+      let n = nothing_if (is_reserved d.name.name) d.name.place (errors.Twice d.name.name) (none_flat_map reserved_name d.name (unit_names s) k.reserved (global_unit d.name (global_shared s d a))) in
       contradiction (sym h ∙ ap is_reserved e ∙ n)
   reserved_apart x h m (inl (is_place e)) = contradiction (sym h ∙ ap is_reserved e)
   reserved_apart x h m (inl (is_own p a y b e n q)) = contradiction (sym (ap has_mark q ∙ written_marked p.name.name y) ∙ m)
   reserved_apart x h m (inr (is_proc_set e)) = contradiction (sym h ∙ ap is_reserved e)
   reserved_apart x h m (inr (is_terminating e)) = contradiction (sym h ∙ ap is_reserved e)
   reserved_apart x h m (inr (is_process p a e)) =
-      let n = nothing_if (is_reserved p.name.name) p.name.place (errors.Twice p.name.name) (none_of_name reserved_name (unit_names s) k.reserved p.name (process_unit p a)) in
+      let n = nothing_if (is_reserved p.name.name) p.name.place (errors.Twice p.name.name) (none_flat_map reserved_name p.name (unit_names s) k.reserved (process_unit p a)) in
       contradiction (sym h ∙ ap is_reserved e ∙ n)
   reserved_apart x h m (inr (is_written p y a b e)) = contradiction (sym (ap has_mark e ∙ written_marked p.name.name y) ∙ m)
 

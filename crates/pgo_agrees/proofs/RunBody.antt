@@ -1,6 +1,6 @@
 -- The body of an archetype that a process runs, with macros in the place of their calls.
 use Rattle.std.proofs.Common.{◌≡◌, ℕ, Bool, true, false, ◌||◌, List, [], ◌∷◌, ◌++◌, length, Some, None, refl, ap, sym, ◌∙◌, subst, inl, inr}
-use Rattle.std.specs.Prelude.{◌⊎◌, slice_get}
+use Rattle.std.specs.Prelude.{◌⊎◌, slice_get, flat_map}
 use Rattle.std.specs.List.{AllByRecursion}
 use Rattle.pgo_base.specs.Data.{Data}
 use Rattle.pgo_base.specs.Lookup.{Name, same_name}
@@ -25,7 +25,7 @@ use Rattle.pgo_uses.specs.declared.uses.Shape.{Shape}
 use Rattle.pgo_uses.specs.declared.uses.Shape.TheVariants.{Bare, OneIndex, Further}
 use Rattle.pgo_uses.specs.declared.uses.Use.{Use}
 use Rattle.pgo_scope.specs.Assigned.{ref_names, assignable_in, may_assign, assigned_arguments, assigned_of}
-use Rattle.pgo_scope.specs.Findings.{found_where, each_use}
+use Rattle.pgo_scope.specs.Findings.{found_where}
 use Rattle.pgo_scope.specs.Mapped.{read_of, read_use, argument_read, base_written, argument_written, argument_reads, argument_findings, arguments_findings, mapped_use_of}
 use Rattle.pgo_scope.specs.Unknown.{may_call}
 use Rattle.pgo_scope.specs.Usage.{join, left_base, left_shape, left_uses, macro_table}
@@ -62,9 +62,9 @@ use Rattle.pgo_agrees.proofs.Placing.{reads_so, writes_so, marked_bang, marked_s
 use Rattle.pgo_agrees.proofs.Stands.{or_in, or_second}
 use Rattle.pgo_agrees.proofs.Uses.{FineUse}
 
-all_empty : (f : Use → List Finding) (us : List Use) → each_use f us ≡ [] → AllByRecursion (λ u. f u ≡ []) us
+all_empty : (f : Use → List Finding) (us : List Use) → flat_map f us ≡ [] → AllByRecursion (λ u. f u ≡ []) us
 all_empty f [] h = tt
-all_empty f (u ∷ us) h = (none_left (f u) (each_use f us) h, all_empty f us (none_right (f u) (each_use f us) h))
+all_empty f (u ∷ us) h = (none_left (f u) (flat_map f us) h, all_empty f us (none_right (f u) (flat_map f us) h))
 
 where_true : (b : Bool) (fs : List Finding) → b ≡ true → found_where b fs ≡ [] → fs ≡ []
 where_true true fs e h = h
@@ -189,8 +189,8 @@ module _ (s : Spec) (k : NoFindings s) (fit : AllByRecursion (ArgumentsFit s.arc
         writes = λ b e.
             (let w = written_found u.around (o.usage x) t all b e in
             let l = assigned_base s k fit of_text u x (o.usage x) t b e assigned in
-            let base = none_left (base_written s u.around (left_base t) (join (left_shape t) b)) (each_use (read_use s) (left_uses [] (inside u.around) t)) w in
-            let path = none_right (base_written s u.around (left_base t) (join (left_shape t) b)) (each_use (read_use s) (left_uses [] (inside u.around) t)) w in
+            let base = none_left (base_written s u.around (left_base t) (join (left_shape t) b)) (flat_map (read_use s) (left_uses [] (inside u.around) t)) w in
+            let path = none_right (base_written s u.around (left_base t) (join (left_shape t) b)) (flat_map (read_use s) (left_uses [] (inside u.around) t)) w in
             let one = ap (λ o. base_written s u.around o (join (left_shape t) b)) (sym l.1) ∙ base in
             let mem = mine_of l.0 (ap (λ z. may_assign s z l.0) (sym home) ∙ l.2) in
             (l.0, l.1, (run.mine_single s k fit of_text consts none p a among named declared len j at_j there l.0 (run.mine s k fit of_text consts none p a among named declared len j at_j there l.0 mem), run.written_fine s k fit of_text consts none p a among named declared len j at_j there u.around l.0 (join (left_shape t) b) home one), all_empty (read_use s) (left_uses [] (inside u.around) t) path));

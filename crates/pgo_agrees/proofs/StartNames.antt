@@ -16,7 +16,7 @@ use Rattle.pgo_uses.specs.Heads.{definition_names as placed_names, unit_names}
 use Rattle.pgo_uses.specs.Tables.{all_definitions}
 use Rattle.pgo_scope.specs.Twice.{is_reserved, reserved_name}
 use Rattle.pgo_scope.specs.declared.errors.ScopeError.TheVariants as errors
-use Rattle.pgo_bound.specs.Among.{IsAmong, among_left, among_right, among_append, from_map}
+use Rattle.pgo_bound.specs.Among.{IsAmong, among_left, among_right, among_append, from_map, none_flat_map}
 use Rattle.pgo_bound.specs.Instances.{archetype_among}
 use Rattle.pgo_bound.specs.Sound.{labels_among}
 use Rattle.pgo_bound.specs.State.{variables_of}
@@ -32,7 +32,7 @@ use Rattle.pgo_agrees.proofs.Closed.{definitions_closed}
 use Rattle.pgo_agrees.proofs.Fewer.{closed_fewer}
 use Rattle.pgo_agrees.proofs.Further.{names_written, further_written, further_among}
 use Rattle.pgo_agrees.proofs.FurtherNames.{name_of, named_further, not_done}
-use Rattle.pgo_agrees.proofs.Kept.{NoFindings, NoLabelFindings, none_of_name}
+use Rattle.pgo_agrees.proofs.Kept.{NoFindings, NoLabelFindings}
 use Rattle.pgo_agrees.proofs.Meanings.{defined_name, global_unit, shared_of, reserved_apart}
 use Rattle.pgo_agrees.proofs.Variables.{not_among, is_among_there}
 
@@ -53,7 +53,7 @@ module _ (s : Spec) (k : NoFindings s) (labels : NoLabelFindings s) (fit : AllBy
   definition_reserved : (d : Definition) → IsAmong d (all_definitions s) → is_reserved d.name.name ≡ false
   definition_reserved d a =
       let there = global_unit s k fit of_text d.name (shared_of s k fit of_text d.name (among_right d.name s.constants (placed_names (all_definitions s)) (defined_name d (all_definitions s) a))) in
-      nothing_if (is_reserved d.name.name) d.name.place (errors.Twice d.name.name) (none_of_name reserved_name (unit_names s) k.reserved d.name there)
+      nothing_if (is_reserved d.name.name) d.name.place (errors.Twice d.name.name) (none_flat_map reserved_name d.name (unit_names s) k.reserved there)
 
   no_definition : (d : Definition) → IsAmong d (all_definitions s) → default_init_value ≡ d.name.name → ⊥
   no_definition d a e = let q : true ≡ false = ap is_reserved e ∙ definition_reserved d a in cc

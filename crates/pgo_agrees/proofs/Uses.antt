@@ -20,9 +20,9 @@ use Rattle.pgo_scope.specs.Underscores.{has_double, double_use}
 use Rattle.pgo_scope.specs.Unknown.{is_unknown, unknown_use}
 use Rattle.pgo_scope.specs.Usage.{macro_table}
 use Rattle.pgo_scope.specs.declared.errors.ScopeError.TheVariants as errors
-use Rattle.pgo_bound.specs.Among.{IsAmong, among_left, among_right}
+use Rattle.pgo_bound.specs.Among.{IsAmong, among_left, among_right, none_flat_map}
 use Rattle.pgo_accept.proofs.Heads.{nothing_if}
-use Rattle.pgo_agrees.proofs.Kept.{NoFindings, none_of_use}
+use Rattle.pgo_agrees.proofs.Kept.{NoFindings}
 
 -- ---- no rule finds anything at a use
 
@@ -41,13 +41,13 @@ fine_use s k u a =
     let ts = tables_of s in
     record {
       among = a;
-      unknown = nothing_if (is_unknown ts s.archetypes u u.form) u.around.place (errors.Unknown u.name) (none_of_use (unknown_use ts s.archetypes) (all_uses s) k.unknown u a);
-      hiding = nothing_if (hiding_of ts u u.form) u.around.place (errors.Twice u.name) (none_of_use (hiding_use ts) (all_uses s) k.hiding u a);
-      arity = none_of_use (arity_use ts) (all_uses s) k.arity u a;
-      global = nothing_if (is_global ts u u.form) u.around.place (errors.GlobalInArchetype u.name) (none_of_use (global_finding ts) (all_uses s) k.globals u a);
-      assigned = none_of_use (assigned_use s (macro_table s.macros)) (all_uses s) k.assigned u a;
-      mapped = none_of_use (mapped_use s (macro_table s.macros)) (all_uses s) k.mapped u a;
-      double = nothing_if (has_double u.name) u.around.place (errors.DoubleUnderscore u.name) (none_of_use double_use (all_uses s) k.doubles u a);
+      unknown = nothing_if (is_unknown ts s.archetypes u u.form) u.around.place (errors.Unknown u.name) (none_flat_map (unknown_use ts s.archetypes) u (all_uses s) k.unknown a);
+      hiding = nothing_if (hiding_of ts u u.form) u.around.place (errors.Twice u.name) (none_flat_map (hiding_use ts) u (all_uses s) k.hiding a);
+      arity = none_flat_map (arity_use ts) u (all_uses s) k.arity a;
+      global = nothing_if (is_global ts u u.form) u.around.place (errors.GlobalInArchetype u.name) (none_flat_map (global_finding ts) u (all_uses s) k.globals a);
+      assigned = none_flat_map (assigned_use s (macro_table s.macros)) u (all_uses s) k.assigned a;
+      mapped = none_flat_map (mapped_use s (macro_table s.macros)) u (all_uses s) k.mapped a;
+      double = nothing_if (has_double u.name) u.around.place (errors.DoubleUnderscore u.name) (none_flat_map double_use u (all_uses s) k.doubles a);
     }
 
 -- ---- units by their numbers

@@ -27,7 +27,7 @@ use Rattle.pgo_uses.specs.declared.uses.Form.TheVariants as forms
 use Rattle.pgo_scope.specs.Clash.{itself, fixed_names, fixed_module_names, shared_module_names, value_names, labels_from, own_names, or_none, own_module_name, name_clashes}
 use Rattle.pgo_scope.specs.Underscores.{has_double, double_name}
 use Rattle.pgo_scope.specs.declared.errors.ScopeError.TheVariants as errors
-use Rattle.pgo_bound.specs.Among.{IsAmong, among_left, among_right, among_append, from_map, from_flat_map, all_at}
+use Rattle.pgo_bound.specs.Among.{IsAmong, among_left, among_right, among_append, from_map, from_flat_map, all_at, none_flat_map}
 use Rattle.pgo_bound.specs.Runs.{handed_from, archetype_named}
 use Rattle.pgo_bound.specs.Instances.{archetype_among}
 use Rattle.pgo_bound.specs.State as bind
@@ -38,7 +38,7 @@ use Rattle.pgo_accept.proofs.Variables.{handed_value, found_own}
 use Rattle.pgo_accept.proofs.WrittenOnce.{writes}
 use Rattle.pgo_sections.specs.WellFormed.{NotMade}
 use Rattle.pgo_agrees.specs.Accepted.{IsOfText, ArchetypeOfText, ParameterOfText, DeclarationOfText}
-use Rattle.pgo_agrees.proofs.Kept.{NoFindings, none_of_name}
+use Rattle.pgo_agrees.proofs.Kept.{NoFindings}
 use Rattle.pgo_agrees.proofs.Names.{single, written_single, written_marked, has_mark, identifier_letter}
 use Rattle.pgo_agrees.proofs.WrittenNames.{writes_some, counted, shared_among, process_among, bound_apart, bound_not_fixed, written_by, rows_of}
 use Rattle.pgo_agrees.proofs.Uses.{FineUse, fine_use, of_archetype}
@@ -278,7 +278,7 @@ module _ (s : Spec) (k : NoFindings s) where
 
     pub shared_single : (x : PlacedName) → IsAmong x (shared_names s) → has_double x.name ≡ false
     shared_single x a =
-        nothing_if (has_double x.name) x.place (errors.DoubleUnderscore x.name) (none_of_name double_name (head_names s) k.double_heads x (shared_in_heads x a))
+        nothing_if (has_double x.name) x.place (errors.DoubleUnderscore x.name) (none_flat_map double_name x (head_names s) k.double_heads (shared_in_heads x a))
 
     not_made : (x : Name) → IsVariable s x → NotMade x
     not_made x (is_global d a e) = single x (ap has_double e ∙ shared_single d.name (global_shared s d a))

@@ -38,9 +38,10 @@ impl<V: Drop> NameMap<V> {
         self.map.contains_key(name.as_bytes())
     }
 
-    /// Takes what the name stands for; the others stand for what they did.
+    /// Takes what the name stands for: it stands for nothing afterwards, and the others for what they did.
     pub fn take(&mut self, name: &Text) -> Option<V>
         ensures value { result ≡ found self.old name.now }
+        ensures gone { found self.new name.now ≡ None }
         ensures others { (n : Name) → same_name n name.now ≡ false → found self.new n ≡ found self.old n }
     {
         self.map.remove(name.as_bytes())

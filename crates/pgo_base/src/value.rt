@@ -220,4 +220,12 @@ impl Fun {
     {
         self.pairs.as_slice()
     }
+
+    /// The pairs, out of the function: in the order of the keys, each key once.
+    pub fn into_pairs(self) -> Vec<(Value, Value)>
+        ensures pairs { map pair_of result.items ≡ self }
+        ensures sorted { IsStrictlySortedBy data_cmp (keys self) }
+    {
+        self.pairs
+    }
 }

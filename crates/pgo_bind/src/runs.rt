@@ -9,7 +9,7 @@ ghost use Rattle.pgo_heads.specs.Views.{run_view};
 use crate::values::closed_value;
 use pgo_base::value::Value;
 use pgo_definitions::definitions::EvaluatedDefinitions;
-use pgo_heads::named_archetypes::NamedArchetypes;
+use pgo_heads::indexed_spec::IndexedSpec;
 use pgo_heads::runs::{Run, matched};
 use pgo_syntax::archetype::Archetype;
 use pgo_syntax::binding::Origin;
@@ -98,10 +98,10 @@ pub fn runs_of<'a>(
 ) -> Result<Vec<Run<'a>>, AllocError>
     ensures { IfOk result (λ v. map run_view v.items ≡ specs.runs_of spec.now defs.now) }
 {
-    let archetypes = NamedArchetypes::new(alloc, spec.archetypes.as_slice())?;
+    let indexed = IndexedSpec::new(alloc, spec)?;
     let mut list = Vec::new(alloc);
     for p in spec.processes.as_slice() {
-        match archetypes.get(&p.archetype.name) {
+        match indexed.archetype_named(&p.archetype.name) {
             None => continue,
             Some(a) => {
                 list.push(run_with(alloc, defs, p, a)?)?;

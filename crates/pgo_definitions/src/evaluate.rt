@@ -1,6 +1,5 @@
 // Definitions by their values, and what expressions see of them.
-ghost use Rattle.std.specs.Prelude.{◌≡◌, [], List, option_map, Option, IfOk};
-ghost use Rattle.pgo_base.specs.Data.{Data};
+ghost use Rattle.std.specs.Prelude.{◌≡◌, [], List, option_map, IfOk};
 ghost use Rattle.pgo_base.specs.ExprView.{tree};
 ghost use Rattle.pgo_base.specs.Tree.{Tree};
 ghost use Rattle.pgo_base.specs.View.{data_of};
@@ -8,7 +7,6 @@ ghost use Rattle.pgo_bound.specs.Values as values;
 ghost use Rattle.pgo_model.specs.Val.{Meaning, val};
 ghost use Rattle.pgo_definitions.specs.Meant.{meant};
 ghost use Rattle.pgo_definitions.specs.Bodies.{bare, with_meaning, with_body};
-ghost use Rattle.pgo_sets.specs.Answers.{Answers};
 
 use crate::definitions::EvaluatedDefinitions;
 use pgo_base::bindings::Bindings;
@@ -18,7 +16,7 @@ use pgo_base::scope::{Env, State};
 use pgo_base::text::Text;
 use pgo_base::value::Value;
 use pgo_eval::eval::eval;
-use pgo_sets::errors::EvalStop;
+use pgo_sets::answers::value_or_none;
 use std::alloc::{AllocError, Global};
 
 /// These definitions, of which those with true that have no parameters are given by their values: `used` goes from the last
@@ -79,20 +77,7 @@ fn value_with(
         state: &state,
         next: None,
     };
-    optional(eval(alloc, defs, e, &env))
-}
-
-/// The value of an answer; none where it is NoValue.
-///
-/// Err where there is no memory.
-pub fn optional(answer: Result<Value, EvalStop>) -> Result<Option<Value>, AllocError>
-    ensures { (o : Option Data) → Answers answer o → IfOk result (λ v. option_map data_of v ≡ o) }
-{
-    match answer {
-        Ok(v) => Ok(Some(v)),
-        Err(EvalStop::NoValue) => Ok(None),
-        Err(EvalStop::NoMemory) => Err(AllocError),
-    }
+    value_or_none(eval(alloc, defs, e, &env))
 }
 
 /// What stands at a place of a list that goes from the last to the first; false where there is nothing.

@@ -3,12 +3,15 @@ use Rattle.std.proofs.Common.{◌≡◌, List, [], ◌∷◌, refl, ap, sym, ◌
 use Rattle.std.specs.Prelude.{Option, Some, None, option_map, option_and_then}
 use Rattle.pgo_base.specs.Data.{Data}
 use Rattle.pgo_model.specs.Operators.{graph_of, lookup, replace_at, function_of, put_at}
-use Rattle.pgo_eval.specs.Paths.{part_on, put_on}
+use Rattle.pgo_eval.specs.Paths.{part_on}
 
--- what is put at the path
-abbrev pub put_of : List Data → (Option Data → Option Data) → Data → Option (Option Data) → Option Data
-put_of path new f None = None
-put_of path new f (Some part) = option_and_then (λ v. put_on path v f) (new part)
+-- f with v at a path
+abbrev put_on : List Data → Data → Data → Option Data
+put_on path v f = put_at path (λ part. Some v) (Some f)
+
+-- what is put at the path, by the part that is there
+abbrev put_of : List Data → (Option Data → Option Data) → Data → Option (Option Data) → Option Data
+put_of path new f part = option_and_then (λ v. put_on path v f) (option_and_then new part)
 
 one_at : (is : List Data) (new : Option Data → Option Data) → put_at is new None ≡ new None
 one_at [] new = refl
@@ -17,14 +20,15 @@ one_at (i ∷ is) new = refl
 -- where the index is not in the domain
 put_absent : (i : Data) (is : List Data) (v f : Data) (ps : List (Data × Data)) → graph_of f ≡ Some ps → lookup i ps ≡ None → put_on (i ∷ is) v f ≡ Some f
 put_absent i is v f ps e k =
-    ap (option_and_then (λ qs. elim (lookup i qs) as (λ o. Option Data) [ None ↦ Some f | Some part ↦ option_and_then (λ w. function_of (replace_at i w qs)) (put_on is v part) ])) e
-    ∙ ap (λ o. elim o as (λ o. Option Data) [ None ↦ Some f | Some part ↦ option_and_then (λ w. function_of (replace_at i w ps)) (put_on is v part) ]) k
+    ap (option_and_then (λ qs. elim (lookup i qs) as (λ o. Option Data) [ None ↦ option_map (λ w. f) (put_at is (λ part. Some v) None) | Some part ↦ option_and_then (λ w. function_of (replace_at i w qs)) (put_on is v part) ])) e
+    ∙ ap (λ o. elim o as (λ o. Option Data) [ None ↦ option_map (λ w. f) (put_at is (λ part. Some v) None) | Some part ↦ option_and_then (λ w. function_of (replace_at i w ps)) (put_on is v part) ]) k
+    ∙ ap (option_map (λ w. f)) (one_at is (λ part. Some v))
 
 -- where it is
 put_present : (i : Data) (is : List Data) (v f part : Data) (ps : List (Data × Data)) → graph_of f ≡ Some ps → lookup i ps ≡ Some part → put_on (i ∷ is) v f ≡ option_and_then (λ w. function_of (replace_at i w ps)) (put_on is v part)
 put_present i is v f part ps e k =
-    ap (option_and_then (λ qs. elim (lookup i qs) as (λ o. Option Data) [ None ↦ Some f | Some part ↦ option_and_then (λ w. function_of (replace_at i w qs)) (put_on is v part) ])) e
-    ∙ ap (λ o. elim o as (λ o. Option Data) [ None ↦ Some f | Some part ↦ option_and_then (λ w. function_of (replace_at i w ps)) (put_on is v part) ]) k
+    ap (option_and_then (λ qs. elim (lookup i qs) as (λ o. Option Data) [ None ↦ option_map (λ w. f) (put_at is (λ part. Some v) None) | Some part ↦ option_and_then (λ w. function_of (replace_at i w qs)) (put_on is v part) ])) e
+    ∙ ap (λ o. elim o as (λ o. Option Data) [ None ↦ option_map (λ w. f) (put_at is (λ part. Some v) None) | Some part ↦ option_and_then (λ w. function_of (replace_at i w ps)) (put_on is v part) ]) k
 
 put_step : (i : Data) (is : List Data) (new : Option Data → Option Data) (f : Data) → ((part : Data) → put_at is new (Some part) ≡ put_of is new part (part_on is part)) → put_at (i ∷ is) new (Some f) ≡ put_of (i ∷ is) new f (part_on (i ∷ is) f)
 put_step i is new f ih = by_graph (graph_of f) refl
@@ -58,11 +62,3 @@ put_at_is [] new f = go (new (Some f))
     go None = refl
     go (Some v) = refl
 put_at_is (i ∷ is) new f = put_step i is new f (put_at_is is new)
-
--- where there is no function on the way
-pub put_nowhere : (path : List Data) (new : Option Data → Option Data) (f : Data) → None ≡ part_on path f → None ≡ put_at path new (Some f)
-put_nowhere path new f h = ap (put_of path new f) h ∙ sym (put_at_is path new f)
-
--- where there is a part, or the index is in no domain
-pub put_somewhere : (path : List Data) (new : Option Data → Option Data) (f : Data) (part : Option Data) → Some part ≡ part_on path f → option_and_then (λ v. put_on path v f) (new part) ≡ put_at path new (Some f)
-put_somewhere path new f part h = ap (put_of path new f) h ∙ sym (put_at_is path new f)

@@ -6,6 +6,8 @@ use Rattle.pgo_model.specs.FunctionSets.{function_choices, product_choices, reco
 use Rattle.pgo_model.specs.Val.{Sem, plain, word_sem, power_sem, range_sem, functions_sem}
 use Rattle.pgo_eval.specs.declared.held.Held.{Held}
 use Rattle.pgo_eval.specs.declared.held.Held.TheVariants.{Lent, Own}
+use Rattle.pgo_eval.specs.declared.function.Function.{Function}
+use Rattle.pgo_eval.specs.declared.function.Function.TheVariants.{Given, Changed}
 use Rattle.pgo_eval.specs.declared.evaluated.Evaluated.{Evaluated}
 use Rattle.pgo_eval.specs.declared.evaluated.Evaluated.TheVariants.{OfValue, OfWord, Subsets, Range, Functions, Product, Records}
 
@@ -13,6 +15,11 @@ use Rattle.pgo_eval.specs.declared.evaluated.Evaluated.TheVariants.{OfValue, OfW
 abbrev pub held_data : Held → Data
 held_data (Lent r) = data_of r.now
 held_data (Own v) = data_of v
+
+-- the function of an EXCEPT
+abbrev pub function_data : Function → Data
+function_data (Given h) = held_data h
+function_data (Changed c) = c
 
 -- what an expression that comes to this is by itself, and what it holds
 abbrev pub evaluated_sem : Evaluated → Sem

@@ -1,14 +1,9 @@
--- The part of a function at a path, and the function with another part there.
+-- The part of a function at a path.
 use Rattle.std.specs.Prelude.{List, [], ◌∷◌, Option, Some, None, option_and_then}
 use Rattle.pgo_base.specs.Data.{Data}
-use Rattle.pgo_model.specs.Operators.{graph_of, lookup, replace_at, function_of}
+use Rattle.pgo_model.specs.Operators.{graph_of, lookup}
 
 -- what is at a path: none where there is no function on the way, and none inside where an index is not in a domain
 abbrev pub part_on : List Data → Data → Option (Option Data)
 part_on [] f = Some (Some f)
 part_on (i ∷ is) f = option_and_then (λ ps. elim (lookup i ps) as (λ o. Option (Option Data)) [ None ↦ Some None | Some part ↦ part_on is part ]) (graph_of f)
-
--- f with v at a path; the same function where an index is not in a domain
-abbrev pub put_on : List Data → Data → Data → Option Data
-put_on [] v f = Some v
-put_on (i ∷ is) v f = option_and_then (λ ps. elim (lookup i ps) as (λ o. Option Data) [ None ↦ Some f | Some part ↦ option_and_then (λ w. function_of (replace_at i w ps)) (put_on is v part) ]) (graph_of f)

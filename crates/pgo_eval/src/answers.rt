@@ -12,17 +12,6 @@ use pgo_base::value::Value;
 use pgo_sets::errors::EvalStop;
 use std::alloc::AllocError;
 
-/// An operator's answer as a value or none.
-pub fn value_or_none(answer: Result<Value, EvalStop>) -> Result<Option<Value>, AllocError>
-    ensures { (o : Option Data) → Answers answer o → IfOk result (λ v. option_map data_of v ≡ o) }
-{
-    match answer {
-        Ok(v) => Ok(Some(v)),
-        Err(EvalStop::NoValue) => Ok(None),
-        Err(EvalStop::NoMemory) => Err(AllocError),
-    }
-}
-
 /// An operator's answer as an owned value or none.
 pub fn held_or_none<'a>(answer: Result<Value, EvalStop>) -> Result<Option<Held<'a>>, AllocError>
     ensures { (o : Option Data) → Answers answer o → IfOk result (λ h. option_map held_data h ≡ o) }

@@ -8,7 +8,7 @@ ghost use Rattle.pgo_model.specs.Val.{val, ranges, with_names, name_values, name
 ghost use Rattle.pgo_eval.specs.Choices.{over_bound, AreAt, chosen};
 ghost use Rattle.pgo_eval.specs.ScopeView.{scope_view};
 
-use crate::answers::{from_truth, value_or_none};
+use crate::answers::from_truth;
 use crate::choice::{advance, are_few, start};
 use crate::evaluate::held;
 use crate::held::owned;
@@ -20,6 +20,7 @@ use pgo_base::expr::{Expr, Names, Quantifier};
 use pgo_base::last_place::last_places;
 use pgo_base::name_map::NameMap;
 use pgo_base::value::Value;
+use pgo_sets::answers::value_or_none;
 use pgo_sets::build::function_of;
 use std::alloc::{AllocError, Global};
 

@@ -5,10 +5,10 @@ ghost use Rattle.pgo_base.specs.View.{data_of};
 ghost use Rattle.pgo_model.specs.Sequences.{operators, on_one, on_two, on_three, len, head, tail, append, sub_seq, print};
 ghost use Rattle.pgo_model.specs.Operators.{cardinality};
 
-use crate::answers::value_or_none;
 use crate::words::is_word;
 use pgo_base::text::Text;
 use pgo_base::value::Value;
+use pgo_sets::answers::value_or_none;
 use pgo_sets::sequences::{append, head, len, sub_seq, tail};
 use pgo_sets::set_operators::cardinality;
 use std::alloc::{AllocError, Global};

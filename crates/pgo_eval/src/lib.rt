@@ -12,6 +12,7 @@ mod definitions;
 pub mod eval;
 mod evaluate;
 mod evaluated;
+mod function;
 mod held;
 mod members;
 mod names;

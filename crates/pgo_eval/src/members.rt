@@ -6,11 +6,11 @@ ghost use Rattle.pgo_base.specs.View.{data_of, pair_of};
 ghost use Rattle.pgo_eval.specs.Choices.{over_bound, AreAt, chosen};
 ghost use Rattle.pgo_eval.specs.HeldView.{held_data};
 
-use crate::answers::value_or_none;
 use crate::held::Held;
 use pgo_base::bindings::BoundName;
 use pgo_base::text::Text;
 use pgo_base::value::{Set, Value};
+use pgo_sets::answers::value_or_none;
 use pgo_sets::sequences::sequence_of;
 use std::alloc::{AllocError, Global};
 

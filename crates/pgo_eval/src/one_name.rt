@@ -6,7 +6,6 @@ ghost use Rattle.pgo_base.specs.View.{data_of};
 ghost use Rattle.pgo_model.specs.Val.{val, with_name};
 ghost use Rattle.pgo_eval.specs.ScopeView.{scope_view};
 
-use crate::answers::value_or_none;
 use crate::evaluate::held;
 use crate::held::owned;
 use crate::members::{set_held, truth_in};
@@ -15,6 +14,7 @@ use pgo_base::bindings::Bindings;
 use pgo_base::expr::Expr;
 use pgo_base::text::Text;
 use pgo_base::value::Value;
+use pgo_sets::answers::value_or_none;
 use pgo_sets::build::set_of;
 use std::alloc::{AllocError, Global};
 

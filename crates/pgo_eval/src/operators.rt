@@ -4,12 +4,13 @@ ghost use Rattle.pgo_base.specs.View.{data_of};
 ghost use Rattle.pgo_model.specs.Val.{unary_sem, binary_value, plain};
 ghost use Rattle.pgo_eval.specs.Strict.{is_strict};
 
-use crate::answers::{from_truth, truth, value_or_none};
+use crate::answers::{from_truth, truth};
 use crate::arithmetic::{at_most, difference, less, negative, product, quotient, remainder, sum};
 use crate::truths::{conjunction, either, equivalence, implication, negation};
 use pgo_base::compare::compare;
 use pgo_base::expr::{Infix, Prefix};
 use pgo_base::value::Value;
+use pgo_sets::answers::value_or_none;
 use pgo_sets::functions::{domain, merge, single};
 use pgo_sets::lookup::{member, subset};
 use pgo_sets::powers::power;

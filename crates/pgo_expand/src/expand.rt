@@ -20,7 +20,6 @@ use pgo_base::items::{Copied, Items};
 use pgo_base::results::both;
 use pgo_effects::indexed_macros::IndexedMacros;
 use pgo_heads::indexed_spec::IndexedSpec;
-use pgo_heads::named_archetypes::NamedArchetypes;
 use pgo_pluscal::pluscal::{ExpandedProcess, Header, PlusCal};
 use pgo_syntax::declaration::{Declarations, Definitions};
 use pgo_syntax::spec::Spec;
@@ -30,10 +29,10 @@ use std::alloc::{AllocError, Global};
 fn all_own(alloc: Global, spec: &Spec) -> Result<Vec<Declarations>, AllocError>
     ensures { IfOk result (λ v. v.items ≡ map (own_in spec.now.archetypes) spec.now.processes) }
 {
-    let archetypes = NamedArchetypes::new(alloc, spec.archetypes.as_slice())?;
+    let indexed = IndexedSpec::new(alloc, spec)?;
     let mut list = Vec::new(alloc);
     for process in spec.processes.as_slice() {
-        list.push(own_of(alloc, process, &archetypes)?)?;
+        list.push(own_of(alloc, process, &indexed)?)?;
     }
     Ok(list)
 }
@@ -83,15 +82,13 @@ fn processes(alloc: Global, spec: &Spec, names: &Names) -> Result<Vec<ExpandedPr
     ensures { IfOk result (λ v. v.items ≡ map (process_of spec.now) spec.now.processes) }
 {
     let indexed = IndexedSpec::new(alloc, spec)?;
-    let archetypes = NamedArchetypes::new(alloc, spec.archetypes.as_slice())?;
     let macros = IndexedMacros::new(alloc, spec.macros.as_slice())?;
     let mut list = Vec::new(alloc);
     for process in spec.processes.as_slice() {
-        let own = own_of(alloc, process, &archetypes)?;
+        let own = own_of(alloc, process, &indexed)?;
         list.push(expanded(
             alloc,
             &indexed,
-            &archetypes,
             &macros,
             names.variables.as_slice(),
             process,

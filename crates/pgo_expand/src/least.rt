@@ -8,7 +8,6 @@ ghost use Rattle.pgo_sizes.specs.Left.{left_after};
 
 use crate::labels::bindings;
 use pgo_heads::indexed_spec::IndexedSpec;
-use pgo_heads::named_archetypes::NamedArchetypes;
 use pgo_least_nodes::macros::{MacroCounts, least_nodes, macro_counts};
 use pgo_put_sizes::passes::all_pass;
 use pgo_syntax::archetype::Archetype;
@@ -40,15 +39,13 @@ fn least_of_archetype(
 fn least_of_process(
     alloc: Global,
     spec: &IndexedSpec<'_>,
-    archetypes: &NamedArchetypes<'_>,
     macros: &MacroCounts,
     process: &Process,
 ) -> Result<u64, AllocError>
-    requires archetypes { archetypes.now ≡ spec.now.archetypes }
     requires macros { macros.now ≡ counts_of spec.now.macros }
     ensures { IfOk result (λ n. n ≤ nodes_in (process_expansions spec.now process.now)) }
 {
-    match archetypes.get(&process.archetype.name) {
+    match spec.archetype_named(&process.archetype.name) {
         None => Ok(0),
         Some(archetype) => least_of_archetype(alloc, spec, macros, process, archetype),
     }
@@ -63,10 +60,9 @@ pub fn is_wide(alloc: Global, spec: &Spec) -> Result<bool, AllocError>
 {
     let macros = macro_counts(alloc, spec.macros.as_slice())?;
     let indexed = IndexedSpec::new(alloc, spec)?;
-    let archetypes = NamedArchetypes::new(alloc, spec.archetypes.as_slice())?;
     let mut least: u64 = 0;
     for process in spec.processes.as_slice() {
-        let more = least_of_process(alloc, &indexed, &archetypes, &macros, process)?;
+        let more = least_of_process(alloc, &indexed, &macros, process)?;
         least = least.saturating_add(more);
         if least > 1_048_576 {
             return Ok(true);

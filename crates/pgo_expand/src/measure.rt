@@ -19,7 +19,6 @@ use pgo_effects::indexed_archetype::IndexedArchetype;
 use pgo_effects::indexed_macros::IndexedMacros;
 use pgo_effects::setting::Setting;
 use pgo_heads::indexed_spec::IndexedSpec;
-use pgo_heads::named_archetypes::NamedArchetypes;
 use pgo_measure::heights::joined;
 use pgo_measure::measure::{Size, measure};
 use pgo_rewrite::indexed_bindings::IndexedBindings;
@@ -150,20 +149,18 @@ fn calls_height(alloc: Global, count: usize) -> Result<u64, AllocError>
 fn behind_process<'a>(
     alloc: Global,
     spec: &IndexedSpec<'a>,
-    archetypes: &NamedArchetypes<'a>,
     macros: &IndexedMacros<'_>,
     names: &Names,
     process: &'a Process,
     left: Left,
 ) -> Result<Option<Left>, AllocError>
     requires unlabelled { AreUnlabelled spec.now.macros }
-    requires archetypes { archetypes.now ≡ spec.now.archetypes }
     requires macros { macros.now ≡ spec.now.macros }
     requires variables { names.now.variables.items ≡ variables_of spec.now }
     requires globals { names.now.globals.items ≡ globals_of spec.now }
     ensures { IfOk result (λ o. option_map left_view o ≡ measured_labels (variables_of spec.now) (globals_of spec.now) left.nodes left.height (process_expansions spec.now process.now)) }
 {
-    match archetypes.get(&process.archetype.name) {
+    match spec.archetype_named(&process.archetype.name) {
         None => Ok(Some(told_apart(left))),
         Some(archetype) => behind_archetype(alloc, spec, macros, names, process, archetype, left),
     }
@@ -182,11 +179,10 @@ pub fn behind_all(
     ensures { IfOk result (λ o. option_map left_view o ≡ measured_processes spec.now left.nodes left.height spec.now.processes) }
 {
     let indexed = IndexedSpec::new(alloc, spec)?;
-    let archetypes = NamedArchetypes::new(alloc, spec.archetypes.as_slice())?;
     let macros = IndexedMacros::new(alloc, spec.macros.as_slice())?;
     let mut now = left;
     for process in spec.processes.as_slice() {
-        match behind_process(alloc, &indexed, &archetypes, &macros, names, process, now)? {
+        match behind_process(alloc, &indexed, &macros, names, process, now)? {
             None => return Ok(None),
             Some(behind) => now = behind,
         }

@@ -8,7 +8,7 @@ ghost use Rattle.pgo_pluscal.specs.PlusCalOf.{local_declaration, own_declaration
 
 use pgo_base::items::Items;
 use pgo_base::text::Text;
-use pgo_heads::named_archetypes::NamedArchetypes;
+use pgo_heads::indexed_spec::IndexedSpec;
 use pgo_heads::runs::{Handed, matched};
 use pgo_syntax::archetype::Archetype;
 use pgo_syntax::binding::Origin;
@@ -117,11 +117,11 @@ fn own_by(
 pub fn own_of(
     alloc: Global,
     process: &Process,
-    archetypes: &NamedArchetypes<'_>,
+    spec: &IndexedSpec<'_>,
 ) -> Result<Declarations, AllocError>
-    ensures { IfOk result (λ ds. ds ≡ own_in archetypes.now process.now) }
+    ensures { IfOk result (λ ds. ds ≡ own_in spec.now.archetypes process.now) }
 {
-    match archetypes.get(&process.archetype.name) {
+    match spec.archetype_named(&process.archetype.name) {
         None => Ok(Items::new(alloc)),
         Some(archetype) => own_by(alloc, process, archetype),
     }

@@ -19,7 +19,6 @@ use pgo_effects::indexed_archetype::IndexedArchetype;
 use pgo_effects::indexed_macros::IndexedMacros;
 use pgo_effects::setting::Setting;
 use pgo_heads::indexed_spec::IndexedSpec;
-use pgo_heads::named_archetypes::NamedArchetypes;
 use pgo_pluscal::part::Part;
 use pgo_pluscal::pluscal::{ExpandedProcess, Trees, set_of_ids};
 use pgo_rewrite::indexed_bindings::IndexedBindings;
@@ -95,18 +94,16 @@ fn archetype_trees<'a>(
 fn process_trees<'a>(
     alloc: Global,
     spec: &IndexedSpec<'a>,
-    archetypes: &NamedArchetypes<'a>,
     macros: &IndexedMacros<'_>,
     variables: &[Text],
     process: &'a Process,
 ) -> Result<Trees, AllocError>
     requires unlabelled { AreUnlabelled spec.now.macros }
-    requires archetypes { archetypes.now ≡ spec.now.archetypes }
     requires macros { macros.now ≡ spec.now.macros }
     requires variables { variables.now ≡ variables_of spec.now }
     ensures { IfOk result (λ ts. ts ≡ process_expansions spec.now process.now) }
 {
-    match archetypes.get(&process.archetype.name) {
+    match spec.archetype_named(&process.archetype.name) {
         None => Ok(Items::new(alloc)),
         Some(archetype) => archetype_trees(alloc, spec, macros, variables, process, archetype),
     }
@@ -116,20 +113,18 @@ fn process_trees<'a>(
 pub fn expanded<'a>(
     alloc: Global,
     spec: &IndexedSpec<'a>,
-    archetypes: &NamedArchetypes<'a>,
     macros: &IndexedMacros<'_>,
     variables: &[Text],
     process: &'a Process,
     own: Declarations,
 ) -> Result<ExpandedProcess, AllocError>
     requires unlabelled { AreUnlabelled spec.now.macros }
-    requires archetypes { archetypes.now ≡ spec.now.archetypes }
     requires macros { macros.now ≡ spec.now.macros }
     requires variables { variables.now ≡ variables_of spec.now }
     requires own { own ≡ own_in spec.now.archetypes process.now }
     ensures { IfOk result (λ p. p ≡ process_of spec.now process.now) }
 {
-    let trees = process_trees(alloc, spec, archetypes, macros, variables, process)?;
+    let trees = process_trees(alloc, spec, macros, variables, process)?;
     let ids = set_of_ids(alloc, &process.ids)?;
     let name = process.name.name.copy(alloc)?;
     Ok(ExpandedProcess {

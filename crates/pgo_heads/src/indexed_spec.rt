@@ -1,19 +1,21 @@
-// A specification whose mapping macros are found by name.
+// A specification whose archetypes and mapping macros are found by name.
 ghost use Rattle.std.specs.Prelude.{◌≡◌, option_map, IfOk};
 ghost use Rattle.pgo_bound.specs.Runs as specs;
 
 use pgo_base::last_place::first_of_each;
 use pgo_base::name_map::NameMap;
 use pgo_base::text::Text;
+use pgo_syntax::archetype::Archetype;
 use pgo_syntax::macros::MappingMacro;
 use pgo_syntax::spec::Spec;
 use std::alloc::{AllocError, Global};
 use std::marker::Model;
 
-/// A specification. A mapping macro is found without going over all of them; of several of one name the first counts.
+/// A specification. An archetype and a mapping macro are found without going over all of them; of several of one name the first counts.
 #[derive(Drop)]
 pub struct IndexedSpec<'a> {
     spec: &'a Spec,
+    archetypes: NameMap<&'a Archetype>,
     mappings: NameMap<&'a MappingMacro>,
 }
 
@@ -25,8 +27,8 @@ impl<'a> Model for IndexedSpec<'a> {
     ghost use Rattle.pgo_base.specs.Lookup.{Name};
     ghost use Rattle.pgo_syntax.specs.StatementCode.{coded_statement};
     ghost use Rattle.pgo_syntax.specs.declared.spec.Spec.{Spec};
-    ghost use Rattle.pgo_bound.specs.Runs.{mapping_named};
-    ghost use Rattle.pgo_heads.specs.NameMaps.{mapping_in};
+    ghost use Rattle.pgo_bound.specs.Runs.{archetype_named, mapping_named};
+    ghost use Rattle.pgo_heads.specs.NameMaps.{archetype_in, mapping_in};
 
     ghost Value = { Spec };
 
@@ -34,7 +36,7 @@ impl<'a> Model for IndexedSpec<'a> {
 
     ghost view = { λ s. s.spec.now };
 
-    ghost invariant = { λ s. (n : Name) → mapping_in s.mappings n ≡ mapping_named n s.spec.now.mappings };
+    ghost invariant = { λ s. ((n : Name) → archetype_in s.archetypes n ≡ archetype_named n s.spec.now.archetypes) × ((n : Name) → mapping_in s.mappings n ≡ mapping_named n s.spec.now.mappings) };
 }
 
 impl<'a> IndexedSpec<'a> {
@@ -42,8 +44,13 @@ impl<'a> IndexedSpec<'a> {
     pub fn new(alloc: Global, spec: &'a Spec) -> Result<IndexedSpec<'a>, AllocError>
         ensures { IfOk result (λ s. s ≡ spec.now) }
     {
+        let archetypes = first_of_each(alloc, spec.archetypes.as_slice())?;
         let mappings = first_of_each(alloc, spec.mappings.as_slice())?;
-        Ok(IndexedSpec { spec, mappings })
+        Ok(IndexedSpec {
+            spec,
+            archetypes,
+            mappings,
+        })
     }
 
     /// The specification.
@@ -51,6 +58,13 @@ impl<'a> IndexedSpec<'a> {
         ensures { result.now ≡ self.now }
     {
         self.spec
+    }
+
+    /// The first archetype of the name.
+    pub fn archetype_named(&self, name: &Text) -> Option<&'a Archetype>
+        ensures { option_map (λ r. r.now) result ≡ specs.archetype_named name.now self.now.archetypes }
+    {
+        self.archetypes.get(name).copied()
     }
 
     /// The first mapping macro of the name.

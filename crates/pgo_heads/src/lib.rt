@@ -23,7 +23,6 @@ pub mod instances;
 pub mod kinds;
 pub mod mapping;
 mod mapping_clauses;
-pub mod named_archetypes;
 mod named_globals;
 mod number_map;
 pub mod runs;

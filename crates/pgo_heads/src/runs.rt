@@ -1,10 +1,9 @@
 // A process with its archetype, its arguments and its identifiers.
-ghost use Rattle.std.specs.Prelude.{◌≡◌, map, option_map, IfOk};
+ghost use Rattle.std.specs.Prelude.{◌≡◌, map, IfOk};
 ghost use Rattle.pgo_base.specs.View.{data_of};
 ghost use Rattle.pgo_bound.specs.Runs as specs;
 ghost use Rattle.pgo_heads.specs.Views.{handed_view, run_view};
 
-use pgo_base::text::Text;
 use pgo_base::value::Value;
 use pgo_syntax::archetype::{Archetype, Parameter};
 use pgo_syntax::process::{Argument, Process};
@@ -64,16 +63,4 @@ pub fn matched<'a>(
         })?;
     }
     Ok(list)
-}
-
-/// The first archetype of the name.
-pub fn archetype_named<'a>(name: &Text, archetypes: &'a [Archetype]) -> Option<&'a Archetype>
-    ensures { option_map (λ r. r.now) result ≡ specs.archetype_named name.now archetypes.now }
-{
-    for a in archetypes {
-        if name.is(&a.name.name) {
-            return Some(a);
-        }
-    }
-    None
 }

@@ -1,8 +1,9 @@
 // The tokens of a text before a fault of it, as far as they go. No text is read by them: they serve to find an earlier fault.
-ghost use Rattle.std.specs.Prelude.{◌≡◌, ◌≤◌, ◌<◌, ◌+◌, ◌*◌, ◌++◌, IfOk, drop, length};
+ghost use Rattle.std.specs.Prelude.{◌≡◌, ◌≤◌, ◌<◌, ◌+◌, ◌*◌, ◌++◌, IfErr, IfOk, drop, length};
 ghost use Rattle.std.specs.List.{All};
 ghost use Rattle.pgo_lexer.specs.Ends as spec;
 ghost use Rattle.pgo_lexer.specs.Prefixes.{AreCounted, AreTokensBefore, IsMarkedTo, LexesTo, token_of};
+ghost use Rattle.pgo_lexer.specs.declared.errors.TextStop.TheVariants.{NoMemory};
 
 use crate::bytes::{columns_behind, skip};
 use crate::errors::TextStop;
@@ -60,6 +61,7 @@ pub fn lexed_before(
     ensures tokens { IfOk result (λ ts. LexesTo end column start (drop start text.now) ts) }
     ensures early { IfOk result (All (λ t. t.start < end)) }
     ensures counted { IfOk result AreCounted }
+    ensures memory { IfErr result (λ e. e ≡ NoMemory) }
 {
     let mut tokens = Tokens::new(alloc);
     let mut rest = skip(text, start);
@@ -111,7 +113,8 @@ fn closed(marker: Marker, at: usize) -> Result<Tokens, AllocError>
 
 /// What comes before a fault, where these are the tokens and marks before it.
 fn ended(marker: Marker, fault: usize) -> Result<Before, TextStop>
-    ensures { IfOk result (λ b. (b.tokens ≡ spec.ended fault marker) × (b.fault ≡ fault)) }
+    ensures value { IfOk result (λ b. (b.tokens ≡ spec.ended fault marker) × (b.fault ≡ fault)) }
+    ensures memory { IfErr result (λ e. e ≡ NoMemory) }
 {
     Ok(Before {
         tokens: closed(marker, fault)?,
@@ -123,6 +126,7 @@ fn ended(marker: Marker, fault: usize) -> Result<Before, TextStop>
 pub fn marked_before(alloc: Global, tokens: Tokens, fault: usize) -> Result<Before, TextStop>
     ensures earlier { IfOk result (λ b. b.fault ≤ fault) }
     ensures marked { AreCounted tokens → IfOk result (λ b. IsMarkedTo fault tokens b) }
+    ensures memory { IfErr result (λ e. e ≡ NoMemory) }
 {
     let mut marker = Marker::new(alloc);
     for lexeme in tokens.into_vec() {
@@ -144,6 +148,7 @@ pub fn marked_before(alloc: Global, tokens: Tokens, fault: usize) -> Result<Befo
 pub fn tokens_before(alloc: Global, text: &[u8], fault: usize) -> Result<Before, TextStop>
     ensures earlier { IfOk result (λ b. b.fault ≤ fault) }
     ensures tokens { IfOk result (λ b. AreTokensBefore text.now fault b) }
+    ensures memory { IfErr result (λ e. e ≡ NoMemory) }
 {
     if text.len() > MOST_BYTES {
         return Err(TextStop::NoMemory);

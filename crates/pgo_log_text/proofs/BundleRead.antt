@@ -14,7 +14,7 @@ use Rattle.pgo_log_text.specs.declared.errors.LogStop.{LogStop}
 use Rattle.pgo_log_text.specs.declared.errors.LogStop.TheVariants.{BadLog, NoMemory}
 use Rattle.pgo_log_text.specs.Parsers.{ReadsAs, Reads}
 use Rattle.pgo_log_text.specs.Lines.{constants_part, module_part, log_of}
-use Rattle.pgo_log_text.specs.ReadBundle.{IsReadBundle, IsOnlyBundle, IsNoBundle, IsRefused, IsStopped, stop_of, SpellsOnly, SpellsNone, HasNoModule}
+use Rattle.pgo_log_text.specs.ReadBundle.{IsReadBundle, IsOnlyBundle, IsNoBundle, IsRefused, IsStopped, stop_at, SpellsOnly, SpellsNone, HasNoModule}
 use Rattle.pgo_log_text.proofs.LinesConstants.{head_opened, opened_some, opened_finds, module_some, module_finds, log_of_some, log_of_finds}
 
 -- what the readers gave: constants, the module's bytes, and what stands behind each
@@ -132,12 +132,12 @@ none_without_log text cs x r m head spelled e n ds k b =
 -- ---- why a text is refused
 
 -- a stop with its line
-pub with_line : (text : List ℕ) (stop : LineStop) (s : LogStop) → stop_of s ≡ stop → IsStopped text stop → IsRefused text s
-with_line text stop s e h = go s (subst (λ p. IsStopped text p) (sym e) h)
+pub with_line : (text : List ℕ) (line : ℕ) (stop : LineStop) (s : LogStop) → s ≡ stop_at line stop → IsStopped text stop → IsRefused text s
+with_line text line stop s e h = subst (λ p. IsRefused text p) (sym e) (go stop h)
   where
-    go : (s : LogStop) → IsStopped text (stop_of s) → IsRefused text s
-    go (BadLog l) h = h
-    go NoMemory h = tt
+    go : (stop : LineStop) → IsStopped text stop → IsRefused text (stop_at line stop)
+    go parts.BadLine h = h
+    go parts.NoMemory h = tt
 
 constants_refused_there : (text new : List ℕ) (stop : LineStop) → Reads {A = Vars} (constants_part text) (Err stop) new → IsStopped text stop
 constants_refused_there text new parts.BadLine h = none_without_constants text h

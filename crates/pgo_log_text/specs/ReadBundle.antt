@@ -34,10 +34,10 @@ abbrev pub IsStopped : List ℕ → LineStop → Type 0
 IsStopped text parts.BadLine = IsNoBundle text
 IsStopped text parts.NoMemory = Unit {0}
 
--- what stopped the reader of a part, without its line
-abbrev pub stop_of : LogStop → LineStop
-stop_of (BadLog l) = parts.BadLine
-stop_of NoMemory = parts.NoMemory
+-- what stopped the reader of a part, with its line
+abbrev pub stop_at : ℕ → LineStop → LogStop
+stop_at line parts.BadLine = BadLog line
+stop_at line parts.NoMemory = NoMemory
 
 -- ---- the module of a bundle
 

@@ -10,7 +10,8 @@ use crate::errors::LineStop;
 use crate::numbers::natural_of;
 use crate::value::value_length;
 use pgo_base::text::Text;
-use pgo_text::bytes::{is_digit, is_word_byte};
+use pgo_lexer::bytes::word_length;
+use pgo_text::bytes::is_digit;
 use pgo_text::names::is_name;
 use std::alloc::Global;
 use std::marker::Model;
@@ -35,14 +36,6 @@ fn digits_length(bytes: &[u8]) -> usize
     ensures within { result ≤ length bytes.now }
 {
     bytes.iter().take_while(|b| is_digit(**b)).count()
-}
-
-/// How many word bytes stand at the front.
-fn word_length(bytes: &[u8]) -> usize
-    ensures value { result ≡ prefix_len text.is_word_byte bytes.now }
-    ensures within { result ≤ length bytes.now }
-{
-    bytes.iter().take_while(|b| is_word_byte(**b)).count()
 }
 
 impl<'a> Cursor<'a> {

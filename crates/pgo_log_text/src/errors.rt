@@ -1,7 +1,7 @@
 // Why a bundle was not read.
 ghost use Rattle.std.specs.Prelude.{◌≡◌, ℕ, List};
 ghost use Rattle.pgo_log_text.specs.LineNumbers.{NamesLineOf};
-ghost use Rattle.pgo_log_text.specs.ReadBundle.{IsRefused, stop_of};
+ghost use Rattle.pgo_log_text.specs.ReadBundle.{IsRefused, stop_at};
 
 use crate::line::within;
 use std::alloc::{AllocError, AllocFailed};
@@ -65,7 +65,7 @@ impl<T: Drop> From<AllocFailed<T>> for LineStop {
 impl LineStop {
     /// The text is no bundle from this line on, or there was no memory.
     pub fn at_line(self, line: usize) -> LogStop
-        ensures { stop_of result ≡ self }
+        ensures { result ≡ stop_at line self }
     {
         match self {
             LineStop::BadLine => LogStop::BadLog { line },

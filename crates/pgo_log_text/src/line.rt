@@ -1,10 +1,12 @@
-// The lines of a text by their numbers. That a line is one of the text is proved; which line is named, no clause says.
-ghost use Rattle.std.specs.Prelude.{◌≡◌};
+// The lines of a text by their numbers. The line of a byte is proved, and that a line that is named is one of the text; at which
+// byte a text is refused, no clause says.
+ghost use Rattle.std.specs.Prelude.{◌≡◌, ◌+◌, ◌-◌, ◌^◌, length, take, min};
 ghost use Rattle.pgo_log_text.specs.LineNumbers as spec;
 
 use crate::lines::are_named;
 use pgo_base::consts::Consts;
 use pgo_base::expr::Names;
+use pgo_base::slices;
 use pgo_lexer::bytes::skip;
 use pgo_lexer::errors::TextStop;
 use pgo_module_read::refusal::refusal;
@@ -31,13 +33,16 @@ pub fn within(text: &[u8], line: usize) -> usize
 }
 
 /// The line of the byte at this place, where the first line has this number.
-pub fn line_at(text: &[u8], place: usize, first: usize) -> usize {
-    let before = text.iter().take(place).filter(|b| **b == b'\n').count();
-    first.saturating_add(before)
+pub fn line_at(text: &[u8], place: usize, first: usize) -> usize
+    ensures { result ≡ min (first + spec.newlines (take place text.now)) (2 ^ 64 - 1) }
+{
+    first.saturating_add(newlines(slices::first(text, place)))
 }
 
 /// The line of the byte before which so many are left.
-pub fn line_before(text: &[u8], left: usize) -> usize {
+pub fn line_before(text: &[u8], left: usize) -> usize
+    ensures { result ≡ min (1 + spec.newlines (take (length text.now - left) text.now)) (2 ^ 64 - 1) }
+{
     line_at(text, text.len().saturating_sub(left), 1)
 }
 

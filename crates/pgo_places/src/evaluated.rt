@@ -16,8 +16,8 @@ use pgo_base::expr::Sub;
 use pgo_base::module::Defs;
 use pgo_base::scope::{Env, State};
 use pgo_base::value::Value;
-use pgo_definitions::evaluate::optional;
 use pgo_eval::eval::eval;
+use pgo_sets::answers::value_or_none;
 use pgo_syntax::bound::Bound;
 use std::alloc::{AllocError, Global};
 
@@ -49,7 +49,7 @@ fn value_here(
         state: &state,
         next: None,
     };
-    optional(eval(alloc, frame.definitions, expression.get(), &env))
+    value_or_none(eval(alloc, frame.definitions, expression.get(), &env))
 }
 
 /// What the expression is, after which no global is seen.

@@ -4,3 +4,4 @@ pub mod Added
 pub mod Depths
 pub mod OwnNames
 pub mod Rows
+pub mod ParameterNames

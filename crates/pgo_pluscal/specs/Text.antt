@@ -7,6 +7,7 @@ use Rattle.pgo_base.specs.Lookup.{Name}
 use Rattle.pgo_base.specs.Tree.{Tree}
 use Rattle.pgo_model.specs.ExprText.{expr_text}
 use Rattle.pgo_model.specs.ModuleText.{flatten}
+pub use Rattle.pgo_model.specs.ModuleText.{parameters_text}
 use Rattle.pgo_syntax.specs.declared.binding.Origin.{Origin}
 use Rattle.pgo_syntax.specs.declared.binding.Origin.TheVariants as origins
 use Rattle.pgo_syntax.specs.declared.declaration.Declaration.{Declaration}
@@ -46,10 +47,6 @@ declaration_text d = d.name.name ++ initial_text d.initial
 abbrev pub variables_text : List Declaration → List ℕ
 variables_text [] = []
 variables_text (d ∷ ds) = line 1 (codes "variables " ∷ listed (map declaration_text (d ∷ ds)) ∷ codes ";" ∷ [])
-
-abbrev pub parameters_text : List Name → List ℕ
-parameters_text [] = []
-parameters_text (x ∷ xs) = codes "(" ++ listed (x ∷ xs) ++ codes ")"
 
 abbrev pub definition_text : Definition → List ℕ
 definition_text d =

@@ -12,7 +12,8 @@ use pgo_base::results::both;
 use pgo_base::scope::State;
 use pgo_base::text::Text;
 use pgo_base::value::Value;
-use pgo_heads::runs::{Handed, archetype_named, matched};
+use pgo_heads::indexed_spec::IndexedSpec;
+use pgo_heads::runs::{Handed, matched};
 use pgo_syntax::archetype::Archetype;
 use pgo_syntax::bound::{Bound, Instance, Resource, Resources};
 use pgo_syntax::process::{Argument, Process};
@@ -132,17 +133,21 @@ fn names_by(
 }
 
 /// The names of a process; none where it hasn't its archetype.
-fn names_of(alloc: Global, spec: &Spec, process: &Process) -> Result<Items<Text>, AllocError>
+fn names_of(
+    alloc: Global,
+    spec: &IndexedSpec<'_>,
+    process: &Process,
+) -> Result<Items<Text>, AllocError>
     ensures { IfOk result (λ v. v ≡ own_names spec.now process.now) }
 {
-    match archetype_named(&process.archetype.name, spec.archetypes.as_slice()) {
+    match spec.archetype_named(&process.archetype.name) {
         None => Ok(Items::new(alloc)),
         Some(archetype) => names_by(alloc, process, archetype),
     }
 }
 
 /// A process with its names.
-fn own_of(alloc: Global, spec: &Spec, process: &Process) -> Result<OwnNames, AllocError>
+fn own_of(alloc: Global, spec: &IndexedSpec<'_>, process: &Process) -> Result<OwnNames, AllocError>
     ensures { IfOk result (λ o. own_view o ≡ own_in spec.now process.now) }
 {
     let (names, process) = both(
@@ -156,9 +161,10 @@ fn own_of(alloc: Global, spec: &Spec, process: &Process) -> Result<OwnNames, All
 fn all_own(alloc: Global, spec: &Spec) -> Result<Vec<OwnNames>, AllocError>
     ensures { IfOk result (λ v. map own_view v.items ≡ map (own_in spec.now) spec.now.processes) }
 {
+    let indexed = IndexedSpec::new(alloc, spec)?;
     let mut list = Vec::new(alloc);
     for p in spec.processes.as_slice() {
-        list.push(own_of(alloc, spec, p)?)?;
+        list.push(own_of(alloc, &indexed, p)?)?;
     }
     Ok(list)
 }

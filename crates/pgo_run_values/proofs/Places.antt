@@ -29,12 +29,12 @@ use Rattle.pgo_bound.specs.Lookups.{same_equal, same_of}
 use Rattle.pgo_bound.specs.Sound.{IsLabel, labels_among}
 use Rattle.pgo_bound.specs.State.{AreDifferent, IsState, id_of, identifiers, variables_of}
 use Rattle.pgo_systems.specs.Premises.{AllAtLabels}
-use Rattle.pgo_systems.proofs.Lists.{length_keys, of_ordered, ordered_few}
+use Rattle.pgo_values.proofs.Lists.{length_keys, of_ordered, ordered_few}
 use Rattle.pgo_agrees.specs.Accepted.{ArchetypeOfText, IsOfText, LabelOfText, ProcessOfText}
 use Rattle.pgo_agrees.proofs.Instances.{runs_as}
 use Rattle.pgo_run_values.specs.Spellable.{IsSpellable, PairsSpellable, spellable}
 use Rattle.pgo_run_values.proofs.Bytes.{name_bytes}
-use Rattle.pgo_systems.proofs.Operators.{pairs_ordered}
+use Rattle.pgo_values.proofs.Operators.{pairs_ordered}
 
 -- ---- labels
 

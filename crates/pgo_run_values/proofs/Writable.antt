@@ -1,16 +1,16 @@
 -- Values of this kind have counted sets, and their canonical text is read back.
 use Rattle.std.proofs.Common.{◌≡◌, ◌≤◌, ◌&&◌, true, nat_le, [], ◌∷◌, length, refl}
-use Rattle.std.proofs.lemmas.Bool.{and_from}
+use Rattle.std.proofs.lemmas.Bool.{and_from, leb-true}
 use Rattle.pgo_base.specs.Data.{Data, boolean, integer, string, model, set, function, Items, no_items, item, members, Pairs, no_pairs, pair, graph}
 use Rattle.pgo_base.specs.Lookup.{Vars}
 use Rattle.pgo_base.specs.Size.{depth}
 use Rattle.pgo_model.specs.Operators.{most_members}
 use Rattle.pgo_value_text.specs.IsValueText.{is_small, are_small, all_small, most_depth}
 use Rattle.pgo_value_text.specs.Writable.{IsWritable, is_spellable, are_spellable, all_spellable}
-use Rattle.pgo_systems.specs.Counted.{IsCounted, AllCounted, counted}
-use Rattle.pgo_systems.specs.Within.{AreWithin, PairsWithin}
+use Rattle.pgo_systems.specs.Counted.{IsCounted, AllCounted, counted, few_fit}
+use Rattle.pgo_values.specs.Within.{AreWithin, PairsWithin}
 use Rattle.pgo_systems.proofs.States.{is_value}
-use Rattle.pgo_run_values.specs.Spellable.{IsSpellable, AllSpellable, PairsSpellable, few_fit, spellable}
+use Rattle.pgo_run_values.specs.Spellable.{IsSpellable, AllSpellable, PairsSpellable, spellable}
 
 mutual
   pub is_counted : (v : Data) → IsSpellable v → IsCounted v
@@ -18,7 +18,7 @@ mutual
   is_counted (integer z) h = h
   is_counted (string s) h = refl
   is_counted (model s) h = refl
-  is_counted (set xs) h = (are_counted xs h.0, h.1, few_fit (length (members xs)) h.2)
+  is_counted (set xs) h = (are_counted xs h.0, h.1, few_fit (length (members xs)) (leb-true (length (members xs)) most_members h.2))
   is_counted (function ps) h = (pairs_counted ps h.0, h.1, refl)
 
   are_counted : (xs : Items) → AreWithin spellable xs → AreWithin counted xs
@@ -68,4 +68,4 @@ mutual
   few_pairs (pair k v ps) h = and_from (is_small k && is_small v) (all_small ps) (and_from (is_small k) (is_small v) (few k h.0) (few v h.1)) (few_pairs ps h.2)
 
 pub is_writable : (v : Data) → IsSpellable v → depth v ≤ most_depth → IsWritable v
-is_writable v h low = record { value = is_value spellable v h; shallow = low; spellable = spells v h; small = few v h }
+is_writable v h low = record { value = is_value v (is_counted v h); shallow = low; spellable = spells v h; small = few v h }

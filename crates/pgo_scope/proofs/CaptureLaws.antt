@@ -120,6 +120,11 @@ bound_more us i u x n old new all low at h k =
     ap (λ b. b || (is_bound_in false rest x && n)) h ∙ parts old (binds_of x u u.form) (is_bound_in false rest x) n
     ∙ ap (λ b. old || (b && n)) (bound_first u rest x ∙ ap (λ l. is_bound_in false l x) (sym left)) ∙ k
 
+-- what is there only under a condition
+pub under : (b c : Bool) → (b ≡ false → c ≡ false) → b && c ≡ c
+under true c h = refl
+under false c h = sym (h refl)
+
 -- what may not stand in the argument for each parameter
 pub parameters_are : (table : CaptureTable) (us : List Use) (b : Binders) (k : HandedOn) (own : BTreeSet ℕ) → ((x : Name) → some_binds b own x ≡ is_bound_in false us x) → ((p : Name) (x : Name) → is_handed b k p x ≡ some_capture false table p us x) → (ps : List Name) → map (is_captured b k own) ps ≡ forbidden_for_each table us ps
 parameters_are table us b k own bound h [] = refl

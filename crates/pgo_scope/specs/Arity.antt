@@ -1,5 +1,5 @@
 -- Rule 3: a name has another number of arguments than its meaning takes. A name alone, and a left side, has none.
-use Rattle.std.specs.Prelude.{ℕ, not, if◌then◌else◌, nat_eq, List, [], ◌∷◌, ◌++◌, length, Option, Some, None}
+use Rattle.std.specs.Prelude.{ℕ, not, if◌then◌else◌, nat_eq, List, [], ◌∷◌, ◌++◌, length, Option, Some, None, flat_map}
 use Rattle.pgo_base.specs.Lookup.{Name, find}
 use Rattle.pgo_syntax.specs.declared.process.Process.{Process}
 use Rattle.pgo_syntax.specs.declared.spec.Spec.{Spec}
@@ -12,7 +12,7 @@ use Rattle.pgo_uses.specs.Tables.{tables_of, operator_rows}
 use Rattle.pgo_uses.specs.AllUses.{all_uses}
 use Rattle.pgo_scope.specs.declared.errors.ScopeError.TheVariants as errors
 use Rattle.pgo_scope.specs.declared.finding.Finding.{Finding}
-use Rattle.pgo_scope.specs.Findings.{found_if, each_use}
+use Rattle.pgo_scope.specs.Findings.{found_if}
 
 -- one of these, and else the other
 abbrev pub or_number : Option ℕ → ℕ → ℕ
@@ -52,4 +52,4 @@ arity_heads ts (p ∷ ps) =
     wrong_number ts.archetypes p.archetype.name (length p.arguments) p.archetype.place ++ arity_heads ts ps
 
 abbrev pub wrong_arities : Spec → List Finding
-wrong_arities s = each_use (arity_use (tables_of s)) (all_uses s) ++ arity_heads (tables_of s) s.processes
+wrong_arities s = flat_map (arity_use (tables_of s)) (all_uses s) ++ arity_heads (tables_of s) s.processes

@@ -1,5 +1,5 @@
 -- Rule 5: what may not be assigned is assigned, in the text or by a macro's body put in place of its call.
-use Rattle.std.specs.Prelude.{Bool, true, false, not, ◌||◌, if◌then◌else◌, List, [], ◌∷◌, ◌++◌, slice_get, Option, Some, None}
+use Rattle.std.specs.Prelude.{Bool, true, false, not, ◌||◌, if◌then◌else◌, List, [], ◌∷◌, ◌++◌, slice_get, Option, Some, None, flat_map}
 use Rattle.pgo_base.specs.Tree.{Tree}
 use Rattle.pgo_base.specs.Lookup.{Name, same_name}
 use Rattle.pgo_model.specs.Names.{is_among}
@@ -18,7 +18,7 @@ use Rattle.pgo_uses.specs.AllUses.{all_uses, names_of, variable_names}
 use Rattle.pgo_scope.specs.declared.errors.ScopeError.TheVariants as errors
 use Rattle.pgo_scope.specs.declared.finding.Finding.{Finding}
 use Rattle.pgo_scope.specs.declared.usage.Usage.{Usage}
-use Rattle.pgo_scope.specs.Findings.{found_if, found_where, each_use}
+use Rattle.pgo_scope.specs.Findings.{found_if, found_where}
 use Rattle.pgo_scope.specs.Usage.{MacroTable, macro_table, parameters_of, is_assigned, left_base}
 
 -- the names of `ref` parameters
@@ -69,4 +69,4 @@ abbrev pub assigned_use : Spec → MacroTable → Use → List Finding
 assigned_use s table u = assigned_of s table u u.form
 
 abbrev pub wrong_assignments : Spec → List Finding
-wrong_assignments s = each_use (assigned_use s (macro_table s.macros)) (all_uses s)
+wrong_assignments s = flat_map (assigned_use s (macro_table s.macros)) (all_uses s)

@@ -28,16 +28,6 @@ found_if b p e = if b then record { place = p; error = e } ∷ [] else []
 abbrev pub found_where : Bool → List Finding → List Finding
 found_where b fs = if b then fs else []
 
--- the findings of a rule about each name that stands in the text
-abbrev pub each_use : (Use → List Finding) → List Use → List Finding
-each_use f [] = []
-each_use f (u ∷ us) = f u ++ each_use f us
-
--- the findings of a rule about each of these names
-abbrev pub each_name : (PlacedName → List Finding) → List PlacedName → List Finding
-each_name f [] = []
-each_name f (x ∷ xs) = f x ++ each_name f xs
-
 -- the first one in the text; of one place, the one that is listed first
 abbrev pub earliest : List Finding → Option ScopeError
 earliest fs = option_map (λ f. f.error) (least (λ f. f.place) fs)

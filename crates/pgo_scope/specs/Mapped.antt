@@ -1,5 +1,5 @@
 -- Rule 6: a mapped parameter is read where it may not be, or lacks its one index, or is assigned with a further path.
-use Rattle.std.specs.Prelude.{ℕ, suc, Bool, true, false, not, ◌&&◌, ◌||◌, if◌then◌else◌, nat_eq, List, [], ◌∷◌, ◌++◌, slice_get, Option, Some, None}
+use Rattle.std.specs.Prelude.{ℕ, suc, Bool, true, false, not, ◌&&◌, ◌||◌, if◌then◌else◌, nat_eq, List, [], ◌∷◌, ◌++◌, slice_get, Option, Some, None, flat_map}
 use Rattle.pgo_base.specs.Tree.{Tree}
 use Rattle.pgo_base.specs.Lookup.{Name, same_name}
 use Rattle.pgo_syntax.specs.declared.archetype.Archetype.{Archetype}
@@ -29,7 +29,7 @@ use Rattle.pgo_scope.specs.declared.finding.Finding.{Finding}
 use Rattle.pgo_scope.specs.declared.mapped.Mapped.{Mapped}
 use Rattle.pgo_scope.specs.declared.mapped.Mapped.TheVariants.{Unmapped, AsWhole, ByElement}
 use Rattle.pgo_scope.specs.declared.usage.Usage.{Usage}
-use Rattle.pgo_scope.specs.Findings.{found_if, found_where, each_use}
+use Rattle.pgo_scope.specs.Findings.{found_if, found_where}
 use Rattle.pgo_scope.specs.Usage.{MacroTable, macro_table, parameters_of, join, left_base, left_shape, left_uses}
 
 -- the argument is this global as a `ref`
@@ -104,7 +104,7 @@ read_use s u = read_of s u u.form
 
 -- an argument where its parameter is read so
 abbrev pub argument_read : Spec → Around → Bool → Bool → Tree → List Finding
-argument_read s a hidden indexed t = each_use (read_use s) (uses [] (record a { hidden = hidden; indexed = indexed }) t)
+argument_read s a hidden indexed t = flat_map (read_use s) (uses [] (record a { hidden = hidden; indexed = indexed }) t)
 
 abbrev pub base_written : Spec → Around → Option Name → Shape → List Finding
 base_written s a None shape = []
@@ -114,7 +114,7 @@ base_written s a (Some x) shape = mapped_write s a x shape
 abbrev pub argument_written : Spec → Around → Shape → Tree → List Finding
 argument_written s a shape t =
     base_written s a (left_base t) (join (left_shape t) shape)
-    ++ each_use (read_use s) (left_uses [] (inside a) t)
+    ++ flat_map (read_use s) (left_uses [] (inside a) t)
 
 -- an argument as its parameter is read
 abbrev pub argument_reads : Spec → Around → Usage → Tree → List Finding
@@ -147,4 +147,4 @@ abbrev pub mapped_use : Spec → MacroTable → Use → List Finding
 mapped_use s table u = mapped_use_of s table u u.form
 
 abbrev pub mapped_here : Spec → List Finding
-mapped_here s = each_use (mapped_use s (macro_table s.macros)) (all_uses s)
+mapped_here s = flat_map (mapped_use s (macro_table s.macros)) (all_uses s)

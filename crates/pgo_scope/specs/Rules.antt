@@ -1,6 +1,6 @@
 -- What each rule finds, over what the code has at hand: the specification, its tables, the table of its macros, and the
 -- names that stand in its text.
-use Rattle.std.specs.Prelude.{List, [], ◌++◌, Option}
+use Rattle.std.specs.Prelude.{List, [], ◌++◌, Option, flat_map}
 use Rattle.pgo_syntax.specs.declared.spec.Spec.{Spec}
 use Rattle.pgo_uses.specs.declared.tables.Tables.{Tables}
 use Rattle.pgo_uses.specs.declared.uses.Use.{Use}
@@ -13,7 +13,7 @@ use Rattle.pgo_scope.specs.declared.rules.Rule.{Rule}
 use Rattle.pgo_scope.specs.declared.rules.Rule.TheVariants as rules
 use Rattle.pgo_scope.specs.declared.rules.UseRule.{UseRule}
 use Rattle.pgo_scope.specs.declared.rules.UseRule.TheVariants as use_rules
-use Rattle.pgo_scope.specs.Findings.{each_name, each_use, earliest}
+use Rattle.pgo_scope.specs.Findings.{earliest}
 use Rattle.pgo_scope.specs.Unknown.{unknown_use, unknown_heads}
 use Rattle.pgo_scope.specs.Twice.{CaptureTable, captures, declared_twice, reserved_name, hiding_use, capture_use}
 use Rattle.pgo_scope.specs.Arity.{arity_use, arity_heads}
@@ -47,7 +47,7 @@ use_findings use_rules.Mapped c = mapped_use c.spec c.macros
 use_findings use_rules.Underscores c = double_use
 
 abbrev pub uses_findings : UseRule → Context → List Finding
-uses_findings r c = each_use (use_findings r c) c.uses
+uses_findings r c = flat_map (use_findings r c) c.uses
 
 abbrev pub unknown : Context → List Finding
 unknown c = uses_findings use_rules.Unknown c ++ unknown_heads c.tables c.spec.processes
@@ -56,7 +56,7 @@ abbrev pub hidden : Context → List Finding
 hidden c = uses_findings use_rules.Hiding c ++ uses_findings use_rules.Captured c
 
 abbrev pub twice : Context → List Finding
-twice c = declared_twice c.spec ++ each_name reserved_name (unit_names c.spec) ++ hidden c
+twice c = declared_twice c.spec ++ flat_map reserved_name (unit_names c.spec) ++ hidden c
 
 abbrev pub arities : Context → List Finding
 arities c = uses_findings use_rules.Arity c ++ arity_heads c.tables c.spec.processes
@@ -65,7 +65,7 @@ abbrev pub clashes : Context → List Finding
 clashes c = clashes_from [] (module_names_with c.spec c.uses)
 
 abbrev pub underscores : Context → List Finding
-underscores c = each_name double_name (head_names c.spec) ++ uses_findings use_rules.Underscores c
+underscores c = flat_map double_name (head_names c.spec) ++ uses_findings use_rules.Underscores c
 
 abbrev pub found_by : Rule → Context → List Finding
 found_by rules.Unknown c = unknown c

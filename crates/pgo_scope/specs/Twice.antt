@@ -1,5 +1,5 @@
 -- Rule 2: a name has two meanings.
-use Rattle.std.specs.Prelude.{ℕ, suc, Bool, true, false, not, ◌&&◌, ◌||◌, if◌then◌else◌, List, [], ◌∷◌, ◌++◌, Option, Some, None}
+use Rattle.std.specs.Prelude.{ℕ, suc, Bool, true, false, not, ◌&&◌, ◌||◌, if◌then◌else◌, List, [], ◌∷◌, ◌++◌, Option, Some, None, flat_map}
 use Rattle.pgo_base.specs.Tree.{Tree}
 use Rattle.pgo_base.specs.Lookup.{Name, same_name}
 use Rattle.pgo_model.specs.Written.{self_name, default_init_value}
@@ -22,7 +22,7 @@ use Rattle.pgo_scope.specs.declared.errors.ScopeError.TheVariants as errors
 use Rattle.pgo_scope.specs.declared.finding.Finding.{Finding}
 use Rattle.pgo_scope.specs.declared.twice.Heads.{Heads}
 use Rattle.pgo_scope.specs.declared.twice.Heads.TheVariants.{Shared, Macros, Mappings, Archetypes, Processes}
-use Rattle.pgo_scope.specs.Findings.{found_if, each_use, each_name}
+use Rattle.pgo_scope.specs.Findings.{found_if}
 use Rattle.pgo_scope.specs.TextOrder.{in_text_order}
 use Rattle.pgo_scope.specs.Unknown.{knows_self}
 use Rattle.pgo_scope.specs.Usage.{item_at}
@@ -174,7 +174,7 @@ abbrev pub captured_use : (Name → Bool) → Use → List Finding
 captured_use f u = captured_of f u u.form
 
 abbrev pub captured_at : (Name → Bool) → Around → Tree → List Finding
-captured_at f a t = each_use (captured_use f) (uses [] a t)
+captured_at f a t = flat_map (captured_use f) (uses [] a t)
 
 -- the names in all of these arguments that may not stand there
 abbrev pub captured_behind : (Name → Bool) → Around → List Tree → List Finding
@@ -201,5 +201,5 @@ capture_use table u = call_captures table u u.form
 abbrev pub names_twice : Spec → List Finding
 names_twice s =
     declared_twice s
-    ++ each_name reserved_name (unit_names s)
-    ++ (each_use (hiding_use (tables_of s)) (all_uses s) ++ each_use (capture_use (captures s.macros)) (all_uses s))
+    ++ flat_map reserved_name (unit_names s)
+    ++ (flat_map (hiding_use (tables_of s)) (all_uses s) ++ flat_map (capture_use (captures s.macros)) (all_uses s))

@@ -1,5 +1,5 @@
 -- Rule 8: an identifier holds `__`. Names that the translation makes are told from others by it.
-use Rattle.std.specs.Prelude.{Bool, false, ◌&&◌, ◌||◌, nat_eq, List, [], ◌∷◌, ◌++◌}
+use Rattle.std.specs.Prelude.{Bool, false, ◌&&◌, ◌||◌, nat_eq, List, [], ◌∷◌, ◌++◌, flat_map}
 use Rattle.pgo_base.specs.Lookup.{Name}
 use Rattle.pgo_syntax.specs.declared.name.PlacedName.{PlacedName}
 use Rattle.pgo_syntax.specs.declared.spec.Spec.{Spec}
@@ -8,7 +8,7 @@ use Rattle.pgo_uses.specs.Heads.{head_names}
 use Rattle.pgo_uses.specs.AllUses.{all_uses}
 use Rattle.pgo_scope.specs.declared.errors.ScopeError.TheVariants as errors
 use Rattle.pgo_scope.specs.declared.finding.Finding.{Finding}
-use Rattle.pgo_scope.specs.Findings.{found_if, each_use, each_name}
+use Rattle.pgo_scope.specs.Findings.{found_if}
 
 -- two `_`, one behind the other
 abbrev pub has_double : Name → Bool
@@ -24,4 +24,4 @@ double_name x = found_if (has_double x.name) x.place (errors.DoubleUnderscore x.
 
 -- at one place the name that is declared there comes before those in its expressions
 abbrev pub double_underscores : Spec → List Finding
-double_underscores s = each_name double_name (head_names s) ++ each_use double_use (all_uses s)
+double_underscores s = flat_map double_name (head_names s) ++ flat_map double_use (all_uses s)

@@ -3,7 +3,7 @@
 -- A name of an expression or of a left side has one where a binder, a `with` or the head of its unit gives it one, and
 -- else by where it stands: in each home those below. A global's name is no unknown name: where it may not stand is a rule
 -- of its own.
-use Rattle.std.specs.Prelude.{ℕ, Bool, true, false, not, ◌&&◌, ◌||◌, List, [], ◌∷◌, ◌++◌, slice_get, Option, Some, None}
+use Rattle.std.specs.Prelude.{ℕ, Bool, true, false, not, ◌&&◌, ◌||◌, List, [], ◌∷◌, ◌++◌, slice_get, Option, Some, None, flat_map}
 use Rattle.pgo_base.specs.Lookup.{Name, same_name}
 use Rattle.pgo_model.specs.Names.{is_among}
 use Rattle.pgo_model.specs.Written.{self_name, default_init_value}
@@ -27,7 +27,7 @@ use Rattle.pgo_uses.specs.Tables.{tables_of, operator_rows}
 use Rattle.pgo_uses.specs.AllUses.{all_uses, parameter_names, variable_names}
 use Rattle.pgo_scope.specs.declared.errors.ScopeError.TheVariants as errors
 use Rattle.pgo_scope.specs.declared.finding.Finding.{Finding}
-use Rattle.pgo_scope.specs.Findings.{found_if, each_use}
+use Rattle.pgo_scope.specs.Findings.{found_if}
 
 -- constants, operators and `defaultInitValue` have a meaning everywhere
 abbrev pub is_constant : Tables → Name → Bool
@@ -116,4 +116,4 @@ unknown_heads ts (p ∷ ps) =
 
 abbrev pub unknown_names : Spec → List Finding
 unknown_names s =
-    each_use (unknown_use (tables_of s) s.archetypes) (all_uses s) ++ unknown_heads (tables_of s) s.processes
+    flat_map (unknown_use (tables_of s) s.archetypes) (all_uses s) ++ unknown_heads (tables_of s) s.processes

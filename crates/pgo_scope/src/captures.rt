@@ -1,10 +1,9 @@
 // Rule 2, its fourth case: a name that a macro binds stands in an argument of a call of it.
-ghost use Rattle.std.specs.Prelude.{◌≡◌, ℕ, false, ◌&&◌, ◌++◌, map, slice_get, option_map, unwrap_or, IfOk};
+ghost use Rattle.std.specs.Prelude.{◌≡◌, ℕ, false, ◌&&◌, ◌++◌, map, slice_get, option_map, unwrap_or, IfOk, flat_map};
 ghost use Rattle.pgo_base.specs.ExprView.{tree};
 ghost use Rattle.pgo_base.specs.Lookup.{Name};
 ghost use Rattle.pgo_uses.specs.AllUses.{names_of};
 ghost use Rattle.pgo_scope.specs.Binders.{binds, bound_at, some_binds, is_handed, is_captured, see_macro_captures, see_captures};
-ghost use Rattle.pgo_scope.specs.Findings.{each_use};
 ghost use Rattle.pgo_scope.specs.Twice as spec;
 ghost use Rattle.pgo_scope.specs.declared.binders.Binders.{Binders as SpecBinders};
 
@@ -147,7 +146,7 @@ fn handed_places(
 
 /// Whether a name is bound among these.
 fn binds_some(uses: &[Use]) -> bool
-    ensures { (x : Name) → spec.is_bound_in false uses.now x ≡ (result && spec.is_bound_in false uses.now x) }
+    ensures { result ≡ false → (x : Name) → spec.is_bound_in false uses.now x ≡ false }
 {
     for u in uses {
         let Form::Bound = &u.form else {
@@ -238,7 +237,7 @@ fn add_captured_uses(
     uses: &[Use],
     out: &mut Vec<Finding>,
 ) -> Result<(), AllocError>
-    ensures { IfOk result (λ _. out.new.items ≡ out.old.items ++ each_use (spec.captured_use (some_binds binders.now places.now)) uses.now) }
+    ensures { IfOk result (λ _. out.new.items ≡ out.old.items ++ flat_map (spec.captured_use (some_binds binders.now places.now)) uses.now) }
 {
     for u in uses {
         add_captured_use(alloc, binders, places, u, out)?;

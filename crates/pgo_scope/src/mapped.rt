@@ -1,7 +1,7 @@
 // Rule 6: a mapped parameter is read or assigned in a form in which it may not be.
-ghost use Rattle.std.specs.Prelude.{◌≡◌, ◌++◌, map, option_map, IfOk};
+ghost use Rattle.std.specs.Prelude.{◌≡◌, ◌++◌, map, option_map, IfOk, flat_map};
 ghost use Rattle.pgo_base.specs.ExprView.{tree};
-ghost use Rattle.pgo_scope.specs.Findings.{each_use, found_where};
+ghost use Rattle.pgo_scope.specs.Findings.{found_where};
 ghost use Rattle.pgo_scope.specs.MacroTableView.{see_table, see_usage};
 ghost use Rattle.pgo_scope.specs.Mapped as spec;
 
@@ -109,7 +109,7 @@ fn add_read_uses(
     uses: &[Use],
     out: &mut Vec<Finding>,
 ) -> Result<(), AllocError>
-    ensures { IfOk result (λ _. out.new.items ≡ out.old.items ++ each_use (spec.read_use units.now.spec.now) uses.now) }
+    ensures { IfOk result (λ _. out.new.items ≡ out.old.items ++ flat_map (spec.read_use units.now.spec.now) uses.now) }
 {
     for u in uses {
         let Form::Alone = &u.form else {

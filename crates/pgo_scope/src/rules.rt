@@ -1,6 +1,5 @@
 // What each rule finds, rule by rule.
-ghost use Rattle.std.specs.Prelude.{◌≡◌, ◌++◌, map, IfOk};
-ghost use Rattle.pgo_scope.specs.Findings.{each_use};
+ghost use Rattle.std.specs.Prelude.{◌≡◌, ◌++◌, map, IfOk, flat_map};
 ghost use Rattle.pgo_scope.specs.Refusal.{first_broken};
 ghost use Rattle.pgo_scope.specs.Rules as spec;
 ghost use Rattle.pgo_scope.specs.RulesView.{see};
@@ -118,7 +117,7 @@ fn add_uses(
     c: &Context<'_, '_>,
     out: &mut Vec<Finding>,
 ) -> Result<(), AllocError>
-    ensures { IfOk result (λ _. out.new.items ≡ out.old.items ++ each_use (spec.use_findings rule (see c.now)) (see c.now).uses) }
+    ensures { IfOk result (λ _. out.new.items ≡ out.old.items ++ flat_map (spec.use_findings rule (see c.now)) (see c.now).uses) }
 {
     for u in c.uses {
         add_use(alloc, rule, c, u, out)?;

@@ -1,7 +1,6 @@
 // Rule 2: a name has two meanings, but for macros' arguments.
-ghost use Rattle.std.specs.Prelude.{◌≡◌, [], ◌++◌, IfOk};
+ghost use Rattle.std.specs.Prelude.{◌≡◌, [], ◌++◌, IfOk, flat_map};
 ghost use Rattle.pgo_uses.specs.PieceView.{placed_names};
-ghost use Rattle.pgo_scope.specs.Findings.{each_name};
 ghost use Rattle.pgo_scope.specs.TextOrder.{in_text_order};
 ghost use Rattle.pgo_scope.specs.Twice as spec;
 
@@ -113,7 +112,7 @@ pub fn add_reserved(
     list: &[&PlacedName],
     out: &mut Vec<Finding>,
 ) -> Result<(), AllocError>
-    ensures { IfOk result (λ _. out.new.items ≡ out.old.items ++ each_name spec.reserved_name (placed_names list.now)) }
+    ensures { IfOk result (λ _. out.new.items ≡ out.old.items ++ flat_map spec.reserved_name (placed_names list.now)) }
 {
     for x in list {
         let reserved = is_reserved(&x.name);

@@ -1,6 +1,5 @@
 // Rule 8: an identifier holds `__`.
-ghost use Rattle.std.specs.Prelude.{◌≡◌, ◌++◌, map, IfOk};
-ghost use Rattle.pgo_scope.specs.Findings.{each_name};
+ghost use Rattle.std.specs.Prelude.{◌≡◌, ◌++◌, map, IfOk, flat_map};
 ghost use Rattle.pgo_scope.specs.Underscores as spec;
 
 use crate::finding::{Cause, Finding, add_if};
@@ -14,7 +13,7 @@ pub fn add_double_names(
     names: &[&PlacedName],
     out: &mut Vec<Finding>,
 ) -> Result<(), AllocError>
-    ensures { IfOk result (λ _. out.new.items ≡ out.old.items ++ each_name spec.double_name (map (λ x. x.now) names.now)) }
+    ensures { IfOk result (λ _. out.new.items ≡ out.old.items ++ flat_map spec.double_name (map (λ x. x.now) names.now)) }
 {
     for x in names {
         let wrong = has_double_underscore(&x.name);

@@ -10,3 +10,5 @@ pub mod Subsets
 pub mod Stops
 pub mod Choosing
 pub mod Paired
+pub mod KeyPlaces
+pub mod PutLaws

@@ -1,5 +1,6 @@
 -- What a binary search of members or keys in order finds.
 use Rattle.std.proofs.Common.{◌≡◌, ◌⊎◌, inl, inr, ℕ, zero, suc, ◌<◌, ◌≤◌, ltb, Bool, true, false, if◌then◌else◌, List, [], ◌∷◌, length, map, get_or, Some, None, Result, Ok, Err, is_ok, refl, ap, sym, ◌∙◌, subst, arith}
+use Rattle.std.specs.Prelude.{option_map}
 use Rattle.std.specs.declared.cmp.Ordering.{Ordering}
 use Rattle.std.specs.declared.cmp.Ordering.TheVariants.{Less, Equal, Greater}
 use Rattle.std.specs.Ordering.{is_eq, ordering_index, ordering_reverse}
@@ -12,8 +13,9 @@ use Rattle.pgo_base.specs.Order.{data_cmp}
 use Rattle.pgo_base.specs.Exact.{data_exact, data_itself}
 use Rattle.pgo_base.specs.Total.{data_total}
 use Rattle.pgo_base.specs.Sets.{IsSorted}
-use Rattle.pgo_base.specs.View.{data_of, pair_of, key_of, value_of}
-use Rattle.pgo_model.specs.Operators.{same_data, contains, lookup}
+use Rattle.pgo_base.specs.View.{data_of, pair_of, key_of}
+use Rattle.pgo_model.specs.Operators.{same_data, contains}
+use Rattle.pgo_sets.specs.PutWithin.{key_place}
 
 abbrev Below : Data → List Data → Type 0
 Below x ys = AllByRecursion (λ y. data_cmp x y ≡ Less) ys
@@ -89,22 +91,22 @@ pub keys_map : (ps : List (Value × Value)) → keys (map pair_of ps) ≡ map ke
 keys_map [] = refl
 keys_map (p ∷ ps) = ap (λ ks. key_of p ∷ ks) (keys_map ps)
 
-lookup_none : (k : Data) (ps : List (Value × Value)) → Apart key_of k ps → lookup k (map pair_of ps) ≡ None
-lookup_none k [] h = refl
-lookup_none k (p ∷ ps) h = ap (λ b. if b then Some (value_of p) else lookup k (map pair_of ps)) (h 0 p (omega arith)) ∙ lookup_none k ps (λ j d b. h (suc j) d (omega arith))
+place_none : (k : Data) (ps : List (Value × Value)) → Apart key_of k ps → key_place k (map pair_of ps) ≡ None
+place_none k [] h = refl
+place_none k (p ∷ ps) h = λ i. if h 0 p (omega arith) i then Some 0 else option_map suc (place_none k ps (λ j d b. h (suc j) d (omega arith)) i)
 
-lookup_at : (k : Data) (ps : List (Value × Value)) (i : ℕ) (d : Value × Value) → IsSorted (map key_of ps) → i < length ps → data_cmp (key_of (get_or ps i d)) k ≡ Equal → lookup k (map pair_of ps) ≡ Some (value_of (get_or ps i d))
+place_at : (k : Data) (ps : List (Value × Value)) (i : ℕ) (d : Value × Value) → IsSorted (map key_of ps) → i < length ps → data_cmp (key_of (get_or ps i d)) k ≡ Equal → key_place k (map pair_of ps) ≡ Some i
 unfolding IsStrictlySortedBy
-lookup_at k [] i d s b h = absurd (omega arith)
-lookup_at k (p ∷ ps) zero d s b h = ap (λ b. if b then Some (value_of p) else lookup k (map pair_of ps)) (same_at (key_of p) k h)
-lookup_at k (p ∷ ps) (suc i) d s b h =
+place_at k [] i d s b h = absurd (omega arith)
+place_at k (p ∷ ps) zero d s b h = ap (λ b. if b then Some 0 else option_map suc (key_place k (map pair_of ps))) (same_at (key_of p) k h)
+place_at k (p ∷ ps) (suc i) d s b h =
     let less : data_cmp (key_of p) k ≡ Less = ap (data_cmp (key_of p)) (sym (data_exact (key_of (get_or ps i d)) k h)) ∙ below_at key_of (key_of p) ps i d s.0 (omega arith) in
-    ap (λ b. if b then Some (value_of p) else lookup k (map pair_of ps)) (apart_from (key_of p) k Less less (inl refl)) ∙ lookup_at k ps i d s.1 (omega arith) h
+    λ j. if apart_from (key_of p) k Less less (inl refl) j then Some 0 else option_map suc (place_at k ps i d s.1 (omega arith) h j)
 
--- a search for a key finds its value
-pub key_found : (k : Data) (ps : List (Value × Value)) (i : ℕ) (d : Value × Value) → IsSorted (keys (map pair_of ps)) → i < length ps → data_cmp (key_of (get_or ps i d)) k ≡ Equal → lookup k (map pair_of ps) ≡ Some (value_of (get_or ps i d))
-key_found k ps i d s b h = lookup_at k ps i d (subst IsSorted (keys_map ps) s) b h
+-- a search for a key finds its place
+pub key_found : (k : Data) (ps : List (Value × Value)) (i : ℕ) (d : Value × Value) → IsSorted (keys (map pair_of ps)) → i < length ps → data_cmp (key_of (get_or ps i d)) k ≡ Equal → key_place k (map pair_of ps) ≡ Some i
+key_found k ps i d s b h = place_at k ps i d (subst IsSorted (keys_map ps) s) b h
 
 -- or tells that it isn't there
-pub key_missing : (k : Data) (ps : List (Value × Value)) (i : ℕ) → IsSorted (keys (map pair_of ps)) → (IsNonDecreasingBy (λ p. ordering_index (data_cmp (key_of p) k)) ps → IsPartitionPoint (λ p. data_cmp (key_of p) k ≡ Less) (λ p. data_cmp (key_of p) k ≡ Greater) ps i) → lookup k (map pair_of ps) ≡ None
-key_missing k ps i s h = lookup_none k ps (all_apart key_of k ps i (h (non_decreasing key_of k ps (subst IsSorted (keys_map ps) s))))
+pub key_missing : (k : Data) (ps : List (Value × Value)) (i : ℕ) → IsSorted (keys (map pair_of ps)) → (IsNonDecreasingBy (λ p. ordering_index (data_cmp (key_of p) k)) ps → IsPartitionPoint (λ p. data_cmp (key_of p) k ≡ Less) (λ p. data_cmp (key_of p) k ≡ Greater) ps i) → key_place k (map pair_of ps) ≡ None
+key_missing k ps i s h = place_none k ps (all_apart key_of k ps i (h (non_decreasing key_of k ps (subst IsSorted (keys_map ps) s))))

@@ -1,5 +1,5 @@
 // A set, a function or a sequence of given parts, where that is a value.
-ghost use Rattle.std.specs.Prelude.{map};
+ghost use Rattle.std.specs.Prelude.{◌≡◌, map, option_map};
 ghost use Rattle.std.specs.List.Sorted.{IsStrictlySortedBy};
 ghost use Rattle.pgo_base.specs.Data.{keys};
 ghost use Rattle.pgo_base.specs.Order.{data_cmp};
@@ -10,22 +10,41 @@ ghost use Rattle.pgo_sets.specs.Answers.{Answers};
 use crate::errors::EvalStop;
 use pgo_base::depth::is_deeper;
 use pgo_base::value::{Fun, Set, Value};
-use std::alloc::Global;
 
 /// The most members that a set may have, and the most keys that a function may have.
 pub const MOST_MEMBERS: usize = 65_536;
 
 /// The greatest depth of a value.
-const MOST_DEPTH: usize = 2_048;
+pub(crate) const MOST_DEPTH: usize = 2_048;
+
+/// A value, where it may have so many members or keys.
+pub(crate) fn few(count: usize, v: Value) -> Option<Value>
+    ensures { option_map data_of result ≡ operators.if_few count (data_of v) }
+{
+    if count > MOST_MEMBERS {
+        return None;
+    }
+    Some(v)
+}
 
 /// A set or a function with this many members or keys, where that is a value.
+pub(crate) fn tested(count: usize, v: Value) -> Option<Value>
+    ensures { option_map data_of result ≡ operators.built count (data_of v) }
+{
+    if is_deeper(&v, MOST_DEPTH) {
+        return None;
+    }
+    few(count, v)
+}
+
+/// The same as an answer.
 fn built(count: usize, v: Value) -> Result<Value, EvalStop>
     ensures { Answers result (operators.built count (data_of v)) }
 {
-    if count > MOST_MEMBERS || is_deeper(&v, MOST_DEPTH) {
-        return Err(EvalStop::NoValue);
+    match tested(count, v) {
+        Some(v) => Ok(v),
+        None => Err(EvalStop::NoValue),
     }
-    Ok(v)
 }
 
 /// The set of these members, in any order and repeated or not.

@@ -1,7 +1,9 @@
 // The operators on values.
 #![tactic(auto)]
 
+pub mod answers;
 pub mod build;
+pub mod changed;
 mod choice;
 pub mod errors;
 pub mod function_sets;

@@ -1,11 +1,12 @@
 // Finding a member of a set and the value of a function at a key, by binary search, and a variable of a list, all without
 // memory.
-ghost use Rattle.std.specs.Prelude.{◌≡◌, length, map, Some, option_map, option_and_then};
+ghost use Rattle.std.specs.Prelude.{◌≡◌, length, map, Some, option_map};
 ghost use Rattle.pgo_base.specs.Data.{boolean};
 ghost use Rattle.pgo_base.specs.View.{data_of, named_data};
 ghost use Rattle.pgo_model.specs.Operators as operators;
 ghost use Rattle.pgo_model.specs.Steps.{IsPlaced, place_in};
 ghost use Rattle.pgo_model.specs.Val as meanings;
+ghost use Rattle.pgo_sets.specs.PutWithin as places;
 
 use pgo_base::compare::compare;
 use pgo_base::text::Text;
@@ -28,14 +29,23 @@ pub fn contains(set: &Set, v: &Value) -> bool
     set.in_order().binary_search(v).is_ok()
 }
 
+/// The place of a key among the pairs of this function; none where it isn't in its domain.
+pub(crate) fn key_place(function: &Fun, key: &Value) -> Option<usize>
+    ensures { result ≡ places.key_place (data_of key.now) function.now }
+{
+    match function.in_order().binary_search_by(|p| compare(&p.0, key)) {
+        Ok(i) => Some(i),
+        Err(_) => None,
+    }
+}
+
 /// The value of this function at a key; none where the key isn't in its domain.
 pub fn value_at<'a>(function: &'a Fun, key: &Value) -> Option<&'a Value>
     ensures { option_map (λ r. data_of r.now) result ≡ operators.lookup (data_of key.now) function.now }
 {
-    let pairs = function.in_order();
-    match pairs.binary_search_by(|p| compare(&p.0, key)) {
-        Ok(i) => Some(&pairs[i].1),
-        Err(_) => None,
+    match key_place(function, key) {
+        Some(i) => Some(&function.pairs()[i].1),
+        None => None,
     }
 }
 

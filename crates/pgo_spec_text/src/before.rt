@@ -1,5 +1,6 @@
 // The tokens of a specification before a fault among its tokens, as far as they go.
-ghost use Rattle.std.specs.Prelude.{◌≡◌, ◌≤◌, ◌+◌, ◌-◌, ◌++◌, ◌∷◌, [], Some, IfOk, IfSome, ℕ, List, drop, length, take};
+ghost use Rattle.std.specs.Prelude.{◌≡◌, ◌≤◌, ◌+◌, ◌-◌, ◌++◌, ◌∷◌, [], Some, IfErr, IfOk, IfSome, ℕ, List, drop, length, take};
+ghost use Rattle.pgo_lexer.specs.declared.errors.TextStop.TheVariants.{NoMemory};
 ghost use Rattle.pgo_lexer.specs.declared.token.Lexeme.{Lexeme};
 ghost use Rattle.pgo_spec_text.specs.Cutting as cutting;
 ghost use Rattle.pgo_spec_text.specs.Prefixes.{ArePartsBefore, IsAlgorithmBefore, IsPartBefore, IsSpecBefore, IsWholeHeader};
@@ -30,6 +31,7 @@ fn part_before(alloc: Global, text: &[u8], start: usize, fault: usize) -> Result
     requires within { start ≤ length text.now }
     ensures earlier { IfOk result (λ b. b.fault ≤ fault) }
     ensures tokens { IfOk result (IsPartBefore (take start text.now) (drop start text.now) fault) }
+    ensures memory { IfErr result (λ e. e ≡ NoMemory) }
 {
     let column = column_at(text, start);
     let tokens = lexed_before(alloc, text, column, start, fault)?;
@@ -50,6 +52,7 @@ fn algorithm_before(
     requires within { length body.now + length behind.now + 2 ≤ length text.now }
     ensures earlier { IfOk result (λ a. a.fault ≤ fault) }
     ensures tokens { (before : List ℕ) → text.now ≡ before ++ (body.now ++ ((42 ∷ 41 ∷ []) ++ behind.now)) → IfOk result (IsAlgorithmBefore before body.now (most_tokens - used) fault) }
+    ensures memory { IfErr result (λ e. e ≡ NoMemory) }
 {
     match algorithm_in(alloc, text, used, body, behind) {
         Ok(tokens) => marked_before(alloc, tokens, fault),
@@ -74,6 +77,7 @@ fn header_alone(
     ensures algorithm { IfOk result (λ b. IfSome b.algorithm (λ a. a.fault ≤ fault)) }
     ensures tokens { ((part rest : List ℕ) (unmarked : List Lexeme) → drop start text.now ≡ part ++ rest → IsWholeHeader (take start text.now) part rest unmarked → fault ≤ start + length part)
         → IfOk result (ArePartsBefore (take start text.now) (drop start text.now) fault) }
+    ensures memory { IfErr result (λ e. e ≡ NoMemory) }
 {
     Ok(SpecBefore {
         header: part_before(alloc, text, start, fault)?,
@@ -95,6 +99,7 @@ fn both(
     ensures algorithm { IfOk result (λ b. IfSome b.algorithm (λ a. a.fault ≤ fault)) }
     ensures tokens { cutting.header most_tokens (length text.now) (cutting.column_at text.now start) start [] (drop start text.now) ≡ Some head
         → IfOk result (ArePartsBefore (take start text.now) (drop start text.now) fault) }
+    ensures memory { IfErr result (λ e. e ≡ NoMemory) }
 {
     let Head { tokens, at } = head;
     if fault <= at {
@@ -126,6 +131,7 @@ fn from_module(
     ensures header { IfOk result (λ b. b.header.fault ≤ fault) }
     ensures algorithm { IfOk result (λ b. IfSome b.algorithm (λ a. a.fault ≤ fault)) }
     ensures tokens { IfOk result (ArePartsBefore (take start text.now) (drop start text.now) fault) }
+    ensures memory { IfErr result (λ e. e ≡ NoMemory) }
 {
     let column = column_at(text, start);
     match header(alloc, text, column, start, MOST_TOKENS) {
@@ -142,6 +148,7 @@ pub fn tokens_before(alloc: Global, text: &[u8], fault: usize) -> Result<SpecBef
     ensures header { IfOk result (λ b. b.header.fault ≤ fault) }
     ensures algorithm { IfOk result (λ b. IfSome b.algorithm (λ a. a.fault ≤ fault)) }
     ensures tokens { IfOk result (IsSpecBefore text.now fault) }
+    ensures memory { IfErr result (λ e. e ≡ NoMemory) }
 {
     if text.len() > MOST_BYTES {
         return Err(TextStop::NoMemory);

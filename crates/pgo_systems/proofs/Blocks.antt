@@ -18,14 +18,14 @@ use Rattle.pgo_sections.specs.Macros.{no_reads, no_writes, exec_block, block_rea
 use Rattle.pgo_sections.specs.BoundValues.{put_part, value_put}
 use Rattle.pgo_sections.specs.SectionRun.{SectionRun, begun, Out, Go, Jump, Yielded, Stop}
 use Rattle.pgo_sections.specs.Section.{closed_value, closed, if_shallow, end_of, section}
-use Rattle.pgo_systems.specs.Within.{IsWithin, Within, AllWithin, NamesWithin, FoundWithin, CallsWithin, ContextWithin}
+use Rattle.pgo_values.specs.Within.{IsWithin, Within, AllWithin, NamesWithin, FoundWithin, CallsWithin, ContextWithin}
 use Rattle.pgo_systems.specs.Literals.{CodeWithin}
-use Rattle.pgo_systems.proofs.Lists.{both_parts}
-use Rattle.pgo_systems.proofs.Operators.{none_within, some_within}
-use Rattle.pgo_systems.proofs.Trees.{named_more}
-use Rattle.pgo_systems.proofs.Definitions.{no_names}
+use Rattle.pgo_values.proofs.Lists.{both_parts}
+use Rattle.pgo_values.proofs.Operators.{none_within, some_within}
+use Rattle.pgo_values.proofs.Trees.{named_more}
+use Rattle.pgo_values.proofs.Definitions.{no_names}
 use Rattle.pgo_systems.proofs.SectionCode.{OutWithin, EndWithin, ReadWithin, ReadsWithin, WritesWithin, code_within, more_found, part_within}
-use Rattle.pgo_systems.specs.Limits.{Limits}
+use Rattle.pgo_values.specs.Limits.{Limits}
 
 module _ (limits : Limits) where
   pub nothing_found : FoundWithin limits []

@@ -10,7 +10,7 @@ use Rattle.pgo_model.specs.Options.{on}
 use Rattle.pgo_model.specs.Variables.{IsFunctionOn, store}
 use Rattle.pgo_bound.specs.Among.{IsAmong}
 use Rattle.pgo_workers.proofs.Components.{find_stored, find_other}
-use Rattle.pgo_systems.proofs.Trees.{replaced_keys}
+use Rattle.pgo_values.proofs.Trees.{replaced_keys}
 
 -- a function with another value at an index has the domain that it has
 part_domain : (f i v g : Data) (ks : List Data) → with_part f i v ≡ Some g → IsFunctionOn ks (Some f) → IsFunctionOn ks (Some g)

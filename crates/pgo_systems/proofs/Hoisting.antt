@@ -8,9 +8,10 @@ use Rattle.pgo_sections.specs.Access.{Mapped, MappedNames, MappedRead, Hoisted, 
 use Rattle.pgo_model.specs.Names.{is_among}
 use Rattle.pgo_sections.specs.Bound.{names_of, names_bound, below}
 use Rattle.pgo_sections.specs.Replaced.{replaced, replaced_all, replaced_arms, replaced_fields, replaced_let, replaced_bound, replaced_paths}
-use Rattle.pgo_systems.proofs.Lists.{all_joined}
-use Rattle.pgo_systems.specs.Literals.{LiteralsWithin, TreesWithin, NamedTreesWithin, ArmsWithin, BoundWithin, PathsWithin, CodeWithin}
-use Rattle.pgo_systems.specs.Limits.{Limits}
+use Rattle.pgo_values.proofs.Lists.{all_joined}
+use Rattle.pgo_values.specs.Literals.{LiteralsWithin, TreesWithin, NamedTreesWithin, ArmsWithin, BoundWithin, PathsWithin}
+use Rattle.pgo_systems.specs.Literals.{CodeWithin}
+use Rattle.pgo_values.specs.Limits.{Limits}
 
 module _ (limits : Limits) where
   -- ---- expressions in the place of names

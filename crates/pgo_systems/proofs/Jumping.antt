@@ -24,7 +24,7 @@ use Rattle.pgo_sections.specs.Section.{closed_value, closed, if_shallow, end_of,
 use Rattle.pgo_sections.proofs.Closing.{closed_at}
 use Rattle.pgo_workers.proofs.Components.{lookup_replaced, lookup_other}
 use Rattle.pgo_systems.specs.Premises.{Jumps, AllJump}
-use Rattle.pgo_systems.proofs.Lists.{built_is, both_parts}
+use Rattle.pgo_values.proofs.Lists.{built_is, both_parts}
 
 module _ (P : Name → Type 0) where
   abbrev JumpsOut : Out → Type 0

@@ -1,9 +1,4 @@
 mod Rows
-pub mod Fitting
-pub mod Lists
-pub mod Operators
-pub mod Trees
-pub mod Definitions
 pub mod SectionCode
 pub mod Blocks
 pub mod States

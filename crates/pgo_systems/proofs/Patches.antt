@@ -10,7 +10,7 @@ use Rattle.pgo_base.specs.Sets.{IsSorted, in_order, sorted-in_order}
 use Rattle.pgo_model.specs.Log.{Component, Change, After, content, own_names, resource_components, own_components, components_of, changes_between, after_changes, effect_between}
 use Rattle.pgo_model.specs.Machine.{nth}
 use Rattle.pgo_model.specs.Names.{same_name-is}
-use Rattle.pgo_model.specs.Operators.{apply, contains, same_data}
+use Rattle.pgo_model.specs.Operators.{apply, contains}
 use Rattle.pgo_model.specs.Options.{on}
 use Rattle.pgo_model.specs.State.{AllValues}
 use Rattle.pgo_model.specs.System.{System, Member, Owned, Resource, ids_of}
@@ -26,7 +26,6 @@ use Rattle.pgo_syntax.specs.declared.process.Process.{Process}
 use Rattle.pgo_bound.specs.declared.kinds.Kind.{Kind}
 use Rattle.pgo_bound.specs.declared.kinds.Kind.TheVariants.{Unbound, AsWhole, ByElement}
 use Rattle.pgo_bound.specs.Among.{IsAmong, all_at, among_append, among_left, among_right, among_map, among_flat_map, among_nth, nth_among, nth_map, from_map, from_flat_map}
-use Rattle.pgo_bound.specs.Lookups.{same_itself}
 use Rattle.pgo_bound.specs.Sound.{Sound, index_in}
 use Rattle.pgo_bound.specs.State.{AreDifferent, IsStateOnDomains, id_of, kind_in, variables_of}
 use Rattle.pgo_bound.specs.State as bound
@@ -39,7 +38,7 @@ use Rattle.pgo_workers.proofs.BoundLayout.{layout_sound, state_has}
 use Rattle.pgo_workers.proofs.LayoutChanges.{IsPart, OfShared, OfOne, part_in}
 use Rattle.pgo_systems.proofs.Changing.{kept_function, kept_other}
 use Rattle.pgo_systems.proofs.Functions.{same_function, same_state, value_at}
-use Rattle.pgo_systems.proofs.Lists.{of_ordered}
+use Rattle.pgo_values.proofs.Lists.{contained, of_ordered}
 use Rattle.pgo_systems.proofs.Parts.{resource_there, from_resources, own_there, from_own, component_part, change_from, given_is, all_comparable, all_there}
 
 -- ---- lists of names
@@ -58,15 +57,6 @@ from_filter {A = A} p x (z ∷ zs) h = go (p z) h (from_filter p x zs)
     go true (inl e) r = inl e
     go true (inr m) r = inr (r m)
     go false m r = inr (r m)
-
-contained : (v : Data) (xs : List Data) → IsAmong v xs → contains v xs ≡ true
-contained v [] h = absurd h
-contained v (x ∷ xs) (inl e) = ap (λ b. if b then true else contains v xs) (ap (same_data v) (sym e) ∙ same_itself v)
-contained v (x ∷ xs) (inr h) = go (same_data v x) (contained v xs h)
-  where
-    go : (b : Bool) → contains v xs ≡ true → (if b then true else contains v xs) ≡ true
-    go true r = refl
-    go false r = r
 
 -- a variable is an own name where its process has the identifier
 name_there : (id : Data) (o : Owned) (os : List Owned) → IsAmong o os → contains id o.ids ≡ true → IsAmong o.variable (own_names id os)

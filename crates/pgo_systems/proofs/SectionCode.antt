@@ -15,12 +15,13 @@ use Rattle.pgo_sections.specs.Context.{Context, value_before, value_now, content
 use Rattle.pgo_sections.specs.Exec.{MacroEnd, Gives, Stops, with_choices, if_gives, touching, read_unmapped, becoming, count, Reads, Writes, exec_with, exec_arm_with}
 use Rattle.pgo_sections.specs.BoundValues.{bindable, value_under, put_part}
 use Rattle.pgo_sections.specs.SectionRun.{ChoiceMade, SectionRun, printed, picked_number, chosen, Out, Go, Jump, Yielded, Stop, with_value, if_true, picked, go_on}
-use Rattle.pgo_systems.specs.Within.{IsWithin, EachWithin, Within, NamesWithin, FoundWithin, CallsWithin, ContextWithin}
-use Rattle.pgo_systems.specs.Literals.{LiteralsWithin, CodeWithin, AllCodeWithin}
-use Rattle.pgo_systems.proofs.Operators.{none_within, some_within, then_within, apply_within, members_all}
-use Rattle.pgo_systems.proofs.Trees.{named_more, put_within, tree_within}
-use Rattle.pgo_systems.proofs.Definitions.{no_names}
-use Rattle.pgo_systems.specs.Limits.{Limits}
+use Rattle.pgo_values.specs.Within.{IsWithin, EachWithin, Within, NamesWithin, FoundWithin, CallsWithin, ContextWithin}
+use Rattle.pgo_values.specs.Literals.{LiteralsWithin}
+use Rattle.pgo_systems.specs.Literals.{CodeWithin, AllCodeWithin}
+use Rattle.pgo_values.proofs.Operators.{none_within, some_within, then_within, apply_within, members_all}
+use Rattle.pgo_values.proofs.Trees.{named_more, put_within, tree_within}
+use Rattle.pgo_values.proofs.Definitions.{no_names}
+use Rattle.pgo_values.specs.Limits.{Limits}
 
 module _ (limits : Limits) where
   -- ---- values that are bound and put back

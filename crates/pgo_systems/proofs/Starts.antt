@@ -30,13 +30,14 @@ use Rattle.pgo_bound.specs.Lookups.{data_from}
 use Rattle.pgo_bound.specs.Runs.{Handed, Run, handed_from, archetype_named, alone, members_in, ids_of, run_with, run_of, runs_of, run_ids}
 use Rattle.pgo_bound.specs.Values.{Start, Missing, Empty, Begins, latest, given_value, given_constant, meant, default_definition, define_of, defs_of, value_with, closed_value, value_at, start_of_value, start_of_members, start_in, global_start, local_start, argument_start, beginning}
 use Rattle.pgo_bound.specs.Instances.{archetype_among}
-use Rattle.pgo_systems.specs.Within.{IsWithin, EachWithin, Within, AllWithin, NamesWithin}
-use Rattle.pgo_systems.specs.Literals.{LiteralsWithin, DefinedWithin, OriginWithin, InitialWithin, ArgumentWithin, StartWithin, StartFits}
-use Rattle.pgo_systems.proofs.Lists.{is_set, ordered_among, ordered_pairs_few}
-use Rattle.pgo_systems.proofs.Definitions.{no_names, definitions_within}
-use Rattle.pgo_systems.proofs.Operators.{EachPair, none_within, some_within, members_all, pairs_ordered}
-use Rattle.pgo_systems.proofs.Trees.{named_more, tree_within}
-use Rattle.pgo_systems.specs.Limits.{Limits}
+use Rattle.pgo_values.specs.Within.{IsWithin, EachWithin, Within, AllWithin, NamesWithin}
+use Rattle.pgo_values.specs.Literals.{LiteralsWithin, DefinedWithin}
+use Rattle.pgo_systems.specs.Literals.{OriginWithin, InitialWithin, ArgumentWithin, StartWithin, StartFits}
+use Rattle.pgo_values.proofs.Lists.{is_set, ordered_among, ordered_pairs_few}
+use Rattle.pgo_values.proofs.Definitions.{no_names, definitions_within}
+use Rattle.pgo_values.proofs.Operators.{EachPair, none_within, some_within, members_all, pairs_ordered}
+use Rattle.pgo_values.proofs.Trees.{named_more, tree_within}
+use Rattle.pgo_values.specs.Limits.{Limits}
 use Rattle.pgo_systems.specs.Counted.{AllCounted, IsCounted, counted}
 use Rattle.pgo_syntax.specs.declared.archetype.Parameter.{Parameter}
 

@@ -32,11 +32,12 @@ use Rattle.pgo_meaning.specs.MacrosPlaced.{unmarked, Arguments, argument, put_tr
 use Rattle.pgo_meaning.specs.Parameters.{block_setting, reads_by, writes_by, mapped_of, all_mapped, by_element, setting_of}
 use Rattle.pgo_meaning.specs.Statements.{Setting, label_of, Part, Index, Field, part_tree, index_of, alone, to_variable, assigned, steps, assign_all, assignment_code, bind_name, bind_names, code, branches, arms, in_order}
 use Rattle.pgo_meaning.specs.TreesAgree.{sections_at}
-use Rattle.pgo_systems.proofs.Lists.{all_joined}
-use Rattle.pgo_systems.specs.Literals.{LiteralsWithin, TreesWithin, CodeWithin, AllCodeWithin, OriginWithin}
+use Rattle.pgo_values.proofs.Lists.{all_joined}
+use Rattle.pgo_values.specs.Literals.{LiteralsWithin, TreesWithin}
+use Rattle.pgo_systems.specs.Literals.{CodeWithin, AllCodeWithin, OriginWithin}
 use Rattle.pgo_systems.specs.StatementLiterals.{StepWithin, AssignmentWithin, StatementWithin, StatementsWithin, LabeledWithin, GuardedWithin, MappingWithin, TargetWithin, TextWithin}
 use Rattle.pgo_systems.proofs.Hoisting.{replaced_fits, IndexWithin, ReadsWithin, hoisted_fits}
-use Rattle.pgo_systems.specs.Limits.{Limits}
+use Rattle.pgo_values.specs.Limits.{Limits}
 
 module _ (limits : Limits) where
   -- ---- macros in the place of their calls

@@ -21,14 +21,14 @@ use Rattle.pgo_sections.specs.Section.{section}
 use Rattle.pgo_meaning.specs.Sect.{context_of, code_at, nothing, Sect}
 use Rattle.pgo_meaning.specs.TreesAgree.{sections_at}
 use Rattle.pgo_meaning.proofs.Ends.{end_at}
-use Rattle.pgo_systems.specs.Within.{IsWithin, Within, AllWithin, AreWithin, PairsWithin, FoundWithin, ContextWithin}
+use Rattle.pgo_values.specs.Within.{IsWithin, Within, AllWithin, AreWithin, PairsWithin, FoundWithin, ContextWithin}
 use Rattle.pgo_systems.specs.StatementLiterals.{InstanceWithin}
-use Rattle.pgo_systems.proofs.Operators.{EachPair, none_within, some_within, ordered_pairs}
-use Rattle.pgo_systems.proofs.Definitions.{definitions_within}
+use Rattle.pgo_values.proofs.Operators.{EachPair, none_within, some_within, ordered_pairs}
+use Rattle.pgo_values.proofs.Definitions.{definitions_within}
 use Rattle.pgo_systems.proofs.Blocks.{PlacesWithin, section_within}
-use Rattle.pgo_systems.specs.Counted.{AllCounted, counted}
-use Rattle.pgo_systems.specs.Limits.{Limits}
-use Rattle.pgo_systems.proofs.Lists.{among_in, in_among}
+use Rattle.pgo_systems.specs.Counted.{AllCounted, IsCounted, counted}
+use Rattle.pgo_values.specs.Limits.{Limits}
+use Rattle.pgo_values.proofs.Lists.{among_in, in_among}
 
 -- ---- identifiers are the keys of `pc`
 
@@ -58,29 +58,30 @@ module _ (b : Bound) (k : ℕ) (i : Instance) (s : Vars) (d : Words) (t : Vars) 
       let l = end_at b k i s d t prints (value_in s pc (id_of i)) c.0 c.1 in
       record { label = l.0; code = c.0; there = l.1; ends = c.2 }
 
+-- ---- counted values are values
+
+mutual
+  pub is_value : (v : Data) → IsCounted v → IsValue v
+  is_value (boolean b) h = tt
+  is_value (integer z) h = h
+  is_value (string s) h = tt
+  is_value (model s) h = tt
+  is_value (set xs) h = (items_values xs h.0, h.1)
+  is_value (function ps) h = (pairs_values ps h.0, h.1)
+
+  items_values : (xs : Items) → AreWithin counted xs → AreValues xs
+  items_values no_items h = tt
+  items_values (item x xs) h = (is_value x h.0, items_values xs h.1)
+
+  pairs_values : (ps : Pairs) → PairsWithin counted ps → ArePairs ps
+  pairs_values no_pairs h = tt
+  pairs_values (pair k v ps) h = (is_value k h.0, is_value v h.1, pairs_values ps h.2)
+
+pub counted_values : (s : Vars) → AllCounted s → AllValues s
+counted_values [] h = tt
+counted_values (p ∷ s) h = (is_value p.1 h.0, counted_values s h.1)
+
 module _ (limits : Limits) where
-  -- ---- values within limits are values
-  mutual
-    pub is_value : (v : Data) → IsWithin limits v → IsValue v
-    is_value (boolean b) h = tt
-    is_value (integer z) h = h
-    is_value (string s) h = tt
-    is_value (model s) h = tt
-    is_value (set xs) h = (items_values xs h.0, h.1)
-    is_value (function ps) h = (pairs_values ps h.0, h.1)
-
-    items_values : (xs : Items) → AreWithin limits xs → AreValues xs
-    items_values no_items h = tt
-    items_values (item x xs) h = (is_value x h.0, items_values xs h.1)
-
-    pairs_values : (ps : Pairs) → PairsWithin limits ps → ArePairs ps
-    pairs_values no_pairs h = tt
-    pairs_values (pair k v ps) h = (is_value k h.0, is_value v h.1, pairs_values ps h.2)
-
-  pub are_values : (s : Vars) → AllWithin limits s → AllValues s
-  are_values [] h = tt
-  are_values (p ∷ s) h = (is_value p.1 h.0, are_values s h.1)
-
   pub all_found : (s : Vars) → AllWithin limits s → FoundWithin limits s
   all_found [] h x = none_within limits
   all_found (p ∷ s) h x = go (same_name x p.0) (all_found s h.1 x)
@@ -115,6 +116,3 @@ module _ (limits : Limits) where
     sect_within at_k l is h places e =
         let f = from_label b k i s d t prints at_k e in
         section_within limits (context_of b i s) (context_within b k i at_k s l is h) f.code d t prints h (l.sections f.label f.code f.there) places f.ends
-
-pub counted_values : (s : Vars) → AllCounted s → AllValues s
-counted_values s h = are_values counted s h

@@ -1,5 +1,3 @@
-pub mod Limits
-pub mod Within
 pub mod Counted
 pub mod Literals
 pub mod Premises

@@ -1,95 +1,36 @@
--- The literals of expressions and of code are within limits: integers of 64 bits, and strings and names of fields that the limits allow.
-use Rattle.std.specs.Prelude.{IsTrue, Option, Some, None}
+-- The literals of code, and of what the start is made from, are within limits.
+use Rattle.std.specs.Prelude.{Option, Some, None}
 use Rattle.std.specs.List.{AllByRecursion}
+use Rattle.pgo_base.specs.Tree.{Tree}
 use Rattle.pgo_syntax.specs.declared.binding.Origin.{Origin}
 use Rattle.pgo_syntax.specs.declared.binding.Origin.TheVariants.{Equals, In}
 use Rattle.pgo_syntax.specs.declared.process.Argument.{Argument}
 use Rattle.pgo_syntax.specs.declared.process.Argument.TheVariants as arguments
 use Rattle.pgo_syntax.specs.declared.spec.Spec.{Spec}
 use Rattle.pgo_bound.specs.Values.{define_of}
-use Rattle.pgo_base.specs.Tree.{Tree, name, primed, number, text, truth, at, word, unary, binary, product, cond_of, case_of, case_other, let_in, quantified, choose, tuple, set_of, filter_of, image, fun_of, fun_set, record_of, record_set, except, index, field, call, unchanged, Trees, no_trees, more_trees, NamedTrees, no_named, more_named, TreePairs, no_arms, more_arms, BoundTrees, no_bound, more_bound, PathTrees, no_paths, more_paths}
-use Rattle.pgo_model.specs.Operators.{fits_i64}
-use Rattle.pgo_model.specs.Val.{Defined, Given, Means}
 use Rattle.pgo_sections.specs.Code.{Code, Empty, Skip, Let, Pick, Become, Set, Await, Assert, Print, If, Either, Seq, Goto, Yield, Read, Write, Codes, no_codes, more_codes}
-use Rattle.pgo_systems.specs.Limits.{Limits}
+use Rattle.pgo_values.specs.Limits.{Limits}
+use Rattle.pgo_values.specs.Literals.{LiteralsWithin}
 use Rattle.pgo_systems.specs.Counted.{counted}
-use Rattle.pgo_systems.specs.Within.{IsWithin}
 
 module _ (limits : Limits) where
-  abbrev mutual
-    pub LiteralsWithin : Tree → Type 0
-    LiteralsWithin (name x) = Unit {0}
-    LiteralsWithin (primed x) = Unit {0}
-    LiteralsWithin (number z) = IsTrue (fits_i64 z)
-    LiteralsWithin (text t) = IsTrue (limits.text t)
-    LiteralsWithin (truth b) = Unit {0}
-    LiteralsWithin at = Unit {0}
-    LiteralsWithin (word w) = Unit {0}
-    LiteralsWithin (unary o a) = LiteralsWithin a
-    LiteralsWithin (binary o a b) = LiteralsWithin a × LiteralsWithin b
-    LiteralsWithin (product ts) = TreesWithin ts
-    LiteralsWithin (cond_of p a b) = LiteralsWithin p × LiteralsWithin a × LiteralsWithin b
-    LiteralsWithin (case_of gs) = ArmsWithin gs
-    LiteralsWithin (case_other gs e) = ArmsWithin gs × LiteralsWithin e
-    LiteralsWithin (let_in ds e) = NamedTreesWithin ds × LiteralsWithin e
-    LiteralsWithin (quantified q bs p) = BoundWithin bs × LiteralsWithin p
-    LiteralsWithin (choose x r p) = LiteralsWithin r × LiteralsWithin p
-    LiteralsWithin (tuple ts) = TreesWithin ts
-    LiteralsWithin (set_of ts) = TreesWithin ts
-    LiteralsWithin (filter_of x r p) = LiteralsWithin r × LiteralsWithin p
-    LiteralsWithin (image e x r) = LiteralsWithin e × LiteralsWithin r
-    LiteralsWithin (fun_of bs e) = BoundWithin bs × LiteralsWithin e
-    LiteralsWithin (fun_set a b) = LiteralsWithin a × LiteralsWithin b
-    LiteralsWithin (record_of ds) = NamedTreesWithin ds
-    LiteralsWithin (record_set ds) = NamedTreesWithin ds
-    LiteralsWithin (except f us) = LiteralsWithin f × PathsWithin us
-    LiteralsWithin (index f ts) = LiteralsWithin f × TreesWithin ts
-    LiteralsWithin (field r x) = IsTrue (limits.text x) × LiteralsWithin r
-    LiteralsWithin (call x ts) = TreesWithin ts
-    LiteralsWithin (unchanged xs) = Unit {0}
-
-    pub TreesWithin : Trees → Type 0
-    TreesWithin no_trees = Unit {0}
-    TreesWithin (more_trees t ts) = LiteralsWithin t × TreesWithin ts
-
-    pub NamedTreesWithin : NamedTrees → Type 0
-    NamedTreesWithin no_named = Unit {0}
-    NamedTreesWithin (more_named x t ds) = IsTrue (limits.text x) × LiteralsWithin t × NamedTreesWithin ds
-
-    pub ArmsWithin : TreePairs → Type 0
-    ArmsWithin no_arms = Unit {0}
-    ArmsWithin (more_arms g e gs) = LiteralsWithin g × LiteralsWithin e × ArmsWithin gs
-
-    pub BoundWithin : BoundTrees → Type 0
-    BoundWithin no_bound = Unit {0}
-    BoundWithin (more_bound xs r bs) = LiteralsWithin r × BoundWithin bs
-
-    pub PathsWithin : PathTrees → Type 0
-    PathsWithin no_paths = Unit {0}
-    PathsWithin (more_paths ps e us) = TreesWithin ps × LiteralsWithin e × PathsWithin us
-
-  -- a constant is within the limits, and so are the literals in a definition's body
-  abbrev pub DefinedWithin : Defined → Type 0
-  DefinedWithin (Given x v) = IsWithin limits v
-  DefinedWithin (Means x ps e) = LiteralsWithin e
-
   -- the literals of each expression in code, and in the blocks of its mapping macros
   abbrev mutual
     pub CodeWithin : Code → Type 0
     CodeWithin Empty = Unit {0}
     CodeWithin Skip = Unit {0}
-    CodeWithin (Let b w e c) = LiteralsWithin e × CodeWithin c
-    CodeWithin (Pick b w e c) = LiteralsWithin e × CodeWithin c
+    CodeWithin (Let b w e c) = LiteralsWithin limits e × CodeWithin c
+    CodeWithin (Pick b w e c) = LiteralsWithin limits e × CodeWithin c
     CodeWithin (Become p w) = Unit {0}
-    CodeWithin (Set b p e) = LiteralsWithin e
-    CodeWithin (Await e) = LiteralsWithin e
-    CodeWithin (Assert e) = LiteralsWithin e
-    CodeWithin (Print e) = LiteralsWithin e
-    CodeWithin (If e c d) = LiteralsWithin e × CodeWithin c × CodeWithin d
+    CodeWithin (Set b p e) = LiteralsWithin limits e
+    CodeWithin (Await e) = LiteralsWithin limits e
+    CodeWithin (Assert e) = LiteralsWithin limits e
+    CodeWithin (Print e) = LiteralsWithin limits e
+    CodeWithin (If e c d) = LiteralsWithin limits e × CodeWithin c × CodeWithin d
     CodeWithin (Either cs) = AllCodeWithin cs
     CodeWithin (Seq c d) = CodeWithin c × CodeWithin d
     CodeWithin (Goto l) = Unit {0}
-    CodeWithin (Yield e) = LiteralsWithin e
+    CodeWithin (Yield e) = LiteralsWithin limits e
     CodeWithin (Read w g i block c) = CodeWithin block × CodeWithin c
     CodeWithin (Write g i w block) = CodeWithin block
 
@@ -100,8 +41,8 @@ module _ (limits : Limits) where
   -- ---- the expressions from which the start is made
 
   abbrev pub OriginWithin : Origin → Type 0
-  OriginWithin (Equals e) = LiteralsWithin e
-  OriginWithin (In e) = LiteralsWithin e
+  OriginWithin (Equals e) = LiteralsWithin limits e
+  OriginWithin (In e) = LiteralsWithin limits e
 
   abbrev pub InitialWithin : Option Origin → Type 0
   InitialWithin None = Unit {0}
@@ -109,12 +50,12 @@ module _ (limits : Limits) where
 
   abbrev pub ArgumentWithin : Argument → Type 0
   ArgumentWithin (arguments.Ref g e) = Unit {0}
-  ArgumentWithin (arguments.Value place e) = LiteralsWithin e
+  ArgumentWithin (arguments.Value place e) = LiteralsWithin limits e
 
   -- the literals of definitions, of initial values, and of identifiers and arguments of processes
   pub record StartWithin (s : Spec) : Type 0 where
-    pub definitions : AllByRecursion (λ d. LiteralsWithin d.body) s.definitions
-    pub define : AllByRecursion (λ d. LiteralsWithin d.body) (define_of s.define)
+    pub definitions : AllByRecursion (λ d. LiteralsWithin limits d.body) s.definitions
+    pub define : AllByRecursion (λ d. LiteralsWithin limits d.body) (define_of s.define)
     pub globals : AllByRecursion (λ d. InitialWithin d.initial) s.globals
     pub locals : AllByRecursion (λ a. AllByRecursion (λ d. InitialWithin d.initial) a.locals) s.archetypes
     pub identifiers : AllByRecursion (λ p. OriginWithin p.ids) s.processes

@@ -26,8 +26,9 @@ use Rattle.pgo_model.specs.ModuleView.{defined_view}
 use Rattle.pgo_sections.specs.Code.{Code}
 use Rattle.pgo_meaning.specs.TreesAgree.{sections_at}
 use Rattle.pgo_systems.specs.Counted.{AllCounted, counted}
-use Rattle.pgo_systems.specs.Limits.{Limits}
-use Rattle.pgo_systems.specs.Literals.{CodeWithin, DefinedWithin, LiteralsWithin, OriginWithin, StartFits, StartWithin}
+use Rattle.pgo_values.specs.Limits.{Limits}
+use Rattle.pgo_values.specs.Literals.{DefinedWithin, LiteralsWithin}
+use Rattle.pgo_systems.specs.Literals.{CodeWithin, OriginWithin, StartFits, StartWithin}
 
 module _ (limits : Limits) where
   abbrev pub StepWithin : Step → Type 0

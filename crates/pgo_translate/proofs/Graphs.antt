@@ -2,23 +2,20 @@
 use Rattle.std.proofs.Common.{◌≡◌, ◌⊎◌, ◌↔◌, ℕ, ◌≤◌, Bool, true, false, List, [], ◌∷◌, length, map, Option, Some, None, refl, sym, ap, ◌∙◌, subst, option_and_then, inl, inr, arith}
 use Rattle.std.proofs.lemmas.Bool.Decides.{nat_tests}
 use Rattle.std.specs.Prelude.{if◌then◌else◌, ◌&&◌, nat_lt}
-use Rattle.std.specs.List.Sorted.{IsStrictlySortedBy}
-use Rattle.std.specs.declared.cmp.Ordering.TheVariants.{Less}
 use Rattle.std.proofs.lemmas.Option.{same_Some}
 use Rattle.pgo_base.proofs.Keyed.{pairs_back}
 use Rattle.pgo_base.specs.Data.{Data, function, Pairs, pairs, graph, keys, graph-pairs}
-use Rattle.pgo_base.specs.Exact.{data_itself}
-use Rattle.pgo_base.specs.Order.{data_cmp}
 use Rattle.pgo_base.specs.Pairs.{pairs_in_order}
-use Rattle.pgo_base.specs.Sets.{IsSorted, in_order, IsIn, in-in_order, sorted-in_order}
+use Rattle.pgo_base.specs.Sets.{in_order, in-in_order, sorted-in_order}
 use Rattle.pgo_base.specs.Size.{depth}
 use Rattle.pgo_model.specs.FunctionSets.{graph_fits}
 use Rattle.pgo_model.specs.Operators.{both, each, same_data, lookup, contains, function_from, built, most_members, most_depth, where_few, choices}
 use Rattle.pgo_bound.specs.Among.{IsAmong}
-use Rattle.pgo_bound.specs.Among.{all_at}
 use Rattle.pgo_bound.specs.Keyed.{keys_ordered}
-use Rattle.pgo_bound.specs.Lookups.{same_of, same_itself, same_equal, apply_on}
+use Rattle.pgo_bound.specs.Lookups.{same_of, same_equal, apply_on}
 use Rattle.pgo_bound.specs.Once.{StandOnce}
+use Rattle.pgo_values.proofs.Graphs.{cons_first, cons_rest, same_graph, sorted_once}
+use Rattle.pgo_values.proofs.Lists.{among_in, built_is, in_among}
 
 -- an identifier with the value that f gives there
 abbrev pub one : (Data → Option Data) → Data → Option (Data × Data)
@@ -26,16 +23,6 @@ one f id = both (λ k v. Some (k, v)) (Some id) (f id)
 
 abbrev pub pairs_of : (Data → Option Data) → List Data → Option (List (Data × Data))
 pairs_of f ids = each (one f) ids
-
-pub among_in : (q : Data) (xs : List Data) → IsAmong q xs → IsIn q xs
-among_in q [] h = h
-among_in q (x ∷ xs) (inl e) = inl e
-among_in q (x ∷ xs) (inr h) = inr (among_in q xs h)
-
-pub in_among : (q : Data) (xs : List Data) → IsIn q xs → IsAmong q xs
-in_among q [] h = h
-in_among q (x ∷ xs) (inl e) = inl e
-in_among q (x ∷ xs) (inr h) = inr (in_among q xs h)
 
 -- what the pairs are, where each identifier has a value
 pub record PairsOf (f : Data → Option Data) (ids : List Data) (qs : List (Data × Data)) : Type 0 where
@@ -79,38 +66,6 @@ pairs_there f (d ∷ ids) h =
     let r = pairs_there f ids (λ id m. h id (inr m)) in
     ((d, a.0) ∷ r.0, λ i. both (λ b bs. Some (b ∷ bs)) (both (λ k v. Some (k, v)) (Some d) (a.1 i)) (r.1 i))
 
-pub sorted_once : (xs : List Data) → IsSorted xs → StandOnce xs
-unfolding IsStrictlySortedBy
-sorted_once [] s = tt
-sorted_once (x ∷ xs) s = (λ h. let k = all_at (λ y. data_cmp x y ≡ Less) x xs s.0 h in let i = data_itself x in absurd (cc), sorted_once xs s.1)
-
-pub cons_first : (x y : Data) (xs ys : List Data) → x ∷ xs ≡ y ∷ ys → x ≡ y
-cons_first x y xs ys h = cc
-
-pub cons_rest : (x y : Data) (xs ys : List Data) → x ∷ xs ≡ y ∷ ys → xs ≡ ys
-cons_rest x y xs ys h = cc
-
--- graphs with the same keys, each once, and the same values are one
-pub same_graph : (as' bs : List (Data × Data)) → keys as' ≡ keys bs → StandOnce (keys as') → ((k : Data) → IsAmong k (keys as') → lookup k as' ≡ lookup k bs) → as' ≡ bs
-same_graph [] [] e o f = refl
-same_graph [] (b ∷ bs) e o f = absurd (cc)
-same_graph (a ∷ as') [] e o f = absurd (cc)
-same_graph (a ∷ as') (b ∷ bs) e o f =
-    let k = cons_first a.0 b.0 (keys as') (keys bs) e in
-    let v : Some a.1 ≡ Some b.1 = ap (λ c. if c then Some a.1 else lookup a.0 as') (sym (same_itself a.0)) ∙ f a.0 (inl refl) ∙ ap (λ c. if c then Some b.1 else lookup a.0 bs) (same_equal a.0 b.0 k) in
-    let w = same_Some a.1 b.1 v in
-    λ i. (k i, w i) ∷ same_graph as' bs (cons_rest a.0 b.0 (keys as') (keys bs) e) o.1 (λ q m. pass q m (f q (inr m))) i
-  where
-    pass : (q : Data) → IsAmong q (keys as') → lookup q (a ∷ as') ≡ lookup q (b ∷ bs) → lookup q as' ≡ lookup q bs
-    pass q m h =
-        let c : same_data q a.0 ≡ false = apart q m (same_data q a.0) refl in
-        let d : same_data q b.0 ≡ false = ap (same_data q) (sym (cons_first a.0 b.0 (keys as') (keys bs) e)) ∙ c in
-        ap (λ z. if z then Some a.1 else lookup q as') (sym c) ∙ h ∙ ap (λ z. if z then Some b.1 else lookup q bs) d
-      where
-        apart : (q : Data) → IsAmong q (keys as') → (z : Bool) → same_data q a.0 ≡ z → z ≡ false
-        apart q m true g = absurd (o.0 (subst (λ y. IsAmong y (keys as')) (same_of q a.0 g) m))
-        apart q m false g = refl
-
 pub built_some : (n : ℕ) (v : Data) → n ≤ 65536 → depth v ≤ 2048 → built n v ≡ Some v
 built_some n v h g = go (nat_lt most_depth (depth v)) (nat_lt most_members n) refl refl
   where
@@ -118,14 +73,6 @@ built_some n v h g = go (nat_lt most_depth (depth v)) (nat_lt most_members n) re
     go true c e f = absurd (grind (arith, nat_tests))
     go false true e f = absurd (grind (arith, nat_tests))
     go false false e f = refl
-
-pub built_is : (n : ℕ) (v w : Data) → built n v ≡ Some w → v ≡ w
-built_is n v w h = go (nat_lt most_depth (depth v)) (nat_lt most_members n) h
-  where
-    go : (b c : Bool) → (if b then None else (if c then None else Some v)) ≡ Some w → v ≡ w
-    go true c e = absurd (cc)
-    go false true e = absurd (cc)
-    go false false e = same_Some v w e
 
 -- the graph in order of pairs has these keys and values
 ordered_graph : (f : Data → Option Data) (ids : List Data) (qs : List (Data × Data)) (ps : Pairs) → PairsOf f ids qs → keys (graph ps) ≡ in_order ids → ((id : Data) → IsAmong id ids → lookup id (graph ps) ≡ f id) → pairs (pairs_in_order qs) ≡ ps

@@ -13,6 +13,7 @@ use Rattle.pgo_model.specs.Operators.{or3, truth_of, from_truth, any3, set_from,
 use Rattle.pgo_model.specs.Sequences.{assert, print, on_one}
 use Rattle.pgo_model.specs.Val.{Scope, sem, val, decide, with_name, with_names, quantify, over_each, binary_value, same_variable, same_variables}
 use Rattle.pgo_bound.specs.Lookups.{same_of, same_itself}
+use Rattle.pgo_values.proofs.Lists.{none_is}
 use Rattle.pgo_translate.specs.Items.{some_in, only, asserts, prints}
 use Rattle.pgo_sections.specs.BoundValues.{bindable}
 use Rattle.pgo_translate.proofs.Truths.{from_truth-yes, truth_of-yes, and-yes}
@@ -41,9 +42,6 @@ sum_iff f g = (⊎_elim (λ a. inl (f.0 a)) (λ c. inr (g.0 c)), ⊎_elim (λ b.
 
 pub lone_iff : {A B : Type 0} → A ↔ B → (A × Unit {0}) ↔ B
 lone_iff f = (λ h. f.0 h.0, λ b. (f.1 b, tt))
-
-pub none_is : {A : Type 0} (a : A) → None ≡ Some a → ⊥
-none_is a h = cc
 
 or3-yes : (p q : Option Bool) → (or3 p q ≡ Some true) ↔ ((p ≡ Some true) ⊎ (q ≡ Some true))
 or3-yes (Some true) q = (λ h. inl refl, λ h. refl)

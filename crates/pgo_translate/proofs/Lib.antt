@@ -15,8 +15,7 @@ mod Starts
 mod Upward
 mod SetLaws
 mod Holding
-mod Ordered
-mod OrderedValues
+mod Unlimited
 mod Sets
 mod Avoiding
 mod Naming

@@ -51,7 +51,7 @@ use Rattle.pgo_translate.proofs.LabelTrees.{SectionsLaw, LabelsLaw, ActionsLaw, 
 use Rattle.pgo_translate.proofs.Next.{Stands, process-yes, some_mapped, some_behind}
 use Rattle.pgo_translate.proofs.SetLaws.{in_list}
 use Rattle.pgo_translate.proofs.Sets.{SetsOrdered, sets_ordered}
-use Rattle.pgo_translate.proofs.StartPlaces.{contained}
+use Rattle.pgo_values.proofs.Lists.{contained}
 use Rattle.pgo_translate.proofs.StartRuns.{instance_there}
 use Rattle.pgo_translate.proofs.Starts.{arche, here_has, ids_in, run_there}
 

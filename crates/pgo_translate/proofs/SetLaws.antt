@@ -5,25 +5,25 @@ use Rattle.std.proofs.lemmas.Bool.Decides.{nat_tests}
 use Rattle.std.specs.Prelude.{◌&&◌, nat_lt}
 use Rattle.std.specs.List.Sorted.{IsStrictlySortedBy}
 use Rattle.std.specs.declared.cmp.Ordering.TheVariants.{Less}
-use Rattle.std.proofs.lemmas.Option.{same_Some}
 use Rattle.pgo_base.proofs.Keyed.{pairs_back}
 use Rattle.pgo_base.specs.Data.{Data, boolean, integer, string, model, set, function, Items, no_items, item, items, members, pairs, graph, keys, graph-pairs, members-items}
 use Rattle.pgo_base.specs.Exact.{data_itself}
 use Rattle.pgo_base.specs.Order.{data_cmp}
 use Rattle.pgo_base.specs.Total.{data_total}
 use Rattle.pgo_base.specs.Pairs.{pairs_in_order}
-use Rattle.pgo_base.specs.Sets.{in_order, IsSorted, same_sorted, sorted-in_order, in-in_order, in_order-in}
+use Rattle.pgo_base.specs.Sets.{in_order, IsSorted, in_order-in}
 use Rattle.pgo_model.specs.FunctionSets.{Choices, paired, functions_over, graph_fits, fits, choice_count}
-use Rattle.pgo_model.specs.Operators.{each, both, contains, included, lookup, same_data, set_from, function_from, choices, spread, put, sublists, where_few, most_members, upward, span, count_to, range, within_range}
+use Rattle.pgo_model.specs.Operators.{each, contains, included, lookup, same_data, set_from, function_from, choices, spread, put, sublists, where_few, upward, span, count_to, range, within_range}
 use Rattle.pgo_model.specs.Val.{is_subset}
 use Rattle.pgo_bound.specs.Among.{IsAmong}
-use Rattle.pgo_bound.specs.Among.{among_left, among_right, among_append, among_map, from_map, all_at}
+use Rattle.pgo_bound.specs.Among.{among_left, among_right, among_map, all_at}
 use Rattle.pgo_bound.specs.Keyed.{keys_ordered}
 use Rattle.pgo_bound.specs.Once.{StandOnce}
 use Rattle.pgo_bound.specs.Lookups.{apply_on, same_of, same_equal}
-use Rattle.pgo_translate.proofs.Graphs.{in_among, among_in, sorted_once, same_graph, built_is, and_both}
+use Rattle.pgo_values.proofs.Graphs.{same_graph, sorted_once}
+use Rattle.pgo_values.proofs.Lists.{contained, key_of, set_at, InChoices, among_in, built_is, choices_in, each_from, each_step, in_among, made_of, of_ordered, ordered_is, sublist_in, upward_in}
+use Rattle.pgo_translate.proofs.Graphs.{and_both}
 use Rattle.pgo_translate.proofs.Kleene.{contains_cases}
-use Rattle.pgo_translate.proofs.StartPlaces.{contained}
 use Rattle.pgo_translate.proofs.Upward.{above, span_above, above_self, neither_less}
 
 pub same_test : (b c : Bool) → (b ≡ true → c ≡ true) → (c ≡ true → b ≡ true) → b ≡ c
@@ -38,33 +38,10 @@ in_list q (y ∷ ys) k = ⊎_elim (λ e. inl e) (λ m. inr (in_list q ys m)) (co
 
 -- ---- each
 
-pub each_step : {A B : Type 0} (f : A → Option B) (a : A) (as' : List A) (ys : List B) → each f (a ∷ as') ≡ Some ys → (b : B) × ((bs : List B) × (f a ≡ Some b) × (each f as' ≡ Some bs) × (ys ≡ b ∷ bs))
-each_step {B = B} f a as' ys h = go (f a) (each f as') refl refl h
-  where
-    go : (o : Option B) (p : Option (List B)) → f a ≡ o → each f as' ≡ p → both (λ b bs. Some (b ∷ bs)) o p ≡ Some ys → (b : B) × ((bs : List B) × (f a ≡ Some b) × (each f as' ≡ Some bs) × (ys ≡ b ∷ bs))
-    go None p e g k = absurd (cc)
-    go (Some b) None e g k = absurd (cc)
-    go (Some b) (Some bs) e g k = (b, (bs, e, g, sym (same_Some (b ∷ bs) ys k)))
-
 pub each_into : {A B : Type 0} (f : A → Option B) (xs : List A) (ys : List B) → each f xs ≡ Some ys → (x : A) → IsAmong x xs → (y : B) × (f x ≡ Some y) × IsAmong y ys
 each_into f [] ys h x m = absurd m
 each_into f (a ∷ xs) ys h x (inl e) = let r = each_step f a xs ys h in (r.0, ap f e ∙ r.1.1, subst (IsAmong r.0) (sym r.1.3) (inl refl))
 each_into f (a ∷ xs) ys h x (inr m) = let r = each_step f a xs ys h in let q = each_into f xs r.1.0 r.1.2 x m in (q.0, q.1, subst (IsAmong q.0) (sym r.1.3) (inr q.2))
-
-pub each_from : {A B : Type 0} (f : A → Option B) (xs : List A) (ys : List B) → each f xs ≡ Some ys → (y : B) → IsAmong y ys → (x : A) × IsAmong x xs × (f x ≡ Some y)
-each_from f [] ys h y m = absurd (subst (IsAmong y) (sym (same_Some [] ys h)) m)
-each_from {A = A} f (a ∷ xs) ys h y m = let r = each_step f a xs ys h in go r.0 r.1.0 r.1.1 (subst (IsAmong y) r.1.3 m) (each_from f xs r.1.0 r.1.2 y)
-  where
-    go : (b : _) (bs : List _) → f a ≡ Some b → (y ≡ b) ⊎ IsAmong y bs → (IsAmong y bs → (x : A) × IsAmong x xs × (f x ≡ Some y)) → (x : A) × IsAmong x (a ∷ xs) × (f x ≡ Some y)
-    go b bs e (inl q) r = (a, inl refl, e ∙ ap Some (sym q))
-    go b bs e (inr q) r = let z = r q in (z.0, inr z.1, z.2)
-
-pub made_of : (n : ℕ) (make : Unit {0} → Option Data) (v : Data) → where_few n make ≡ Some v → make tt ≡ Some v
-made_of n make v h = go (nat_lt most_members n) h
-  where
-    go : (b : Bool) → (elim b as (λ b. Option Data) [ true ↦ None | false ↦ make tt ]) ≡ Some v → make tt ≡ Some v
-    go true k = absurd (cc)
-    go false k = k
 
 -- a set that is made of members
 pub set_members : (fs : List Data) (xs : Items) → set_from fs ≡ Some (set xs) → members xs ≡ in_order fs
@@ -73,45 +50,20 @@ set_members fs xs h = sym (ap members (items_are (items (in_order fs)) xs (built
     items_are : (a b : Items) → set a ≡ set b → a ≡ b
     items_are a b k = cc
 
-pub of_ordered : (v : Data) (fs : List Data) → IsAmong v (in_order fs) → IsAmong v fs
-of_ordered v fs m = in_among v fs (in-in_order v fs (among_in v (in_order fs) m))
-
 to_ordered : (v : Data) (fs : List Data) → IsAmong v fs → IsAmong v (in_order fs)
 to_ordered v fs m = in_among v (in_order fs) (in_order-in v fs (among_in v fs m))
 
-pub ordered_is : (xs : List Data) → IsSorted xs → in_order xs ≡ xs
-ordered_is xs s = same_sorted (in_order xs) xs (sorted-in_order xs) s (λ z i. in-in_order z xs i) (λ z i. in_order-in z xs i)
-
 -- ---- sets of functions
-
-abbrev pub InChoices : List (List Data) → List Data → Type 0
-InChoices [] [] = Unit {0}
-InChoices [] (v ∷ vs) = ⊥
-InChoices (ms ∷ mss) [] = ⊥
-InChoices (ms ∷ mss) (v ∷ vs) = IsAmong v ms × InChoices mss vs
 
 in_put : (m : Data) (c : List Data) (cs : List (List Data)) → IsAmong c cs → IsAmong (m ∷ c) (put m cs)
 in_put m c [] h = h
 in_put m c (d ∷ cs) (inl e) = inl (ap (λ z. m ∷ z) e)
 in_put m c (d ∷ cs) (inr h) = inr (in_put m c cs h)
 
-put_in : (m : Data) (z : List Data) (cs : List (List Data)) → IsAmong z (put m cs) → (c : List Data) × IsAmong c cs × (z ≡ m ∷ c)
-put_in m z [] h = absurd h
-put_in m z (d ∷ cs) (inl e) = (d, inl refl, e)
-put_in m z (d ∷ cs) (inr h) = let r = put_in m z cs h in (r.0, inr r.1, r.2)
-
 in_spread : (m : Data) (c : List Data) (ms : List Data) (cs : List (List Data)) → IsAmong m ms → IsAmong c cs → IsAmong (m ∷ c) (spread ms cs)
 in_spread m c [] cs h g = absurd h
 in_spread m c (n ∷ ms) cs (inl e) g = among_left (m ∷ c) (put n cs) (spread ms cs) (subst (λ z. IsAmong (m ∷ c) (put z cs)) e (in_put m c cs g))
 in_spread m c (n ∷ ms) cs (inr h) g = among_right (m ∷ c) (put n cs) (spread ms cs) (in_spread m c ms cs h g)
-
-spread_in : (z : List Data) (ms : List Data) (cs : List (List Data)) → IsAmong z (spread ms cs) → (m : Data) × ((c : List Data) × IsAmong m ms × IsAmong c cs × (z ≡ m ∷ c))
-spread_in z [] cs h = absurd h
-spread_in z (n ∷ ms) cs h = go (among_append z (put n cs) (spread ms cs) h) (spread_in z ms cs)
-  where
-    go : IsAmong z (put n cs) ⊎ IsAmong z (spread ms cs) → (IsAmong z (spread ms cs) → (m : Data) × ((c : List Data) × IsAmong m ms × IsAmong c cs × (z ≡ m ∷ c))) → (m : Data) × ((c : List Data) × IsAmong m (n ∷ ms) × IsAmong c cs × (z ≡ m ∷ c))
-    go (inl g) r = let p = put_in n z cs g in (n, (p.0, inl refl, p.1, p.2))
-    go (inr g) r = let q = r g in (q.0, (q.1.0, inr q.1.1, q.1.2, q.1.3))
 
 in_choices : (mss : List (List Data)) (vs : List Data) → InChoices mss vs → IsAmong vs (choices mss)
 in_choices [] [] h = inl refl
@@ -119,24 +71,11 @@ in_choices [] (v ∷ vs) h = absurd h
 in_choices (ms ∷ mss) [] h = absurd h
 in_choices (ms ∷ mss) (v ∷ vs) h = in_spread v vs ms (choices mss) h.0 (in_choices mss vs h.1)
 
-pub choices_in : (mss : List (List Data)) (vs : List Data) → IsAmong vs (choices mss) → InChoices mss vs
-choices_in [] vs (inl e) = subst (InChoices []) (sym e) tt
-choices_in [] vs (inr h) = absurd h
-choices_in (ms ∷ mss) vs h =
-    let r = spread_in vs ms (choices mss) h in
-    subst (InChoices (ms ∷ mss)) (sym r.1.3) (r.1.1, choices_in mss r.1.0 r.1.2)
-
-abbrev pub key : Data × List Data → Data
-key c = c.0
-
-abbrev pub from_set : Data × List Data → List Data
-from_set c = c.1
-
 abbrev second : Data × Data → Data
 second p = p.1
 
 -- a choice at each key makes a function that fits, with these keys
-paired_fits : (cs : Choices) (vs : List Data) → InChoices (map from_set cs) vs → (keys (paired cs vs) ≡ map key cs) × (graph_fits cs (paired cs vs) ≡ true)
+paired_fits : (cs : Choices) (vs : List Data) → InChoices (map set_at cs) vs → (keys (paired cs vs) ≡ map key_of cs) × (graph_fits cs (paired cs vs) ≡ true)
 paired_fits [] [] h = (refl, refl)
 paired_fits [] (v ∷ vs) h = absurd h
 paired_fits (c ∷ cs) [] h = absurd h
@@ -145,7 +84,7 @@ paired_fits (c ∷ cs) (v ∷ vs) h =
     (ap (λ ks. c.0 ∷ ks) r.0, (and_both (same_data c.0 c.0) (contains v c.1 && graph_fits cs (paired cs vs))).1 (same_equal c.0 c.0 refl, (and_both (contains v c.1) (graph_fits cs (paired cs vs))).1 (contained v c.1 h.0, r.1)))
 
 -- a function that fits is made by its values
-fits_paired : (cs : Choices) (ps : List (Data × Data)) → graph_fits cs ps ≡ true → InChoices (map from_set cs) (map second ps) × (paired cs (map second ps) ≡ ps)
+fits_paired : (cs : Choices) (ps : List (Data × Data)) → graph_fits cs ps ≡ true → InChoices (map set_at cs) (map second ps) × (paired cs (map second ps) ≡ ps)
 fits_paired [] [] h = (tt, refl)
 fits_paired [] (p ∷ ps) h = absurd (cc)
 fits_paired (c ∷ cs) [] h = absurd (cc)
@@ -166,17 +105,17 @@ pub function_is : (ps : List (Data × Data)) (v : Data) → IsSorted (keys ps) �
 function_is ps v s h = ap (λ qs. function (pairs qs)) (sym (pairs_ordered ps s)) ∙ built_is (length (pairs_in_order ps)) (function (pairs (pairs_in_order ps))) v h
 
 -- what fits is what the set of functions has
-pub fits_contains : (cs : Choices) (xs : Items) (v : Data) → IsSorted (map key cs) → functions_over cs ≡ Some (set xs) → fits cs v ≡ contains v (members xs)
-fits_contains cs xs v s h = made (each (λ vs. function_from (paired cs vs)) (choices (map from_set cs))) refl (made_of (choice_count (map from_set cs)) (λ _. option_and_then set_from (each (λ vs. function_from (paired cs vs)) (choices (map from_set cs)))) (set xs) h)
+pub fits_contains : (cs : Choices) (xs : Items) (v : Data) → IsSorted (map key_of cs) → functions_over cs ≡ Some (set xs) → fits cs v ≡ contains v (members xs)
+fits_contains cs xs v s h = made (each (λ vs. function_from (paired cs vs)) (choices (map set_at cs))) refl (made_of (choice_count (map set_at cs)) (λ _. option_and_then set_from (each (λ vs. function_from (paired cs vs)) (choices (map set_at cs)))) (set xs) h)
   where
-    made : (o : Option (List Data)) → each (λ vs. function_from (paired cs vs)) (choices (map from_set cs)) ≡ o → option_and_then set_from o ≡ Some (set xs) → fits cs v ≡ contains v (members xs)
+    made : (o : Option (List Data)) → each (λ vs. function_from (paired cs vs)) (choices (map set_at cs)) ≡ o → option_and_then set_from o ≡ Some (set xs) → fits cs v ≡ contains v (members xs)
     made None e k = absurd (cc)
     made (Some fs) e k = same_test (fits cs v) (contains v (members xs)) (λ f. ap (contains v) (set_members fs xs k) ∙ contained v (in_order fs) (to_ordered v fs (to v f))) (λ c. from (of_ordered v fs (in_list v (in_order fs) (ap (contains v) (sym (set_members fs xs k)) ∙ c))))
       where
         to : (v : Data) → fits cs v ≡ true → IsAmong v fs
         to (function ps) f =
             let r = fits_paired cs (graph ps) f in
-            let q = each_into (λ vs. function_from (paired cs vs)) (choices (map from_set cs)) fs e (map second (graph ps)) (in_choices (map from_set cs) (map second (graph ps)) r.0) in
+            let q = each_into (λ vs. function_from (paired cs vs)) (choices (map set_at cs)) fs e (map second (graph ps)) (in_choices (map set_at cs) (map second (graph ps)) r.0) in
             let sorted : IsSorted (keys (graph ps)) = subst (λ z. IsSorted (keys z)) r.1 (subst IsSorted (sym (paired_fits cs (map second (graph ps)) r.0).0) s) in
             let is = function_is (graph ps) q.0 sorted (ap function_from (sym r.1) ∙ q.1) in
             subst (λ z. IsAmong z fs) (sym is ∙ ap function (pairs_back ps)) q.2
@@ -188,8 +127,8 @@ fits_contains cs xs v s h = made (each (λ vs. function_from (paired cs vs)) (ch
 
         from : IsAmong v fs → fits cs v ≡ true
         from m =
-            let q = each_from (λ vs. function_from (paired cs vs)) (choices (map from_set cs)) fs e v m in
-            let r = paired_fits cs q.0 (choices_in (map from_set cs) q.0 q.1) in
+            let q = each_from (λ vs. function_from (paired cs vs)) (choices (map set_at cs)) fs e v m in
+            let r = paired_fits cs q.0 (choices_in (map set_at cs) q.0 q.1) in
             let is = function_is (paired cs q.0) v (subst IsSorted (sym r.0) s) q.2 in
             ap (fits cs) (sym is) ∙ ap (graph_fits cs) (graph-pairs (paired cs q.0)) ∙ r.1
 
@@ -199,13 +138,6 @@ in_upward : (a : ℤ) (n k : ℕ) → k < n → IsAmong (integer (a +ℤ pos k))
 in_upward a zero k h = absurd (omega arith)
 in_upward a (suc n) zero h = inl (ap integer (+ℤ_idr a))
 in_upward a (suc n) (suc k) h = inr (subst (λ z. IsAmong (integer z) (upward (a +ℤ pos 1) n)) (+ℤ_assoc a (pos 1) (pos k) ∙ ap (λ m. a +ℤ pos m) (let e : 1 + k ≡ suc k = omega arith in e)) (in_upward (a +ℤ pos 1) n k (omega arith)))
-
-upward_in : (v : Data) (a : ℤ) (n : ℕ) → IsAmong v (upward a n) → (k : ℕ) × (k < n) × (v ≡ integer (a +ℤ pos k))
-upward_in v a zero h = absurd h
-upward_in v a (suc n) (inl e) = (0, omega arith, e ∙ ap integer (sym (+ℤ_idr a)))
-upward_in v a (suc n) (inr h) =
-    let r = upward_in v (a +ℤ pos 1) n h in
-    (suc r.0, omega (arith, r.1), r.2 ∙ ap integer (+ℤ_assoc a (pos 1) (pos r.0) ∙ ap (λ m. a +ℤ pos m) (let e : 1 + r.0 ≡ suc r.0 = omega arith in e)))
 
 not_below : (z w : ℤ) → int_lt w z ≡ false → (d : ℕ) × (w ≡ z +ℤ pos d)
 not_below z w h = go (int_lt z w) refl
@@ -273,19 +205,6 @@ all_included : (xs ys : List Data) → included xs ys ≡ true → (q : Data) �
 all_included [] ys h q m = absurd m
 all_included (x ∷ xs) ys h q (inl e) = subst (λ z. IsAmong z ys) (sym e) (in_list x ys ((and_both (contains x ys) (included xs ys)).0 h).0)
 all_included (x ∷ xs) ys h q (inr m) = all_included xs ys ((and_both (contains x ys) (included xs ys)).0 h).1 q m
-
-pub sublist_in : (l ms : List Data) → IsAmong l (sublists ms) → (q : Data) → IsAmong q l → IsAmong q ms
-sublist_in l [] (inl e) q m = subst (IsAmong q) e m
-sublist_in l [] (inr h) q m = absurd h
-sublist_in l (n ∷ ms) h q m = go (among_append l (map (λ xs. n ∷ xs) (sublists ms)) (sublists ms) h) (λ k i r. sublist_in k ms i q r)
-  where
-    two : (k : List Data) → (q ≡ n) ⊎ IsAmong q k → (IsAmong q k → IsAmong q ms) → (q ≡ n) ⊎ IsAmong q ms
-    two k (inl e) r = inl e
-    two k (inr i) r = inr (r i)
-
-    go : IsAmong l (map (λ xs. n ∷ xs) (sublists ms)) ⊎ IsAmong l (sublists ms) → ((k : List Data) → IsAmong k (sublists ms) → IsAmong q k → IsAmong q ms) → IsAmong q (n ∷ ms)
-    go (inl g) r = let o = from_map (λ xs. n ∷ xs) l (sublists ms) g in two o.0 (subst (IsAmong q) o.2 m) (r o.0 o.1)
-    go (inr g) r = inr (r l g m)
 
 not_itself : (x : Data) → data_cmp x x ≡ Less → ⊥
 not_itself x h = let i = data_itself x in cc

@@ -1,5 +1,5 @@
 -- When the items of Init are TRUE: of globals, of locals and value parameters.
-use Rattle.std.proofs.Common.{◌≡◌, ◌↔◌, suc, ◌*◌, ◌≤◌, Bool, true, false, List, [], ◌∷◌, length, map, Option, Some, None, refl, sym, ap, ◌∙◌, subst, option_and_then, option_map, arith}
+use Rattle.std.proofs.Common.{◌≡◌, ◌↔◌, ◌*◌, ◌≤◌, Bool, true, false, List, [], ◌∷◌, length, map, Option, Some, None, refl, sym, ap, ◌∙◌, subst, option_and_then, option_map, arith}
 use Rattle.std.proofs.lemmas.Bool.Decides.{nat_tests}
 use Rattle.std.specs.Prelude.{if◌then◌else◌, ◌&&◌, nat_le}
 use Rattle.std.proofs.lemmas.Option.{same_Some}
@@ -22,13 +22,15 @@ use Rattle.pgo_bound.specs.State.{variables_of}
 use Rattle.pgo_bound.specs.Values as values
 use Rattle.pgo_bound.specs.Values.{closed_value, value_at, value_with}
 use Rattle.pgo_bound.specs.Among.{IsAmong}
+use Rattle.pgo_values.proofs.Graphs.{sorted_once}
+use Rattle.pgo_values.proofs.Lists.{length_keys}
 use Rattle.pgo_translate.specs.Avoids.{Avoids}
 use Rattle.pgo_model.specs.Names.{is_among}
 use Rattle.pgo_translate.specs.Items.{equals}
 use Rattle.pgo_translate.specs.ModuleOf.{global_starts, own_starts, for_each_id, member}
 use Rattle.pgo_translate.specs.Premises.{ModuleNames, StartNames, OriginAvoids, is_taken}
 use Rattle.pgo_translate.proofs.Actions.{named_known}
-use Rattle.pgo_translate.proofs.Graphs.{pairs_of, function-yes, fits-yes, few_made, each_choice, sorted_once}
+use Rattle.pgo_translate.proofs.Graphs.{pairs_of, function-yes, fits-yes, few_made, each_choice}
 use Rattle.pgo_translate.proofs.Kleene.{is_true, iff_then}
 use Rattle.pgo_translate.proofs.StartValues.{at_start, start_sem, default_value, specification}
 use Rattle.pgo_translate.proofs.Truths.{from_truth-yes, equal-yes}
@@ -42,10 +44,6 @@ shallow_at (p ∷ ps) x v h e = go (nat_le (depth p.1) state_depth) refl (same_n
     go false g c k f r = absurd (cc)
     go true g true k f r = let q : p.1 ≡ v = same_Some p.1 v f in subst (λ w. depth w ≤ 256) q (grind (arith, nat_tests))
     go true g false k f r = r k f
-
-pub length_keys : (ps : List (Data × Data)) → length (keys ps) ≡ length ps
-length_keys [] = refl
-length_keys (p ∷ ps) = ap suc (length_keys ps)
 
 -- an equation of the value of a variable, which is there, and some value
 equation-yes : (a b o p : Option Data) → a ≡ o → b ≡ p → is_true (option_and_then (λ v. option_and_then (λ w. Some (boolean (same_data v w))) b) a) ↔ ((v : Data) × (o ≡ Some v) × (p ≡ Some v))

@@ -1,17 +1,13 @@
 -- Where instances start: ProcSet is the set of all identifiers, and the CASE gives each the first label of its process.
-use Rattle.std.proofs.Common.{◌≡◌, ◌⊎◌, ℕ, suc, ◌+◌, ◌<◌, ◌≤◌, Bool, true, false, List, [], ◌∷◌, ◌++◌, length, map, Option, Some, None, refl, sym, ap, ◌∙◌, subst, option_and_then, option_map, inl, inr, ⊎_elim, arith}
+use Rattle.std.proofs.Common.{◌≡◌, ◌⊎◌, ℕ, ◌+◌, ◌<◌, ◌≤◌, Bool, true, false, List, [], ◌∷◌, ◌++◌, length, map, Option, Some, None, refl, sym, ap, ◌∙◌, subst, option_and_then, option_map, inl, inr, ⊎_elim, arith}
 use Rattle.std.specs.Prelude.{if◌then◌else◌, nat_lt}
 use Rattle.std.proofs.lemmas.Bool.Decides.{nat_tests}
 use Rattle.std.specs.List.{AllByRecursion, flat_map}
-use Rattle.std.specs.declared.cmp.Ordering.{Ordering}
-use Rattle.std.specs.declared.cmp.Ordering.TheVariants.{Less, Equal, Greater}
-use Rattle.std.specs.Ordering.{match_ordering}
 use Rattle.std.proofs.lemmas.Option.{same_Some}
 use Rattle.pgo_base.specs.declared.expr.Infix.TheVariants as infixs
 use Rattle.pgo_base.specs.Data.{Data, boolean, string, set, Pairs, no_pairs, pair, graph, keys, no_items, item, items, members-items}
 use Rattle.pgo_base.specs.Lookup.{Name}
-use Rattle.pgo_base.specs.Order.{data_cmp}
-use Rattle.pgo_base.specs.Sets.{in_order, insert_member, IsSorted, sorted-in_order, in-in_order, in_order-in}
+use Rattle.pgo_base.specs.Sets.{in_order, IsSorted, sorted-in_order, in-in_order, in_order-in}
 use Rattle.pgo_base.specs.Size.{depth, items_depth, pairs_depth}
 use Rattle.pgo_base.specs.Tree.{Tree, name, text, binary, arms}
 use Rattle.pgo_model.specs.Module.{joined_by, union_of}
@@ -20,24 +16,11 @@ use Rattle.pgo_model.specs.Val.{Scope, val, decide, case_value}
 use Rattle.pgo_bound.specs.Among.{IsAmong}
 use Rattle.pgo_bound.specs.Among.{among_append, among_left, among_right, among_flat_map}
 use Rattle.pgo_bound.specs.Once.{StandOnce}
+use Rattle.pgo_values.proofs.Lists.{contained, among_in, in_among, ordered_few}
 use Rattle.pgo_translate.proofs.Kleene.{CanBeBound}
-use Rattle.pgo_translate.proofs.Graphs.{built_some, in_among, among_in}
-use Rattle.pgo_translate.proofs.Kleene.{contains_cases, contains_first, contains_later}
+use Rattle.pgo_translate.proofs.Graphs.{built_some}
+use Rattle.pgo_translate.proofs.Kleene.{contains_cases}
 use Rattle.pgo_translate.proofs.StartItems.{set_is}
-
--- depths and lengths of what is put in order
-insert_length : (x : Data) (ys : List Data) → length (insert_member x ys) ≤ suc (length ys)
-insert_length x [] = omega arith
-insert_length x (y ∷ ys) = go (data_cmp x y) (insert_length x ys)
-  where
-    go : (o : Ordering) → length (insert_member x ys) ≤ suc (length ys) → length (match_ordering o (x ∷ y ∷ ys) (y ∷ ys) (y ∷ insert_member x ys)) ≤ suc (suc (length ys))
-    go Less r = omega arith
-    go Equal r = omega arith
-    go Greater r = omega (arith, r)
-
-pub ordered_length : (xs : List Data) → length (in_order xs) ≤ length xs
-ordered_length [] = omega arith
-ordered_length (x ∷ xs) = omega (arith, insert_length x (in_order xs), ordered_length xs)
 
 items_low : (n : ℕ) (xs : List Data) → ((q : Data) → IsAmong q xs → depth q ≤ n) → items_depth (items xs) ≤ n
 items_low n [] h = omega arith
@@ -51,7 +34,7 @@ key_low (pair q v ps) k (inr h) = omega (arith, key_low ps k h)
 -- a set of few shallow members is a value
 pub set_made : (xs : List Data) → length xs ≤ 64 → ((q : Data) → IsAmong q xs → depth q ≤ 256) → set_from xs ≡ Some (set (items (in_order xs)))
 set_made xs few low =
-    built_some (length (in_order xs)) (set (items (in_order xs))) (omega (arith, few, ordered_length xs))
+    built_some (length (in_order xs)) (set (items (in_order xs))) (omega (arith, few, ordered_few xs))
     (omega (arith, items_low 256 (in_order xs) (λ q i. low q (in_among q xs (in-in_order q xs (among_in q (in_order xs) i))))))
 
 pub can_be_bound : (v : Data) → depth v ≤ 256 → CanBeBound v
@@ -131,7 +114,7 @@ module _ (sc : Scope) where
       members = r.members;
       has = r.has;
       sorted = r.sorted;
-      few = omega (arith, r.few, length_append ws (joined yss), length_append ys (zs ++ joined yss), length_append zs (joined yss), length_append ys zs, ordered_length (ys ++ zs));
+      few = omega (arith, r.few, length_append ws (joined yss), length_append ys (zs ++ joined yss), length_append zs (joined yss), length_append ys zs, ordered_few (ys ++ zs));
       into = λ q i. in_all q (among_append q ws (joined yss) (r.into q i));
       out = λ q i. r.out q (to_all q (among_append q ys (zs ++ joined yss) i));
     }
@@ -146,7 +129,7 @@ module _ (sc : Scope) where
       (gathers (binary infixs.Union t b) ts ws yss
       (union_has t b ys zs h a.0 (omega (arith, few, length_append ys (zs ++ joined yss), length_append zs (joined yss), length_append ys zs)) (λ q m. low q (of_two ys zs yss q m)))
       a.1 (sorted-in_order (ys ++ zs))
-      (omega (arith, few, length_append ws (joined yss), length_append ys (zs ++ joined yss), length_append zs (joined yss), length_append ys zs, ordered_length (ys ++ zs)))
+      (omega (arith, few, length_append ws (joined yss), length_append ys (zs ++ joined yss), length_append zs (joined yss), length_append ys zs, ordered_few (ys ++ zs)))
       (λ q m. low q (in_all ys zs yss q (among_append q ws (joined yss) m))))
 
   -- the union of sets has the members of all
@@ -155,12 +138,6 @@ module _ (sc : Scope) where
   union_gathers [] (ys ∷ yss) a o few low = absurd a
   union_gathers (t ∷ ts) [] a o few low = absurd a
   union_gathers (t ∷ ts) (ys ∷ yss) a o few low = gathers t ts ys yss a.0 a.1 o.0 few low
-
--- what is among the members is contained
-pub contained : (q : Data) (xs : List Data) → IsAmong q xs → contains q xs ≡ true
-contained q [] h = absurd h
-contained q (x ∷ xs) (inl e) = contains_first q x xs e
-contained q (x ∷ xs) (inr h) = contains_later q x xs (contained q xs h)
 
 pub not_contained : (q : Data) (xs : List Data) → (IsAmong q xs → ⊥) → contains q xs ≡ false
 not_contained q [] h = refl

@@ -45,6 +45,7 @@ use Rattle.pgo_bind.proofs.Passing.{none_next}
 use Rattle.pgo_bound.specs.Among.{nth_among}
 use Rattle.pgo_bound.specs.Once.{StandOnce}
 use Rattle.pgo_bind.proofs.Unrefused.{Unrefused, unrefused, global_begins, where_false}
+use Rattle.pgo_values.proofs.Lists.{among_in, in_among}
 use Rattle.pgo_translate.specs.Agrees.{BeginsAgree}
 use Rattle.pgo_translate.specs.Avoids.{Avoids}
 use Rattle.pgo_translate.proofs.Kleene.{CanBeBound}
@@ -57,7 +58,6 @@ use Rattle.pgo_translate.proofs.Sets.{SetsOrdered}
 use Rattle.pgo_translate.proofs.Weaker.{origin_fewer}
 use Rattle.pgo_translate.proofs.Actions.{pc_there}
 use Rattle.pgo_translate.proofs.Alike.{sem_alike}
-use Rattle.pgo_translate.proofs.Graphs.{in_among, among_in}
 use Rattle.pgo_translate.proofs.Holding.{holds_member}
 use Rattle.pgo_translate.proofs.Kleene.{is_true, iff_then, iff_back, pair_iff, AllYes, all-yes, all_append}
 use Rattle.pgo_translate.proofs.StartItems.{shallow_at, set_is, global-yes, own-yes, equal-each, OriginHeld, OriginSet}

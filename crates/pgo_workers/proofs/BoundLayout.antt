@@ -24,7 +24,8 @@ use Rattle.pgo_bound.specs.State.{AreDifferent, id_of, variables_of}
 use Rattle.pgo_bound.specs.State as bound
 use Rattle.pgo_meaning.specs.System.{member_of, owned, owned_by, resource_of, system_of}
 use Rattle.pgo_sections.proofs.Domains.{same_of}
-use Rattle.pgo_workers.specs.Worlds.{Layout, layout_of, are_different, are_other, IsLayout, HasAll, own_component, names_at, names_of}
+use Rattle.pgo_sections.specs.PlainTest.{distinct_names}
+use Rattle.pgo_workers.specs.Worlds.{Layout, layout_of, are_other, IsLayout, HasAll, own_component, names_at, names_of}
 use Rattle.pgo_workers.proofs.Components.{not_true, same_self}
 use Rattle.pgo_workers.proofs.LayoutChanges.{Differ, are_differing, other_indices, component_there}
 
@@ -164,7 +165,7 @@ module _ (b : Bound) (sound : Sound b) where
       differ : AreDifferent (pc ∷ map (λ o. o.variable) y.own)
       differ = subst (λ l. AreDifferent (pc ∷ l)) (sym (owned_names b.spec.processes)) (suffix_differs (map (λ d. d.name.name) b.spec.globals) pc (names_in b.spec.processes) different)
 
-      names : (o : Option Data) → are_different (names_at y o) ≡ true
+      names : (o : Option Data) → distinct_names (names_at y o) ≡ true
       names None = refl
       names (Some id) = are_differing (pc ∷ own_names id y.own) (none_named pc id y.own differ.0, differ_named id y.own differ.1)
 

@@ -1,6 +1,6 @@
 -- The state after an entry that changes components of resources and of one instance.
 use Rattle.std.proofs.Common.{◌≡◌, ◌<◌, ℕ, zero, suc, Bool, true, false, List, [], ◌∷◌, length, map, Option, Some, None, refl, sym, ap, ◌∙◌, subst, arith, ◌⊎◌, inl, inr}
-use Rattle.std.specs.Prelude.{if◌then◌else◌, nat_eq, nat_lt, ◌&&◌, is_some, ◌||◌}
+use Rattle.std.specs.Prelude.{if◌then◌else◌, not, nat_eq, nat_lt, ◌&&◌, is_some, ◌||◌}
 use Rattle.std.proofs.lemmas.Bool.{and_parts}
 use Rattle.std.proofs.lemmas.Option.{same_Some}
 use Rattle.pgo_base.specs.Data.{Data}
@@ -12,7 +12,8 @@ use Rattle.pgo_model.specs.MachineAccounts.{equal_or}
 use Rattle.pgo_model.specs.Names.{same_name-self, same_name-is, is_among}
 use Rattle.pgo_model.specs.Operators.{same_data}
 use Rattle.pgo_model.specs.System.{Resource}
-use Rattle.pgo_workers.specs.Worlds.{Layout, are_different, are_other, IsLayout, HasAll, component_of, component_at, own_component, names_at, names_of, same_component, is_component_among, is_component_of, are_components_of}
+use Rattle.pgo_sections.specs.PlainTest.{distinct_names}
+use Rattle.pgo_workers.specs.Worlds.{Layout, are_other, IsLayout, HasAll, component_of, component_at, own_component, names_at, names_of, same_component, is_component_among, is_component_of, are_components_of}
 use Rattle.pgo_workers.proofs.Components.{not_true, not_both, index_is, same_is, same_made, is_apart, apart_turned}
 use Rattle.pgo_workers.proofs.Applied.{Comparable, EachThere}
 
@@ -41,17 +42,17 @@ abbrev pub Differ : List Name → Type 0
 Differ [] = Unit {0}
 Differ (x ∷ xs) = (is_among x xs ≡ false) × Differ xs
 
-pub they_differ : (xs : List Name) → are_different xs ≡ true → Differ xs
+pub they_differ : (xs : List Name) → distinct_names xs ≡ true → Differ xs
 they_differ [] h = tt
 they_differ (x ∷ xs) h = go (is_among x xs) refl h (they_differ xs)
   where
-    go : (b : Bool) → is_among x xs ≡ b → (if b then false else are_different xs) ≡ true → (are_different xs ≡ true → Differ xs) → (is_among x xs ≡ false) × Differ xs
+    go : (b : Bool) → is_among x xs ≡ b → (not b && distinct_names xs) ≡ true → (distinct_names xs ≡ true → Differ xs) → (is_among x xs ≡ false) × Differ xs
     go true e h ih = absurd (grind (arith, h))
     go false e h ih = (e, ih h)
 
-pub are_differing : (xs : List Name) → Differ xs → are_different xs ≡ true
+pub are_differing : (xs : List Name) → Differ xs → distinct_names xs ≡ true
 are_differing [] h = refl
-are_differing (x ∷ xs) h = ap (λ b. if b then false else are_different xs) h.0 ∙ are_differing xs h.1
+are_differing (x ∷ xs) h = ap (λ b. not b && distinct_names xs) h.0 ∙ are_differing xs h.1
 
 -- ---- the components of a layout
 

@@ -11,6 +11,7 @@ use Rattle.pgo_model.specs.Operators.{same_data}
 use Rattle.pgo_model.specs.Options.{on}
 use Rattle.pgo_model.specs.System.{System, Resource, Owned, ids_of}
 use Rattle.pgo_model.specs.Written.{pc}
+use Rattle.pgo_sections.specs.PlainTest.{distinct_names}
 use Rattle.pgo_workers.specs.Walk.{At, Own}
 use Rattle.pgo_workers.specs.View.{World}
 use Rattle.pgo_workers.specs.Worker as worker
@@ -117,11 +118,6 @@ world_of y = record {
 
 -- ---- what is asked of a layout and its states
 
--- no two of these names are one
-abbrev pub are_different : List Name → Bool
-are_different [] = true
-are_different (x ∷ xs) = if is_among x xs then false else are_different xs
-
 -- there are two indices, and they differ
 abbrev pub are_other : Option Data → Option Data → Bool
 are_other None None = false
@@ -133,7 +129,7 @@ are_other (Some i) (Some j) = not (same_data i j)
 -- both have an index and the indices differ; and none is of a variable that belongs to instances
 pub record IsLayout (y : Layout) : Type 0 where
   pub identifiers_differ : (j k : ℕ) (v : Data) → nth y.ids j ≡ Some v → nth y.ids k ≡ Some v → j ≡ k
-  pub names_differ : (k : ℕ) → are_different (names_of y k) ≡ true
+  pub names_differ : (k : ℕ) → distinct_names (names_of y k) ≡ true
   pub resources_differ : (m n : ℕ) (q r : Resource) → nth y.resources m ≡ Some q → nth y.resources n ≡ Some r → (m ≡ n → ⊥) → q.global ≡ r.global → are_other q.index r.index ≡ true
   pub none_own : (n k : ℕ) (r : Resource) → nth y.resources n ≡ Some r → is_among r.global (names_of y k) ≡ false
 

@@ -12,7 +12,7 @@ use Rattle.pgo_base.specs.View.{data_of, pair_of}
 use Rattle.pgo_model.specs.Sequences.{assert}
 use Rattle.pgo_model.specs.Operators.{members_of, most_members, truth_of, put_at}
 use Rattle.pgo_model.specs.Val.{values_of, val, sem, plain, unary_sem, binary_sem, case_value, let_scope, with_names, ranges, over_each, updated, with_part}
-use Rattle.pgo_eval.specs.HeldView.{held_data, sem_of}
+use Rattle.pgo_eval.specs.HeldView.{held_data, function_data, sem_of}
 use Rattle.pgo_eval.specs.Decided.{is_membership}
 use Rattle.pgo_eval.specs.ScopeView.{scope_view, next_view}
 use Rattle.pgo_eval.proofs.Operands.{unary_values, binary_values, membership_holds}
@@ -27,8 +27,8 @@ use Rattle.pgo_sets.specs.Answers.{Answers}
 use Rattle.pgo_eval.proofs.Functions.{pair_at, pair_here, nothing_yet, pairs_more, pairs_none, pairs_all, function_many, function_is}
 use Rattle.pgo_eval.proofs.Filters.{asks_of, kept_none, kept_all, filter_is, made_of, made_none, made_all, image_is}
 use Rattle.pgo_eval.proofs.UpdateSteps.{updated_by, updates_more, updates_all, update_here, update_nowhere}
-use Rattle.pgo_eval.specs.Paths.{put_on}
-use Rattle.pgo_eval.proofs.PutAt.{put_nowhere, put_somewhere}
+use Rattle.pgo_eval.specs.Paths.{part_on}
+use Rattle.pgo_eval.proofs.PutAt.{put_at_is}
 use Rattle.pgo_eval.proofs.+evaluate.Goals as goal
 
 pub control::case_value-returns-in-Some : goal.control::case_value-returns-in-Some
@@ -272,54 +272,59 @@ one_name::image-returns t c =
 pub updates::except_value-loop-u-preserved : goal.updates::except_value-loop-u-preserved
 updates::except_value-loop-u-preserved t c =
     let s = scope_view c.args.s.now in
-    let n : option_map held_data c.own-now.result ≡ updated_by c.u-item.result s (option_map held_data c.loop-u.now) =
-    c.own-now.ensures ∙ c.in_ok-updated.ensures ∙ ap (updated_by c.u-item.result s) c.lent.ensures in
-    updates_more c.args.list.now c.loop-u.u-index c.u-item.result s _ (option_map held_data c.loop-u.now) (option_map held_data c.own-now.result) c.loop-u-test.true c.u-item.is n c.loop-u.invariant
+    let n : option_map function_data c.in_ok-now.now ≡ updated_by c.u-item.result s (option_map function_data c.loop-u.now) = c.in_ok-now.ensures in
+    updates_more c.args.list.now c.loop-u.u-index c.u-item.result s _ (option_map function_data c.loop-u.now) (option_map function_data c.in_ok-now.now) c.loop-u-test.true c.u-item.is n c.loop-u.invariant
 
 pub updates::except_value-returns : goal.updates::except_value-returns
 updates::except_value-returns t c =
     let s = scope_view c.args.s.now in
     let us = paths (map path_tree c.args.list.now) in
-    let a : option_map held_data c.loop-u.now ≡ updated us s (option_map held_data c.in_ok-now.now) =
-    sym (updates_all c.args.list.now c.loop-u.u-index s _ (option_map held_data c.loop-u.now) c.loop-u-test.false c.loop-u.invariant) in
-    subst (λ (x : Option Data). IfOk c.owned.result (λ o. option_map data_of o ≡ x)) (a ∙ ap (updated us s) c.in_ok-now.ensures) c.owned.ensures
+    let a : option_map function_data c.loop-u.now ≡ updated us s (option_map function_data c.given-now.result) =
+    sym (updates_all c.args.list.now c.loop-u.u-index s _ (option_map function_data c.loop-u.now) c.loop-u-test.false c.loop-u.invariant) in
+    subst (λ (x : Option Data). IfOk c.value_of.result (λ o. option_map data_of o ≡ x)) (a ∙ ap (updated us s) (c.given-now.ensures ∙ c.in_ok-held.ensures)) c.value_of.ensures
 
 pub updates::updated-returns-in_default : goal.updates::updated-returns-in_default
 updates::updated-returns-in_default t c =
     let s = scope_view c.args.s.now in
-    update_nowhere c.args.u.now s (option_map (λ r. data_of r.now) c.args.f) ((rw c.in_default.is at c.in_ok-path.ensures) ∙ ap (λ ts. values_of (trees ts) s) c.as_slice.ensures)
+    update_nowhere c.args.u.now s (option_map function_data c.args.f) ((rw c.in_default.is at c.in_ok-path.ensures) ∙ ap (λ ts. values_of (trees ts) s) c.as_slice.ensures)
 
 pub updates::updated-returns-in-Some-f : goal.updates::updated-returns-in-Some-f
 updates::updated-returns-in-Some-f t c =
     let s = scope_view c.args.s.now in
     let u = c.args.u.now in
-    let f = data_of c.in-Some-f.f.now in
+    let f = function_data c.in-Some-f.f in
     let h : Some (map data_of c.in-Some.path.items) ≡ values_of (trees u.path) s = (rw c.in-Some.is at c.in_ok-path.ensures) ∙ ap (λ ts. values_of (trees ts) s) c.as_slice.ensures in
-    let k = ap (λ xs. put_at (map data_of xs) (λ part. val (tree u.value) (with_part part s)) (Some f)) c.deref.ensures.value ∙ update_here u s (map data_of c.in-Some.path.items) f (option_map (λ r. data_of r.now) c.args.f) h (ap (option_map (λ r. data_of r.now)) (sym c.in-Some-f.is)) in
-    subst (λ (x : Option Data). IfOk c.updated_at.result (λ o. option_map data_of o ≡ x)) k c.updated_at.ensures
+    let k = ap (λ xs. put_at (map data_of xs) (λ part. val (tree u.value) (with_part part s)) (Some f)) c.deref.ensures.value ∙ update_here u s (map data_of c.in-Some.path.items) f (option_map function_data c.args.f) h (ap (option_map function_data) (sym c.in-Some-f.is)) in
+    subst (λ (x : Option Data). IfOk c.updated_at.result (λ o. option_map function_data o ≡ x)) k c.updated_at.ensures
 
-pub updates::updated_at-returns-in-None : goal.updates::updated_at-returns-in-None
-updates::updated_at-returns-in-None t c =
-    let new = λ (part : Option Data). val (tree c.args.e.now) (with_part part (scope_view c.args.s.now)) in
-    put_nowhere (map data_of c.args.path.now) new (data_of c.args.f.now) c.in-None.ensures
-
-pub updates::updated_at-returns-in-Some-2 : goal.updates::updated_at-returns-in-Some-2
-updates::updated_at-returns-in-Some-2 t c =
-    let f = data_of c.args.f.now in
+pub updates::updated_at-returns-in-Some : goal.updates::updated_at-returns-in-Some
+updates::updated_at-returns-in-Some t c =
+    let f = function_data c.args.f in
     let path = map data_of c.args.path.now in
     let new = λ (part : Option Data). val (tree c.args.e.now) (with_part part (scope_view c.args.s.now)) in
-    let part = option_map (λ r. data_of r.now) c.in-Some.part in
-    let w : Some (data_of c.in-Some-2.v) ≡ new part = ap (option_map data_of) (sym c.in-Some-2.is) ∙ c.in_ok-v.ensures ∙ c.in_ok-held.ensures in
-    subst (λ (x : Option Data). IfOk c.put_on.result (λ o. option_map data_of o ≡ x)) (ap (option_and_then (λ v. put_on path v f)) w ∙ put_somewhere path new f part c.in-Some.ensures) c.put_on.ensures
+    let w : Some (data_of c.in-Some.v) ≡ option_and_then new (part_on path f) =
+    ap (option_map data_of) (sym c.in-Some.is) ∙ c.in_ok-part.ensures ∙ ap (λ d. option_and_then new (part_on path d)) c.get.ensures in
+    c.changed.ensures ∙ c.put.ensures ∙ ap (λ d. put_at path (λ part. Some (data_of c.in-Some.v)) (Some d)) c.in_ok-into_changed-in-Some.ensures
+    ∙ ap (option_and_then (λ v. put_at path (λ part. Some v) (Some f))) w ∙ sym (put_at_is path new f)
 
-pub updates::updated_at-returns-in-None-2 : goal.updates::updated_at-returns-in-None-2
-updates::updated_at-returns-in-None-2 t c =
-    let f = data_of c.args.f.now in
+pub updates::updated_at-returns : goal.updates::updated_at-returns
+updates::updated_at-returns t c =
+    let f = function_data c.args.f in
     let path = map data_of c.args.path.now in
     let new = λ (part : Option Data). val (tree c.args.e.now) (with_part part (scope_view c.args.s.now)) in
-    let part = option_map (λ r. data_of r.now) c.in-Some.part in
-    let w : None ≡ new part = ap (option_map data_of) (sym c.in-None-2.is) ∙ c.in_ok-v.ensures ∙ c.in_ok-held.ensures in
-    ap (option_and_then (λ v. put_on path v f)) w ∙ put_somewhere path new f part c.in-Some.ensures
+    let w : None ≡ option_and_then new (part_on path f) =
+    ap (option_map data_of) (sym c.in-None.is) ∙ c.in_ok-part.ensures ∙ ap (λ d. option_and_then new (part_on path d)) c.get.ensures in
+    ap (option_and_then (λ v. put_at path (λ part. Some v) (Some f))) w ∙ sym (put_at_is path new f)
+
+pub updates::new_part-returns-in-None : goal.updates::new_part-returns-in-None
+updates::new_part-returns-in-None t c =
+    let new = λ (part : Option Data). val (tree c.args.e.now) (with_part part (scope_view c.args.s.now)) in
+    ap (option_and_then new) c.in-None.ensures
+
+pub updates::new_part-returns : goal.updates::new_part-returns
+updates::new_part-returns t c =
+    let new = λ (part : Option Data). val (tree c.args.e.now) (with_part part (scope_view c.args.s.now)) in
+    subst (λ (x : Option Data). IfOk c.owned.result (λ o. option_map data_of o ≡ x)) (c.in_ok-held.ensures ∙ ap (option_and_then new) c.in-Some.ensures) c.owned.ensures
 
 pub evaluate::evaluated-returns-in-If : goal.evaluate::evaluated-returns-in-If
 evaluate::evaluated-returns-in-If t c = rw c.in-If.is (c.plainly-in-If.ensures _ (rw c.get-in-If.ensures at rw c.get-in-If-2.ensures at rw c.get-in-If-3.ensures at c.conditional.ensures))

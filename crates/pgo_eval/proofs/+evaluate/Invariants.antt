@@ -6,12 +6,12 @@ use Rattle.pgo_base.specs.ExprView.{tree, named_tree, arm_tree, bound_tree, path
 use Rattle.pgo_base.specs.Tree.{trees, named, arms, bound, paths}
 use Rattle.pgo_base.specs.View.{data_of, pair_of}
 use Rattle.pgo_model.specs.Val.{val, values_of, fields, case_value, let_scope, with_names, ranges, with_name, updated}
+use Rattle.pgo_eval.specs.HeldView.{function_data}
 use Rattle.pgo_eval.specs.ScopeView.{scope_view}
 use Rattle.pgo_eval.specs.Choices.{over_bound, AreAt, over_choices, join, still_left}
 use Rattle.pgo_model.specs.Operators.{truth_of, each, first3, filter3}
 use Rattle.pgo_eval.proofs.Quantify.{asks}
 use Rattle.pgo_eval.proofs.Functions.{pair_at}
-use Rattle.pgo_eval.specs.HeldView.{held_data}
 use Rattle.pgo_eval.proofs.+evaluate.Given as goal
 
 abbrev pub decreases-evaluate::held : goal.decreases-evaluate::held
@@ -132,7 +132,7 @@ invariant-one_name::image-loop-m l =
 
 abbrev pub invariant-updates::except_value-loop-u : goal.invariant-updates::except_value-loop-u
 invariant-updates::except_value-loop-u l =
-    updated (paths (map path_tree l.list)) (scope_view l.s) (option_map held_data l.initial.now) ≡ updated (paths (map path_tree (drop l.u-index l.list))) (scope_view l.s) (option_map held_data l.now)
+    updated (paths (map path_tree l.list)) (scope_view l.s) (option_map function_data l.initial.now) ≡ updated (paths (map path_tree (drop l.u-index l.list))) (scope_view l.s) (option_map function_data l.now)
 
 abbrev pub decreases-binders::bound_names : goal.decreases-binders::bound_names
 decreases-binders::bound_names l = 10 * l.s.now.left + 2
@@ -166,3 +166,6 @@ decreases-updates::updated l = 10 * l.s.now.left + 4
 
 abbrev pub decreases-updates::updated_at : goal.decreases-updates::updated_at
 decreases-updates::updated_at l = 10 * l.s.now.left + 3
+
+abbrev pub decreases-updates::new_part : goal.decreases-updates::new_part
+decreases-updates::new_part l = 10 * l.s.now.left + 2

@@ -19,18 +19,18 @@ loop-lexeme-preserved c =
     (subst (λ (xs : List Lexeme). Taken c.args.fault c.args.tokens xs c.loop-lexeme.marker) next c.loop-lexeme.invariant) less c.in-Ok.ensures.value
 
 pub returns-then-fault-start-clause-earlier : goal.returns-then-fault-start-clause-earlier
-returns-then-fault-start-clause-earlier c = ended_earlier c.ended.result c.args.fault c.args.fault c.loop-lexeme.marker (omega arith) c.ended.ensures
+returns-then-fault-start-clause-earlier c = ended_earlier c.ended.result c.args.fault c.args.fault c.loop-lexeme.marker (omega arith) c.ended.ensures.value
 
 pub returns-then-fault-start-clause-marked : goal.returns-then-fault-start-clause-marked
 returns-then-fault-start-clause-marked c = λ counted.
     let rest = c.next.new.self.rest.items in
     let next : c.loop-lexeme.lexeme-iterator.rest.items ≡ c.in-Some.lexeme ∷ rest = c.in-Some.ensures.steps.0 in
     let behind : c.args.fault ≤ c.in-Some.lexeme.start = omega arith in
-    to_fault_by c.ended.result c.args.fault c.args.tokens c.loop-lexeme.lexeme-iterator.rest.items rest c.in-Some.lexeme c.loop-lexeme.marker next c.loop-lexeme.invariant behind counted c.ended.ensures
+    to_fault_by c.ended.result c.args.fault c.args.tokens c.loop-lexeme.lexeme-iterator.rest.items rest c.in-Some.lexeme c.loop-lexeme.marker next c.loop-lexeme.invariant behind counted c.ended.ensures.value
 
 pub returns-in-Err-Syntax-clause-earlier : goal.returns-in-Err-Syntax-clause-earlier
 returns-in-Err-Syntax-clause-earlier c =
-    ended_earlier c.ended-in-Err-Syntax.result c.in-Some.lexeme.start c.args.fault c.push.new.self (omega arith) c.ended-in-Err-Syntax.ensures
+    ended_earlier c.ended-in-Err-Syntax.result c.in-Some.lexeme.start c.args.fault c.push.new.self (omega arith) c.ended-in-Err-Syntax.ensures.value
 
 pub returns-in-Err-Syntax-clause-marked : goal.returns-in-Err-Syntax-clause-marked
 returns-in-Err-Syntax-clause-marked c = λ counted.
@@ -40,12 +40,12 @@ returns-in-Err-Syntax-clause-marked c = λ counted.
     refused_by c.ended-in-Err-Syntax.result c.args.fault c.args.tokens c.loop-lexeme.lexeme-iterator.rest.items rest c.in-Some.lexeme c.loop-lexeme.marker c.push.new.self next c.loop-lexeme.invariant less
     (syntax_none (step c.loop-lexeme.marker c.in-Some.lexeme) c.in-Err-Syntax.field-0 c.in-Err-Syntax.field-0-0 c.in-Err-Syntax.field-0-is c.in-Err-Syntax.ensures.value)
     (syntax_kept c.in-Some.lexeme.start c.loop-lexeme.marker c.push.new.self c.in-Err-Syntax.field-0 c.in-Err-Syntax.field-0-0 c.in-Err-Syntax.field-0-is c.in-Err-Syntax.ensures.refused c.in-Some.lexeme.start)
-    counted c.ended-in-Err-Syntax.ensures
+    counted c.ended-in-Err-Syntax.ensures.value
 
 pub returns-clause-earlier : goal.returns-clause-earlier
-returns-clause-earlier c = ended_earlier c.ended-2.result c.args.fault c.args.fault c.loop-lexeme.marker (omega arith) c.ended-2.ensures
+returns-clause-earlier c = ended_earlier c.ended-2.result c.args.fault c.args.fault c.loop-lexeme.marker (omega arith) c.ended-2.ensures.value
 
 pub returns-clause-marked : goal.returns-clause-marked
 returns-clause-marked c = λ counted.
     let items = c.loop-lexeme.lexeme-iterator.rest in
-    all_marked_by c.ended-2.result c.args.fault c.args.tokens items.items c.loop-lexeme.marker (none_left items.items items.len items.ok.0 c.in-None.ensures.steps.0) c.loop-lexeme.invariant counted c.ended-2.ensures
+    all_marked_by c.ended-2.result c.args.fault c.args.tokens items.items c.loop-lexeme.marker (none_left items.items items.len items.ok.0 c.in-None.ensures.steps.0) c.loop-lexeme.invariant counted c.ended-2.ensures.value

@@ -8,7 +8,7 @@ use Rattle.pgo_log_text.proofs.bundle_reader.parts_of.Goals as goal
 
 pub returns-in-Err-clause-refused : goal.returns-in-Err-clause-refused
 returns-in-Err-clause-refused c =
-    with_line c.args.text.now c.in-Err.stop c.at_line.result c.at_line.ensures
+    with_line c.args.text.now c.line_before.result c.in-Err.stop c.at_line.result c.at_line.ensures
     (constants_refused c.args.text.now _ c.constants_part.new.cursor c.in-Err.stop c.new-cursor.ensures c.in-Err.ensures)
 
 pub returns-in-Err-module_part-clause-refused : goal.returns-in-Err-module_part-clause-refused

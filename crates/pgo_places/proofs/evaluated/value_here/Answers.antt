@@ -23,7 +23,7 @@ returns c =
     let defs = map defined_view c.args.frame.definitions.now in
     let state : c.from_vec-state.result ≡ [] = c.from_vec-state.ensures ∙ ap (map named_data) c.new.ensures.items in
     let ns : Names = reverse (map named_view env) ++ onto (map named_view vs) first in
-    c.optional.ensures _
+    c.value_or_none.ensures _
     (subst (λ (ms : List Meaning). Answers c.eval.result (val c.args.expression.now (record { names = ns; part = None; now = []; next = None; defs = ms }))) c.args.frame.same
     (subst (λ (s : Vars). Answers c.eval.result (Val defs c.args.expression.now (reverse (map named_view env) ++ onto (map named_view vs) first) s None)) state
     (subst (λ (ns : Names). Answers c.eval.result (Val defs c.args.expression.now ns c.from_vec-state.result None)) names

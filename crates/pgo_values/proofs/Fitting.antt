@@ -1,12 +1,9 @@
 -- Integers of 64 bits: numbers of members, integers between two, quotients and remainders.
-use Rattle.std.proofs.Common.{◌≡◌, ℕ, zero, suc, ◌+◌, ◌-◌, ◌<◌, ◌≤◌, ◌/◌, ◌%◌, ◌^◌, ltb, ℤ, pos, negsuc, ◌+ℤ◌, ◌-ℤ◌, int_lt, Bool, true, false, cond, refl, sym, ap, ◌∙◌, subst, inl, inr, arith}
-use Rattle.std.proofs.Math.IntN.{+ℤ_comm, -ℤ-+ℤ_cancel, +ℤ_assoc, +ℤ_idr}
+use Rattle.std.proofs.Common.{◌≡◌, ℕ, suc, ◌+◌, ◌-◌, ◌<◌, ◌≤◌, ◌/◌, ◌%◌, ◌^◌, ltb, ℤ, pos, negsuc, ◌+ℤ◌, int_lt, Bool, true, false, cond, refl, arith}
 use Rattle.std.proofs.lemmas.Bool.Decides.{nat_tests}
 use Rattle.std.specs.Int.{int_div_euclid, int_rem_euclid}
 use Rattle.std.specs.Prelude.{IsTrue, nat_lt}
-use Rattle.pgo_base.specs.Data.{Data, integer}
-use Rattle.pgo_model.specs.Operators.{fits_i64, span, count_to, upward}
-use Rattle.pgo_bound.specs.Among.{IsAmong}
+use Rattle.pgo_model.specs.Operators.{fits_i64}
 
 pub low : (n : ℕ) → nat_lt n (2 ^ 63) ≡ true → n < 2 ^ 63
 low n h = grind (arith, nat_tests)
@@ -15,7 +12,7 @@ pub low_test : (n : ℕ) → n < 2 ^ 63 → nat_lt n (2 ^ 63) ≡ true
 low_test n h = grind (arith, nat_tests)
 
 -- what is between two integers of 64 bits is one
-between : (a : ℤ) (k d : ℕ) → k ≤ d → IsTrue (fits_i64 a) → IsTrue (fits_i64 (a +ℤ pos d)) → IsTrue (fits_i64 (a +ℤ pos k))
+pub between : (a : ℤ) (k d : ℕ) → k ≤ d → IsTrue (fits_i64 a) → IsTrue (fits_i64 (a +ℤ pos d)) → IsTrue (fits_i64 (a +ℤ pos k))
 between (pos a) k d l h g = low_test (a + k) (let m = low (a + d) g in omega (arith, m, l))
 between (negsuc a) k d l h g = go (ltb k (suc a)) refl (ltb d (suc a)) refl g
   where
@@ -24,24 +21,6 @@ between (negsuc a) k d l h g = go (ltb k (suc a)) refl (ltb d (suc a)) refl g
     go false e true f g =
         absurd (let x : k < suc a → ⊥ = (λ q. let z : ltb k (suc a) ≡ true = grind (arith, nat_tests) in grind (arith, z, e)) in let y : d < suc a = grind (arith, nat_tests) in x (omega (arith, y, l)))
     go false e false f g = low_test (k - suc a) (let m = low (d - suc a) g in omega (arith, m, l))
-
-in_upward : (v : Data) (a : ℤ) (n : ℕ) → IsAmong v (upward a n) → (k : ℕ) × (k < n) × (v ≡ integer (a +ℤ pos k))
-in_upward v a zero h = absurd h
-in_upward v a (suc n) (inl e) = (0, omega arith, e ∙ ap integer (sym (+ℤ_idr a)))
-in_upward v a (suc n) (inr h) =
-    let r = in_upward v (a +ℤ pos 1) n h in
-    (suc r.0, omega (arith, r.1), r.2 ∙ ap integer (+ℤ_assoc a (pos 1) (pos r.0) ∙ ap (λ m. a +ℤ pos m) (let e : 1 + r.0 ≡ suc r.0 = omega arith in e)))
-
--- each of the integers from y to z
-pub fits_between : (y z : ℤ) → IsTrue (fits_i64 y) → IsTrue (fits_i64 z) → (v : Data) → IsAmong v (upward y (span y z)) → (x : ℤ) × (v ≡ integer x) × IsTrue (fits_i64 x)
-fits_between y z h g v m = go (z -ℤ y) refl m
-  where
-    go : (d : ℤ) → z -ℤ y ≡ d → IsAmong v (upward y (count_to d)) → (x : ℤ) × (v ≡ integer x) × IsTrue (fits_i64 x)
-    go (pos d) e m =
-        let r = in_upward v y (suc d) m in
-        let there : z ≡ y +ℤ pos d = sym (-ℤ-+ℤ_cancel z y) ∙ ap (λ w. w +ℤ y) e ∙ +ℤ_comm (pos d) y in
-        (y +ℤ pos r.0, r.2, between y r.0 d (omega (arith, r.1)) h (subst (λ w. IsTrue (fits_i64 w)) there g))
-    go (negsuc d) e m = absurd m
 
 -- ---- quotients and remainders by a divisor that is at least 1
 

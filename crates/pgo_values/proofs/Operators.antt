@@ -1,19 +1,20 @@
 -- Each operator gives values within limits of such values.
-use Rattle.std.proofs.Common.{◌≡◌, ◌⊎◌, ℕ, suc, ◌+◌, ◌≤◌, ◌^◌, ap, arith, ℤ, pos, int_lt, Bool, true, false, not, List, [], ◌∷◌, ◌++◌, length, map, Option, Some, None, refl, sym, ◌∙◌, subst, option_and_then, inl, inr, ⊎_elim}
+use Rattle.std.proofs.Common.{◌≡◌, ◌⊎◌, ℕ, suc, ◌+◌, ◌≤◌, ◌^◌, ap, arith, ℤ, pos, negsuc, ◌+ℤ◌, ◌-ℤ◌, int_lt, Bool, true, false, not, List, [], ◌∷◌, ◌++◌, length, map, Option, Some, None, refl, sym, ◌∙◌, subst, option_and_then, inl, inr, ⊎_elim}
 use Rattle.std.specs.Prelude.{if◌then◌else◌, filter, cond, IsTrue, nat_lt}
+use Rattle.std.proofs.Math.IntN.{+ℤ_comm, -ℤ-+ℤ_cancel}
 use Rattle.std.proofs.lemmas.Bool.Decides.{nat_tests}
 use Rattle.std.specs.Int.{int_div_euclid, int_rem_euclid}
 use Rattle.std.proofs.lemmas.Option.{same_Some}
 use Rattle.pgo_base.specs.Data.{Data, boolean, integer, string, model, set, function, Items, no_items, item, items, members, Pairs, no_pairs, pair, pairs, graph, keys, graph-pairs, members-items}
 use Rattle.pgo_base.specs.Pairs.{pairs_in_order}
 use Rattle.pgo_base.specs.Sets.{in_order, IsSorted, sorted-in_order}
-use Rattle.pgo_model.specs.Operators.{both, each, contains, members_of, graph_of, first_of, set_from, function_from, function_of, from_truth, in_64, fits_i64, on_integers, lookup, same_data, sequence, sequence_at, joined, sublists, apply, upward, where_few, union, intersect, minus, flatten, power, single, merge, domain, range, divide, modulo, on_divisor, subset, included, span, most_members}
+use Rattle.pgo_model.specs.Operators.{both, each, contains, members_of, graph_of, first_of, set_from, function_from, function_of, from_truth, in_64, fits_i64, on_integers, lookup, same_data, sequence, sequence_at, joined, sublists, apply, upward, where_few, union, intersect, minus, flatten, power, single, merge, domain, range, divide, modulo, on_divisor, subset, included, span, count_to, most_members}
 use Rattle.pgo_bound.specs.Among.{IsAmong, among_append, from_map}
 use Rattle.pgo_bound.specs.Keyed.{keys_ordered}
-use Rattle.pgo_systems.specs.Within.{IsWithin, AreWithin, PairsWithin, EachWithin, Within}
-use Rattle.pgo_systems.proofs.Fitting.{low_test, fits_between, divided, remainder}
-use Rattle.pgo_systems.proofs.Lists.{none_is, built_is, built_few, both_parts, two_integers, is_set, each_from, of_ordered, made_of, sublist_in, length_ordered, ordered_among, sequence_keys}
-use Rattle.pgo_systems.specs.Limits.{Limits}
+use Rattle.pgo_values.specs.Within.{IsWithin, AreWithin, PairsWithin, EachWithin, Within}
+use Rattle.pgo_values.proofs.Fitting.{low_test}
+use Rattle.pgo_values.proofs.Lists.{none_is, built_is, built_few, both_parts, two_integers, is_set, each_from, of_ordered, made_of, sublist_in, length_ordered, ordered_among, sequence_keys, upward_in}
+use Rattle.pgo_values.specs.Limits.{Limits}
 
 -- not too many are at most so many
 at_most : (n : ℕ) → nat_lt most_members n ≡ false → n ≤ most_members
@@ -63,10 +64,10 @@ module _ (limits : Limits) where
   in_64_within z = go (fits_i64 z) refl
     where
       go : (b : Bool) → fits_i64 z ≡ b → Within limits (if b then Some (integer z) else None)
-      go true e = some_within (integer z) e
+      go true e = some_within (integer z) (limits.numbers_fit z e)
       go false e = none_within
 
-  pub integers_within : (f : ℤ → ℤ → Option Data) → (a b : Data) → IsWithin limits a → IsWithin limits b → ((y z : ℤ) → IsTrue (fits_i64 y) → IsTrue (fits_i64 z) → Within limits (f y z)) → Within limits (on_integers f a b)
+  pub integers_within : (f : ℤ → ℤ → Option Data) → (a b : Data) → IsWithin limits a → IsWithin limits b → ((y z : ℤ) → IsTrue (limits.number y) → IsTrue (limits.number z) → Within limits (f y z)) → Within limits (on_integers f a b)
   integers_within f a b o p h v e =
       let r = two_integers f a b v e in h r.0 r.1 (subst (IsWithin limits) r.2 o) (subst (IsWithin limits) r.3 p) v ((λ i. on_integers f (sym r.2 i) (sym r.3 i)) ∙ e)
 
@@ -148,7 +149,7 @@ module _ (limits : Limits) where
   sequence_pairs : (n : ℕ) (xs : List Data) → n + length xs ≤ 65537 → EachWithin limits xs → EachPair (sequence_at n xs)
   sequence_pairs n [] l h p m = absurd m
   sequence_pairs n (x ∷ xs) l h p (inl e) =
-      subst (λ z. IsWithin limits z.0 × IsWithin limits z.1) (sym e) (low_test n (let k : n + suc (length xs) ≤ 65537 = l in omega (arith, k)), h x (inl refl))
+      subst (λ z. IsWithin limits z.0 × IsWithin limits z.1) (sym e) (limits.numbers_fit (pos n) (low_test n (let k : n + suc (length xs) ≤ 65537 = l in omega (arith, k))), h x (inl refl))
   sequence_pairs n (x ∷ xs) l h p (inr m) = sequence_pairs (suc n) xs (let k : n + suc (length xs) ≤ 65537 = l in omega (arith, k)) (λ y k. h y (inr k)) p m
 
   pub few_pairs : (xs : List Data) → nat_lt most_members (length (in_order (keys (sequence_at 1 xs)))) ≡ false → EachWithin limits xs → EachPair (sequence_at 1 xs)
@@ -161,11 +162,22 @@ module _ (limits : Limits) where
 
   -- ---- operators before one operand
 
+  -- each of the integers from y to z
+  number_between : (y z : ℤ) → IsTrue (limits.number y) → IsTrue (limits.number z) → (v : Data) → IsAmong v (upward y (span y z)) → (x : ℤ) × (v ≡ integer x) × IsTrue (limits.number x)
+  number_between y z h g v m = go (z -ℤ y) refl m
+    where
+      go : (d : ℤ) → z -ℤ y ≡ d → IsAmong v (upward y (count_to d)) → (x : ℤ) × (v ≡ integer x) × IsTrue (limits.number x)
+      go (pos d) e m =
+          let r = upward_in v y (suc d) m in
+          let there : z ≡ y +ℤ pos d = sym (-ℤ-+ℤ_cancel z y) ∙ ap (λ w. w +ℤ y) e ∙ +ℤ_comm (pos d) y in
+          (y +ℤ pos r.0, r.2, limits.between y r.0 d (omega (arith, r.1)) h (subst (λ w. IsTrue (limits.number w)) there g))
+      go (negsuc d) e m = absurd m
+
   pub range_within : (a b : Data) → IsWithin limits a → IsWithin limits b → Within limits (on_integers range a b)
   range_within a b o p =
       integers_within range a b o p (λ y z f g.
       bounded_within (span y z) (λ _. set_from (upward y (span y z)))
-      (set_within (upward y (span y z)) (λ x m. let r = fits_between y z f g x m in subst (IsWithin limits) (sym r.1) r.2)))
+      (set_within (upward y (span y z)) (λ x m. let r = number_between y z f g x m in subst (IsWithin limits) (sym r.1) r.2)))
 
   pub each_all : {A : Type 0} (f : A → Option Data) (xs : List A) (ys : List Data) → ((x : A) → IsAmong x xs → Within limits (f x)) → each f xs ≡ Some ys → EachWithin limits ys
   each_all f xs ys h e y m = let r = each_from f xs ys e y m in h r.0 r.1 y r.2
@@ -211,7 +223,7 @@ module _ (limits : Limits) where
       two q (inl e) = subst (λ z. IsWithin limits z.0 × IsWithin limits z.1) (sym e) (o, p)
       two q (inr m) = absurd m
 
-  divisor_within : (f : ℤ → ℤ → ℤ) (y z : ℤ) → (int_lt z (pos 1) ≡ false → IsTrue (fits_i64 (f y z))) → Within limits (on_divisor f y z)
+  divisor_within : (f : ℤ → ℤ → ℤ) (y z : ℤ) → (int_lt z (pos 1) ≡ false → IsTrue (limits.number (f y z))) → Within limits (on_divisor f y z)
   divisor_within f y z h = go (int_lt z (pos 1)) refl
     where
       go : (b : Bool) → int_lt z (pos 1) ≡ b → Within limits (if b then None else Some (integer (f y z)))
@@ -219,10 +231,10 @@ module _ (limits : Limits) where
       go false e = some_within (integer (f y z)) (h e)
 
   pub divide_within : (a b : Data) → IsWithin limits a → IsWithin limits b → Within limits (divide a b)
-  divide_within a b o p = integers_within (on_divisor int_div_euclid) a b o p (λ y z f g. divisor_within int_div_euclid y z (λ l. divided y z l f))
+  divide_within a b o p = integers_within (on_divisor int_div_euclid) a b o p (λ y z f g. divisor_within int_div_euclid y z (λ l. limits.quotients y z l f))
 
   pub modulo_within : (a b : Data) → IsWithin limits a → IsWithin limits b → Within limits (modulo a b)
-  modulo_within a b o p = integers_within (on_divisor int_rem_euclid) a b o p (λ y z f g. divisor_within int_rem_euclid y z (λ l. remainder y z l g))
+  modulo_within a b o p = integers_within (on_divisor int_rem_euclid) a b o p (λ y z f g. divisor_within int_rem_euclid y z (λ l. limits.remainders y z l g))
 
   pub subset_within : (a b : Data) → Within limits (subset a b)
   subset_within a b = both_within (λ ms ns. Some (boolean (included ms ns))) (members_of a) (members_of b) (λ ms ns e g. some_within (boolean (included ms ns)) tt)

@@ -1,20 +1,19 @@
--- Values within limits: integers have 64 bits, strings, model values and the numbers of members and of pairs are those that the limits
--- allow, and sets and functions are in order.
+-- Values within limits: integers, strings, model values and the numbers of members and of pairs are those that the limits allow, and sets and
+-- functions are in order.
 use Rattle.std.specs.Prelude.{◌≡◌, IsTrue, List, [], ◌∷◌, length, Option, Some, option_and_then}
 use Rattle.pgo_base.specs.Data.{Data, boolean, integer, string, model, set, function, Items, no_items, item, members, Pairs, no_pairs, pair, graph, keys}
 use Rattle.pgo_base.specs.Lookup.{Name, Names, Vars, find}
 use Rattle.pgo_base.specs.Sets.{IsSorted}
-use Rattle.pgo_model.specs.Operators.{fits_i64}
 use Rattle.pgo_model.specs.Val.{Scope, Meaning, call_def}
 use Rattle.pgo_bound.specs.Among.{IsAmong}
 use Rattle.pgo_sections.specs.Context.{Context}
-use Rattle.pgo_systems.specs.Limits.{Limits}
+use Rattle.pgo_values.specs.Limits.{Limits}
 
 module _ (limits : Limits) where
   abbrev mutual
     pub IsWithin : Data → Type 0
     IsWithin (boolean b) = Unit {0}
-    IsWithin (integer z) = IsTrue (fits_i64 z)
+    IsWithin (integer z) = IsTrue (limits.number z)
     IsWithin (string s) = IsTrue (limits.text s)
     IsWithin (model s) = IsTrue (limits.model s)
     IsWithin (set xs) = AreWithin xs × IsSorted (members xs) × IsTrue (limits.members (length (members xs)))

@@ -6,11 +6,11 @@ use Rattle.pgo_base.specs.Data.{model}
 use Rattle.pgo_base.specs.Lookup.{same_name}
 use Rattle.pgo_model.specs.Val.{Meaning, Defined, Given, Means, val, meaning_of, meanings, call_def, default_meaning, name_values}
 use Rattle.pgo_model.specs.Written.{default_init_value}
-use Rattle.pgo_systems.specs.Within.{Within, NamesWithin, CallsWithin, ScopeWithin}
-use Rattle.pgo_systems.specs.Literals.{DefinedWithin}
-use Rattle.pgo_systems.proofs.Operators.{none_within, some_within}
-use Rattle.pgo_systems.proofs.Trees.{names_valued, tree_within}
-use Rattle.pgo_systems.specs.Limits.{Limits}
+use Rattle.pgo_values.specs.Within.{Within, NamesWithin, CallsWithin, ScopeWithin}
+use Rattle.pgo_values.specs.Literals.{DefinedWithin}
+use Rattle.pgo_values.proofs.Operators.{none_within, some_within}
+use Rattle.pgo_values.proofs.Trees.{names_valued, tree_within}
+use Rattle.pgo_values.specs.Limits.{Limits}
 
 module _ (limits : Limits) where
   pub no_names : NamesWithin limits []

@@ -1,5 +1,5 @@
 -- What an expression has as its value is within limits, where it sees such values alone and its literals are within them.
-use Rattle.std.proofs.Common.{◌≡◌, ◌⊎◌, ℕ, zero, suc, ◌+◌, ◌≤◌, ◌<◌, ◌^◌, arith, ℤ, pos, ◌+ℤ◌, ◌-ℤ◌, ◌*ℤ◌, int_lt, Bool, true, false, not, List, [], ◌∷◌, ◌++◌, length, map, take, drop, Option, Some, None, refl, sym, ap, ◌∙◌, subst, option_and_then, option_map, inl, inr}
+use Rattle.std.proofs.Common.{◌≡◌, ◌⊎◌, ℕ, zero, suc, ◌+◌, arith, ℤ, pos, ◌+ℤ◌, ◌-ℤ◌, ◌*ℤ◌, int_lt, Bool, true, false, not, List, [], ◌∷◌, ◌++◌, length, map, take, drop, Option, Some, None, refl, sym, ap, subst, option_and_then, option_map, inl, inr}
 use Rattle.std.specs.Prelude.{if◌then◌else◌, nat_abs, nat_lt, IsTrue}
 use Rattle.std.specs.List.{AllByRecursion}
 use Rattle.std.specs.List.Sorted.{IsStrictlySortedBy}
@@ -16,17 +16,16 @@ use Rattle.pgo_base.specs.Sets.{IsSorted, in_order}
 use Rattle.pgo_base.specs.Pairs.{pairs_in_order}
 use Rattle.pgo_base.specs.Tree.{Tree, name, primed, number, text, truth, at, word, unary, binary, product, cond_of, case_of, case_other, let_in, quantified, choose, tuple, set_of, filter_of, image, fun_of, fun_set, record_of, record_set, except, index, field, call, unchanged, Trees, no_trees, more_trees, NamedTrees, no_named, more_named, TreePairs, no_arms, more_arms, BoundTrees, no_bound, more_bound, PathTrees, no_paths, more_paths}
 use Rattle.pgo_model.specs.FunctionSets.{Choices, paired, functions_over, choice_count, choices_of, product_choices, function_choices, record_choices}
-use Rattle.pgo_model.specs.Operators.{both, each, members_of, graph_of, lookup, same_data, set_from, function_from, function_of, from_truth, truth_of, in_64, fits_i64, most_members, on_integers, sequence, sequence_at, choices, first3, least3, filter3, keep3, replace_at, put_at, apply, union, intersect, minus, flatten, power, single, merge, domain, range, divide, modulo, subset, or3, not3, and3, iff3, is_member, cardinality, span}
+use Rattle.pgo_model.specs.Operators.{both, each, members_of, graph_of, lookup, same_data, set_from, function_from, function_of, from_truth, truth_of, in_64, most_members, on_integers, sequence, sequence_at, choices, first3, least3, filter3, keep3, replace_at, put_at, apply, union, intersect, minus, flatten, power, single, merge, domain, range, divide, modulo, subset, or3, not3, and3, iff3, is_member, cardinality, span}
 use Rattle.pgo_model.specs.Sequences.{elements_from, elements, len, first_element, head, later_elements, tail, append, concat, slice, slice_of, sub_seq, assert, print, on_one, on_two, on_three, operators, assert_name}
 use Rattle.pgo_model.specs.Val.{Scope, Sem, sem, values_of, asserted, let_scope, case_value, ranges, fields, updated, call_def, or_else, value_of_name, value_of_call, with_name, with_names, with_part, functions_sem, word_sem, unary_sem, binary_sem, decide, quantify, function_over, index_of, name_values, names_over, sets_over, over_each, arithmetic, comparison, same_variables}
 use Rattle.pgo_bound.specs.Among.{IsAmong, from_map}
 use Rattle.pgo_bound.specs.Lookups.{same_of}
-use Rattle.pgo_systems.specs.Within.{IsWithin, EachWithin, Within, NamesWithin, ScopeWithin}
-use Rattle.pgo_systems.specs.Literals.{LiteralsWithin, TreesWithin, NamedTreesWithin, ArmsWithin, BoundWithin, PathsWithin}
-use Rattle.pgo_systems.proofs.Fitting.{low, low_test}
-use Rattle.pgo_systems.proofs.Lists.{both_parts, each_from, each_step, is_set, InChoices, choices_in, ordered_among}
-use Rattle.pgo_systems.proofs.Operators.{EachPair, any_within, none_within, some_within, then_within, both_within, truth_within, in_64_within, bounded_within, few_within, few_pairs, set_within, function_within, graph_within, members_all, member_all, graph_all, append_all, apply_within, lookup_within, sequence_within, range_within, power_within, flatten_within, domain_within, union_within, intersect_within, minus_within, merge_within, single_within, divide_within, modulo_within, subset_within, each_all}
-use Rattle.pgo_systems.specs.Limits.{Limits}
+use Rattle.pgo_values.specs.Within.{IsWithin, EachWithin, Within, NamesWithin, ScopeWithin}
+use Rattle.pgo_values.specs.Literals.{LiteralsWithin, TreesWithin, NamedTreesWithin, ArmsWithin, BoundWithin, PathsWithin}
+use Rattle.pgo_values.proofs.Lists.{both_parts, each_from, is_set, InChoices, choices_in, key_of, set_at, choices_keys, ordered_among}
+use Rattle.pgo_values.proofs.Operators.{EachPair, any_within, none_within, some_within, then_within, both_within, truth_within, in_64_within, bounded_within, few_within, few_pairs, set_within, function_within, graph_within, members_all, member_all, graph_all, append_all, apply_within, lookup_within, sequence_within, range_within, power_within, flatten_within, domain_within, union_within, intersect_within, minus_within, merge_within, single_within, divide_within, modulo_within, subset_within, each_all}
+use Rattle.pgo_values.specs.Limits.{Limits}
 
 pub replaced_keys : (k v : Data) (ps : List (Data × Data)) → keys (replace_at k v ps) ≡ keys ps
 replaced_keys k v [] = refl
@@ -85,32 +84,30 @@ module _ (limits : Limits) where
   more_all x xs o h y (inl e) = subst (IsWithin limits) (sym e) o
   more_all x xs o h y (inr m) = h y m
 
-  -- the keys of a sequence are the numbers of its elements
-  elements_low : (n : ℕ) (ps : List (Data × Data)) (xs : List Data) → n ≤ 2 ^ 63 → EachPair limits ps → elements_from n ps ≡ Some xs → n + length xs ≤ 2 ^ 63
-  elements_low n [] xs l h e = subst (λ ys. n + length ys ≤ 2 ^ 63) (same_Some [] xs e) (let z : n + 0 ≤ 2 ^ 63 = omega (arith, l) in z)
-  elements_low n (p ∷ ps) xs l h e = go (same_data p.0 (integer (pos n))) refl e (λ k vs g. elements_low (suc n) ps vs k (λ q j. h q (inr j)) g)
+  -- the last key of a sequence is the number of its elements
+  elements_last : (n : ℕ) (ps : List (Data × Data)) (xs : List Data) → IsTrue (limits.number (pos n)) → EachPair limits ps → elements_from (suc n) ps ≡ Some xs → IsTrue (limits.number (pos (n + length xs)))
+  elements_last n [] xs l h e = subst (λ ys. IsTrue (limits.number (pos (n + length ys)))) (same_Some [] xs e) (subst (λ m. IsTrue (limits.number (pos m))) (let z : n ≡ n + 0 = omega arith in z) l)
+  elements_last n (p ∷ ps) xs l h e = go (same_data p.0 (integer (pos (suc n)))) refl e (λ k vs g. elements_last (suc n) ps vs k (λ q j. h q (inr j)) g)
     where
-      more : (o : Option (List Data)) → elements_from (suc n) ps ≡ o → option_map (λ vs. p.1 ∷ vs) o ≡ Some xs → ((vs : List Data) → elements_from (suc n) ps ≡ Some vs → suc n + length vs ≤ 2 ^ 63) → n + length xs ≤ 2 ^ 63
+      more : (o : Option (List Data)) → elements_from (suc (suc n)) ps ≡ o → option_map (λ vs. p.1 ∷ vs) o ≡ Some xs → ((vs : List Data) → elements_from (suc (suc n)) ps ≡ Some vs → IsTrue (limits.number (pos (suc n + length vs)))) → IsTrue (limits.number (pos (n + length xs)))
       more None g k r = absurd (cc)
       more (Some vs) g k r =
-          subst (λ ys. n + length ys ≤ 2 ^ 63) (same_Some (p.1 ∷ vs) xs k) (let w = r vs g in let z : n + suc (length vs) ≤ 2 ^ 63 = omega (arith, w) in z)
+          subst (λ ys. IsTrue (limits.number (pos (n + length ys)))) (same_Some (p.1 ∷ vs) xs k) (subst (λ m. IsTrue (limits.number (pos m))) (let z : suc n + length vs ≡ n + suc (length vs) = omega arith in z) (r vs g))
 
-      go : (b : Bool) → same_data p.0 (integer (pos n)) ≡ b → (if b then option_map (λ vs. p.1 ∷ vs) (elements_from (suc n) ps) else None) ≡ Some xs
-          → (suc n ≤ 2 ^ 63 → (vs : List Data) → elements_from (suc n) ps ≡ Some vs → suc n + length vs ≤ 2 ^ 63) → n + length xs ≤ 2 ^ 63
-      go true q k r =
-          let here : n < 2 ^ 63 = low n (subst (IsWithin limits) (same_of p.0 (integer (pos n)) q) (h p (inl refl)).0) in
-          more (elements_from (suc n) ps) refl k (r (omega (arith, here)))
+      go : (b : Bool) → same_data p.0 (integer (pos (suc n))) ≡ b → (if b then option_map (λ vs. p.1 ∷ vs) (elements_from (suc (suc n)) ps) else None) ≡ Some xs
+          → (IsTrue (limits.number (pos (suc n))) → (vs : List Data) → elements_from (suc (suc n)) ps ≡ Some vs → IsTrue (limits.number (pos (suc n + length vs)))) → IsTrue (limits.number (pos (n + length xs)))
+      go true q k r = more (elements_from (suc (suc n)) ps) refl k (r (subst (IsWithin limits) (same_of p.0 (integer (pos (suc n))) q) (h p (inl refl)).0))
       go false q k r = absurd (cc)
 
-  length_fits : (a : Data) (xs : List Data) → IsWithin limits a → elements a ≡ Some xs → IsTrue (fits_i64 (pos (length xs)))
-  length_fits a xs o e = go (graph_of a) refl e
+  length_within : (a : Data) (xs : List Data) → IsWithin limits a → elements a ≡ Some xs → IsTrue (limits.number (pos (length xs)))
+  length_within a xs o e = go (graph_of a) refl e
     where
-      go : (g : Option (List (Data × Data))) → graph_of a ≡ g → option_and_then (elements_from 1) g ≡ Some xs → IsTrue (fits_i64 (pos (length xs)))
+      go : (g : Option (List (Data × Data))) → graph_of a ≡ g → option_and_then (elements_from 1) g ≡ Some xs → IsTrue (limits.number (pos (length xs)))
       go None q k = absurd (cc)
-      go (Some ps) q k = low_test (length xs) (let l = elements_low 1 ps xs (omega arith) (graph_all limits a ps o q).0 k in omega (arith, l))
+      go (Some ps) q k = subst (λ m. IsTrue (limits.number (pos m))) (let z : 0 + length xs ≡ length xs = omega arith in z) (elements_last 0 ps xs (limits.numbers_fit (pos 0) refl) (graph_all limits a ps o q).0 k)
 
   len_within : (a : Data) → IsWithin limits a → Within limits (len a)
-  len_within a o = map_within (elements a) (λ xs. integer (pos (length xs))) (λ xs e. length_fits a xs o e)
+  len_within a o = map_within (elements a) (λ xs. integer (pos (length xs))) (λ xs e. length_within a xs o e)
 
   first_within : (xs : List Data) → EachWithin limits xs → Within limits (first_element xs)
   first_within [] h = none_within limits
@@ -151,7 +148,7 @@ module _ (limits : Limits) where
   cardinality_within : (a : Data) → IsWithin limits a → Within limits (cardinality a)
   cardinality_within a o =
       map_within (members_of a) (λ ms. integer (pos (length ms))) (λ ms e.
-      let r = is_set a ms e in subst (λ l. IsTrue (fits_i64 (pos (length l)))) r.2 (limits.members_fit (length (members r.0)) (subst (IsWithin limits) r.1 o).2))
+      let r = is_set a ms e in subst (λ l. IsTrue (limits.number (pos (length l)))) r.2 (limits.members_fit (length (members r.0)) (subst (IsWithin limits) r.1 o).2))
 
   -- ---- operators by name
 
@@ -211,12 +208,6 @@ module _ (limits : Limits) where
   abbrev EachChoice : Choices → Type 0
   EachChoice cs = (c : Data × List Data) → IsAmong c cs → IsWithin limits c.0 × EachWithin limits c.1
 
-  abbrev key_of : Data × List Data → Data
-  key_of c = c.0
-
-  abbrev set_at : Data × List Data → List Data
-  set_at c = c.1
-
   abbrev AreFew : List Data → Type 0
   AreFew ks = nat_lt most_members (length (in_order ks)) ≡ false
 
@@ -243,16 +234,6 @@ module _ (limits : Limits) where
     where
       one : (vs : List Data) → InChoices (map set_at cs) vs → Within limits (function_from (paired cs vs))
       one vs i = few_within limits (paired cs vs) (λ few. paired_all cs vs (h (subst AreFew (paired_keys cs vs i) few)) i)
-
-  choices_keys : (ps : List (Data × Data)) (cs : Choices) → choices_of ps ≡ Some cs → map key_of cs ≡ keys ps
-  choices_keys [] cs h = ap (map key_of) (sym (same_Some [] cs h))
-  choices_keys (p ∷ ps) cs h =
-      let r = each_step (λ p. option_map (λ ms. (p.0, ms)) (members_of p.1)) p ps cs h in
-      ap (map key_of) r.1.3 ∙ (λ i. first_key (members_of p.1) r.0 r.1.1 i ∷ choices_keys ps r.1.0 r.1.2 i)
-    where
-      first_key : (o : Option (List Data)) (c : Data × List Data) → option_map (λ ms. (p.0, ms)) o ≡ Some c → c.0 ≡ p.0
-      first_key None c g = absurd (cc)
-      first_key (Some ms) c g = sym (ap (λ z. z.0) (same_Some (p.0, ms) c g))
 
   choices_of_all : (ps : List (Data × Data)) (cs : Choices) → (AreFew (keys ps) → EachPair limits ps) → choices_of ps ≡ Some cs → ChoicesWithin cs
   choices_of_all ps cs h e few c m =

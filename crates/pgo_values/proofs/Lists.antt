@@ -1,5 +1,6 @@
 -- What stands among members and pairs that are put in order, what the building of values tests, and what holds of each in lists.
-use Rattle.std.proofs.Common.{◌≡◌, ◌⊎◌, ℕ, suc, ◌<◌, ◌≤◌, ℤ, pos, Bool, true, false, List, [], ◌∷◌, ◌++◌, length, map, Option, Some, None, refl, sym, ap, ◌∙◌, subst, inl, inr, arith}
+use Rattle.std.proofs.Common.{◌≡◌, ◌⊎◌, ℕ, zero, suc, ◌+◌, ◌<◌, ◌≤◌, ℤ, pos, ◌+ℤ◌, Bool, true, false, List, [], ◌∷◌, ◌++◌, length, map, Option, Some, None, refl, sym, ap, ◌∙◌, subst, option_map, inl, inr, arith}
+use Rattle.std.proofs.Math.IntN.{+ℤ_assoc, +ℤ_idr}
 use Rattle.std.proofs.lemmas.Bool.Decides.{nat_tests}
 use Rattle.std.specs.Prelude.{if◌then◌else◌, nat_lt, cond}
 use Rattle.std.specs.List.{AllByRecursion}
@@ -13,9 +14,11 @@ use Rattle.pgo_base.specs.Order.{data_cmp}
 use Rattle.pgo_base.specs.Pairs.{pairs_in_order, insert_pair}
 use Rattle.pgo_base.specs.Sets.{in_order, insert_member, IsSorted, IsIn, same_sorted, sorted-in_order, in-in_order, in_order-in}
 use Rattle.pgo_base.specs.Size.{depth}
-use Rattle.pgo_model.specs.Operators.{each, both, built, most_depth, most_members, members_of, on_integers, choices, spread, put, sublists, where_few, sequence_at}
+use Rattle.pgo_model.specs.FunctionSets.{Choices, choices_of}
+use Rattle.pgo_model.specs.Operators.{each, contains, same_data, both, built, most_depth, most_members, members_of, on_integers, choices, spread, put, sublists, where_few, sequence_at, upward}
 use Rattle.pgo_bound.specs.Among.{IsAmong, among_append, from_map}
 use Rattle.pgo_bound.specs.Keyed.{keys_ordered}
+use Rattle.pgo_bound.specs.Lookups.{same_itself}
 
 pub none_is : {A : Type 0} (a : A) → None ≡ Some a → ⊥
 none_is a h = cc
@@ -116,6 +119,16 @@ in_among q (x ∷ xs) (inr h) = inr (in_among q xs h)
 pub of_ordered : (v : Data) (fs : List Data) → IsAmong v (in_order fs) → IsAmong v fs
 of_ordered v fs m = in_among v fs (in-in_order v fs (among_in v (in_order fs) m))
 
+-- what is among the members is contained
+pub contained : (v : Data) (xs : List Data) → IsAmong v xs → contains v xs ≡ true
+contained v [] h = absurd h
+contained v (x ∷ xs) (inl e) = ap (λ b. if b then true else contains v xs) (ap (same_data v) (sym e) ∙ same_itself v)
+contained v (x ∷ xs) (inr h) = go (same_data v x) (contained v xs h)
+  where
+    go : (b : Bool) → contains v xs ≡ true → (if b then true else contains v xs) ≡ true
+    go true r = refl
+    go false r = r
+
 pub ordered_is : (xs : List Data) → IsSorted xs → in_order xs ≡ xs
 ordered_is xs s = same_sorted (in_order xs) xs (sorted-in_order xs) s (λ z i. in-in_order z xs i) (λ z i. in_order-in z xs i)
 
@@ -208,6 +221,32 @@ choices_in [] vs (inr h) = absurd h
 choices_in (ms ∷ mss) vs h =
     let r = spread_in vs ms (choices mss) h in
     subst (InChoices (ms ∷ mss)) (sym r.1.3) (r.1.1, choices_in mss r.1.0 r.1.2)
+
+-- a key, and the set from which its value is chosen
+abbrev pub key_of : Data × List Data → Data
+key_of c = c.0
+
+abbrev pub set_at : Data × List Data → List Data
+set_at c = c.1
+
+pub choices_keys : (ps : List (Data × Data)) (cs : Choices) → choices_of ps ≡ Some cs → map key_of cs ≡ keys ps
+choices_keys [] cs h = ap (map key_of) (sym (same_Some [] cs h))
+choices_keys (p ∷ ps) cs h =
+    let r = each_step (λ p. option_map (λ ms. (p.0, ms)) (members_of p.1)) p ps cs h in
+    ap (map key_of) r.1.3 ∙ (λ i. first_key (members_of p.1) r.0 r.1.1 i ∷ choices_keys ps r.1.0 r.1.2 i)
+  where
+    first_key : (o : Option (List Data)) (c : Data × List Data) → option_map (λ ms. (p.0, ms)) o ≡ Some c → c.0 ≡ p.0
+    first_key None c g = absurd (cc)
+    first_key (Some ms) c g = sym (ap (λ z. z.0) (same_Some (p.0, ms) c g))
+
+-- ---- ranges
+
+pub upward_in : (v : Data) (a : ℤ) (n : ℕ) → IsAmong v (upward a n) → (k : ℕ) × (k < n) × (v ≡ integer (a +ℤ pos k))
+upward_in v a zero h = absurd h
+upward_in v a (suc n) (inl e) = (0, omega arith, e ∙ ap integer (sym (+ℤ_idr a)))
+upward_in v a (suc n) (inr h) =
+    let r = upward_in v (a +ℤ pos 1) n h in
+    (suc r.0, omega (arith, r.1), r.2 ∙ ap integer (+ℤ_assoc a (pos 1) (pos r.0) ∙ ap (λ m. a +ℤ pos m) (let e : 1 + r.0 ≡ suc r.0 = omega arith in e)))
 
 -- ---- the keys of sequences
 
