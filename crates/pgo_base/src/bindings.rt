@@ -13,18 +13,28 @@ use crate::value::{Set, Value};
 use std::marker::Model;
 
 /// A name with its value; one without a value is a LET name that has none.
-#[derive(Drop)]
 pub struct NamedValue {
     pub name: Text,
     pub value: Option<Value>,
 }
 
+impl Drop for NamedValue {
+    fn drop(self) {
+        let NamedValue { name, value } = self;
+    }
+}
+
 /// A name that a binder binds: the set that it runs over, and at which of the members it stands, from 0.
-#[derive(Drop)]
 pub struct BoundName {
     pub name: Text,
     pub set: Set,
     pub at: usize,
+}
+
+impl Drop for BoundName {
+    fn drop(self) {
+        let BoundName { name, set, at } = self;
+    }
 }
 
 /// The names that an expression sees, the newest first; one without a value is a LET name that has none.

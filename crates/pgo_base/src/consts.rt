@@ -8,9 +8,14 @@ use std::alloc::Global;
 use std::marker::Model;
 
 /// The value of each constant, in order.
-#[derive(Drop)]
 pub struct Consts {
     list: Vec<(Text, Value)>,
+}
+
+impl Drop for Consts {
+    fn drop(self) {
+        let Consts { list } = self;
+    }
 }
 
 impl Model for Consts {

@@ -6,6 +6,7 @@ pub mod compare;
 pub mod consts;
 pub mod depth;
 pub mod expr;
+pub mod extent;
 pub mod items;
 pub mod last_place;
 pub mod log;

@@ -18,18 +18,32 @@ pub enum Owner {
 }
 
 /// A variable, or its value at one index.
-#[derive(Drop)]
 pub struct Component {
     pub variable: Text,
     pub index: Option<Value>,
     pub owner: Owner,
 }
 
+impl Drop for Component {
+    fn drop(self) {
+        let Component {
+            variable,
+            index,
+            owner,
+        } = self;
+    }
+}
+
 /// A component and its new value.
-#[derive(Drop)]
 pub struct Change {
     pub component: Component,
     pub value: Value,
+}
+
+impl Drop for Change {
+    fn drop(self) {
+        let Change { component, value } = self;
+    }
 }
 
 /// Changes in order.
@@ -37,7 +51,6 @@ pub type Changes = Items<Change>;
 
 /// A committed attempt: which instance's, its number, the labels before and after, what it changed, and what it printed.
 /// Of an entry that was read nothing is printed, since no text of a log says it.
-#[derive(Drop)]
 pub struct Entry {
     pub instance: u32,
     pub attempt: u32,
@@ -47,13 +60,31 @@ pub struct Entry {
     pub prints: Values,
 }
 
+impl Drop for Entry {
+    fn drop(self) {
+        let Entry {
+            instance,
+            attempt,
+            label,
+            next,
+            changes,
+            prints,
+        } = self;
+    }
+}
+
 /// Entries in order.
 pub type Entries = Items<Entry>;
 
 /// Values in order.
-#[derive(Drop)]
 pub struct Values {
     list: Vec<Value>,
+}
+
+impl Drop for Values {
+    fn drop(self) {
+        let Values { list } = self;
+    }
 }
 
 impl Model for Values {
@@ -96,9 +127,18 @@ impl Values {
 }
 
 /// A log: the identifiers of the instances by their numbers, the state before the first entry, and the entries.
-#[derive(Drop)]
 pub struct Log {
     pub ids: Values,
     pub start: State,
     pub entries: Entries,
+}
+
+impl Drop for Log {
+    fn drop(self) {
+        let Log {
+            ids,
+            start,
+            entries,
+        } = self;
+    }
 }

@@ -21,9 +21,14 @@ pub struct Action {
 }
 
 /// Actions in order.
-#[derive(Drop)]
 pub struct Actions {
     list: Vec<Action>,
+}
+
+impl Drop for Actions {
+    fn drop(self) {
+        let Actions { list } = self;
+    }
 }
 
 impl Model for Actions {
@@ -74,18 +79,22 @@ impl Actions {
 }
 
 /// A process: its name, the set of its identifiers, and the actions of its labels.
-#[derive(Drop)]
 pub struct WrittenProcess {
     pub name: Text,
     pub ids: Sub,
     pub actions: Actions,
 }
 
+impl Drop for WrittenProcess {
+    fn drop(self) {
+        let WrittenProcess { name, ids, actions } = self;
+    }
+}
+
 /// Processes in order.
 pub type Processes = Items<WrittenProcess>;
 
 /// A definition of a module: a constant with its value, or a name with its parameters and its body.
-#[derive(Drop)]
 pub enum Defined {
     Given {
         name: Text,
@@ -96,6 +105,15 @@ pub enum Defined {
         params: Names,
         body: Sub,
     },
+}
+
+impl Drop for Defined {
+    fn drop(self) {
+        match self {
+            Defined::Given { name, value } => {}
+            Defined::Means { name, params, body } => {}
+        }
+    }
 }
 
 impl Named for Defined {
@@ -111,10 +129,15 @@ impl Named for Defined {
 }
 
 /// Definitions in order; the values of constants may be among them. The last one of a name is found without going over the list.
-#[derive(Drop)]
 pub struct Defs {
     list: Vec<Defined>,
     places: NameMap<usize>,
+}
+
+impl Drop for Defs {
+    fn drop(self) {
+        let Defs { list, places } = self;
+    }
 }
 
 impl Model for Defs {
@@ -184,7 +207,6 @@ impl Defs {
 }
 
 /// A written module, in the order of its lines.
-#[derive(Drop)]
 pub struct Module {
     pub name: Text,
     pub constants: Names,
@@ -192,4 +214,17 @@ pub struct Module {
     pub variables: Names,
     pub init: Sub,
     pub processes: Processes,
+}
+
+impl Drop for Module {
+    fn drop(self) {
+        let Module {
+            name,
+            constants,
+            definitions,
+            variables,
+            init,
+            processes,
+        } = self;
+    }
 }

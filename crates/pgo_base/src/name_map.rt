@@ -7,9 +7,14 @@ use std::alloc::{AllocError, Global};
 use std::collections::BTreeMap;
 
 /// What names stand for. A name is found without going over all of them.
-#[derive(Drop)]
 pub struct NameMap<V> {
     map: BTreeMap<Vec<u8>, V>,
+}
+
+impl<V: Drop> Drop for NameMap<V> {
+    fn drop(self) {
+        let NameMap { map } = self;
+    }
 }
 
 impl<V: Drop> NameMap<V> {

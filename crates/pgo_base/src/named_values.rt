@@ -10,10 +10,15 @@ use std::alloc::{AllocError, Global};
 use std::marker::Model;
 
 /// Names with values in order. A map has the place of the last of each name.
-#[derive(Drop)]
 pub struct NamedValues {
     list: Vec<NamedValue>,
     places: NameMap<usize>,
+}
+
+impl Drop for NamedValues {
+    fn drop(self) {
+        let NamedValues { list, places } = self;
+    }
 }
 
 impl Model for NamedValues {

@@ -10,9 +10,14 @@ use std::alloc::{AllocError, Global};
 use std::marker::Model;
 
 /// The value of each variable, in order.
-#[derive(Drop)]
 pub struct State {
     list: Vec<(Text, Value)>,
+}
+
+impl Drop for State {
+    fn drop(self) {
+        let State { list } = self;
+    }
 }
 
 impl Model for State {
@@ -84,6 +89,7 @@ impl State {
     pub fn into_vec(self) -> Vec<(Text, Value)>
         ensures { map named_data result.items ≡ self }
     {
-        self.list
+        let State { list } = self;
+        list
     }
 }

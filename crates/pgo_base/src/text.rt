@@ -1,4 +1,4 @@
-ghost use Rattle.std.specs.Prelude.{◌≡◌, List, [], ◌∷◌, ◌++◌, ℕ, length, IfOk};
+ghost use Rattle.std.specs.Prelude.{◌≡◌, List, [], ℕ, IfOk};
 ghost use Rattle.std.specs.Cmp.Lexicographic.{slice_cmp};
 ghost use Rattle.std.specs.Ordering.{nat_cmp};
 ghost use Rattle.pgo_base.specs.Lookup.{same_name};
@@ -7,73 +7,77 @@ use crate::items::Copied;
 use std::alloc::{AllocError, Global};
 use std::cmp::Ordering;
 use std::marker::Model;
+use std::sync::ArcSlice;
 
-/// A text of bytes.
-#[derive(Drop)]
+/// A text of bytes: none where it is empty.
 pub struct Text {
-    bytes: Vec<u8>,
+    bytes: Option<ArcSlice<u8>>,
+}
+
+impl Drop for Text {
+    fn drop(self) {
+        let Text { bytes } = self;
+    }
 }
 
 impl Model for Text {
+    ghost use Rattle.std.specs.Prelude.{List, ℕ};
+
     ghost Value = { List ℕ };
 
-    ghost view = { λ t. t.bytes.items };
+    ghost use Rattle.std.specs.Prelude.{[], unwrap_or, option_map};
+    ghost use Rattle.std.specs.Arc.{arc_slice_items};
+
+    ghost view = { λ t. unwrap_or (option_map arc_slice_items t.bytes) [] };
 }
 
 impl Text {
-    pub fn from_bytes(bytes: Vec<u8>) -> Text
-        ensures { result ≡ bytes.items }
+    pub fn from_bytes(bytes: Vec<u8>) -> Result<Text, AllocError>
+        ensures { IfOk result (λ t. t ≡ bytes.items) }
     {
-        Text { bytes }
-    }
-
-    pub fn into_bytes(self) -> Vec<u8>
-        ensures { result.items ≡ self }
-    {
-        self.bytes
+        let bytes = ArcSlice::from_vec(bytes)?;
+        Ok(Text { bytes: Some(bytes) })
     }
 
     pub fn as_bytes(&self) -> &[u8]
         ensures { result.now ≡ self.now }
     {
-        self.bytes.as_slice()
+        match &self.bytes {
+            Some(bytes) => bytes.as_slice(),
+            None => &[],
+        }
     }
 
-    pub fn copy(&self, alloc: Global) -> Result<Text, AllocError>
+    /// The same text once more: another owner of its bytes.
+    pub fn copy(&self, _alloc: Global) -> Result<Text, AllocError>
         ensures { IfOk result (λ t. t ≡ self.now) }
     {
-        Ok(Text {
-            bytes: Vec::from_slice(alloc, self.bytes.as_slice())?,
-        })
+        match &self.bytes {
+            Some(bytes) => Ok(Text {
+                bytes: Some(bytes.clone()?),
+            }),
+            None => Ok(Text { bytes: None }),
+        }
     }
 
     pub fn compare(&self, other: &Text) -> Ordering
         ensures { result ≡ slice_cmp nat_cmp self.now other.now }
     {
-        self.bytes.as_slice().cmp(other.bytes.as_slice())
+        self.as_bytes().cmp(other.as_bytes())
     }
 
     pub fn is(&self, other: &Text) -> bool
         ensures { result ≡ same_name self.now other.now }
     {
-        self.compare(other).is_eq()
+        self.as_bytes() == other.as_bytes()
     }
 }
 
 impl Text {
-    pub fn new(alloc: Global) -> Text
+    pub fn new(_alloc: Global) -> Text
         ensures { result ≡ [] }
     {
-        Text {
-            bytes: Vec::new(alloc),
-        }
-    }
-
-    pub fn push(&mut self, byte: u8) -> Result<(), AllocError>
-        ensures { IfOk result (λ _. self.new ≡ self.old ++ byte ∷ []) }
-    {
-        self.bytes.push(byte)?;
-        Ok(())
+        Text { bytes: None }
     }
 }
 
@@ -81,9 +85,7 @@ impl Text {
     pub fn from_slice(alloc: Global, bytes: &[u8]) -> Result<Text, AllocError>
         ensures { IfOk result (λ t. t ≡ bytes.now) }
     {
-        Ok(Text {
-            bytes: Vec::from_slice(alloc, bytes)?,
-        })
+        Text::from_bytes(Vec::from_slice(alloc, bytes)?)
     }
 }
 

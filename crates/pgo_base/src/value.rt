@@ -1,18 +1,21 @@
-ghost use Rattle.std.specs.Prelude.{◌≡◌, ℕ, List, [], ◌∷◌, ◌++◌, length, map, IfOk};
+ghost use Rattle.std.specs.Prelude.{◌≡◌, ◌≤◌, ℕ, suc, List, [], ◌∷◌, ◌++◌, length, map, IfOk};
 ghost use Rattle.std.specs.Cmp.Lexicographic.{slice_cmp};
 ghost use Rattle.std.specs.Ordering.{nat_cmp, int_cmp, ordering_then};
 ghost use Rattle.pgo_base.specs.View.{data_of, pair_of};
 ghost use Rattle.pgo_base.specs.Data.{keys};
 ghost use Rattle.pgo_base.specs.Order.{data_cmp};
 ghost use Rattle.pgo_base.specs.Sets.{in_order};
+ghost use Rattle.pgo_base.specs.Size.{members_size, graph_size};
 ghost use Rattle.pgo_base.specs.Pairs.{pairs_in_order};
 ghost use Rattle.std.specs.List.Sorted.{IsStrictlySortedBy};
 
 use crate::compare::compare;
+use crate::extent::{Extent, extent_of_members, extent_of_pairs};
 use crate::text::Text;
 use std::alloc::{AllocError, Global};
 use std::cmp::Ordering;
 use std::marker::Model;
+use std::sync::Arc;
 
 /// A value.
 #[cycle(value)]
@@ -28,20 +31,34 @@ pub enum Value {
 
 /// A finite set: its members in order, each once.
 #[cycle(value)]
-#[derive(Drop)]
 pub struct Set {
-    members: Vec<Value>,
+    members: Arc<Vec<Value>>,
+    extent: Extent,
+}
+
+impl Drop for Set {
+    #[cycle(drop_value)]
+    fn drop(self) {
+        let Set { members, extent } = self;
+    }
 }
 
 /// A finite function: its pairs in the order of the keys, each key once.
 #[cycle(value)]
-#[derive(Drop)]
 pub struct Fun {
-    pairs: Vec<(Value, Value)>,
+    pairs: Arc<Vec<(Value, Value)>>,
+    extent: Extent,
+}
+
+impl Drop for Fun {
+    #[cycle(drop_value)]
+    fn drop(self) {
+        let Fun { pairs, extent } = self;
+    }
 }
 
 impl Model for Set {
-    ghost use Rattle.std.specs.Prelude.{List, ℕ, map};
+    ghost use Rattle.std.specs.Prelude.{◌≡◌, ◌≤◌, List, ℕ, suc, map};
     ghost use Rattle.pgo_base.specs.Data.{Data};
     ghost use Rattle.pgo_base.specs.Code.{coded_members};
 
@@ -51,23 +68,24 @@ impl Model for Set {
 
     ghost use Rattle.pgo_base.specs.View.{data_of};
     ghost use Rattle.pgo_base.specs.Size.{members_size};
+    ghost use Rattle.std.specs.Arc.{arc_value};
 
-    ghost view = { λ s. map data_of s.members.items };
+    ghost view = { λ s. map data_of (arc_value s.members).items };
 
     ghost use Rattle.std.specs.List.Sorted.{IsStrictlySortedBy};
     ghost use Rattle.pgo_base.specs.Order.{data_cmp};
 
-    ghost invariant = { λ s. IsStrictlySortedBy data_cmp (map data_of s.members.items) };
+    ghost invariant = { λ s. IsStrictlySortedBy data_cmp (map data_of (arc_value s.members).items) × (s.extent.depth ≡ suc (members_size (map data_of (arc_value s.members).items))) × (s.extent.depth ≤ s.extent.parts) };
 
     ghost size = { members_size };
 
     ghost use Rattle.pgo_base.specs.Falls.{members_fall};
 
-    ghost size_decreases = { λ s h. members_fall s.members.items };
+    ghost size_decreases = { λ s h. members_fall (arc_value s.members).items };
 }
 
 impl Model for Fun {
-    ghost use Rattle.std.specs.Prelude.{List, ℕ, map};
+    ghost use Rattle.std.specs.Prelude.{◌≡◌, ◌≤◌, List, ℕ, suc, map};
     ghost use Rattle.pgo_base.specs.Data.{Data};
     ghost use Rattle.pgo_base.specs.Code.{coded_graph};
 
@@ -77,20 +95,21 @@ impl Model for Fun {
 
     ghost use Rattle.pgo_base.specs.View.{pair_of};
     ghost use Rattle.pgo_base.specs.Size.{graph_size};
+    ghost use Rattle.std.specs.Arc.{arc_value};
 
-    ghost view = { λ f. map pair_of f.pairs.items };
+    ghost view = { λ f. map pair_of (arc_value f.pairs).items };
 
     ghost use Rattle.std.specs.List.Sorted.{IsStrictlySortedBy};
     ghost use Rattle.pgo_base.specs.Order.{data_cmp};
     ghost use Rattle.pgo_base.specs.Data.{keys};
 
-    ghost invariant = { λ f. IsStrictlySortedBy data_cmp (keys (map pair_of f.pairs.items)) };
+    ghost invariant = { λ f. IsStrictlySortedBy data_cmp (keys (map pair_of (arc_value f.pairs).items)) × (f.extent.depth ≡ suc (graph_size (map pair_of (arc_value f.pairs).items))) × (f.extent.depth ≤ f.extent.parts) };
 
     ghost size = { graph_size };
 
     ghost use Rattle.pgo_base.specs.Falls.{pairs_fall};
 
-    ghost size_decreases = { λ f h. pairs_fall f.pairs.items };
+    ghost size_decreases = { λ f h. pairs_fall (arc_value f.pairs).items };
 }
 
 impl Set {
@@ -98,6 +117,14 @@ impl Set {
         ensures { map data_of result.now ≡ self.now }
     {
         self.members.as_slice()
+    }
+
+    /// How deep it nests and of how many parts it is.
+    pub fn extent(&self) -> Extent
+        ensures depth { result.depth ≡ suc (members_size self.now) }
+        ensures parts { result.depth ≤ result.parts }
+    {
+        self.extent
     }
 }
 
@@ -107,29 +134,48 @@ impl Fun {
     {
         self.pairs.as_slice()
     }
+
+    /// How deep it nests and of how many parts it is.
+    pub fn extent(&self) -> Extent
+        ensures depth { result.depth ≡ suc (graph_size self.now) }
+        ensures parts { result.depth ≤ result.parts }
+    {
+        self.extent
+    }
 }
 
 impl Set {
-    pub fn from_sorted(members: Vec<Value>) -> Set
+    /// The set of these members, which are in order, each once.
+    ///
+    /// Err also where the set has more than 16,777,216 parts (`MOST_PARTS`).
+    pub fn from_sorted(members: Vec<Value>) -> Result<Set, AllocError>
         requires { IsStrictlySortedBy data_cmp (map data_of members.items) }
-        ensures { result ≡ map data_of members.items }
+        ensures { IfOk result (λ s. s ≡ map data_of members.items) }
     {
-        Set { members }
+        let extent = extent_of_members(members.as_slice()).around()?;
+        let alloc = *members.allocator();
+        let members = Arc::new(alloc, members)?;
+        Ok(Set { members, extent })
     }
 }
 
 impl Fun {
-    pub fn from_sorted(pairs: Vec<(Value, Value)>) -> Fun
+    /// The function of these pairs, which are in the order of the keys, each key once.
+    ///
+    /// Err also where the function has more than 16,777,216 parts (`MOST_PARTS`).
+    pub fn from_sorted(pairs: Vec<(Value, Value)>) -> Result<Fun, AllocError>
         requires { IsStrictlySortedBy data_cmp (keys (map pair_of pairs.items)) }
-        ensures { result ≡ map pair_of pairs.items }
+        ensures { IfOk result (λ f. f ≡ map pair_of pairs.items) }
     {
-        Fun { pairs }
+        let extent = extent_of_pairs(pairs.as_slice()).around()?;
+        let alloc = *pairs.allocator();
+        let pairs = Arc::new(alloc, pairs)?;
+        Ok(Fun { pairs, extent })
     }
 }
 
 impl Value {
     /// The same value once more.
-    #[cycle(copy)]
     pub fn copy(&self, alloc: Global) -> Result<Value, AllocError>
         ensures { IfOk result (λ v. v ≡ self.now) }
     {
@@ -145,28 +191,26 @@ impl Value {
 }
 
 impl Set {
-    #[cycle(copy)]
-    pub fn copy(&self, alloc: Global) -> Result<Set, AllocError>
+    /// The same set once more: another owner of its members.
+    pub fn copy(&self, _alloc: Global) -> Result<Set, AllocError>
         ensures { IfOk result (λ s. s ≡ self.now) }
     {
-        let mut members = Vec::with_capacity(alloc, self.members.len())?;
-        for v in &self.members {
-            members.push(v.copy(alloc)?)?;
-        }
-        Ok(Set { members })
+        Ok(Set {
+            members: Arc::try_clone(&self.members)?,
+            extent: self.extent,
+        })
     }
 }
 
 impl Fun {
-    #[cycle(copy)]
-    pub fn copy(&self, alloc: Global) -> Result<Fun, AllocError>
+    /// The same function once more: another owner of its pairs.
+    pub fn copy(&self, _alloc: Global) -> Result<Fun, AllocError>
         ensures { IfOk result (λ f. f ≡ self.now) }
     {
-        let mut pairs = Vec::with_capacity(alloc, self.pairs.len())?;
-        for p in &self.pairs {
-            pairs.push((p.0.copy(alloc)?, p.1.copy(alloc)?))?;
-        }
-        Ok(Fun { pairs })
+        Ok(Fun {
+            pairs: Arc::try_clone(&self.pairs)?,
+            extent: self.extent,
+        })
     }
 }
 
@@ -178,7 +222,7 @@ impl Set {
         let mut members = members;
         members.sort()?;
         members.dedup();
-        Ok(Set { members })
+        Set::from_sorted(members)
     }
 }
 
@@ -190,7 +234,7 @@ impl Fun {
         let mut pairs = pairs;
         pairs.sort_by(|a, b| compare(&a.0, &b.0))?;
         pairs.dedup_by(|next, kept| compare(&next.0, &kept.0).is_eq());
-        Ok(Fun { pairs })
+        Fun::from_sorted(pairs)
     }
 }
 
@@ -213,6 +257,14 @@ impl Set {
 }
 
 impl Fun {
+    pub fn len(&self) -> usize
+        ensures { result ≡ length self.now }
+    {
+        self.pairs.len()
+    }
+}
+
+impl Fun {
     /// The pairs, which are in the order of the keys, each key once.
     pub fn in_order(&self) -> &[(Value, Value)]
         ensures pairs { map pair_of result.now ≡ self.now }
@@ -221,11 +273,26 @@ impl Fun {
         self.pairs.as_slice()
     }
 
-    /// The pairs, out of the function: in the order of the keys, each key once.
-    pub fn into_pairs(self) -> Vec<(Value, Value)>
-        ensures pairs { map pair_of result.items ≡ self }
-        ensures sorted { IsStrictlySortedBy data_cmp (keys self) }
+    /// The pairs, out of the function: in the order of the keys, each key once. Taken where the function is their sole owner, and else copied.
+    pub fn into_pairs(self) -> Result<Vec<(Value, Value)>, AllocError>
+        ensures pairs { IfOk result (λ v. map pair_of v.items ≡ self) }
+        ensures sorted { IfOk result (λ _. IsStrictlySortedBy data_cmp (keys self)) }
     {
-        self.pairs
+        let Fun { pairs, extent: _ } = self;
+        match Arc::try_unwrap(pairs) {
+            Ok(pairs) => Ok(pairs),
+            Err(shared) => copied_pairs(*shared.allocator(), shared.as_slice()),
+        }
     }
+}
+
+/// The same pairs once more.
+fn copied_pairs(alloc: Global, pairs: &[(Value, Value)]) -> Result<Vec<(Value, Value)>, AllocError>
+    ensures { IfOk result (λ v. map pair_of v.items ≡ map pair_of pairs.now) }
+{
+    let mut list = Vec::with_capacity(alloc, pairs.len())?;
+    for p in pairs {
+        list.push((p.0.copy(alloc)?, p.1.copy(alloc)?))?;
+    }
+    Ok(list)
 }

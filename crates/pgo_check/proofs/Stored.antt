@@ -1,12 +1,14 @@
 -- A state with one component changed.
-use Rattle.std.proofs.Common.{◌≡◌, List, refl, ap, sym, ◌∙◌}
-use Rattle.std.specs.Prelude.{true, false, is_some, Option, Some, None, option_map, option_and_then}
+use Rattle.std.proofs.Common.{◌≡◌, ℕ, zero, suc, ◌<◌, List, [], ◌∷◌, length, refl, ap, ◌∙◌, arith}
+use Rattle.std.specs.Prelude.{is_some, Option, Some, None, option_map, option_and_then}
 use Rattle.pgo_base.specs.Data.{Data, function, pairs, graph-pairs}
 use Rattle.pgo_base.specs.Lookup.{Vars, find}
 use Rattle.pgo_model.specs.Log.{Component, Change, content, changed, with_part}
 use Rattle.pgo_model.specs.Operators.{apply, lookup, replace_at}
 use Rattle.pgo_model.specs.Options.{on}
 use Rattle.pgo_model.specs.Variables.{store}
+use Rattle.pgo_sets.specs.KeyPlace.{key_place, value_in, set_value}
+use Rattle.pgo_sets.proofs.KeyPlaces.{at_place, no_place}
 
 -- a variable that is not there is not changed
 pub changed_none : (c : Change) (s : Vars) → find c.component.variable s ≡ None → changed c s ≡ None
@@ -23,16 +25,24 @@ changed_some c s old h =
     go (Some i) = refl
 
 -- a function with another value at one index, by its pairs
-pub part_is : (f : List (Data × Data)) (i v : Data) → with_part (function (pairs f)) i v ≡ option_map (λ old. function (pairs (replace_at i v f))) (lookup i f)
+part_is : (f : List (Data × Data)) (i v : Data) → with_part (function (pairs f)) i v ≡ option_map (λ old. function (pairs (replace_at i v f))) (lookup i f)
 part_is f i v = λ j. option_map (λ old. function (pairs (replace_at i v (graph-pairs f j)))) (lookup i (graph-pairs f j))
 
-pub none_is : {A : Type 0} (r : Option A) (f : A → Data) (o : Option Data) → is_some r ≡ false → option_map f r ≡ o → o ≡ None
-none_is None f o h e = sym e
-none_is (Some a) f o h e = absurd (cc)
+-- where the index isn't in its domain there is none
+pub part_absent : (f : List (Data × Data)) (i v : Data) → key_place i f ≡ None → with_part (function (pairs f)) i v ≡ None
+part_absent f i v h = part_is f i v ∙ ap (option_map (λ old. function (pairs (replace_at i v f)))) (no_place i f h)
 
-pub some_is : {A : Type 0} (r : Option A) (f : A → Data) (o : Option Data) → is_some r ≡ true → option_map f r ≡ o → (d : Data) × (o ≡ Some d)
-some_is None f o h e = absurd (cc)
-some_is (Some a) f o h e = (f a, sym e)
+there : (n : ℕ) (ps : List (Data × Data)) → n < length ps → (d : Data) × (value_in n ps ≡ Some d)
+there n [] h = absurd (omega (arith, h))
+there zero (p ∷ ps) h = (p.1, refl)
+there (suc n) (p ∷ ps) h = there n ps (omega (arith, h))
+
+-- where it is, the value at its place is another
+pub part_placed : (f : List (Data × Data)) (i v : Data) (n : ℕ) → key_place i f ≡ Some n → with_part (function (pairs f)) i v ≡ Some (function (pairs (set_value n v f)))
+part_placed f i v n h =
+    let a = at_place i f n h in
+    let d = there n f a.0 in
+    part_is f i v ∙ ap (option_map (λ old. function (pairs (replace_at i v f)))) (a.1 ∙ d.1) ∙ ap (λ ps. Some (function (pairs ps))) (a.2 v)
 
 -- what a variable of pairs has at an index
 pub content_at : (x : Component) (s : Vars) (i : Data) (ps : List (Data × Data)) → x.index ≡ Some i → find x.variable s ≡ Some (function (pairs ps)) → content x s ≡ lookup i ps

@@ -1,19 +1,16 @@
 // The state that an entry of a log leads to.
-ghost use Rattle.std.specs.Prelude.{◌≡◌, ◌<◌, ◌↔◌, ◌&&◌, ◌∷◌, [], ℕ, if◌then◌else◌, IsTrue, map, Option, Some, None, option_map, IfOk};
-ghost use Rattle.pgo_base.specs.Lookup.{find};
+ghost use Rattle.std.specs.Prelude.{◌≡◌, ◌<◌, ◌↔◌, if◌then◌else◌, IsTrue, length, map, Some, None, option_map, IfOk};
 ghost use Rattle.pgo_base.specs.View.{data_of, pair_of};
-ghost use Rattle.pgo_model.specs.Operators.{lookup};
-ghost use Rattle.pgo_base.specs.Data.{string};
+ghost use Rattle.pgo_base.specs.Data.{function, pairs, string};
 ghost use Rattle.pgo_model.specs.Acts.{Acts};
 ghost use Rattle.pgo_model.specs.Variables.{place_of};
 ghost use Rattle.pgo_model.specs.Log.{after_changes, are_in, changed, is_in, with_part};
 ghost use Rattle.pgo_model.specs.LogView.{change_view, component_view, entry_view};
-ghost use Rattle.pgo_model.specs.Machine.{nth};
 ghost use Rattle.pgo_model.specs.ModuleView.{module_view};
 ghost use Rattle.pgo_model.specs.Options.{on};
 ghost use Rattle.pgo_check.specs.Assigned.{SeesItsDefinitions};
-ghost use Rattle.pgo_model.specs.Variables.{store};
 ghost use Rattle.pgo_model.specs.Steps.{LeadsTo};
+ghost use Rattle.pgo_sets.specs.KeyPlace.{key_place, set_value};
 
 use crate::actions::acts;
 use crate::definitions::Assigned;
@@ -22,43 +19,71 @@ use pgo_base::log::{Change, Component, Entry};
 use pgo_base::scope::State;
 use pgo_base::text::Text;
 use pgo_base::value::{Fun, Value};
-use pgo_sets::functions::replaced;
-use pgo_sets::lookup::place_in;
+use pgo_sets::lookup::{place_in, value_at};
 use std::alloc::{AllocError, Global};
+use std::mem::replace;
 
-/// A function with another value at an index in its domain.
-fn with_part(
-    alloc: Global,
-    old: &Value,
-    index: &Value,
-    value: &Value,
-) -> Result<Option<Value>, AllocError>
-    ensures { IfOk result (λ o. option_map data_of o ≡ with_part (data_of old.now) (data_of index.now) (data_of value.now)) }
+/// The place of an index among the pairs of a function; none where it isn't in its domain.
+fn key_place(f: &Fun, index: &Value) -> Option<usize>
+    ensures { result ≡ key_place (data_of index.now) f.now }
+{
+    match f.in_order().binary_search_by(|p| compare(&p.0, index)) {
+        Ok(i) => Some(i),
+        Err(_) => None,
+    }
+}
+
+/// The pairs with another value at a place.
+fn put_value(list: &mut Vec<(Value, Value)>, place: usize, value: Value)
+    requires { place < length list.old.items }
+    ensures { map pair_of list.new.items ≡ set_value place (data_of value) (map pair_of list.old.items) }
+{
+    list[place].1 = value;
+}
+
+/// A function with another value at an index in its domain. Where nothing else owns its pairs they are changed in place.
+fn with_value(f: Fun, index: &Value, value: Value) -> Result<Option<Value>, AllocError>
+    ensures { IfOk result (λ o. option_map data_of o ≡ with_part (function (pairs f)) (data_of index.now) (data_of value)) }
+{
+    let Some(place) = key_place(&f, index) else {
+        return Ok(None);
+    };
+    let mut list = f.into_pairs()?;
+    put_value(&mut list, place, value);
+    Ok(Some(Value::Fun(Fun::from_sorted(list)?)))
+}
+
+/// What a value becomes where its part at an index becomes this value.
+fn with_part(old: Value, index: &Value, value: Value) -> Result<Option<Value>, AllocError>
+    ensures { IfOk result (λ o. option_map data_of o ≡ with_part (data_of old) (data_of index.now) (data_of value)) }
 {
     match old {
-        Value::Fun(f) => {
-            if value_at(f.pairs(), index).is_none() {
-                return Ok(None);
-            }
-            let pairs = replaced(alloc, f, index, value)?;
-            Ok(Some(Value::Fun(Fun::from_sorted(pairs))))
-        }
+        Value::Fun(f) => with_value(f, index, value),
         _ => Ok(None),
     }
 }
 
 /// What a variable becomes where it, or its value at an index, becomes this value.
-fn new_value(
-    alloc: Global,
-    old: &Value,
-    index: &Option<Value>,
-    value: &Value,
-) -> Result<Option<Value>, AllocError>
-    ensures { IfOk result (λ o. option_map data_of o ≡ on (Some (data_of value.now)) (option_map data_of index.now) (λ i. with_part (data_of old.now) i (data_of value.now))) }
+fn new_value(old: Value, index: &Option<Value>, value: Value) -> Result<Option<Value>, AllocError>
+    ensures { IfOk result (λ o. option_map data_of o ≡ on (Some (data_of value)) (option_map data_of index.now) (λ i. with_part (data_of old) i (data_of value))) }
 {
     match index {
-        None => Ok(Some(value.copy(alloc)?)),
-        Some(index) => with_part(alloc, old, index, value),
+        None => Ok(Some(value)),
+        Some(index) => with_part(old, index, value),
+    }
+}
+
+/// A variable's value becomes another, where it, or its value at an index, may become this value; else false.
+fn put_new(old: &mut Value, index: &Option<Value>, value: Value) -> Result<bool, AllocError>
+    ensures { IfOk result (λ b. (if b then Some (data_of old.new) else None) ≡ on (Some (data_of value)) (option_map data_of index.now) (λ i. with_part (data_of old.old) i (data_of value))) }
+{
+    let before = replace(old, Value::Bool(false));
+    match new_value(before, index, value)? {
+        Some(v) => {
+            *old = v;
+            Ok(true)
+        }
+        None => Ok(false),
     }
 }
 
@@ -70,10 +95,10 @@ fn changed(alloc: Global, state: State, change: &Change) -> Result<Option<State>
     let Some(i) = place_in(&change.component.variable, &list) else {
         return Ok(None);
     };
-    let Some(v) = new_value(alloc, &list[i].1, &change.component.index, &change.value)? else {
+    let value = change.value.copy(alloc)?;
+    if !put_new(&mut list[i].1, &change.component.index, value)? {
         return Ok(None);
-    };
-    list[i].1 = v;
+    }
     Ok(Some(State::from_vec(list)))
 }
 
@@ -88,7 +113,7 @@ fn is_in(component: &Component, s: &State) -> bool
         return true;
     };
     match v {
-        Value::Fun(f) => value_at(f.pairs(), index).is_some(),
+        Value::Fun(f) => value_at(f, index).is_some(),
         _ => false,
     }
 }
@@ -138,7 +163,7 @@ fn place_of<'a>(alloc: Global, id: &Value, s: &'a State) -> Result<Option<&'a Va
         return Ok(None);
     };
     match f {
-        Value::Fun(f) => Ok(value_at(f.pairs(), id)),
+        Value::Fun(f) => Ok(value_at(f, id)),
         _ => Ok(None),
     }
 }
@@ -197,16 +222,4 @@ pub fn step(
     } else {
         Ok(None)
     }
-}
-
-/// The value at a key.
-fn value_at<'a>(pairs: &'a [(Value, Value)], key: &Value) -> Option<&'a Value>
-    ensures { option_map (λ r. data_of r.now) result ≡ lookup (data_of key.now) (map pair_of pairs.now) }
-{
-    for p in pairs {
-        if compare(key, &p.0).is_eq() {
-            return Some(&p.1);
-        }
-    }
-    None
 }

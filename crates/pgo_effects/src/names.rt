@@ -36,9 +36,9 @@ use std::rc::Rc;
 pub fn marked(alloc: Global, x: &Text) -> Result<Text, AllocError>
     ensures { IfOk result (λ t. t ≡ spec.marked x.now) }
 {
-    let mut t = x.copy(alloc)?;
-    t.push(b'!')?;
-    Ok(t)
+    let mut bytes = Vec::from_slice(alloc, x.as_bytes())?;
+    bytes.push(b'!')?;
+    Ok(Text::from_bytes(bytes)?)
 }
 
 /// The name without its marks.
@@ -46,14 +46,14 @@ fn unmarked(alloc: Global, x: &Text) -> Result<Text, AllocError>
     ensures { IfOk result (λ t. t ≡ spec.unmarked x.now) }
 {
     let bytes = x.as_bytes();
-    let mut plain = Text::new(alloc);
+    let mut plain = Vec::new(alloc);
     for b in bytes {
         if *b == b'!' {
-            return Ok(plain);
+            return Ok(Text::from_bytes(plain)?);
         }
         plain.push(*b)?;
     }
-    Ok(plain)
+    Ok(Text::from_bytes(plain)?)
 }
 
 /// The expression from which a name has its value.

@@ -69,7 +69,7 @@ fn updated_at<'a>(
 {
     let part = new_part(alloc, f.get(), path, e, s)?;
     match part {
-        Some(v) => Ok(changed(f.into_changed(alloc)?.put(path, v))),
+        Some(v) => Ok(changed(f.into_changed(alloc)?.put(path, v)?)),
         None => Ok(None),
     }
 }

@@ -24,13 +24,13 @@ fn product_of_two(alloc: Global, a: Sub, b: Sub) -> Result<Expr, AllocError>
 fn extended(alloc: Global, a: Sub, b: Sub) -> Result<Expr, AllocError>
     ensures { IfOk result (λ made. tree made ≡ spec.extended a b) }
 {
-    match a.into_expr() {
+    let mut e = a.into_expr();
+    match &mut e {
         Expr::Product(list) => {
-            let mut all = list;
-            all.push(b)?;
-            Ok(Expr::Product(all))
+            list.push(b)?;
+            Ok(e)
         }
-        other => product_of_two(alloc, Sub::new(alloc, other)?, b),
+        _ => product_of_two(alloc, Sub::new(alloc, e)?, b),
     }
 }
 

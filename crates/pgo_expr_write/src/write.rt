@@ -60,7 +60,7 @@ pub fn write_by_name(alloc: Global, own: &Names, e: &Expr) -> Result<Text, NoMem
 {
     let mut bytes = Vec::new(alloc);
     push_operand(&mut bytes, alloc, own, e)?;
-    Ok(Text::from_bytes(bytes))
+    Ok(Text::from_bytes(bytes)?)
 }
 
 /// The text of an expression as an operand.
@@ -70,7 +70,7 @@ fn operand_text(alloc: Global, e: &Expr) -> Result<Text, NoMemory>
 {
     let mut bytes = Vec::new(alloc);
     push_operand(&mut bytes, alloc, &Names::new(alloc), e)?;
-    Ok(Text::from_bytes(bytes))
+    Ok(Text::from_bytes(bytes)?)
 }
 
 /// The text of an expression as a body.
@@ -80,7 +80,7 @@ fn body_text(alloc: Global, e: &Expr) -> Result<Text, NoMemory>
 {
     let mut bytes = Vec::new(alloc);
     push_body(&mut bytes, alloc, &Names::new(alloc), e)?;
-    Ok(Text::from_bytes(bytes))
+    Ok(Text::from_bytes(bytes)?)
 }
 
 /// Whether an expression is an application of an operator or an open form.

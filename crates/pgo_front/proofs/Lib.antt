@@ -10,3 +10,4 @@ pub mod CausedLoad
 pub mod Translating
 pub mod LinesWritten
 pub mod PiecesWritten
+pub mod Promised

@@ -146,7 +146,7 @@ execution_made words input schedule settings consts (Err e) asks either h = tt
 -- ---- what came to the output
 
 -- a status has one number
-numbered : {s a b : Status} → s ≡ a → s ≡ b → number_of a ≡ number_of b
+pub numbered : {s a b : Status} → s ≡ a → s ≡ b → number_of a ≡ number_of b
 numbered e f = ap number_of (sym e ∙ f)
 
 fine_no_run : (m : Output) → m.status ≡ status.Fine → m.status ≡ status.NotARun → ⊥
@@ -244,6 +244,23 @@ made_no_fault words input m (inr (inl h)) e = judged h.1
 made_no_fault words input m (inr (inr (inl h))) e = let n : 0 ≡ 13 = numbered h.1 e in omega (arith, n)
 made_no_fault words input m (inr (inr (inr h))) e = let n : 0 ≡ 13 = numbered h.0 e in omega (arith, n)
 
+-- nor that of a refusal
+pub made_no_refusal : (words : List (List ℕ)) (input : Option (List ℕ)) (m : Output) → MakesAsked words input m → IsRefusal m.status → ⊥
+made_no_refusal words input m (inl h) r = ran h.1
+  where
+    ran : IsRunEnd m.status → ⊥
+    ran (inl f) = subst IsRefusal f r
+    ran (inr (inl f)) = subst IsRefusal f r
+    ran (inr (inr (inl f))) = subst IsRefusal f r
+    ran (inr (inr (inr f))) = subst IsRefusal f r
+made_no_refusal words input m (inr (inl h)) r = judged h.1
+  where
+    judged : IsVerdictStatus m → ⊥
+    judged (inl f) = subst IsRefusal f r
+    judged (inr f) = subst IsRefusal f r
+made_no_refusal words input m (inr (inr (inl h))) r = subst IsRefusal h.1 r
+made_no_refusal words input m (inr (inr (inr h))) r = subst IsRefusal h.0 r
+
 -- a verdict's status is one of two
 pub verdict_status : (v : Verdict) (m : Output) → MakesVerdict v m → IsVerdictStatus m
 verdict_status (Run n) m h = inl h.status_is
@@ -281,7 +298,7 @@ check_lines input before now Q (Err e) stops lines = go lines
     go (inr h) = inl (subst (HasLine Q e.status) (sym h.1) (no_specification input before now e.status stops), h.0)
 
 -- an end of another number has no line
-no_line : (input : Option (List ℕ)) (Q : (line : List ℕ) → Type 0) (s : Status) (line : Option (List ℕ)) (n : ℕ) → number_of s ≡ n → (n ≡ 11 → ⊥) → (n ≡ 31 → ⊥) → line ≡ None
+pub no_line : (input : Option (List ℕ)) (Q : (line : List ℕ) → Type 0) (s : Status) (line : Option (List ℕ)) (n : ℕ) → number_of s ≡ n → (n ≡ 11 → ⊥) → (n ≡ 31 → ⊥) → line ≡ None
     → HasOwnLine input Q s line
 no_line input Q s line n is a b none = inl (subst (HasLine Q s) (sym none) (λ e. a (sym is ∙ ap number_of e)), λ e. b (sym is ∙ ap number_of e))
 

@@ -5,4 +5,6 @@ pub mod Verdicts
 pub mod Translations
 pub mod Loads
 pub mod Answers
+pub mod Streams
+pub mod Headline
 pub mod Makes

@@ -1,12 +1,14 @@
 -- What the parts of a command make of a text.
-use Rattle.std.specs.Prelude.{◌≡◌, ◌≤◌, ◌<◌, ◌⊎◌, ℕ, List, length, Option, Some, None, IfSome}
+use Rattle.std.specs.Prelude.{◌≡◌, ◌≤◌, ◌<◌, ◌⊎◌, ℕ, List, length, Option, Some, None, IfSome, Result, Ok, Err}
 use Rattle.pgo_io.specs.Faults.{Rose}
+use Rattle.pgo_io.specs.Sink.{Grows, GrowsByPrefix}
 use Rattle.pgo_base.specs.Data.{Data}
 use Rattle.pgo_base.specs.Lookup.{Name}
 use Rattle.pgo_model.specs.ModuleText.{flatten}
 use Rattle.pgo_model.specs.State.{AllValues}
 use Rattle.pgo_check.specs.declared.verdict.Verdict.{Verdict}
 use Rattle.pgo_check.specs.declared.verdict.Verdict.TheVariants.{Run, Bad}
+use Rattle.pgo_front.specs.declared.ended.Ended.{Ended}
 use Rattle.pgo_front.specs.declared.output.Output.{Output}
 use Rattle.pgo_front.specs.declared.output.Written.{Written}
 use Rattle.pgo_front.specs.declared.output.Written.TheVariants as written
@@ -25,6 +27,7 @@ use Rattle.pgo_front.specs.Asked.{AsksCheck, ExecutesOnly, TranslatesOnly, Loads
 use Rattle.pgo_front.specs.Loads.{Loaded, load_line}
 use Rattle.pgo_front.specs.Spells.{most_bytes}
 use Rattle.pgo_front.specs.Statuses.{number_of}
+use Rattle.pgo_front.specs.Streams.{Stream, before, after, Failed}
 use Rattle.pgo_log_text.specs.ReadBundle.{IsNoBundle}
 use Rattle.pgo_log_text.specs.LineNumbers.{IsLineOf}
 use Rattle.pgo_front.specs.Verdicts.{verdict_line, bundle_line, most_bundle_bytes}
@@ -174,3 +177,22 @@ MakesOfLoad words m = (m.status ≡ status.Fine) × Loaded words (bytes_of m.wri
 
 abbrev pub MakesAsked : List (List ℕ) → (input : Option (List ℕ)) → Output → Type 0
 MakesAsked words input m = MakesOfRun words input m ⊎ (MakesOfCheck words input m ⊎ (MakesOfTranslation words input m ⊎ MakesOfLoad words m))
+
+-- ---- the end of a command that made this, or stopped
+
+-- all of what was made came to the output
+pub record IsWritten {O : Type 0} (m : Output) (out : Stream O) (s : Status) : Type 0 where
+  pub status_is : s ≡ m.status
+  pub all : Grows (before out) (after out) (bytes_of m.written)
+  pub steady : out.faults out.new ≡ out.faults out.old
+
+-- the output failed, and a prefix of what was made came to it
+pub record IsCutShort {O : Type 0} (m : Output) (out : Stream O) (s : Status) : Type 0 where
+  pub status_is : s ≡ status.WriteFault
+  pub part : GrowsByPrefix (before out) (after out) (bytes_of m.written)
+  pub cause : Failed out
+
+-- one of both, without a line; or the command ends as it stopped, and the output is as it was
+abbrev pub EndsAs : {O : Type 0} → Result Output Ended → Stream O → Ended → Type 0
+EndsAs (Ok m) out e = (e.line ≡ None) × (IsWritten m out e.status ⊎ IsCutShort m out e.status)
+EndsAs (Err stop) out e = (e ≡ stop) × (out.new ≡ out.old)

@@ -1,25 +1,13 @@
 // The top call: words and bytes in, bytes and a status out.
-ghost use Rattle.std.specs.Prelude.{◌≡◌, ◌≤◌, ◌<◌, ◌⊎◌, ℕ, List, [], length, take, None, IfSome, IfOk, IfErr, OnOk, OnErr};
+ghost use Rattle.std.specs.Prelude.{◌≡◌, ◌≤◌, ◌<◌, ◌⊎◌, length, take, None, IfSome, IfOk, IfErr, OnOk, OnErr};
 ghost use Rattle.pgo_io.specs.Faults.{Rose};
 ghost use Rattle.pgo_io.specs.Sink.{Grows, GrowsByPrefix};
-ghost use Rattle.pgo_base.specs.Data.{Data};
-ghost use Rattle.pgo_base.specs.Lookup.{Name};
-ghost use Rattle.pgo_model.specs.Core.{Settings};
-ghost use Rattle.pgo_model.specs.Module.{Module};
 ghost use Rattle.pgo_model.specs.ModuleText.{flatten};
-ghost use Rattle.pgo_model.specs.Log.{Log};
-ghost use Rattle.pgo_model.specs.IsRun.{IsRun};
-ghost use Rattle.pgo_log_text.specs.ReadBundle.{IsReadBundle, IsNoBundle};
-ghost use Rattle.pgo_execute.specs.Schedules.{Schedule};
-ghost use Rattle.pgo_front.specs.declared.target.Target.{Target};
-ghost use Rattle.pgo_front.specs.Spells.{most_bytes};
-ghost use Rattle.pgo_front.specs.Statuses.{line_of, IsSilent};
-ghost use Rattle.pgo_front.specs.Verdicts.{most_bundle_bytes, IsBadVerdict};
-ghost use Rattle.pgo_front.specs.Asked.{AsksLoad};
-ghost use Rattle.pgo_front.specs.Answers.{AsksNothing, AsksSomeLoad, ReadsNothing, RefusesSpec, EndsWell, WritesBundle, WritesVerdict, WritesPrefix, Stops, IsRefusal, ReadsAll, IsAtEnd, OrNoMemory, IsRunOrNoMemory, SaysLine, SaysRefusal, SaysBundleLine, IsToldToExecute, IsToldToCheck, IsToldToTranslate};
-ghost use Rattle.pgo_front.specs.Makes.{MakesAsked, HasOwnLine, bytes_of};
-ghost use Rattle.pgo_accept.specs.Answers.{IsExpandable};
-ghost use Rattle.pgo_load.specs.Load.{load_consts, load_text};
+ghost use Rattle.pgo_front.specs.Statuses.{line_of};
+ghost use Rattle.pgo_front.specs.Answers.{AsksSomeLoad, ReadsNothing, RefusesSpec, Stops, IsRefusal, ReadsAll, IsAtEnd, SaysLine};
+ghost use Rattle.pgo_front.specs.Makes.{MakesAsked, HasOwnLine, EndsAs, bytes_of};
+ghost use Rattle.pgo_front.specs.Headline.{Headline};
+ghost use Rattle.pgo_front.specs.Streams.{around};
 
 use crate::check::make_check;
 use crate::ended::Ended;
@@ -61,69 +49,11 @@ pub fn pgo<S: Source, O: Sink, E: Sink>(
     out: &mut O,
     err: &mut E,
 ) -> Status
-    // Each status has its cause.
-    ensures fine { result ≡ Status.Fine → EndsWell words.now (S.left input.old) (O.held out.old) (O.held out.new) }
-    ensures halted { result ≡ Status.Stopped → WritesBundle words.now (S.left input.old) 20 (O.held out.old) (O.held out.new) }
-    ensures spent { result ≡ Status.Spent → WritesBundle words.now (S.left input.old) 21 (O.held out.old) (O.held out.new) }
-    ensures full { result ≡ Status.Full → WritesBundle words.now (S.left input.old) 23 (O.held out.old) (O.held out.new) }
-    ensures not_a_run { result ≡ Status.NotARun → WritesVerdict words.now (S.left input.old) IsBadVerdict (O.held out.old) (O.held out.new) }
-    ensures stopped { IsRefusal result → Stops words.now (S.left input.old) (S.faults input.old) (S.faults input.new) result }
-    ensures write_fault { result ≡ Status.WriteFault → Rose (O.faults out.old) (O.faults out.new) }
-    ensures prefix { result ≡ Status.WriteFault → WritesPrefix words.now (S.left input.old) (O.held out.old) (O.held out.new) }
-
-    // Each cause has its status, or there is no memory.
-    ensures usage { AsksNothing words.now → OrNoMemory result Status.Usage }
-    ensures too_long { (schedule : Schedule) (settings : Settings) (text : List ℕ) (consts : List (Name × Data)) →
-        IsToldToExecute schedule settings words.now (S.left input.old) consts text →
-        ¬ Rose (S.faults input.old) (S.faults input.new) → most_bytes < length text → OrNoMemory result Status.TooLong }
-    ensures refused { (schedule : Schedule) (settings : Settings) (text : List ℕ) (consts : List (Name × Data)) →
-        IsToldToExecute schedule settings words.now (S.left input.old) consts text →
-        ¬ Rose (S.faults input.old) (S.faults input.new) →
-        length text ≤ most_bytes → ¬ IsExpandable text consts → OrNoMemory result Status.SpecRefused }
-    ensures runs { (schedule : Schedule) (settings : Settings) (text : List ℕ) (consts : List (Name × Data)) →
-        IsToldToExecute schedule settings words.now (S.left input.old) consts text →
-        ¬ Rose (S.faults input.old) (S.faults input.new) → ¬ Rose (O.faults out.old) (O.faults out.new) →
-        length text ≤ most_bytes → IsExpandable text consts → IsRunOrNoMemory result }
-
-    ensures no_bundle { (text : List ℕ) → IsToldToCheck words.now (S.left input.old) text → ¬ Rose (S.faults input.old) (S.faults input.new) →
-        length text ≤ most_bundle_bytes → IsNoBundle text → OrNoMemory result Status.BadBundle }
-    ensures too_long_bundle { (text : List ℕ) → IsToldToCheck words.now (S.left input.old) text → ¬ Rose (S.faults input.old) (S.faults input.new) →
-        most_bundle_bytes < length text → OrNoMemory result Status.TooLong }
-    ensures is_run { (text : List ℕ) (m : Module) (consts : List (Name × Data)) (l : Log) → IsToldToCheck words.now (S.left input.old) text →
-        ¬ Rose (S.faults input.old) (S.faults input.new) → ¬ Rose (O.faults out.old) (O.faults out.new) →
-        length text ≤ most_bundle_bytes → IsReadBundle text m consts l → IsRun m consts l.ids l.start l.entries → OrNoMemory result Status.Fine }
-    ensures is_no_run { (text : List ℕ) (m : Module) (consts : List (Name × Data)) (l : Log) → IsToldToCheck words.now (S.left input.old) text →
-        ¬ Rose (S.faults input.old) (S.faults input.new) → ¬ Rose (O.faults out.old) (O.faults out.new) →
-        length text ≤ most_bundle_bytes → IsReadBundle text m consts l → ¬ IsRun m consts l.ids l.start l.entries → OrNoMemory result Status.NotARun }
-
-    ensures translates { (target : Target) (text : List ℕ) (consts : List (Name × Data)) → IsToldToTranslate target words.now (S.left input.old) consts text →
-        ¬ Rose (S.faults input.old) (S.faults input.new) → ¬ Rose (O.faults out.old) (O.faults out.new) →
-        length text ≤ most_bytes → IsExpandable text consts → OrNoMemory result Status.Fine }
-    ensures not_translated { (target : Target) (text : List ℕ) (consts : List (Name × Data)) → IsToldToTranslate target words.now (S.left input.old) consts text →
-        ¬ Rose (S.faults input.old) (S.faults input.new) →
-        length text ≤ most_bytes → ¬ IsExpandable text consts → OrNoMemory result Status.SpecRefused }
-    ensures too_long_to_translate { (target : Target) (text : List ℕ) (consts : List (Name × Data)) → IsToldToTranslate target words.now (S.left input.old) consts text →
-        ¬ Rose (S.faults input.old) (S.faults input.new) → most_bytes < length text → OrNoMemory result Status.TooLong }
-
-    ensures loads { (size : ℕ) → AsksLoad size words.now → ¬ Rose (O.faults out.old) (O.faults out.new) →
-        IsExpandable (load_text size) (load_consts size) → OrNoMemory result Status.Fine }
-    ensures load_refused { (size : ℕ) → AsksLoad size words.now → ¬ IsExpandable (load_text size) (load_consts size) → OrNoMemory result Status.SpecRefused }
-
-    // A failure of the input or the output is never passed over.
-    ensures read_failed { (result ≡ Status.ReadFault) ⊎ (S.faults input.new ≡ S.faults input.old) }
-    ensures write_failed { (result ≡ Status.WriteFault) ⊎ (O.faults out.new ≡ O.faults out.old) }
-
-    // A refusal writes nothing but its line.
-    ensures kept { IsRefusal result → out.new ≡ out.old }
-    ensures unread { ReadsNothing words.now → input.new ≡ input.old }
-    ensures ended { ¬ AsksSomeLoad words.now → ReadsAll result → IsAtEnd (S.left input.old) (S.left input.new) }
-    ensures says { ¬ Rose (E.faults err.old) (E.faults err.new) → SaysLine result (E.held err.old) (E.held err.new) }
-    ensures says_refusal { result ≡ Status.SpecRefused → ¬ Rose (E.faults err.old) (E.faults err.new) →
-        SaysRefusal words.now (S.left input.old) (E.held err.old) (E.held err.new) }
-    ensures says_bundle { result ≡ Status.BadBundle → ¬ Rose (E.faults err.old) (E.faults err.new) → SaysBundleLine (S.left input.old) (E.held err.old) (E.held err.new) }
-    ensures silent { IsSilent result → err.new ≡ err.old }
+    ensures { Headline words.now (around S.left S.faults input.old input.new) (around O.held O.faults out.old out.new)
+        (around E.held E.faults err.old err.new) result }
 {
-    let ended = run(alloc, words, input, out);
+    let made = make(alloc, words, input);
+    let ended = write_end(made, out);
     say(err, &ended);
     ended.status
 }
@@ -147,24 +77,11 @@ fn say<E: Sink>(err: &mut E, ended: &Ended)
     }
 }
 
-/// The command, without its line on the error output.
-fn run<S: Source, O: Sink>(alloc: Global, words: &[Word], input: &mut S, out: &mut O) -> Ended
-    ensures fine { result.status ≡ Status.Fine → EndsWell words.now (S.left input.old) (O.held out.old) (O.held out.new) }
-    ensures halted { result.status ≡ Status.Stopped → WritesBundle words.now (S.left input.old) 20 (O.held out.old) (O.held out.new) }
-    ensures spent { result.status ≡ Status.Spent → WritesBundle words.now (S.left input.old) 21 (O.held out.old) (O.held out.new) }
-    ensures full { result.status ≡ Status.Full → WritesBundle words.now (S.left input.old) 23 (O.held out.old) (O.held out.new) }
-    ensures not_a_run { result.status ≡ Status.NotARun → WritesVerdict words.now (S.left input.old) IsBadVerdict (O.held out.old) (O.held out.new) }
-    ensures stopped { IsRefusal result.status → Stops words.now (S.left input.old) (S.faults input.old) (S.faults input.new) result.status }
-    ensures line { HasOwnLine (S.left input.old) (RefusesSpec words.now (S.left input.old)) result.status result.line }
-    ensures write_fault { result.status ≡ Status.WriteFault → Rose (O.faults out.old) (O.faults out.new) }
-    ensures prefix { result.status ≡ Status.WriteFault → WritesPrefix words.now (S.left input.old) (O.held out.old) (O.held out.new) }
-    ensures read_failed { (result.status ≡ Status.ReadFault) ⊎ (S.faults input.new ≡ S.faults input.old) }
-    ensures write_failed { (result.status ≡ Status.WriteFault) ⊎ (O.faults out.new ≡ O.faults out.old) }
-    ensures kept { IsRefusal result.status → out.new ≡ out.old }
-    ensures unread { ReadsNothing words.now → input.new ≡ input.old }
-    ensures ended { ¬ AsksSomeLoad words.now → ReadsAll result.status → IsAtEnd (S.left input.old) (S.left input.new) }
+/// Writes what was made, and says how the command ended.
+fn write_end<O: Sink>(made: Result<Output, Ended>, out: &mut O) -> Ended
+    ensures { EndsAs made (around O.held O.faults out.old out.new) result }
 {
-    match make(alloc, words, input) {
+    match made {
         Ok(output) => match write_made(out, &output.written) {
             Ok(()) => Ended::as_status(output.status),
             Err(_) => Ended::as_status(Status::WriteFault),

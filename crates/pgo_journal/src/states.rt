@@ -50,7 +50,7 @@ fn with_new(
         (None, _) => value.copy(alloc),
         (Some(i), Value::Fun(f)) => {
             let pairs = replaced(alloc, f, i, value)?;
-            Ok(Value::Fun(Fun::from_sorted(pairs)))
+            Ok(Value::Fun(Fun::from_sorted(pairs)?))
         }
         _ => old.copy(alloc),
     }

@@ -79,12 +79,15 @@ pub fn content(alloc: Global, bytes: &[u8]) -> Result<Option<(Text, usize)>, All
     ensures value { IfOk result (λ o. o ≡ spec.chars (length bytes.now) [] 1 bytes.now) }
     ensures within { IfOk result (λ o. IfSome o (λ p. p.1 ≤ length bytes.now + 1)) }
 {
-    let mut string = Text::new(alloc);
+    let mut string = Vec::new(alloc);
     let mut at: usize = 1;
     let mut rest = bytes;
     for _turn in 0..bytes.len() {
         match char_at(rest) {
-            Char::End => return Ok(Some((string, at + 1))),
+            Char::End => {
+                let string = Text::from_bytes(string)?;
+                return Ok(Some((string, at + 1)));
+            }
             Char::Byte { byte, length } => {
                 string.push(byte)?;
                 at += length;

@@ -36,7 +36,7 @@ fn at_index(alloc: Global, name: &Text, index: &Value) -> Result<Text, AllocErro
     bytes.push(b'[')?;
     bytes.extend_from_slice(value.as_bytes())?;
     bytes.push(b']')?;
-    Ok(Text::from_bytes(bytes))
+    Ok(Text::from_bytes(bytes)?)
 }
 
 /// `x`, or `x[index]`.

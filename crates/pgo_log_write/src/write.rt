@@ -99,5 +99,5 @@ pub fn write_bundle(
             Number(status as u64),
         ],
     )?;
-    Ok(Text::from_bytes(bytes))
+    Ok(Text::from_bytes(bytes)?)
 }

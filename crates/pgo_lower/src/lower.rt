@@ -16,6 +16,7 @@ use crate::slots::{slots_of, variables};
 use crate::turns::instructions;
 use pgo_base::module::Defs;
 use pgo_base::results::both;
+use pgo_code::elements::elements_in;
 use pgo_code::program::{Code, Program, Section};
 use pgo_effects::indexed_archetype::IndexedArchetype;
 use pgo_effects::indexed_macros::IndexedMacros;
@@ -133,6 +134,7 @@ pub fn lower<'a>(
 {
     let globals = Globals::new(alloc, bound)?;
     let macros = IndexedMacros::new(alloc, bound.spec.macros.as_slice())?;
+    let elements = elements_in(alloc, bound)?;
     let mut left = MOST_TASKS;
     let mut codes = Vec::new(alloc);
     for i in bound.instances.as_slice() {
@@ -141,6 +143,7 @@ pub fn lower<'a>(
     Ok(Program {
         bound,
         definitions,
+        elements,
         codes,
     })
 }

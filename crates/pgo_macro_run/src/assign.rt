@@ -19,6 +19,15 @@ use pgo_resource::resource::OpStop;
 use pgo_syntax::assignment::{Assignment, Step};
 use std::alloc::{AllocError, Global};
 
+/// The mark behind this one.
+fn behind(alloc: Global, mark: &Text) -> Result<Text, AllocError>
+    ensures { IfOk result (λ t. t ≡ next_mark mark.now) }
+{
+    let mut bytes = Vec::from_slice(alloc, mark.as_bytes())?;
+    bytes.push(b'#')?;
+    Ok(Text::from_bytes(bytes)?)
+}
+
 /// The value stands under the mark, and the mark is the next one.
 fn keep(
     alloc: Global,
@@ -31,7 +40,7 @@ fn keep(
     ensures mark { OnOk result (mark.new ≡ next_mark mark.old) }
 {
     push(alloc, names, mark, v)?;
-    mark.push(b'#')?;
+    *mark = behind(alloc, mark)?;
     Ok(())
 }
 
@@ -99,7 +108,7 @@ fn part(alloc: Global, s: &Step, mark: &mut Text) -> Result<Sub, AllocError>
     match s {
         Step::Index(_) => {
             let e = Sub::new(alloc, Expr::Name(mark.copy(alloc)?))?;
-            mark.push(b'#')?;
+            *mark = behind(alloc, mark)?;
             Ok(e)
         }
         Step::Field(x) => Sub::new(alloc, Expr::Text(x.copy(alloc)?)),
@@ -159,7 +168,7 @@ fn set_one(
 {
     let path = path_trees(alloc, a.left.path.as_slice(), mark)?;
     let e = target(alloc, &a.left.name.name, path, mark)?;
-    mark.push(b'#')?;
+    *mark = behind(alloc, mark)?;
     if around.is_content(&a.left.name.name) {
         set(alloc, around, names, content, e.get())?;
     }

@@ -238,5 +238,5 @@ pub fn write_module(alloc: Global, m: &Module) -> Result<Text, NoMemory>
     push_terminating(&mut bytes, alloc, m)?;
     push_next(&mut bytes, alloc, m)?;
     push_end(&mut bytes)?;
-    Ok(Text::from_bytes(bytes))
+    Ok(Text::from_bytes(bytes)?)
 }

@@ -2,7 +2,7 @@
 ghost use Rattle.std.specs.Prelude.{◌≡◌, [], drop, map, option_map, option_and_then, reverse, Some};
 ghost use Rattle.pgo_base.specs.BindingsView.{named_view};
 ghost use Rattle.pgo_base.specs.View.{data_of};
-ghost use Rattle.pgo_model.specs.Core.{number_among, same_index};
+ghost use Rattle.pgo_model.specs.Core.{number_among};
 ghost use Rattle.pgo_meaning.specs.System.{resource_of};
 ghost use Rattle.pgo_sections.specs.Context.{index_value};
 ghost use Rattle.pgo_code.specs.See.{step_of, evaluation_view, content_view, unmapped_view, target_view};
@@ -17,11 +17,9 @@ use crate::evaluated::Frame;
 use crate::flow::Access;
 use crate::stand::{Stand, under};
 use pgo_base::bindings::NamedValue;
-use pgo_base::compare::compare;
 use pgo_base::text::Text;
 use pgo_base::value::Value;
 use pgo_code::instruction::{Content, Evaluation, Instruction, Target, Unmapped};
-use pgo_syntax::bound::Resource;
 
 /// What the instruction evaluates, unless it has its value.
 pub fn evaluation<'x>(
@@ -62,26 +60,11 @@ pub fn next_read<'x>(instruction: &'x Instruction<'_>, stand: &Stand) -> Option<
     }
 }
 
-/// Whether a resource has this index.
-fn has_index(resource: &Resource, index: &Value) -> bool
-    ensures { result ≡ same_index (resource_of resource.now).index (Some (data_of index.now)) }
+/// The number of the resource that is this element of a global, if there is one.
+fn element(frame: Frame<'_>, global: &Text, index: &Value) -> Option<u32>
+    ensures { result ≡ number_among (map resource_of frame.entry.bound.now.resources) (global.now, Some (data_of index.now)) }
 {
-    match &resource.index {
-        Some(i) => compare(i, index).is_eq(),
-        None => false,
-    }
-}
-
-/// The number of the first resource of a global and an index.
-fn element(resources: &[Resource], global: &Text, index: &Value) -> Option<u32>
-    ensures { result ≡ number_among (map resource_of resources.now) (global.now, Some (data_of index.now)) }
-{
-    for r in resources {
-        if r.global.is(global) && has_index(r, index) {
-            return Some(r.number);
-        }
-    }
-    None
+    frame.elements.number(global, index)
 }
 
 /// The number of the resource of a mapped parameter, whose index has this value.
@@ -96,7 +79,7 @@ pub fn resource_number(
         return content.whole;
     }
     match index {
-        Some(i) => element(frame.bound.resources.as_slice(), content.mapped.global, i),
+        Some(i) => element(frame, content.mapped.global, i),
         None => None,
     }
 }

@@ -5,6 +5,7 @@ ghost use Rattle.pgo_base.specs.Code.{coded_data};
 ghost use Rattle.pgo_base.specs.View.{data_of};
 ghost use Rattle.pgo_model.specs.Val.{Meaning};
 ghost use Rattle.pgo_sections.specs.BoundValues.{bindable};
+ghost use Rattle.pgo_code.specs.Elements.{AreAmong, are_among_prop};
 ghost use Rattle.pgo_definitions.specs.Meant.{meant};
 ghost use Rattle.pgo_places.specs.Stands.{value_in, cleared};
 ghost use Rattle.pgo_places.specs.PlaceView.{stand_view, fixed_view, attempt_view};
@@ -16,6 +17,7 @@ use pgo_base::expr::Sub;
 use pgo_base::module::Defs;
 use pgo_base::scope::{Env, State};
 use pgo_base::value::Value;
+use pgo_code::elements::Elements;
 use pgo_eval::eval::eval;
 use pgo_sets::answers::value_or_none;
 use pgo_syntax::bound::Bound;
@@ -26,8 +28,10 @@ use std::alloc::{AllocError, Global};
 pub struct Frame<'a> {
     pub bound: &'a Bound,
     pub definitions: &'a Defs,
+    pub elements: &'a Elements,
     pub fixed: &'a Fixed,
     ghost same: { meant definitions.now ≡ meant bound.now.defs } by { Prim.hlevel (props, coded_data) },
+    ghost are_among: { AreAmong bound.now.resources elements.now } by { are_among_prop bound.now.resources elements.now },
 }
 
 /// What the expression is here.

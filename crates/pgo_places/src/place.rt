@@ -187,6 +187,7 @@ fn turn_at(
     let frame = Frame {
         bound: program.bound,
         definitions: &program.definitions,
+        elements: &program.elements,
         fixed: &place.fixed,
     };
     match access(frame, instruction, &place.stand) {

@@ -135,6 +135,7 @@ fn operate_at<R: Resource>(
     let frame = Frame {
         bound: program.bound,
         definitions: &program.definitions,
+        elements: &program.elements,
         fixed: &place.fixed,
     };
     let flow = perform(alloc, frame, instruction, &mut place.stand, content)?;

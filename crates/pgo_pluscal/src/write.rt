@@ -27,7 +27,7 @@ pub fn write_pluscal(alloc: Global, p: &PlusCal) -> Result<Text, NoMemory>
 {
     let mut bytes = Vec::new(alloc);
     push_pluscal(&mut bytes, alloc, p)?;
-    Ok(Text::from_bytes(bytes))
+    Ok(Text::from_bytes(bytes)?)
 }
 
 /// Adds the whole text.

@@ -4,8 +4,8 @@ ghost use Rattle.pgo_base.specs.ExprView.{tree};
 ghost use Rattle.pgo_base.specs.Lookup.{find};
 ghost use Rattle.pgo_meaning.specs.MacrosPlaced.{put_tree};
 
-use crate::newest::Newest;
 use crate::rewrite::substitute;
+use crate::shared::Shared;
 use crate::substitution::Substitution;
 use pgo_base::expr::Expr;
 use pgo_base::items::Copied;
@@ -42,7 +42,7 @@ impl Copied for Argument {
 /// Names with expressions, the newest first; the newest of a name stands for it.
 #[derive(Drop)]
 pub struct Arguments {
-    names: Newest<Argument>,
+    names: Shared<Argument>,
 }
 
 impl Model for Arguments {
@@ -63,7 +63,7 @@ impl Arguments {
         ensures { result ≡ [] }
     {
         Arguments {
-            names: Newest::new(alloc),
+            names: Shared::new(alloc),
         }
     }
 

@@ -21,5 +21,6 @@ pub mod reads;
 mod rebuild;
 pub mod rewrite;
 pub mod scopes;
+pub mod shared;
 pub mod substitution;
 mod walk;

@@ -39,7 +39,7 @@ pub fn place(alloc: Global, k: u64) -> Result<Text, AllocError>
     for _i in 0..k {
         bytes.push(b'#')?;
     }
-    Ok(Text::from_bytes(bytes))
+    Ok(Text::from_bytes(bytes)?)
 }
 
 /// The number behind one. Err where there is none of 64 bits.
@@ -150,7 +150,7 @@ impl<'a> Reads<'a> {
         ensures reads { IfOk result (λ _. read_views self.new.list.items ≡ read_views self.old.list.items ++ (element (mapped_view mapped.entry) (tree index) self.old.used).reads) }
         ensures used { IfOk result (λ _. self.new.used ≡ (element (mapped_view mapped.entry) (tree index) self.old.used).used) }
     {
-        let (index, names) = both(Ok(index), element_names(alloc, self.used))?;
+        let names = element_names(alloc, self.used)?;
         let read = element_read(mapped, names.at, index, names.value);
         self.add(read, names.used)?;
         Ok(Expr::Name(names.rest))

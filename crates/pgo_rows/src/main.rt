@@ -1,17 +1,12 @@
 // Runs sheets of rows, each named by an argument, and prints each row that gives another answer than the one that is wanted, then how many
 // rows there are. What a sheet's rows ask is said by its ending, and by its folder: those in `values`, `texts`, `attempts` and `turns` are
-// run by the libraries on these. Here are `commands`, on whole specifications, and `bound`, on what specifications are bound to.
+// run by the libraries on these. Here is `bound`, on what specifications are bound to. Those in `commands` are run by tools/command_rows.
 #![tactic(auto)]
 
-mod answer;
 mod bound_systems;
-mod commands;
 mod described;
-mod output;
-mod streams;
 
 use crate::bound_systems::BoundSystems;
-use crate::commands::Commands;
 use pgo_run_rows::run_attempts;
 use pgo_sheet::files::{Counts, ending, not_run, run_sheet};
 use pgo_text_rows::run_texts;
@@ -40,7 +35,6 @@ fn run_file<R: Files + AllocGlobal + Print>(rt: &R, file: &str) -> io::Result<Co
         ("texts", _) => run_texts(rt, file),
         ("attempts", _) => run_attempts(rt, file),
         ("turns", _) => run_turns(rt, file),
-        (_, "commands") => run_sheet(rt, file, Commands::new(rt.alloc())),
         (_, "bound") => run_sheet(rt, file, BoundSystems::new(rt.alloc())),
         _ => not_run(rt, file, "no subject has this ending"),
     }

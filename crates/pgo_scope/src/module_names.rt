@@ -207,7 +207,7 @@ fn joined(alloc: Global, first: &Text, byte: u8, second: &Text) -> Result<Text, 
     let mut bytes = Vec::from_slice(alloc, first.as_bytes())?;
     bytes.push(byte)?;
     bytes.extend_from_slice(second.as_bytes())?;
-    Ok(Text::from_bytes(bytes))
+    Ok(Text::from_bytes(bytes)?)
 }
 
 fn own_module_name(alloc: Global, p: &Process, l: &Text) -> Result<ModuleName, AllocError>

@@ -5,7 +5,7 @@ use Rattle.pgo_base.specs.declared.value.Value.{Value}
 use Rattle.pgo_base.specs.Data.{Data, keys}
 use Rattle.pgo_base.specs.View.{data_of, pair_of}
 use Rattle.pgo_model.specs.Operators.{same_data, lookup, replace_at}
-use Rattle.pgo_sets.specs.PutWithin.{key_place, value_in, set_value}
+use Rattle.pgo_sets.specs.KeyPlace.{key_place, value_in, set_value}
 use Rattle.pgo_sets.proofs.Replacing.{same_exact}
 
 abbrev pub At : Data → List (Data × Data) → ℕ → Type 0

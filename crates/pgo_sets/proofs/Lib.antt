@@ -5,6 +5,7 @@ pub mod Members
 pub mod Replacing
 pub mod Graphs
 pub mod Numbered
+pub mod Counted
 pub mod Upward
 pub mod Subsets
 pub mod Stops

@@ -1,5 +1,5 @@
 -- The pairs of a sequence.
-use Rattle.std.proofs.Common.{◌≡◌, ℕ, zero, suc, ℤ, negsuc, ◌-ℤ◌, ◌-◌, ltb, int_lt, nat_abs, ◌<◌, ◌≤◌, ◌+◌, Bool, true, false, cond, if◌then◌else◌, nat_lt, pos, List, [], ◌∷◌, ◌++◌, length, map, take, drop, Some, None, option_map, refl, ap, sym, ◌∙◌, arith}
+use Rattle.std.proofs.Common.{◌≡◌, ℕ, zero, suc, ℤ, negsuc, ◌-ℤ◌, ◌-◌, ltb, int_lt, nat_abs, ◌<◌, ◌≤◌, ◌+◌, Bool, true, false, cond, if◌then◌else◌, nat_lt, pos, List, [], ◌∷◌, ◌++◌, length, map, take, drop, Some, None, refl, ap, sym, ◌∙◌, arith}
 use Rattle.std.proofs.lemmas.List.{length-map, length-append, map_push}
 use Rattle.std.proofs.lemmas.Bool.Decides.{nat_tests}
 use Rattle.std.specs.declared.cmp.Ordering.TheVariants.{Less, Equal, Greater}
@@ -11,12 +11,12 @@ use Rattle.pgo_base.specs.Data.{Data, integer, function, pairs, keys}
 use Rattle.pgo_base.specs.Order.{data_cmp}
 use Rattle.pgo_base.specs.Sets.{IsSorted}
 use Rattle.pgo_base.specs.Size.{depth}
-use Rattle.pgo_base.specs.View.{data_of, pair_of, value_of}
+use Rattle.pgo_base.specs.View.{data_of, pair_of}
 use Rattle.pgo_model.specs.Operators.{span, count_to, sequence, sequence_at, built, if_few, most_members, most_depth}
-use Rattle.pgo_model.specs.Sequences.{elements_from, slice}
+use Rattle.pgo_model.specs.Sequences.{slice}
 use Rattle.pgo_sets.proofs.Ordered.{pairs_stay}
 
-number_less : (m n : ℕ) → m < n → int_cmp (pos m) (pos n) ≡ Less
+pub number_less : (m n : ℕ) → m < n → int_cmp (pos m) (pos n) ≡ Less
 number_less m n h = let less : nat_lt m n ≡ true = grind (arith, nat_tests) in ap (λ b. cond b Less (cond (nat_lt n m) Greater Equal)) less
 
 below_later : (m n : ℕ) (xs : List Data) → m < n → AllByRecursion (λ k. data_cmp (integer (pos m)) k ≡ Less) (keys (sequence_at n xs))
@@ -58,10 +58,6 @@ numbered_more done next vs k v n e d l m h =
 
 pub count_more : {A B : Type 0} (done next : List A) (p : A) (vs : List B) (v : B) → next ≡ done ++ p ∷ [] → length done ≡ length vs → length next ≡ length (vs ++ v ∷ [])
 count_more done next p vs v e h = ap length e ∙ length-append done (p ∷ []) ∙ ap (λ n. n + 1) h ∙ sym (length-append vs (v ∷ []))
-
--- the numbers that are there, and those that are left
-abbrev pub CountsFrom : List (Value × Value) → ℕ → Type 0
-CountsFrom ps i = elements_from 1 (map pair_of ps) ≡ option_map (λ vs. map value_of (take i ps) ++ vs) (elements_from (suc i) (map pair_of (drop i ps)))
 
 difference : (a c : ℕ) → suc c ≤ a → pos a -ℤ pos (suc c) ≡ pos (a - suc c)
 difference a c h = let no : ltb a (suc c) ≡ false = grind (arith, nat_tests) in ap (λ b. cond b (negsuc (suc c - suc a)) (pos (a - suc c))) no

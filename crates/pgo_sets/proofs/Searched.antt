@@ -15,7 +15,7 @@ use Rattle.pgo_base.specs.Total.{data_total}
 use Rattle.pgo_base.specs.Sets.{IsSorted}
 use Rattle.pgo_base.specs.View.{data_of, pair_of, key_of}
 use Rattle.pgo_model.specs.Operators.{same_data, contains}
-use Rattle.pgo_sets.specs.PutWithin.{key_place}
+use Rattle.pgo_sets.specs.KeyPlace.{key_place}
 
 abbrev Below : Data → List Data → Type 0
 Below x ys = AllByRecursion (λ y. data_cmp x y ≡ Less) ys

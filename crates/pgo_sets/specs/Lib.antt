@@ -1,6 +1,6 @@
 pub mod Answers
 pub mod Kept
 pub mod Replaced
-pub mod PutWithin
+pub mod KeyPlace
 pub mod Chosen
 pub mod Choices

@@ -15,10 +15,10 @@ use pgo_base::value::{Fun, Set, Value};
 pub const MOST_MEMBERS: usize = 65_536;
 
 /// The greatest depth of a value.
-pub(crate) const MOST_DEPTH: usize = 2_048;
+const MOST_DEPTH: usize = 2_048;
 
 /// A value, where it may have so many members or keys.
-pub(crate) fn few(count: usize, v: Value) -> Option<Value>
+fn few(count: usize, v: Value) -> Option<Value>
     ensures { option_map data_of result ≡ operators.if_few count (data_of v) }
 {
     if count > MOST_MEMBERS {
@@ -62,7 +62,7 @@ pub fn sorted_set(members: Vec<Value>) -> Result<Value, EvalStop>
     requires { IsStrictlySortedBy data_cmp (map data_of members.items) }
     ensures { Answers result (operators.set_from (map data_of members.items)) }
 {
-    let set = Set::from_sorted(members);
+    let set = Set::from_sorted(members)?;
     built(set.len(), Value::Set(set))
 }
 
@@ -73,7 +73,7 @@ pub fn function_of(pairs: Vec<(Value, Value)>) -> Result<Value, EvalStop>
     ensures { Answers result (operators.function_from (map pair_of pairs.items)) }
 {
     let function = Fun::from_pairs(pairs)?;
-    built(function.pairs().len(), Value::Fun(function))
+    built(function.len(), Value::Fun(function))
 }
 
 /// The same, where the pairs are in the order of the keys.
@@ -81,6 +81,6 @@ pub fn sorted_function(pairs: Vec<(Value, Value)>) -> Result<Value, EvalStop>
     requires { IsStrictlySortedBy data_cmp (keys (map pair_of pairs.items)) }
     ensures { Answers result (operators.function_from (map pair_of pairs.items)) }
 {
-    let function = Fun::from_sorted(pairs);
-    built(function.pairs().len(), Value::Fun(function))
+    let function = Fun::from_sorted(pairs)?;
+    built(function.len(), Value::Fun(function))
 }

@@ -1,5 +1,5 @@
 // The operators on functions.
-ghost use Rattle.std.specs.Prelude.{◌≡◌, ◌&&◌, ◌++◌, if◌then◌else◌, map, IfOk};
+ghost use Rattle.std.specs.Prelude.{◌≡◌, ◌++◌, map, IfOk};
 ghost use Rattle.std.specs.List.Sorted.{IsStrictlySortedBy};
 ghost use Rattle.pgo_base.specs.Data.{keys};
 ghost use Rattle.pgo_base.specs.Order.{data_cmp};
@@ -9,9 +9,9 @@ ghost use Rattle.pgo_sets.specs.Answers.{Answers};
 ghost use Rattle.pgo_sets.specs.Replaced.{with_value};
 
 use crate::build::{function_of, sorted_function, sorted_set};
+use crate::changed::put_value;
 use crate::errors::EvalStop;
-use crate::lookup::{at, value_at};
-use pgo_base::compare::compare;
+use crate::lookup::{at, key_place, value_at};
 use pgo_base::value::{Fun, Value};
 use std::alloc::{AllocError, Global};
 
@@ -131,30 +131,21 @@ pub fn replaced(
     ensures pairs { IfOk result (λ ps. map pair_of ps.items ≡ operators.replace_at (data_of key.now) (data_of value.now) function.now) }
     ensures sorted { IfOk result (λ ps. IsStrictlySortedBy data_cmp (keys (map pair_of ps.items))) }
 {
-    let old = function.in_order();
-    let mut pairs = Vec::with_capacity(alloc, old.len())?;
-    let mut left = true;
-    for p in old {
-        let is_here = is_at(left, key, &p.0);
-        let v = one_of(is_here, value, &p.1).copy(alloc)?;
-        pairs.push((p.0.copy(alloc)?, v))?;
-        if is_here {
-            left = false;
-        }
-    }
+    let Some(place) = key_place(function, key) else {
+        return pairs_of(alloc, function);
+    };
+    let v = value.copy(alloc)?;
+    let mut pairs = pairs_of(alloc, function)?;
+    put_value(&mut pairs, place, v);
     Ok(pairs)
 }
 
-/// Whether the key is still to be found, and is this one.
-fn is_at(left: bool, key: &Value, other: &Value) -> bool
-    ensures { result ≡ left && operators.same_data (data_of key.now) (data_of other.now) }
+/// Copies of the pairs of a function.
+fn pairs_of(alloc: Global, function: &Fun) -> Result<Vec<(Value, Value)>, AllocError>
+    ensures pairs { IfOk result (λ ps. map pair_of ps.items ≡ function.now) }
+    ensures sorted { IfOk result (λ ps. IsStrictlySortedBy data_cmp (keys (map pair_of ps.items))) }
 {
-    left && compare(key, other).is_eq()
-}
-
-/// The first where the test is true, else the second.
-fn one_of<'a>(test: bool, first: &'a Value, second: &'a Value) -> &'a Value
-    ensures { result.now ≡ (if test then first.now else second.now) }
-{
-    if test { first } else { second }
+    let other = function.copy(alloc)?;
+    let pairs = other.into_pairs()?;
+    Ok(pairs)
 }

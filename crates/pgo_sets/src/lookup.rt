@@ -6,7 +6,7 @@ ghost use Rattle.pgo_base.specs.View.{data_of, named_data};
 ghost use Rattle.pgo_model.specs.Operators as operators;
 ghost use Rattle.pgo_model.specs.Steps.{IsPlaced, place_in};
 ghost use Rattle.pgo_model.specs.Val as meanings;
-ghost use Rattle.pgo_sets.specs.PutWithin as places;
+ghost use Rattle.pgo_sets.specs.KeyPlace as places;
 
 use pgo_base::compare::compare;
 use pgo_base::text::Text;

@@ -11,7 +11,7 @@ ghost use Rattle.pgo_sets.specs.Answers.{Answers};
 use crate::build::{MOST_MEMBERS, sorted_function};
 use crate::errors::EvalStop;
 use pgo_base::compare::compare;
-use pgo_base::value::Value;
+use pgo_base::value::{Fun, Value};
 use std::alloc::{AllocError, Global};
 
 /// The sequence of these elements: the function on 1 .. n that has them.
@@ -52,21 +52,43 @@ fn elements(s: &Value) -> Option<&[(Value, Value)]>
     ensures { option_map (λ r. map value_of r.now) result ≡ sequences.elements (data_of s.now) }
 {
     match s {
-        Value::Fun(function) => counted(function.pairs()),
+        Value::Fun(function) => counted(function),
         _ => None,
     }
 }
 
-/// These pairs, where their keys are 1, 2 and so on.
-fn counted(pairs: &[(Value, Value)]) -> Option<&[(Value, Value)]>
-    ensures { option_map (λ r. map value_of r.now) result ≡ sequences.elements_from 1 (map pair_of pairs.now) }
+/// The pairs of this function, where its keys are 1, 2 and so on.
+fn counted(function: &Fun) -> Option<&[(Value, Value)]>
+    ensures { option_map (λ r. map value_of r.now) result ≡ sequences.elements_from 1 function.now }
 {
-    for i in 0..pairs.len() {
-        if compare(&pairs[i].0, &number(i)).is_ne() {
-            return None;
-        }
+    let pairs = function.in_order();
+    if are_numbers(pairs) {
+        Some(pairs)
+    } else {
+        None
     }
-    Some(pairs)
+}
+
+/// Whether the keys of these pairs are 1, 2 and so on. As they are in order, each once, the first and the last tell.
+fn are_numbers(pairs: &[(Value, Value)]) -> bool
+    requires { IsStrictlySortedBy data_cmp (keys (map pair_of pairs.now)) }
+    ensures { (if result then Some (map value_of pairs.now) else None) ≡ sequences.elements_from 1 (map pair_of pairs.now) }
+{
+    if pairs.is_empty() {
+        return true;
+    }
+    let last = pairs.len() - 1;
+    let begins = is_number(&pairs[0].0, 0);
+    let ends = is_number(&pairs[last].0, last);
+    begins && ends
+}
+
+/// Whether v is the number of the element behind n others.
+fn is_number(v: &Value, n: usize) -> bool
+    requires { n + 1 < 2 ^ 63 }
+    ensures { result ≡ operators.same_data (data_of v.now) (integer (pos (suc n))) }
+{
+    compare(v, &number(n)).is_eq()
 }
 
 /// Copies of the values of these pairs, behind the others.

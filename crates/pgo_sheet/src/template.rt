@@ -5,8 +5,7 @@ use std::alloc::{AllocError, Global};
 /// How a text begins that says that a place of it was not there.
 pub const NO_PLACE: &str = "no such place: ";
 
-/// A part of a text: its name, how its places are marked, what stands there where no row changes it, and else what the row puts there and
-/// the end of that.
+/// A part of a text: its name, how its places are marked, what stands there where no row changes it, and else what the row puts there.
 #[derive(Drop)]
 struct Part {
     name: String,
@@ -14,7 +13,6 @@ struct Part {
     unchanged: String,
     is_changed: bool,
     new: String,
-    end: &'static str,
 }
 
 /// A place of the changed text, and what stands there instead.
@@ -31,18 +29,16 @@ pub struct Template {
     text: String,
     parts: Vec<Part>,
     places: Vec<Place>,
-    /// that many blanks stand in place of the text
-    blanks: usize,
 }
 
 impl Part {
-    /// Puts a piece behind what the row has put there, with a text between.
-    fn add(&mut self, between: &str, piece: &str) -> Result<(), AllocError> {
+    /// Puts a line behind those that the row has put there.
+    fn add(&mut self, line: &str) -> Result<(), AllocError> {
         if self.is_changed {
-            self.new.push_str(between)?;
+            self.new.push_str("\n")?;
         }
         self.is_changed = true;
-        self.new.push_str(piece)
+        self.new.push_str(line)
     }
 
     /// The text with this part in its places. A text without them says so.
@@ -51,12 +47,11 @@ impl Part {
         if !text.contains(mark) {
             return format!(in alloc; "{NO_PLACE}{mark}");
         }
-        let (new, end) = if self.is_changed {
-            (self.new.as_str(), self.end)
+        let new = if self.is_changed {
+            &self.new
         } else {
-            (self.unchanged.as_str(), "")
+            &self.unchanged
         };
-        let new = format!(in alloc; "{new}{end}")?;
         text.replace(alloc, mark, new.as_str())
     }
 }
@@ -69,7 +64,6 @@ impl Template {
             text: String::new(alloc),
             parts: Vec::new(alloc),
             places: Vec::new(alloc),
-            blanks: 0,
         }
     }
 
@@ -79,8 +73,7 @@ impl Template {
         match key {
             "text" => *self = Template::new(self.alloc),
             "|" => write!(self.text, "{text}\n")?,
-            "part" => self.add_part(first, second, "")?,
-            "optional" => self.add_part(text, "", "\n")?,
+            "part" => self.add_part(first, second)?,
             _ => return self.take_change(key, text),
         }
         Ok(true)
@@ -91,30 +84,18 @@ impl Template {
         match key {
             "place" => self.add_place(text),
             "has" => self.fill_place(text),
-            "repeat" => self.repeat(text),
-            "numbered" => self.add_numbered(text),
-            "blanks" => {
-                self.blanks = text.parse::<usize>().unwrap_or(0);
-                Ok(self.blanks > 0)
-            }
-            _ => self.add(key, "\n", text),
+            _ => self.add(key, text),
         }
     }
 
-    /// A part. Of an optional one nothing stands there where no row changes it, and what a row puts there are whole lines.
-    fn add_part(
-        &mut self,
-        name: &str,
-        unchanged: &str,
-        end: &'static str,
-    ) -> Result<(), AllocError> {
+    /// A part, and what stands there where no row changes it.
+    fn add_part(&mut self, name: &str, unchanged: &str) -> Result<(), AllocError> {
         self.parts.push(Part {
             name: String::from_str(self.alloc, name)?,
             mark: format!(in self.alloc; "@{name}@")?,
             unchanged: String::from_str(self.alloc, unchanged)?,
             is_changed: false,
             new: String::new(self.alloc),
-            end,
         })?;
         Ok(())
     }
@@ -139,46 +120,19 @@ impl Template {
         }
     }
 
-    /// Adds a piece to a part, with a text before it where the row has put something there; false: there is no such part.
-    fn add(&mut self, name: &str, between: &str, piece: &str) -> Result<bool, AllocError> {
+    /// Adds a line to a part; false: there is no such part.
+    fn add(&mut self, name: &str, line: &str) -> Result<bool, AllocError> {
         for part in &mut self.parts {
             if part.name.as_str() == name {
-                part.add(between, piece)?;
+                part.add(line)?;
                 return Ok(true);
             }
         }
         Ok(false)
     }
 
-    /// `PART N TEXT`: the text so many times behind what the part has, without a new line.
-    fn repeat(&mut self, text: &str) -> Result<bool, AllocError> {
-        let (part, rest) = halves(text);
-        let (digits, piece) = halves(rest);
-        let times = digits.parse::<u32>().unwrap_or(0);
-        let pieces = piece.repeat(self.alloc, times as usize)?;
-        Ok(times > 0 && self.add(part, "", pieces.as_str())?)
-    }
-
-    /// `PART N LINE`: N lines of the part, in which the numbers from 1 to N stand for each #.
-    fn add_numbered(&mut self, text: &str) -> Result<bool, AllocError> {
-        let (part, rest) = halves(text);
-        let (digits, line) = halves(rest);
-        let times = digits.parse::<u32>().unwrap_or(0);
-        for number in 0..times {
-            let number = number.wrapping_add(1).to_string(self.alloc)?;
-            let line = line.replace(self.alloc, "#", number.as_str())?;
-            if !self.add(part, "\n", line.as_str())? {
-                return Ok(false);
-            }
-        }
-        Ok(times > 0)
-    }
-
     /// The text with the changed parts.
     pub fn changed(&self) -> Result<String, AllocError> {
-        if self.blanks > 0 {
-            return " ".repeat(self.alloc, self.blanks);
-        }
         let mut text = String::from_str(self.alloc, self.text.as_str())?;
         for part in &self.parts {
             text = part.put(self.alloc, text.as_str())?;
@@ -206,6 +160,5 @@ impl Template {
             part.new.clear();
         }
         self.places.clear();
-        self.blanks = 0;
     }
 }

@@ -2,4 +2,5 @@
 #![tactic(auto)]
 
 pub mod contents;
+mod indexed_state;
 pub mod own;

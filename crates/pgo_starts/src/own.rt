@@ -11,6 +11,7 @@ ghost use Rattle.pgo_resource.specs.Kept.{member_view};
 ghost use Rattle.pgo_resource.specs.Layouts.{ids_at, layout_view};
 ghost use Rattle.pgo_workers.specs.Worlds.{layout_of, own_at, own_component, own_in};
 
+use crate::indexed_state::IndexedState;
 use pgo_base::compare::compare;
 use pgo_base::scope::State;
 use pgo_base::text::Text;
@@ -22,8 +23,8 @@ use pgo_syntax::name::written_name;
 use std::alloc::{AllocError, Global};
 
 /// What a state has of a variable at an identifier.
-fn part<'x>(start: &'x State, id: &Value, variable: &Text) -> Option<&'x Value>
-    ensures { option_map (λ r. data_of r.now) result ≡ content (own_component 0 (data_of id.now) variable.now) start.entry.now }
+fn part<'x>(start: &IndexedState<'x>, id: &Value, variable: &Text) -> Option<&'x Value>
+    ensures { option_map (λ r. data_of r.now) result ≡ content (own_component 0 (data_of id.now) variable.now) start.now }
 {
     match start.find(variable) {
         None => None,
@@ -34,7 +35,7 @@ fn part<'x>(start: &'x State, id: &Value, variable: &Text) -> Option<&'x Value>
 /// The components of one variable.
 fn component(
     alloc: Global,
-    start: &State,
+    start: &IndexedState<'_>,
     id: &Value,
     variable: Text,
 ) -> Result<(Text, Value), AllocError>
@@ -63,7 +64,7 @@ fn has_member(members: &[Member], process: &Text, id: &Value) -> bool
 fn add_names(
     alloc: Global,
     list: &mut Vec<(Text, Value)>,
-    start: &State,
+    start: &IndexedState<'_>,
     id: &Value,
     own: &OwnNames,
 ) -> Result<(), AllocError>
@@ -81,16 +82,35 @@ fn add_all(
     alloc: Global,
     list: &mut Vec<(Text, Value)>,
     layout: &BoardLayout,
+    start: &IndexedState<'_>,
     id: &Value,
 ) -> Result<(), AllocError>
-    ensures { IfOk result (λ _. map named_data list.new.items ≡ map named_data list.old.items ++ own_at 0 (data_of id.now) (own_names (data_of id.now) (layout_view layout.now).own) (layout_view layout.now).start) }
+    ensures { IfOk result (λ _. map named_data list.new.items ≡ map named_data list.old.items ++ own_at 0 (data_of id.now) (own_names (data_of id.now) (layout_view layout.now).own) start.now) }
 {
     for own in layout.own.as_slice() {
         if has_member(layout.members.as_slice(), &own.process, id) {
-            add_names(alloc, list, &layout.start, id, own)?;
+            add_names(alloc, list, start, id, own)?;
         }
     }
     Ok(())
+}
+
+/// The own components of an instance in these values of the variables.
+fn own_of(
+    alloc: Global,
+    layout: &BoardLayout,
+    start: &IndexedState<'_>,
+    k: usize,
+) -> Result<State, AllocError>
+    requires { k < length (layout_view layout.now).ids }
+    ensures { IfOk result (λ o. o ≡ own_in (layout_view layout.now) start.now k) }
+{
+    let id = &layout.members.as_slice()[k].id;
+    let pc = Text::from_slice(alloc, b"pc")?;
+    let mut list = Vec::new(alloc);
+    list.push(component(alloc, start, id, pc)?)?;
+    add_all(alloc, &mut list, layout, start, id)?;
+    Ok(State::from_vec(list))
 }
 
 /// The own components of an instance as a run starts: `pc`, and the variables of its process.
@@ -98,12 +118,8 @@ pub fn own_at_start(alloc: Global, layout: &BoardLayout, k: usize) -> Result<Sta
     requires { k < length (layout_view layout.now).ids }
     ensures { IfOk result (λ o. o ≡ own_in (layout_view layout.now) (layout_view layout.now).start k) }
 {
-    let id = &layout.members.as_slice()[k].id;
-    let pc = Text::from_slice(alloc, b"pc")?;
-    let mut list = Vec::new(alloc);
-    list.push(component(alloc, &layout.start, id, pc)?)?;
-    add_all(alloc, &mut list, layout, id)?;
-    Ok(State::from_vec(list))
+    let start = IndexedState::new(alloc, &layout.start)?;
+    own_of(alloc, layout, &start, k)
 }
 
 /// Those of all instances of a layout, in order.
@@ -111,10 +127,11 @@ fn all_own(alloc: Global, layout: &BoardLayout) -> Result<Vec<State>, AllocError
     ensures many { IfOk result (λ v. length v.items ≡ length (layout_view layout.now).ids) }
     ensures owns { IfOk result (λ v. (k : ℕ) (o : Vars) → nth v.items k ≡ Some o → o ≡ own_in (layout_view layout.now) (layout_view layout.now).start k) }
 {
+    let start = IndexedState::new(alloc, &layout.start)?;
     let count = layout.members.as_slice().len();
     let mut list = Vec::new(alloc);
     for k in 0..count {
-        list.push(own_at_start(alloc, layout, k)?)?;
+        list.push(own_of(alloc, layout, &start, k)?)?;
     }
     Ok(list)
 }

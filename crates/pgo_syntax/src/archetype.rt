@@ -27,10 +27,15 @@ pub enum ParameterKind {
 }
 
 /// A parameter of an archetype.
-#[derive(Drop)]
 pub struct Parameter {
     pub name: PlacedName,
     pub kind: ParameterKind,
+}
+
+impl Drop for Parameter {
+    fn drop(self) {
+        let Parameter { name, kind } = self;
+    }
 }
 
 impl Copied for Parameter {
@@ -51,12 +56,22 @@ pub type Parameters = Items<Parameter>;
 /// `archetype name (params) variables locals; body`.
 ///
 /// Source: the Modular PlusCal paper.
-#[derive(Drop)]
 pub struct Archetype {
     pub name: PlacedName,
     pub params: Parameters,
     pub locals: Declarations,
     pub body: Block,
+}
+
+impl Drop for Archetype {
+    fn drop(self) {
+        let Archetype {
+            name,
+            params,
+            locals,
+            body,
+        } = self;
+    }
 }
 
 impl Copied for Archetype {

@@ -49,10 +49,15 @@ impl Left {
 }
 
 /// `left := right`.
-#[derive(Drop)]
 pub struct Assignment {
     pub left: Left,
     pub right: Sub,
+}
+
+impl Drop for Assignment {
+    fn drop(self) {
+        let Assignment { left, right } = self;
+    }
 }
 
 impl Copied for Assignment {

@@ -7,10 +7,18 @@ use pgo_base::items::{Copied, Items};
 use std::alloc::{AllocError, Global};
 
 /// What stands behind a name: `= e`, the value of e, or `\in e`, a member of e.
-#[derive(Drop)]
 pub enum Origin {
     Equals(Sub),
     In(Sub),
+}
+
+impl Drop for Origin {
+    fn drop(self) {
+        match self {
+            Origin::Equals(a) => {}
+            Origin::In(a) => {}
+        }
+    }
 }
 
 impl Origin {
@@ -26,10 +34,15 @@ impl Origin {
 }
 
 /// A name that a `with` binds: `v = e` or `v \in e`.
-#[derive(Drop)]
 pub struct WithName {
     pub name: PlacedName,
     pub origin: Origin,
+}
+
+impl Drop for WithName {
+    fn drop(self) {
+        let WithName { name, origin } = self;
+    }
 }
 
 impl Copied for WithName {

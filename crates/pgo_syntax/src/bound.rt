@@ -13,10 +13,18 @@ use pgo_base::value::Value;
 use std::alloc::{AllocError, Global};
 
 /// What a read and a write of a mapped parameter do: nothing besides, or what the macro says.
-#[derive(Drop)]
 pub enum Mapping {
     Identity,
     Macro(MappingMacro),
+}
+
+impl Drop for Mapping {
+    fn drop(self) {
+        match self {
+            Mapping::Identity => {}
+            Mapping::Macro(a) => {}
+        }
+    }
 }
 
 impl Mapping {
@@ -32,7 +40,6 @@ impl Mapping {
 }
 
 /// What a parameter stands for: the value of an expression, or a global, which is unmapped where it has no mapping.
-#[derive(Drop)]
 pub enum Target {
     Value(Sub),
     Global {
@@ -42,18 +49,35 @@ pub enum Target {
     },
 }
 
+impl Drop for Target {
+    fn drop(self) {
+        match self {
+            Target::Value(a) => {}
+            Target::Global {
+                name,
+                extent: _,
+                mapping,
+            } => {}
+        }
+    }
+}
+
 /// A parameter of an instance, and what it stands for.
-#[derive(Drop)]
 pub struct Binding {
     pub parameter: Text,
     pub target: Target,
+}
+
+impl Drop for Binding {
+    fn drop(self) {
+        let Binding { parameter, target } = self;
+    }
 }
 
 /// Bindings in order.
 pub type Bindings = Items<Binding>;
 
 /// One process identifier that runs one archetype. Instances are numbered from 0.
-#[derive(Drop)]
 pub struct Instance {
     pub number: u32,
     pub id: Value,
@@ -64,22 +88,42 @@ pub struct Instance {
     pub bindings: Bindings,
 }
 
+impl Drop for Instance {
+    fn drop(self) {
+        let Instance {
+            number,
+            id,
+            process,
+            archetype,
+            bindings,
+        } = self;
+    }
+}
+
 /// Instances in order.
 pub type Instances = Items<Instance>;
 
 /// A global as a whole, or one element of it. Resources are numbered from 0.
-#[derive(Drop)]
 pub struct Resource {
     pub number: u32,
     pub global: Text,
     pub index: Option<Value>,
 }
 
+impl Drop for Resource {
+    fn drop(self) {
+        let Resource {
+            number,
+            global,
+            index,
+        } = self;
+    }
+}
+
 /// Resources in order.
 pub type Resources = Items<Resource>;
 
 /// A specification that is bound to constants.
-#[derive(Drop)]
 pub struct Bound {
     pub spec: Spec,
     /// the constants with their values, and then the specification's definitions
@@ -88,4 +132,16 @@ pub struct Bound {
     pub resources: Resources,
     /// the value of each variable that a run starts with
     pub start: State,
+}
+
+impl Drop for Bound {
+    fn drop(self) {
+        let Bound {
+            spec,
+            defs,
+            instances,
+            resources,
+            start,
+        } = self;
+    }
 }

@@ -8,10 +8,15 @@ use pgo_base::items::{Copied, Items};
 use std::alloc::{AllocError, Global};
 
 /// A variable, and what it starts with: `v`, `v = e` or `v \in e`.
-#[derive(Drop)]
 pub struct Declaration {
     pub name: PlacedName,
     pub initial: Option<Origin>,
+}
+
+impl Drop for Declaration {
+    fn drop(self) {
+        let Declaration { name, initial } = self;
+    }
 }
 
 impl Copied for Declaration {
@@ -32,11 +37,16 @@ impl Copied for Declaration {
 pub type Declarations = Items<Declaration>;
 
 /// A definition of a specification: `name == e` or `name(a, b) == e`.
-#[derive(Drop)]
 pub struct Definition {
     pub name: PlacedName,
     pub params: PlacedNames,
     pub body: Sub,
+}
+
+impl Drop for Definition {
+    fn drop(self) {
+        let Definition { name, params, body } = self;
+    }
 }
 
 impl Copied for Definition {

@@ -10,11 +10,16 @@ use pgo_base::text::Text;
 use std::alloc::{AllocError, Global};
 
 /// `macro name (params) body`.
-#[derive(Drop)]
 pub struct Macro {
     pub name: PlacedName,
     pub params: PlacedNames,
     pub body: Block,
+}
+
+impl Drop for Macro {
+    fn drop(self) {
+        let Macro { name, params, body } = self;
+    }
 }
 
 impl Copied for Macro {
@@ -47,11 +52,16 @@ pub type Macros = Items<Macro>;
 /// In its blocks `$variable` and `$value` are names like others: no identifier holds a `$`.
 ///
 /// Source: the Modular PlusCal paper.
-#[derive(Drop)]
 pub struct MappingMacro {
     pub name: PlacedName,
     pub read: Block,
     pub write: Block,
+}
+
+impl Drop for MappingMacro {
+    fn drop(self) {
+        let MappingMacro { name, read, write } = self;
+    }
 }
 
 impl Copied for MappingMacro {

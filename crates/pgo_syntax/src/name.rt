@@ -49,7 +49,7 @@ pub fn written_name(alloc: Global, process: &[u8], name: &Text) -> Result<Text, 
     let mut bytes = Vec::from_slice(alloc, process)?;
     bytes.push(b'_')?;
     bytes.extend_from_slice(name.as_bytes())?;
-    Ok(Text::from_bytes(bytes))
+    Ok(Text::from_bytes(bytes)?)
 }
 
 /// Names in order.

@@ -10,10 +10,18 @@ use pgo_base::results::both;
 use std::alloc::{AllocError, Global};
 
 /// An argument of an instance: an expression, with the place of its first byte, or a global, `ref g` and `ref g[_]`.
-#[derive(Drop)]
 pub enum Argument {
     Value(u32, Sub),
     Ref(PlacedName, Extent),
+}
+
+impl Drop for Argument {
+    fn drop(self) {
+        match self {
+            Argument::Value(_, b) => {}
+            Argument::Ref(a, _) => {}
+        }
+    }
 }
 
 impl Copied for Argument {
@@ -33,7 +41,6 @@ pub type Arguments = Items<Argument>;
 
 /// What a mapping clause speaks of: each argument that is the global, `g` and `g[_]`, or the argument of a number from
 /// 1, `@1` and `@1[_]`, with the place of its first byte.
-#[derive(Drop)]
 pub enum MappingTarget {
     Global {
         name: PlacedName,
@@ -44,6 +51,19 @@ pub enum MappingTarget {
         number: u64,
         extent: Extent,
     },
+}
+
+impl Drop for MappingTarget {
+    fn drop(self) {
+        match self {
+            MappingTarget::Global { name, extent: _ } => {}
+            MappingTarget::Argument {
+                place: _,
+                number: _,
+                extent: _,
+            } => {}
+        }
+    }
 }
 
 impl MappingTarget {
@@ -70,10 +90,15 @@ impl MappingTarget {
 }
 
 /// `mapping target via name`.
-#[derive(Drop)]
 pub struct MappingClause {
     pub target: MappingTarget,
     pub mapping: PlacedName,
+}
+
+impl Drop for MappingClause {
+    fn drop(self) {
+        let MappingClause { target, mapping } = self;
+    }
 }
 
 impl Copied for MappingClause {
@@ -94,13 +119,24 @@ pub type MappingClauses = Items<MappingClause>;
 /// `process (name = e) == instance archetype(arguments) mapping .. via ..`, or with `\in`. That it is `fair` is dropped.
 ///
 /// Source: the Modular PlusCal paper.
-#[derive(Drop)]
 pub struct Process {
     pub name: PlacedName,
     pub ids: Origin,
     pub archetype: PlacedName,
     pub arguments: Arguments,
     pub clauses: MappingClauses,
+}
+
+impl Drop for Process {
+    fn drop(self) {
+        let Process {
+            name,
+            ids,
+            archetype,
+            arguments,
+            clauses,
+        } = self;
+    }
 }
 
 impl Copied for Process {

@@ -89,9 +89,14 @@ impl AttemptResult {
 }
 
 /// The pre-commits that fail, in order: a resource's number, and the number of the pre-commit at it, from 1.
-#[derive(Drop)]
 pub struct Down {
     list: Vec<(u32, u32)>,
+}
+
+impl Drop for Down {
+    fn drop(self) {
+        let Down { list } = self;
+    }
 }
 
 impl Model for Down {
@@ -149,11 +154,22 @@ impl Down {
 
 /// How a run is set: the seed of its choices, the most attempts of an instance, the most entries of the journal, the
 /// pre-commits that fail, and whether a blocked instance waits for another's commit.
-#[derive(Drop)]
 pub struct Settings {
     pub seed: u64,
     pub attempts: u32,
     pub steps: u32,
     pub down: Down,
     pub park: bool,
+}
+
+impl Drop for Settings {
+    fn drop(self) {
+        let Settings {
+            seed,
+            attempts,
+            steps,
+            down,
+            park,
+        } = self;
+    }
 }

@@ -12,7 +12,6 @@ use std::alloc::{AllocError, Global};
 
 /// A specification: the module around the algorithm, and the algorithm's units, those of one kind in the order of the
 /// text.
-#[derive(Drop)]
 pub struct Spec {
     /// the module's name
     pub name: PlacedName,
@@ -29,6 +28,24 @@ pub struct Spec {
     pub archetypes: Archetypes,
     pub globals: Declarations,
     pub processes: Processes,
+}
+
+impl Drop for Spec {
+    fn drop(self) {
+        let Spec {
+            name,
+            extends,
+            constants,
+            definitions,
+            algorithm,
+            define,
+            macros,
+            mappings,
+            archetypes,
+            globals,
+            processes,
+        } = self;
+    }
 }
 
 impl Spec {

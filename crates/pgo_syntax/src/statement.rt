@@ -19,7 +19,6 @@ use std::marker::Model;
 ///
 /// Source: the PlusCal manual; `yield` is the Modular PlusCal paper's.
 #[cycle(statement)]
-#[derive(Drop)]
 pub enum Stmt {
     /// `skip`
     Skip(u32),
@@ -51,11 +50,39 @@ pub enum Stmt {
     Block(u32, Block),
 }
 
+impl Drop for Stmt {
+    #[cycle(drop_statement)]
+    fn drop(self) {
+        match self {
+            Stmt::Skip(_) => {}
+            Stmt::Assign(_, b) => {}
+            Stmt::If(_, b) => {}
+            Stmt::IfElse(_, b, c) => {}
+            Stmt::While(_, b, c) => {}
+            Stmt::Either(_, b) => {}
+            Stmt::Await(_, b) => {}
+            Stmt::With(_, b, c) => {}
+            Stmt::Print(_, b) => {}
+            Stmt::Assert(_, b) => {}
+            Stmt::Goto(_, b) => {}
+            Stmt::Call(_, b, c) => {}
+            Stmt::Yield(_, b) => {}
+            Stmt::Block(_, b) => {}
+        }
+    }
+}
+
 /// A statement in another one.
 #[cycle(statement)]
-#[derive(Drop)]
 pub struct Nested {
     inner: Box<Stmt>,
+}
+
+impl Drop for Nested {
+    #[cycle(drop_statement)]
+    fn drop(self) {
+        let Nested { inner } = self;
+    }
 }
 
 impl Model for Nested {
@@ -80,9 +107,15 @@ impl Model for Nested {
 
 /// The statements of an `either`, in order.
 #[cycle(statement)]
-#[derive(Drop)]
 pub struct Alternatives {
     list: Vec<Stmt>,
+}
+
+impl Drop for Alternatives {
+    #[cycle(drop_statement)]
+    fn drop(self) {
+        let Alternatives { list } = self;
+    }
 }
 
 impl Model for Alternatives {
@@ -109,17 +142,29 @@ impl Model for Alternatives {
 
 /// A statement of a block, with its label if it has one. A label's `+` or `-` is dropped.
 #[cycle(statement)]
-#[derive(Drop)]
 pub struct Labeled {
     pub label: Option<PlacedName>,
     pub statement: Stmt,
 }
 
+impl Drop for Labeled {
+    #[cycle(drop_statement)]
+    fn drop(self) {
+        let Labeled { label, statement } = self;
+    }
+}
+
 /// The statements of a block, in order.
 #[cycle(statement)]
-#[derive(Drop)]
 pub struct Block {
     list: Vec<Labeled>,
+}
+
+impl Drop for Block {
+    #[cycle(drop_statement)]
+    fn drop(self) {
+        let Block { list } = self;
+    }
 }
 
 impl Model for Block {
@@ -147,18 +192,34 @@ impl Model for Block {
 
 /// An `if`, or an `if` that is the `else` of another: its place, its condition, and the statement where that is TRUE.
 #[cycle(statement)]
-#[derive(Drop)]
 pub struct Branch {
     pub place: u32,
     pub condition: Sub,
     pub statement: Stmt,
 }
 
+impl Drop for Branch {
+    #[cycle(drop_statement)]
+    fn drop(self) {
+        let Branch {
+            place,
+            condition,
+            statement,
+        } = self;
+    }
+}
+
 /// The branches of an `if`, one or more, in order. A chain of `else if` may be long, so that it is a list.
 #[cycle(statement)]
-#[derive(Drop)]
 pub struct Branches {
     list: Vec<Branch>,
+}
+
+impl Drop for Branches {
+    #[cycle(drop_statement)]
+    fn drop(self) {
+        let Branches { list } = self;
+    }
 }
 
 impl Model for Branches {
@@ -229,7 +290,8 @@ impl Nested {
     pub fn into_statement(self) -> Stmt
         ensures { statement result ≡ self }
     {
-        Box::into_inner(self.inner)
+        let Nested { inner } = self;
+        Box::into_inner(inner)
     }
 }
 
@@ -269,7 +331,8 @@ impl Alternatives {
     pub fn into_vec(self) -> Vec<Stmt>
         ensures { map statement result.items ≡ self }
     {
-        self.list
+        let Alternatives { list } = self;
+        list
     }
 }
 
@@ -310,7 +373,8 @@ impl Block {
     pub fn into_vec(self) -> Vec<Labeled>
         ensures { map labeled_pair result.items ≡ self }
     {
-        self.list
+        let Block { list } = self;
+        list
     }
 }
 
@@ -355,6 +419,7 @@ impl Branches {
     pub fn into_vec(self) -> Vec<Branch>
         ensures { map branch_parts result.items ≡ self }
     {
-        self.list
+        let Branches { list } = self;
+        list
     }
 }

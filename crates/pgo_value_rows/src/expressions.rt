@@ -1,7 +1,7 @@
 // Expressions: the value that one gives where it sees what the sheet says.
 use crate::answers::{given, wanted};
 use crate::scene::{HEIGHT, Scene};
-use pgo_base::expr::{Expr, Exprs, Infix, Prefix};
+use pgo_base::expr::{Expr, Exprs, Infix, Prefix, Sub};
 use pgo_expr_read::reader::read_expr;
 use pgo_sheet::answers::unless_same;
 use pgo_sheet::sheet::Subject;
@@ -30,7 +30,7 @@ impl Expressions {
     fn answer(&self) -> Result<String, AllocError> {
         match read_expr(self.alloc, self.text.text.as_slice(), HEIGHT) {
             Ok(e) => {
-                let e = turned(self.alloc, e, self.turn.as_str());
+                let e = turned(self.alloc, &e, self.turn.as_str())?;
                 given(self.alloc, self.scene.value_of(&e))
             }
             Err(stop) => format!(in self.alloc; "{stop}"),
@@ -58,24 +58,32 @@ impl Subject for Expressions {
 }
 
 /// The tree of an expression, turned at its root into one that no text has.
-fn turned(alloc: Global, e: Expr, turn: &str) -> Expr {
+fn turned(alloc: Global, e: &Expr, turn: &str) -> Result<Expr, AllocError> {
     match e {
-        Expr::Infix(Infix::In, a, b) => match turn {
-            "\\notin" => Expr::Infix(Infix::NotIn, a, b),
-            "=" => Expr::Infix(Infix::Equal, a, b),
-            "right" => b.into_expr(),
-            _ => Expr::Infix(Infix::In, a, b),
-        },
-        Expr::Index(f, _) if turn == "no index" => Expr::Index(f, Exprs::new(alloc)),
-        Expr::Prefix(Prefix::Minus, n) if turn == "number" => negative(n.into_expr()),
-        e => e,
+        Expr::Infix(Infix::In, a, b) => turned_membership(alloc, a, b, turn),
+        Expr::Index(f, _) if turn == "no index" => {
+            Ok(Expr::Index(f.copy(alloc)?, Exprs::new(alloc)))
+        }
+        Expr::Prefix(Prefix::Minus, n) if turn == "number" => negative(alloc, n.get()),
+        e => e.copy(alloc),
     }
 }
 
+/// A membership of these operands, turned.
+fn turned_membership(alloc: Global, a: &Sub, b: &Sub, turn: &str) -> Result<Expr, AllocError> {
+    let op = match turn {
+        "\\notin" => Infix::NotIn,
+        "=" => Infix::Equal,
+        "right" => return b.get().copy(alloc),
+        _ => Infix::In,
+    };
+    Ok(Expr::Infix(op, a.copy(alloc)?, b.copy(alloc)?))
+}
+
 /// A number with its sign in it.
-fn negative(e: Expr) -> Expr {
+fn negative(alloc: Global, e: &Expr) -> Result<Expr, AllocError> {
     match e {
-        Expr::Number(n) => Expr::Number(n.wrapping_neg()),
-        e => e,
+        Expr::Number(n) => Ok(Expr::Number(n.wrapping_neg())),
+        e => e.copy(alloc),
     }
 }

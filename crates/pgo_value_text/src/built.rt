@@ -57,5 +57,5 @@ fn numbered(alloc: Global, elements: Vec<Value>) -> Result<Vec<(Value, Value)>, 
 pub fn tuple_from(alloc: Global, elements: Vec<Value>) -> Result<Value, AllocError>
     ensures { IfOk result (λ v. data_of v ≡ function (values.pairs (sequence_at 1 (map data_of elements.items)))) }
 {
-    Ok(Value::Fun(Fun::from_sorted(numbered(alloc, elements)?)))
+    Ok(Value::Fun(Fun::from_sorted(numbered(alloc, elements)?)?))
 }

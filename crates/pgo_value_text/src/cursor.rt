@@ -111,7 +111,7 @@ impl<'a> Cursor<'a> {
         ensures { Reads (spec.string_from false [] self.old) result self.new }
     {
         let bytes = self.rest;
-        let mut string = Text::new(alloc);
+        let mut string = Vec::new(alloc);
         let mut escaping = false;
         for (i, b) in bytes.iter().enumerate() {
             if escaping {
@@ -129,6 +129,7 @@ impl<'a> Cursor<'a> {
                 }
             }
             if *b == b'"' {
+                let string = Text::from_bytes(string)?;
                 self.rest = &bytes[i + 1..];
                 return Ok(string);
             }

@@ -22,7 +22,7 @@ pub fn write_value(alloc: Global, value: &Value) -> Result<Text, NoMemory>
 {
     let mut bytes = Vec::new(alloc);
     push_value(&mut bytes, value)?;
-    Ok(Text::from_bytes(bytes))
+    Ok(Text::from_bytes(bytes)?)
 }
 
 /// Whether a key is this number.

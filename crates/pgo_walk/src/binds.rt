@@ -5,7 +5,7 @@ ghost use Rattle.pgo_sections.specs.Expand.{content_now, value_handed};
 
 use crate::made::{Made, make_name};
 use pgo_base::text::Text;
-use pgo_rewrite::newest::Newest;
+use pgo_rewrite::shared::Shared;
 use std::alloc::{AllocError, Global};
 use std::mem::replace;
 
@@ -46,7 +46,7 @@ fn one_renamed(alloc: Global, x: &[u8], made: &Text) -> Result<Made, AllocError>
     ensures { IfOk result (λ names. names ≡ (x.now, made.now) ∷ []) }
 {
     let x = Text::from_slice(alloc, x)?;
-    let mut names = Newest::new(alloc);
+    let mut names = Shared::new(alloc);
     rename(alloc, &mut names, &x, made)?;
     Ok(names)
 }
@@ -65,7 +65,7 @@ pub fn handed(alloc: Global, value: Option<&Text>) -> Result<Made, AllocError>
     ensures { IfOk result (λ names. names ≡ value_handed (option_map (λ y. y.now) value.entry)) }
 {
     match value {
-        None => Ok(Newest::new(alloc)),
+        None => Ok(Shared::new(alloc)),
         Some(made) => one_renamed(alloc, b"$value", made),
     }
 }

@@ -5,7 +5,6 @@ ghost use Rattle.pgo_sections.specs.Code.{Whole, content_name};
 ghost use Rattle.pgo_sections.specs.Context.{is_assigned};
 ghost use Rattle.pgo_sections.specs.Expand.{current as spec_current, nowhere as spec_nowhere};
 ghost use Rattle.pgo_sections.specs.Expansion.{Expansion};
-ghost use Rattle.pgo_model.specs.Options.{on};
 ghost use Rattle.pgo_model.specs.Written.{made};
 ghost use Rattle.pgo_walk.specs.Behind.{behind_read};
 ghost use Rattle.pgo_walk.specs.Emitted.{emitted, left_in, with_frame};
@@ -120,22 +119,6 @@ fn push_put<'a, 'i>(
     })
 }
 
-/// The mapped parameter has this new content, if there is one, before the code that is left.
-fn push_content<'a, 'i>(
-    frames: &mut Stack<Frame<'a, 'i>>,
-    mapped: Mapped<'a>,
-    index: Option<Text>,
-    renames: Made,
-    content: Option<Sub>,
-) -> Result<(), AllocError>
-    ensures { IfOk result (λ _. frames_view frames.new ≡ on (frames_view frames.old) content (λ e. spec.Put mapped.entry.global.now index renames e ∷ frames_view frames.old)) }
-{
-    match content {
-        None => Ok(()),
-        Some(value) => push_put(frames, mapped, index, renames, value),
-    }
-}
-
 /// The code goes on where a name stands for what was read.
 fn resume<'a, 'i>(
     alloc: Global,
@@ -149,6 +132,24 @@ fn resume<'a, 'i>(
     let mut rest = rest;
     rename(alloc, &mut rest.renames, value, made)?;
     frames.push(Frame::Run(rest))
+}
+
+/// The mapped parameter has its new content, and then the code goes on where a name stands for what was read.
+fn resume_behind_put<'a, 'i>(
+    alloc: Global,
+    frames: &mut Stack<Frame<'a, 'i>>,
+    value: &Text,
+    mapped: Mapped<'a>,
+    index: Option<Text>,
+    rest: Run<'a, 'i>,
+    made: &Text,
+    content: Sub,
+) -> Result<(), AllocError>
+    ensures { IfOk result (λ _. frames_view frames.new ≡ spec.Put mapped.entry.global.now index rest.entry.renames content ∷ spec.Run (places_in rest.entry.setting) (code_left rest.entry) ((value.now, made.now) ∷ rest.entry.renames) ∷ frames_view frames.old) }
+{
+    let renames = rest.renames.copy(alloc)?;
+    resume(alloc, frames, rest, value, made)?;
+    push_put(frames, mapped, index, renames, content)
 }
 
 /// What is left behind a read: the new content, if the block assigned it, and the code.
@@ -165,9 +166,19 @@ fn behind_read<'a, 'i>(
     ensures bound { IfOk result (λ _. state.new.bound ≡ state.old.bound) }
 {
     let content = written_content(alloc, &state.current)?;
-    let renames = rest.renames.copy(alloc)?;
-    resume(alloc, &mut state.frames, rest, value, made)?;
-    push_content(&mut state.frames, mapped, index, renames, content)
+    match content {
+        None => resume(alloc, &mut state.frames, rest, value, made),
+        Some(content) => resume_behind_put(
+            alloc,
+            &mut state.frames,
+            value,
+            mapped,
+            index,
+            rest,
+            made,
+            content,
+        ),
+    }
 }
 
 /// A turn at the end of a block that reads.

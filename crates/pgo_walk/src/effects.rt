@@ -27,7 +27,7 @@ use pgo_effects::piece::Effect;
 use pgo_effects::setting::Setting;
 use pgo_effects::todo::read_block;
 use pgo_rewrite::mapped::Mapped;
-use pgo_rewrite::newest::Newest;
+use pgo_rewrite::shared::Shared;
 use std::alloc::{AllocError, Global};
 
 /// The run goes on where the name stands for a value that gets a made name of this base.
@@ -112,7 +112,7 @@ fn push_read<'a, 'i>(
     ensures { IfOk result (λ _. frames_view frames.new ≡ spec.Run content_places (mapped_view mapped.entry).reads [] ∷ frames_view frames.old) }
 {
     let block = read_block(alloc, mapped)?;
-    push_todo(alloc, frames, Setting::Block, &Newest::new(alloc), block)
+    push_todo(alloc, frames, Setting::Block, &Shared::new(alloc), block)
 }
 
 /// The name for what a mapped parameter has before a block, or its element, and that as it is now.

@@ -5,11 +5,11 @@ ghost use Rattle.pgo_model.specs.Written.{made};
 
 use itoa::Buffer;
 use pgo_base::text::Text;
-use pgo_rewrite::newest::Newest;
+use pgo_rewrite::shared::Shared;
 use std::alloc::{AllocError, Global};
 
 /// Names with made names, the newest first.
-pub type Made = Newest<Text>;
+pub type Made = Shared<Text>;
 
 /// The made name that stands for x, of which the newest counts.
 pub fn made_for<'a>(x: &Text, names: &'a Made) -> Option<&'a Text>
@@ -26,5 +26,5 @@ pub fn make_name(alloc: Global, base: &[u8], n: u64) -> Result<Text, AllocError>
     bytes.extend_from_slice(b"__")?;
     let mut buffer = Buffer::new();
     bytes.extend_from_slice(buffer.format(n).as_bytes())?;
-    Ok(Text::from_bytes(bytes))
+    Ok(Text::from_bytes(bytes)?)
 }

@@ -304,7 +304,7 @@ updates::updated_at-returns-in-Some t c =
     let new = λ (part : Option Data). val (tree c.args.e.now) (with_part part (scope_view c.args.s.now)) in
     let w : Some (data_of c.in-Some.v) ≡ option_and_then new (part_on path f) =
     ap (option_map data_of) (sym c.in-Some.is) ∙ c.in_ok-part.ensures ∙ ap (λ d. option_and_then new (part_on path d)) c.get.ensures in
-    c.changed.ensures ∙ c.put.ensures ∙ ap (λ d. put_at path (λ part. Some (data_of c.in-Some.v)) (Some d)) c.in_ok-into_changed-in-Some.ensures
+    c.changed.ensures ∙ c.in_ok-put-in-Some.ensures ∙ ap (λ d. put_at path (λ part. Some (data_of c.in-Some.v)) (Some d)) c.in_ok-into_changed-in-Some.ensures
     ∙ ap (option_and_then (λ v. put_at path (λ part. Some v) (Some f))) w ∙ sym (put_at_is path new f)
 
 pub updates::updated_at-returns : goal.updates::updated_at-returns

@@ -3,7 +3,6 @@ use Rattle.std.specs.Prelude.{Some}
 use Rattle.pgo_base.specs.Data.{function, pairs}
 use Rattle.pgo_base.specs.Lookup.{find}
 use Rattle.pgo_base.specs.View.{data_of}
-use Rattle.pgo_model.specs.Operators.{lookup}
 use Rattle.pgo_model.specs.Written.{pc}
 use Rattle.pgo_check.proofs.Places.{place_is}
 use Rattle.pgo_check.proofs.states.place_of.Goals as goal
@@ -12,4 +11,4 @@ pub returns-in-Fun : goal.returns-in-Fun
 returns-in-Fun c =
     let found : find pc c.args.s.now ≡ Some (function (pairs c.in-Fun.f)) =
     ap (λ x. find x c.args.s.now) (sym c.in_ok-pc.ensures) ∙ sym c.in-Some.ensures ∙ ap (λ v. Some (data_of v)) c.in-Fun.is in
-    c.value_at.ensures ∙ ap (lookup (data_of c.args.id.now)) c.pairs.ensures ∙ sym (place_is (data_of c.args.id.now) c.in-Fun.f c.args.s.now found)
+    c.value_at.ensures ∙ sym (place_is (data_of c.args.id.now) c.in-Fun.f c.args.s.now found)

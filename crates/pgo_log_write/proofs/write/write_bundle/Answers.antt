@@ -19,7 +19,7 @@ returns-clause-text c settings g h =
     let consts = c.args.consts.now in
     let matched = all_match y settings g f b.instances h (h.count ∙ length-map b.instances member_of) in
     let accounts = (λ j. accounts_rows (map resource_of (c.as_slice-3.ensures j)) 0 (c.as_slice-4.ensures j) (c.as_slice-5.ensures j)) ∙ accounts_are y settings g 0 b.instances f.accounts matched in
-    c.from_bytes.ensures
+    c.in_ok-from_bytes.ensures
     ∙ whole c.push_line.new.bytes.items c.push_values.new.bytes.items c.push_module.new.bytes.items c.push_values-2.new.bytes.items c.push_entries.new.bytes.items c.push_accounts.new.bytes.items c.push_line-2.new.bytes.items
     (line (codes "pgo 1")) (line (codes "consts " ++ decimal (length consts))) (map value_line consts) (line (codes "module " ++ decimal (length (Text m)))) (module_lines m)
     (line (codes "init " ++ decimal (length b.start))) (map value_line b.start) (entries_lines 1 g.entries) (accounts_lines y settings g 0 y.members)

@@ -12,7 +12,7 @@ pub returns : goal.returns
 returns c =
     let m = module_view c.args.m.now in
     let head = line (codes "---- MODULE " ++ m.name ++ codes " ----") ∷ line (codes "EXTENDS Integers, Sequences, FiniteSets, TLC") ∷ line (codes "CONSTANTS " ++ names_text (m.constants ++ (default_init_value ∷ []))) ∷ [] in
-    c.from_bytes.ensures
+    c.in_ok-from_bytes.ensures
     ∙ nine_joined c.push_head.new.bytes.items c.push_definitions.new.bytes.items c.push_variables.new.bytes.items c.push_proc_set.new.bytes.items
     c.push_definition.new.bytes.items c.push_processes.new.bytes.items c.push_terminating.new.bytes.items c.push_next.new.bytes.items c.push_end.new.bytes.items
     head (flat_lines (map defined_lines m.definitions))

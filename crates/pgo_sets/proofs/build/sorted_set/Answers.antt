@@ -10,5 +10,5 @@ use Rattle.pgo_sets.proofs.build.sorted_set.Goals as goal
 pub returns : goal.returns
 returns c =
     let xs = map data_of c.args.members.items in
-    let e : c.from_sorted-set.result ≡ in_order xs = c.from_sorted-set.ensures ∙ sym (members_stay xs c.requires) in
+    let e : c.in_ok-set.set ≡ in_order xs = c.in_ok-set.ensures ∙ sym (members_stay xs c.requires) in
     subst (Answers c.built.result) (λ i. built ((c.len.ensures ∙ ap length e) i) (set (items (e i)))) c.built.ensures

@@ -1,25 +1,36 @@
-use Rattle.std.proofs.Common.{◌≡◌, map, ap, sym, ◌∙◌, arith}
-use Rattle.std.specs.Prelude.{Bool, false, if◌then◌else◌}
-use Rattle.pgo_base.specs.Data.{keys}
+use Rattle.std.proofs.Common.{◌≡◌, IfOk, List, length, map, ap, sym, ◌∙◌, subst, arith}
+use Rattle.std.proofs.lemmas.List.{length-map}
+use Rattle.std.specs.Prelude.{Some}
+use Rattle.pgo_base.specs.Data.{Data, keys}
+use Rattle.pgo_base.specs.Sets.{IsSorted}
 use Rattle.pgo_base.specs.View.{data_of, pair_of}
-use Rattle.pgo_sets.proofs.Replacing.{replaced_more, data_of_choice, keys_replaced, done_is}
+use Rattle.pgo_sets.specs.KeyPlace.{key_place, set_value}
+use Rattle.pgo_sets.proofs.KeyPlaces.{at_place, no_place, keys_set}
+use Rattle.pgo_sets.proofs.Replacing.{not_replaced}
 use Rattle.pgo_sets.proofs.functions.replaced.Goals as goal
-use Rattle.pgo_sets.proofs.functions.replaced.Goals.{then-is_here, else-is_here}
 
-pub loop-p-preserved : goal.loop-p-preserved
-loop-p-preserved c =
-    let left = c.loop-p.left in
-    let here = c.is_at-is_here.result in
-    let after : c.if-is_here.left ≡ (if here then false else left) =
-    elim c.if-is_here.branch [ then-is_here w ↦ w.left-is ∙ sym (ap (λ (b : Bool). if b then false else left) w.if-is_here.true) | else-is_here w ↦ w.left-is ∙ sym (ap (λ (b : Bool). if b then false else left) w.if-is_here.false) ] in
-    let value : data_of c.in_ok-v.v ≡ (if here then data_of c.args.value.now else data_of c.p-item.result.1) =
-    ap data_of (c.in_ok-v.ensures ∙ c.one_of.ensures) ∙ data_of_choice here c.args.value.now c.p-item.result.1 in
-    c.loop-p.invariant ∙ replaced_more (data_of c.args.key.now) (data_of c.args.value.now) left here c.if-is_here.left c.loop-p.pairs.items c.push.new.self.items c.in_order-old.result.now c.loop-p.p-index c.p-item.result (c.in_ok-copy.field-0, c.in_ok-v.v) c.loop-p-test.true c.p-item.is c.is_at-is_here.ensures c.in_ok-push.ensures.items (ap data_of c.in_ok-copy.ensures) value after
+pub returns-in_default-clause-pairs : goal.returns-in_default-clause-pairs
+returns-in_default-clause-pairs c =
+    let k = data_of c.args.key.now in
+    let v = data_of c.args.value.now in
+    let f = c.args.function.now in
+    let P : List (Data × Data) → Type 0 = λ y. IfOk c.pairs_of.result (λ ps. map pair_of ps.items ≡ y) in
+    subst P (sym (not_replaced k v f (no_place k f (sym c.key_place.ensures ∙ c.in_default.is)))) c.pairs_of.ensures.pairs
+
+pub put_value-requires : goal.put_value-requires
+put_value-requires c =
+    let h : key_place (data_of c.args.key.now) c.args.function.now ≡ Some c.in-Some.place = sym c.key_place.ensures ∙ c.in-Some.is in
+    omega (arith, (at_place (data_of c.args.key.now) c.args.function.now c.in-Some.place h).0, length-map c.in_ok-pairs.pairs.items pair_of, ap length c.in_ok-pairs.ensures.pairs)
+
+pub returns-clause-pairs : goal.returns-clause-pairs
+returns-clause-pairs c =
+    let k = data_of c.args.key.now in
+    let n = c.in-Some.place in
+    let f = c.args.function.now in
+    let h : key_place k f ≡ Some n = sym c.key_place.ensures ∙ c.in-Some.is in
+    c.put_value.ensures.after ∙ (λ i. set_value n (data_of (c.in_ok-v.ensures i)) (c.in_ok-pairs.ensures.pairs i)) ∙ sym ((at_place k f n h).2 (data_of c.args.value.now))
 
 pub returns-clause-sorted : goal.returns-clause-sorted
 returns-clause-sorted c =
-    let k = data_of c.args.key.now in
-    let v = data_of c.args.value.now in
-    let e : keys (map pair_of c.loop-p.pairs.items) ≡ keys c.args.function.now =
-    ap keys (sym (done_is k v c.loop-p.left c.loop-p.pairs.items c.in_order-old.result.now c.loop-p.p-index (omega arith) c.loop-p.invariant)) ∙ keys_replaced k v (map pair_of c.in_order-old.result.now) ∙ ap keys c.in_order-old.ensures.pairs in
-    rw e c.in_order-old.ensures.sorted
+    let e : keys (map pair_of c.put_value.new.list.items) ≡ keys (map pair_of c.in_ok-pairs.pairs.items) = ap keys c.put_value.ensures.after ∙ keys_set c.in-Some.place (data_of c.in_ok-v.v) (map pair_of c.in_ok-pairs.pairs.items) in
+    subst IsSorted (sym e) c.in_ok-pairs.ensures.sorted

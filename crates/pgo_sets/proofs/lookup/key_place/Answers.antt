@@ -5,7 +5,7 @@ use Rattle.pgo_base.specs.Data.{keys}
 use Rattle.pgo_base.specs.Order.{data_cmp}
 use Rattle.pgo_base.specs.View.{data_of, key_of}
 use Rattle.pgo_base.specs.Sets.{IsSorted}
-use Rattle.pgo_sets.specs.PutWithin.{key_place}
+use Rattle.pgo_sets.specs.KeyPlace.{key_place}
 use Rattle.pgo_sets.proofs.Searched.{key_found, key_missing}
 use Rattle.pgo_sets.proofs.lookup.key_place.Goals as goal
 

@@ -13,7 +13,7 @@ use Rattle.pgo_starts.proofs.own.add_all.Goals.{then-has_member+in_ok-add_names,
 
 pub loop-own-preserved : goal.loop-own-preserved
 loop-own-preserved c =
-    let ms = map member_view c.args.layout.now.members in let id = data_of c.args.id.now in let s = c.args.layout.now.start in
+    let ms = map member_view c.args.layout.now.members in let id = data_of c.args.id.now in let s = c.args.start.now in
     let xs = c.as_slice-own-items.result.now in let n = c.loop-own.own-index in let x = c.own-item.result in
     let before = map named_data c.loop-own.list.items in let os = map own_view (drop (n + 1) xs) in
     let d : drop n xs ≡ x ∷ drop (n + 1) xs = drop_step xs n x c.loop-own-test.true c.own-item.is in
@@ -31,7 +31,7 @@ loop-own-preserved c =
 
 pub returns : goal.returns
 returns c =
-    let ms = map member_view c.args.layout.now.members in let id = data_of c.args.id.now in let s = c.args.layout.now.start in
+    let ms = map member_view c.args.layout.now.members in let id = data_of c.args.id.now in let s = c.args.start.now in
     let xs = c.as_slice-own-items.result.now in let n = c.loop-own.own-index in let list = map named_data c.loop-own.list.items in
     let end : list ++ rows id ms (map own_view (drop n xs)) s ≡ list = ap (λ ys. list ++ rows id ms (map own_view ys) s) (drop_all n xs c.loop-own-test.false) ∙ append-nil list in
     let names : rows id ms (map own_view xs) s ≡ own_at 0 id (own_names id (flat_map (owned_at ms) (map own_view c.args.layout.now.own))) s =

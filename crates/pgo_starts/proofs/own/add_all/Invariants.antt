@@ -6,5 +6,5 @@ use Rattle.pgo_starts.proofs.own.add_all.Given as goal
 
 abbrev pub invariant-loop-own : goal.invariant-loop-own
 invariant-loop-own l =
-    map named_data l.fn.list.items ++ rows (data_of l.id) (map member_view l.layout.members) (map own_view l.own-items) l.layout.start
-    ≡ map named_data l.list.items ++ rows (data_of l.id) (map member_view l.layout.members) (map own_view (drop l.own-index l.own-items)) l.layout.start
+    map named_data l.fn.list.items ++ rows (data_of l.id) (map member_view l.layout.members) (map own_view l.own-items) l.start
+    ≡ map named_data l.list.items ++ rows (data_of l.id) (map member_view l.layout.members) (map own_view (drop l.own-index l.own-items)) l.start
