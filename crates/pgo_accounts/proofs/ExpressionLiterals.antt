@@ -144,6 +144,7 @@ module _ (limits : Limits) where
     fits_item (s.definition d) h = (h.0, fits d h.1.1)
     fits_item (s.arm {xs = xs} d d') h = let q = cut _ xs _ h in (fits d q.0, fits d' q.1.1)
     fits_item (s.index_step {ts = ts} d) h = fits d (cut _ ts _ h.1).0
+    fits_item (s.tuple_step {xs = xs} {ys = ys} {b = c} {bs = bs} d b) h = let q = cut _ xs _ h.1 in (fits d q.0, all_trees (c ∷ bs) (fits_behind b (cut _ ys _ q.1).0))
     fits_item s.field_step h = h.1.0
     fits_item (s.update {xs = xs} {as' = as'} m d) h = let q = cut _ xs _ h.1 in (all_steps as' (fits_items m q.0), fits d q.1.1)
 

@@ -152,6 +152,7 @@ mutual
   formed_item (s.definition d) h = formed d h.1.1
   formed_item (s.arm {xs = xs} d d') h = let q = parts xs _ h in (formed d q.0, formed d' q.1.1)
   formed_item (s.index_step {ts = ts} d) h = formed d (parts ts _ h.1).0
+  formed_item (s.tuple_step {xs = xs} {ys = ys} {b = c} {bs = bs} d b) h = let q = parts xs _ h.1 in (formed d q.0, all_trees (c ∷ bs) (formed_behind b (parts ys _ q.1).0))
   formed_item (s.field_step {x = x}) h = tt
   formed_item (s.update {xs = xs} {as' = as'} m d) h = let q = parts xs _ h.1 in (all_steps as' (formed_items m q.0), formed d q.1.1)
 

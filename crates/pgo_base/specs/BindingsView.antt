@@ -50,4 +50,4 @@ abbrev pub HasPlaces : Link → Type 0
 HasPlaces Empty = Unit {0}
 HasPlaces (More n v e) = Unit {0}
 HasPlaces (Named n ns p e) = ArePlacesIfAny value_name (n.now ∷ ns.now) p
-HasPlaces (Bound b bs p e) = ArePlaces bound_name (b.now ∷ bs.now) p.now
+HasPlaces (Bound b bs p e) = ArePlacesIfAny bound_name (b.now ∷ bs.now) p

@@ -44,15 +44,15 @@ pub struct Bindings<'a> {
     link: Link<'a>,
 }
 
-/// Names before others: one, one or more with values of their own, or one or more that a binder binds. Beside those
-/// with values there may be a map of the place of the last of each name, beside those of a binder there is one.
+/// Names before others: one, one or more with values of their own, or one or more that a binder binds. Beside these there
+/// may be a map of the place of the last of each name.
 #[cycle(bindings)]
 #[derive(Clone, Copy)]
 enum Link<'a> {
     Empty,
     More(&'a Text, Option<&'a Value>, &'a Bindings<'a>),
     Named(&'a NamedValue, &'a [NamedValue], Option<&'a NameMap<usize>>, &'a Bindings<'a>),
-    Bound(&'a BoundName, &'a [BoundName], &'a NameMap<usize>, &'a Bindings<'a>),
+    Bound(&'a BoundName, &'a [BoundName], Option<&'a NameMap<usize>>, &'a Bindings<'a>),
 }
 
 impl<'a> Model for Bindings<'a> {
@@ -120,13 +120,14 @@ impl<'a> Bindings<'a> {
         }
     }
 
-    /// The names of `outer`, and these before them, the last one first. The map has the place of the last of each name.
+    /// The names of `outer`, and these before them, the last one first. The map, where there is one, has the place of the last
+    /// of each name; without it a name is found by going over these.
     pub fn with_bound(
         list: &'a [BoundName],
-        places: &'a NameMap<usize>,
+        places: Option<&'a NameMap<usize>>,
         outer: &'a Bindings<'a>,
     ) -> Bindings<'a>
-        requires { ArePlaces bound_name list.now places.now }
+        requires { ArePlacesIfAny bound_name list.now places }
         ensures { result ≡ onto (map bound_view list.entry.now) outer.entry.now }
     {
         match list.split_first() {
@@ -169,7 +170,7 @@ impl<'a> Bindings<'a> {
 }
 
 /// The one in this place.
-fn row_at<'a, T>(list: &'a [T], place: usize) -> Option<&'a T>
+pub(crate) fn row_at<'a, T>(list: &'a [T], place: usize) -> Option<&'a T>
     ensures { option_map (λ r. r.now) result ≡ slice_get list.now place }
 {
     list.get(place)
@@ -255,12 +256,12 @@ fn found_bound<'a>(
     name: &Text,
     first: &'a BoundName,
     rest: &'a [BoundName],
-    places: &'a NameMap<usize>,
+    places: Option<&'a NameMap<usize>>,
 ) -> Option<Option<&'a Value>>
-    requires { ArePlaces bound_name (first.now ∷ rest.now) places.now }
+    requires { ArePlacesIfAny bound_name (first.now ∷ rest.now) places }
     ensures { option_map (λ o. option_map (λ r. data_of r.now) o) result ≡ find name.now (onto (map bound_view (first.now ∷ rest.now)) []) }
 {
-    match last_named(name, first, rest, Some(places)) {
+    match last_named(name, first, rest, places) {
         Some(last) => Some(last.member()),
         None => None,
     }

@@ -4,9 +4,11 @@ ghost use Rattle.pgo_base.specs.FirstPlace.{first_named};
 ghost use Rattle.pgo_base.specs.LastPlace.{last_place};
 ghost use Rattle.pgo_base.specs.Lookup.{Name};
 ghost use Rattle.pgo_base.specs.NameMaps.{found};
+ghost use Rattle.pgo_base.specs.View.{name_in_pair};
 
 use crate::name_map::NameMap;
 use crate::text::Text;
+use crate::value::Value;
 use std::alloc::{AllocError, Global};
 
 /// What has a name.
@@ -16,6 +18,15 @@ pub trait Named {
     /// The name.
     fn name(&self) -> &Text
         ensures { result.now ≡ name_of self.now };
+}
+
+impl Named for (Text, Value) {
+    ghost name_of = { name_in_pair };
+
+    /// Its name.
+    fn name(&self) -> &Text {
+        &self.0
+    }
 }
 
 /// The place of the last of the name.

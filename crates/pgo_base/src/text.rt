@@ -71,6 +71,13 @@ impl Text {
     {
         self.as_bytes() == other.as_bytes()
     }
+
+    /// Whether it is of these bytes.
+    pub fn is_bytes(&self, bytes: &[u8]) -> bool
+        ensures { result ≡ same_name bytes.now self.now }
+    {
+        bytes == self.as_bytes()
+    }
 }
 
 impl Text {

@@ -1,4 +1,4 @@
-ghost use Rattle.std.specs.Prelude.{◌≡◌, ◌≤◌, ℕ, suc, List, [], ◌∷◌, ◌++◌, length, map, IfOk};
+ghost use Rattle.std.specs.Prelude.{◌≡◌, ◌<◌, ℕ, suc, List, [], ◌∷◌, ◌++◌, length, map, Some, IfOk};
 ghost use Rattle.std.specs.Cmp.Lexicographic.{slice_cmp};
 ghost use Rattle.std.specs.Ordering.{nat_cmp, int_cmp, ordering_then};
 ghost use Rattle.pgo_base.specs.View.{data_of, pair_of};
@@ -7,14 +7,17 @@ ghost use Rattle.pgo_base.specs.Order.{data_cmp};
 ghost use Rattle.pgo_base.specs.Sets.{in_order};
 ghost use Rattle.pgo_base.specs.Size.{members_size, graph_size};
 ghost use Rattle.pgo_base.specs.Pairs.{pairs_in_order};
+ghost use Rattle.pgo_base.specs.Bound.{IsBound};
+ghost use Rattle.pgo_base.specs.ValuePlace.{set_value, value_in};
 ghost use Rattle.std.specs.List.Sorted.{IsStrictlySortedBy};
 
 use crate::compare::compare;
-use crate::extent::{Extent, extent_of_members, extent_of_pairs};
+use crate::extent::{Extent, extent_of, extent_of_members, extent_of_pairs};
 use crate::text::Text;
 use std::alloc::{AllocError, Global};
 use std::cmp::Ordering;
 use std::marker::Model;
+use std::mem::replace;
 use std::sync::Arc;
 
 /// A value.
@@ -58,7 +61,7 @@ impl Drop for Fun {
 }
 
 impl Model for Set {
-    ghost use Rattle.std.specs.Prelude.{◌≡◌, ◌≤◌, List, ℕ, suc, map};
+    ghost use Rattle.std.specs.Prelude.{◌≡◌, List, ℕ, suc, map};
     ghost use Rattle.pgo_base.specs.Data.{Data};
     ghost use Rattle.pgo_base.specs.Code.{coded_members};
 
@@ -74,8 +77,9 @@ impl Model for Set {
 
     ghost use Rattle.std.specs.List.Sorted.{IsStrictlySortedBy};
     ghost use Rattle.pgo_base.specs.Order.{data_cmp};
+    ghost use Rattle.pgo_base.specs.Bound.{IsBound};
 
-    ghost invariant = { λ s. IsStrictlySortedBy data_cmp (map data_of (arc_value s.members).items) × (s.extent.depth ≡ suc (members_size (map data_of (arc_value s.members).items))) × (s.extent.depth ≤ s.extent.parts) };
+    ghost invariant = { λ s. IsStrictlySortedBy data_cmp (map data_of (arc_value s.members).items) × IsBound s.extent.bound (suc (members_size (map data_of (arc_value s.members).items))) };
 
     ghost size = { members_size };
 
@@ -85,7 +89,7 @@ impl Model for Set {
 }
 
 impl Model for Fun {
-    ghost use Rattle.std.specs.Prelude.{◌≡◌, ◌≤◌, List, ℕ, suc, map};
+    ghost use Rattle.std.specs.Prelude.{◌≡◌, List, ℕ, suc, map};
     ghost use Rattle.pgo_base.specs.Data.{Data};
     ghost use Rattle.pgo_base.specs.Code.{coded_graph};
 
@@ -102,8 +106,9 @@ impl Model for Fun {
     ghost use Rattle.std.specs.List.Sorted.{IsStrictlySortedBy};
     ghost use Rattle.pgo_base.specs.Order.{data_cmp};
     ghost use Rattle.pgo_base.specs.Data.{keys};
+    ghost use Rattle.pgo_base.specs.Bound.{IsBound};
 
-    ghost invariant = { λ f. IsStrictlySortedBy data_cmp (keys (map pair_of (arc_value f.pairs).items)) × (f.extent.depth ≡ suc (graph_size (map pair_of (arc_value f.pairs).items))) × (f.extent.depth ≤ f.extent.parts) };
+    ghost invariant = { λ f. IsStrictlySortedBy data_cmp (keys (map pair_of (arc_value f.pairs).items)) × IsBound f.extent.bound (suc (graph_size (map pair_of (arc_value f.pairs).items))) };
 
     ghost size = { graph_size };
 
@@ -119,10 +124,9 @@ impl Set {
         self.members.as_slice()
     }
 
-    /// How deep it nests and of how many parts it is.
-    pub fn extent(&self) -> Extent
-        ensures depth { result.depth ≡ suc (members_size self.now) }
-        ensures parts { result.depth ≤ result.parts }
+    /// Up to how deep it nests and of how many parts it is.
+    pub(crate) fn extent(&self) -> Extent
+        ensures { IsBound result.bound (suc (members_size self.now)) }
     {
         self.extent
     }
@@ -135,10 +139,9 @@ impl Fun {
         self.pairs.as_slice()
     }
 
-    /// How deep it nests and of how many parts it is.
-    pub fn extent(&self) -> Extent
-        ensures depth { result.depth ≡ suc (graph_size self.now) }
-        ensures parts { result.depth ≤ result.parts }
+    /// Up to how deep it nests and of how many parts it is.
+    pub(crate) fn extent(&self) -> Extent
+        ensures { IsBound result.bound (suc (graph_size self.now)) }
     {
         self.extent
     }
@@ -168,6 +171,15 @@ impl Fun {
         ensures { IfOk result (λ f. f ≡ map pair_of pairs.items) }
     {
         let extent = extent_of_pairs(pairs.as_slice()).around()?;
+        Fun::with_extent(pairs, extent)
+    }
+
+    /// The function of these pairs, whose extent is known.
+    fn with_extent(pairs: Vec<(Value, Value)>, extent: Extent) -> Result<Fun, AllocError>
+        requires sorted { IsStrictlySortedBy data_cmp (keys (map pair_of pairs.items)) }
+        requires bound { IsBound extent.bound (suc (graph_size (map pair_of pairs.items))) }
+        ensures { IfOk result (λ f. f ≡ map pair_of pairs.items) }
+    {
         let alloc = *pairs.allocator();
         let pairs = Arc::new(alloc, pairs)?;
         Ok(Fun { pairs, extent })
@@ -284,6 +296,44 @@ impl Fun {
             Err(shared) => copied_pairs(*shared.allocator(), shared.as_slice()),
         }
     }
+}
+
+impl Fun {
+    /// The function with another value at a place, and the value before. Where the function is the sole owner of its pairs,
+    /// they are changed in place and no other is gone over; else they are copied.
+    ///
+    /// Err also where it has more than 16,777,216 parts (`MOST_PARTS`).
+    pub fn replace_at(self, place: usize, value: Value) -> Result<(Fun, Value), AllocError>
+        requires { place < length self }
+        ensures after { IfOk result (λ r. r.0 ≡ set_value place (data_of value) self) }
+        ensures before { IfOk result (λ r. Some (data_of r.1) ≡ value_in place self) }
+    {
+        let extent = self.extent_with(place, &value)?;
+        let mut pairs = self.into_pairs()?;
+        let before = put_value(&mut pairs, place, value);
+        let function = Fun::with_extent(pairs, extent)?;
+        Ok((function, before))
+    }
+
+    /// The extent that it has with this value at a place.
+    ///
+    /// Err where it has more than 16,777,216 parts then.
+    fn extent_with(&self, place: usize, value: &Value) -> Result<Extent, AllocError>
+        requires { place < length self.now }
+        ensures { IfOk result (λ e. IsBound e.bound (suc (graph_size (set_value place (data_of value.now) self.now)))) }
+    {
+        let before = extent_of(&self.pairs()[place].1);
+        self.extent().exchanged(before, extent_of(value))
+    }
+}
+
+/// Another value at a place; the result is the one before.
+fn put_value(list: &mut Vec<(Value, Value)>, place: usize, value: Value) -> Value
+    requires { place < length list.old.items }
+    ensures before { Some (data_of result) ≡ value_in place (map pair_of list.old.items) }
+    ensures after { map pair_of list.new.items ≡ set_value place (data_of value) (map pair_of list.old.items) }
+{
+    replace(&mut list[place].1, value)
 }
 
 /// The same pairs once more.

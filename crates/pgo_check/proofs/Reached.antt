@@ -1,7 +1,7 @@
 -- The states that a log reaches, and its first entry that is no step.
 use Rattle.std.proofs.Common.{◌≡◌, ℕ, zero, suc, ◌<◌, ◌+◌, List, [], ◌∷◌, length, map, get_or, refl, ap, sym, ◌∙◌, add-one, subst, arith, below_more}
 use Rattle.std.specs.Prelude.{Option, Some, None, option_and_then}
-use Rattle.pgo_base.specs.Data.{Data}
+use Rattle.pgo_base.specs.Data.{Data, string}
 use Rattle.pgo_base.specs.Lookup.{Name, Vars}
 use Rattle.pgo_base.specs.declared.log.Entry as base_entry
 use Rattle.pgo_model.specs.Acts.{Acts}
@@ -11,6 +11,9 @@ use Rattle.pgo_model.specs.LogView.{entry_view}
 use Rattle.pgo_model.specs.Machine.{Entry, nth}
 use Rattle.pgo_model.specs.Module.{Module}
 use Rattle.pgo_model.specs.Steps.{Leads}
+use Rattle.pgo_model.specs.Variables.{place_of}
+use Rattle.pgo_base.specs.View.{data_of}
+use Rattle.pgo_base.specs.declared.value.Value.{Value}
 use Rattle.pgo_model.specs.MachineLists.{nth_below}
 use Rattle.pgo_check.specs.Verdict.{IsFirstBad, Finds}
 
@@ -35,6 +38,35 @@ state_after s b (d ∷ l) (suc i) e h g = go (After s d.change) h (λ t k. state
     go : (o : Option Vars) → option_and_then (λ t. StateAt t l i) o ≡ Some b → ((t : Vars) → StateAt t l i ≡ Some b → StateAt t l (suc i) ≡ After b e.change) → option_and_then (λ t. StateAt t l (suc i)) o ≡ After b e.change
     go None k ih = absurd (cc)
     go (Some t) k ih = ih t k
+
+-- what stands in a place of a list of values
+pub id_at : (ids : List Value) (i : ℕ) (v : Value) → i < length ids → v ≡ get_or ids i v → nth (map data_of ids) i ≡ Some (data_of v)
+id_at [] i v h g = absurd (omega (arith, h))
+id_at (w ∷ ids) zero v h g = ap (λ x. Some (data_of x)) (sym g)
+id_at (w ∷ ids) (suc i) v h g = id_at ids i v (omega (arith, h)) g
+
+-- the entry leads to t, where its action is TRUE and its instance stands at its next label
+pub one_step : (m : Module) (consts : List (Name × Data)) (ids : List Data) (s : Vars) (e : Entry Effect) (d : Data) (t : Vars) → nth ids e.instance ≡ Some d → After s e.change ≡ Some t → Acts m consts e.change.label d s t × (place_of d t ≡ Some (string e.change.next)) → Leads m consts ids s e t
+one_step m consts ids s e d t h g a = record {
+  id = d;
+  identifier = h;
+  to = g;
+  acts = a.0;
+  next = a.1;
+}
+
+-- it leads nowhere, where it isn't so
+pub no_step : (m : Module) (consts : List (Name × Data)) (ids : List Data) (s : Vars) (e : Entry Effect) (d : Data) (t : Vars) → nth ids e.instance ≡ Some d → After s e.change ≡ Some t → (Acts m consts e.change.label d s t × (place_of d t ≡ Some (string e.change.next)) → ⊥) → (u : Vars) → Leads m consts ids s e u → ⊥
+no_step m consts ids s e d t h g a u l =
+    let i : l.id ≡ d = some_is l.id d (sym l.identifier ∙ h) in
+    let v : u ≡ t = some_is u t (sym l.to ∙ g) in
+    a (
+      subst (λ w. Acts m consts e.change.label d s w) v (subst (λ x. Acts m consts e.change.label x s u) i l.acts),
+      subst (λ w. place_of d w ≡ Some (string e.change.next)) v (subst (λ x. place_of x u ≡ Some (string e.change.next)) i l.next),
+    )
+  where
+    some_is : {A : Type 0} (x y : A) → Some x ≡ Some y → x ≡ y
+    some_is x y k = cc
 
 -- the start is reached by no entry
 pub start_reached : (m : Module) (consts : List (Name × Data)) (ids : List Data) (s : Vars) (l : List (Entry Effect)) → IsReached m consts ids s l 0 s

@@ -6,8 +6,9 @@ ghost use Rattle.pgo_base.specs.Lookup.{find};
 ghost use Rattle.pgo_base.specs.ExprView.{tree};
 ghost use Rattle.pgo_base.specs.View.{data_of};
 ghost use Rattle.pgo_model.specs.Acts.{Begins, Acts, IsTrueOn};
-ghost use Rattle.pgo_model.specs.Module.{actions_in};
+ghost use Rattle.pgo_model.specs.Module.{actions_in, defs_of};
 ghost use Rattle.pgo_model.specs.ModuleView.{module_view, process_view};
+ghost use Rattle.pgo_model.specs.Val.{Val};
 ghost use Rattle.pgo_sets.specs.Answers.{Answers};
 ghost use Rattle.pgo_check.specs.Assigned.{SeesItsDefinitions};
 ghost use Rattle.pgo_model.specs.Written.{self_name};
@@ -34,6 +35,14 @@ fn is_true(answer: Result<Value, EvalStop>) -> Result<bool, AllocError>
     }
 }
 
+/// The value of an expression of the module, by the definitions that it sees.
+fn value(alloc: Global, m: &Assigned<'_>, e: &Expr, env: &Env<'_, '_>) -> Result<Value, EvalStop>
+    requires { SeesItsDefinitions m.now }
+    ensures { Answers result (Val (defs_of (module_view m.now.module.now) m.now.consts.now) (tree e.now) env.now.names.now env.now.state.now (option_map (λ r. r.now) env.now.next)) }
+{
+    eval(alloc, m.defs_in(env.state), e, env)
+}
+
 /// Whether Init is TRUE of the state.
 pub fn begins(alloc: Global, m: &Assigned<'_>, s: &State) -> Result<bool, AllocError>
     requires { SeesItsDefinitions m.now }
@@ -45,7 +54,7 @@ pub fn begins(alloc: Global, m: &Assigned<'_>, s: &State) -> Result<bool, AllocE
         state: s,
         next: None,
     };
-    is_true(eval(alloc, &m.defs, m.module.init.get(), &env))
+    is_true(value(alloc, m, m.module.init.get(), &env))
 }
 
 /// The body of the last action of the name.
@@ -115,5 +124,5 @@ fn is_step<'a>(
         state: s,
         next: Some(t),
     };
-    is_true(eval(alloc, &m.defs, body, &env))
+    is_true(value(alloc, m, body, &env))
 }

@@ -20,6 +20,13 @@ use pgo_base::scope::State;
 use pgo_base::value::Value;
 use std::alloc::{AllocError, Global};
 
+/// The state before the first entry, of which it is known whether its names are different, as of each state behind it.
+fn first_state(alloc: Global, start: &State) -> Result<State, AllocError>
+    ensures { IfOk result (λ s. s ≡ start.now) }
+{
+    start.copy(alloc)?.names_once(alloc)
+}
+
 /// The place of the first entry that is no step, from 0, where there is one.
 fn first_bad(
     alloc: Global,
@@ -32,7 +39,7 @@ fn first_bad(
     ensures found { IfOk result (λ o. Finds (module_view m.now.module.now) m.now.consts.now (map data_of ids.now) start.now (map entry_view entries.now) o) }
     ensures within { IfOk result (λ o. IsPlaced o (length entries.now)) }
 {
-    let mut before = start.copy(alloc)?;
+    let mut before = first_state(alloc, start)?;
     for (i, e) in entries.iter().enumerate() {
         match step(alloc, m, ids, &before, e)? {
             None => return Ok(Some(i)),
@@ -56,7 +63,7 @@ pub fn check(alloc: Global, m: &Module, consts: &Consts, log: &Log) -> Result<Ve
     ensures decides { let l = log_view log.now in IfOk result (λ v. Decides (module_view m.now) consts.now l.ids l.start l.entries v) }
     ensures exact { let l = log_view log.now in IfOk result (λ v. IsRun (module_view m.now) consts.now l.ids l.start l.entries ↔ v ≡ Verdict.Run (length l.entries)) }
 {
-    let m = Assigned::new(alloc, m, consts)?;
+    let m = Assigned::new(alloc, m, consts, &log.start)?;
     if !begins(alloc, &m, &log.start)? {
         return Ok(Verdict::Bad {
             at: 0,

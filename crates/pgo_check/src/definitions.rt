@@ -1,44 +1,89 @@
 // The definitions that a module's expressions see: those of its lines, and those that its lines make.
-ghost use Rattle.std.specs.Prelude.{◌≡◌, [], ◌∷◌, ◌++◌, map, IfOk};
+ghost use Rattle.std.specs.Prelude.{◌≡◌, [], ◌∷◌, ◌++◌, map, Option, IsTrue, IfOk};
 ghost use Rattle.pgo_base.specs.Data.{model};
 ghost use Rattle.pgo_base.specs.View.{named_data};
 ghost use Rattle.pgo_base.specs.ActionView.{action_pair};
+ghost use Rattle.pgo_base.specs.Lookup.{Vars};
 ghost use Rattle.pgo_base.specs.Tree as tree;
 ghost use Rattle.pgo_model.specs.Val as val;
+ghost use Rattle.pgo_model.specs.Val.{meanings};
 ghost use Rattle.pgo_model.specs.Module as specs;
 ghost use Rattle.pgo_model.specs.ModuleView.{defined_view, process_view, module_view};
 ghost use Rattle.pgo_model.specs.Written.{self_name, default_init_value, proc_set};
-ghost use Rattle.pgo_check.specs.Assigned.{SeesItsDefinitions};
+ghost use Rattle.pgo_check.specs.Assigned.{HasVariablesOf, SeesItsDefinitions};
 
+use crate::constants::constants_by_value;
+use crate::used::used_in;
 use pgo_base::consts::Consts;
 use pgo_base::expr::{Binders, Expr, Exprs, Infix, Names, Quantifier, Sub};
 use pgo_base::module::{Action, Defined, Defs, Module, WrittenProcess};
+use pgo_base::scope::State;
 use pgo_base::text::Text;
 use pgo_base::value::Value;
 use std::alloc::{AllocError, Global};
 
-/// A module whose constants have values, with the definitions that its expressions see.
+/// A module whose constants have values, and the state before the first entry, with the definitions that the module's expressions see:
+/// as they are written, and others that mean the same in states with the start's variables, of which some are given by their values.
 #[derive(Drop)]
 pub struct Assigned<'a> {
     pub module: &'a Module,
     pub consts: &'a Consts,
-    pub defs: Defs,
+    pub start: &'a State,
+    pub written: Defs,
+    pub by_value: Defs,
 }
 
 impl<'a> Assigned<'a> {
-    /// A module under these constants.
-    pub fn new(alloc: Global, m: &'a Module, consts: &'a Consts) -> Result<Assigned<'a>, AllocError>
+    /// A module under these constants, with this state before the first entry. The definitions that Init and the actions use are
+    /// evaluated here, where they are the same in every state: so this is done once for all entries.
+    pub fn new(
+        alloc: Global,
+        m: &'a Module,
+        consts: &'a Consts,
+        start: &'a State,
+    ) -> Result<Assigned<'a>, AllocError>
         ensures of_module { IfOk result (λ a. a.module.now ≡ m.entry.now) }
         ensures under { IfOk result (λ a. a.consts.now ≡ consts.entry.now) }
         ensures sees { IfOk result SeesItsDefinitions }
     {
-        let defs = definitions(alloc, &*m, &*consts)?;
+        let written = definitions(alloc, &*m, &*consts)?;
+        let used = used_in(alloc, &*m, written.as_slice())?;
+        let by_value = constants_by_value(alloc, &written, &*start, used)?;
         Ok(Assigned {
             module: m,
             consts,
-            defs,
+            start,
+            written,
+            by_value,
         })
     }
+
+    /// The definitions that mean in this state what the module's expressions see.
+    pub fn defs_in(&self, s: &State) -> &Defs
+        requires { SeesItsDefinitions self.now }
+        ensures { (next : Option Vars) → meanings (map defined_view result.now) s.now next ≡ meanings (specs.defs_of (module_view self.now.module.now) self.now.consts.now) s.now next }
+    {
+        if have_same_names(self.start.as_slice(), s.as_slice()) {
+            &self.by_value
+        } else {
+            &self.written
+        }
+    }
+}
+
+/// Whether these have the same names, one after another.
+fn have_same_names(a: &[(Text, Value)], b: &[(Text, Value)]) -> bool
+    ensures { IsTrue result → HasVariablesOf (map named_data a.now) (map named_data b.now) }
+{
+    if a.len() != b.len() {
+        return false;
+    }
+    for i in 0..a.len() {
+        if !a[i].0.is(&b[i].0) {
+            return false;
+        }
+    }
+    true
 }
 
 /// The constants with their values, `defaultInitValue`, the module's definitions, and what its lines define besides.
@@ -118,7 +163,7 @@ fn default_name(alloc: Global) -> Result<Text, AllocError>
 }
 
 /// A definition once more.
-fn copy_of(alloc: Global, d: &Defined) -> Result<Defined, AllocError>
+pub fn copy_of(alloc: Global, d: &Defined) -> Result<Defined, AllocError>
     ensures { IfOk result (λ c. defined_view c ≡ defined_view d.now) }
 {
     match d {

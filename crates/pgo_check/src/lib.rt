@@ -3,7 +3,9 @@
 
 mod actions;
 pub mod checker;
+mod constants;
 mod definitions;
 pub mod errors;
 mod states;
+mod used;
 pub mod verdict;

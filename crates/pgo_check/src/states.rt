@@ -1,6 +1,6 @@
 // The state that an entry of a log leads to.
-ghost use Rattle.std.specs.Prelude.{◌≡◌, ◌<◌, ◌↔◌, if◌then◌else◌, IsTrue, length, map, Some, None, option_map, IfOk};
-ghost use Rattle.pgo_base.specs.View.{data_of, pair_of};
+ghost use Rattle.std.specs.Prelude.{◌≡◌, ◌↔◌, if◌then◌else◌, IsTrue, map, Some, None, option_map, IfOk};
+ghost use Rattle.pgo_base.specs.View.{data_of};
 ghost use Rattle.pgo_base.specs.Data.{function, pairs, string};
 ghost use Rattle.pgo_model.specs.Acts.{Acts};
 ghost use Rattle.pgo_model.specs.Variables.{place_of};
@@ -10,36 +10,15 @@ ghost use Rattle.pgo_model.specs.ModuleView.{module_view};
 ghost use Rattle.pgo_model.specs.Options.{on};
 ghost use Rattle.pgo_check.specs.Assigned.{SeesItsDefinitions};
 ghost use Rattle.pgo_model.specs.Steps.{LeadsTo};
-ghost use Rattle.pgo_sets.specs.KeyPlace.{key_place, set_value};
 
 use crate::actions::acts;
 use crate::definitions::Assigned;
-use pgo_base::compare::compare;
 use pgo_base::log::{Change, Component, Entry};
 use pgo_base::scope::State;
 use pgo_base::text::Text;
 use pgo_base::value::{Fun, Value};
-use pgo_sets::lookup::{place_in, value_at};
+use pgo_sets::lookup::{key_place, place_in, value_at};
 use std::alloc::{AllocError, Global};
-use std::mem::replace;
-
-/// The place of an index among the pairs of a function; none where it isn't in its domain.
-fn key_place(f: &Fun, index: &Value) -> Option<usize>
-    ensures { result ≡ key_place (data_of index.now) f.now }
-{
-    match f.in_order().binary_search_by(|p| compare(&p.0, index)) {
-        Ok(i) => Some(i),
-        Err(_) => None,
-    }
-}
-
-/// The pairs with another value at a place.
-fn put_value(list: &mut Vec<(Value, Value)>, place: usize, value: Value)
-    requires { place < length list.old.items }
-    ensures { map pair_of list.new.items ≡ set_value place (data_of value) (map pair_of list.old.items) }
-{
-    list[place].1 = value;
-}
 
 /// A function with another value at an index in its domain. Where nothing else owns its pairs they are changed in place.
 fn with_value(f: Fun, index: &Value, value: Value) -> Result<Option<Value>, AllocError>
@@ -48,9 +27,8 @@ fn with_value(f: Fun, index: &Value, value: Value) -> Result<Option<Value>, Allo
     let Some(place) = key_place(&f, index) else {
         return Ok(None);
     };
-    let mut list = f.into_pairs()?;
-    put_value(&mut list, place, value);
-    Ok(Some(Value::Fun(Fun::from_sorted(list)?)))
+    let (changed, _) = f.replace_at(place, value)?;
+    Ok(Some(Value::Fun(changed)))
 }
 
 /// What a value becomes where its part at an index becomes this value.
@@ -73,33 +51,23 @@ fn new_value(old: Value, index: &Option<Value>, value: Value) -> Result<Option<V
     }
 }
 
-/// A variable's value becomes another, where it, or its value at an index, may become this value; else false.
-fn put_new(old: &mut Value, index: &Option<Value>, value: Value) -> Result<bool, AllocError>
-    ensures { IfOk result (λ b. (if b then Some (data_of old.new) else None) ≡ on (Some (data_of value)) (option_map data_of index.now) (λ i. with_part (data_of old.old) i (data_of value))) }
-{
-    let before = replace(old, Value::Bool(false));
-    match new_value(before, index, value)? {
-        Some(v) => {
-            *old = v;
-            Ok(true)
-        }
-        None => Ok(false),
-    }
-}
-
 /// The state with one component changed, where the component is in it.
 fn changed(alloc: Global, state: State, change: &Change) -> Result<Option<State>, AllocError>
     ensures { IfOk result (λ o. o ≡ changed (change_view change.now) state) }
 {
-    let mut list = state.into_vec();
-    let Some(i) = place_in(&change.component.variable, &list) else {
+    let mut state = state;
+    let Some(i) = place_in(&change.component.variable, state.as_slice()) else {
         return Ok(None);
     };
     let value = change.value.copy(alloc)?;
-    if !put_new(&mut list[i].1, &change.component.index, value)? {
-        return Ok(None);
+    let before = state.replace(i, Value::Bool(false));
+    match new_value(before, &change.component.index, value)? {
+        Some(v) => {
+            state.replace(i, v);
+            Ok(Some(state))
+        }
+        None => Ok(None),
     }
-    Ok(Some(State::from_vec(list)))
 }
 
 /// Whether a component is in a state.

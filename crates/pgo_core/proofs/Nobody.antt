@@ -15,6 +15,21 @@ use Rattle.pgo_core.specs.AllViews.{AllViews, HasValue}
 use Rattle.pgo_core.specs.Cores.{CoreFits, StandsWith, turned, worker_at}
 use Rattle.pgo_core.proofs.CoreTurned.{one_more}
 
+-- the core stands where the machine is, whatever turns it came there by
+pub stands_there : {C : Type 0} (y : System) (settings : Settings) (turns others : List ℕ) → turned y settings turns ≡ turned y settings others → (tree : Trees) (walk : C → Walk) (made : ℕ) (ws : List (Worker C)) (s : AllViews Effect) (fits : CoreFits y tree settings)
+    → StandsWith y tree walk settings fits turns made ws s → StandsWith y tree walk settings fits others made ws s
+stands_there y settings turns others same tree walk made ws s fits st = record {
+  core = subst (λ n. IsCore (world_of (layout_of y)) (program_of y tree settings) (Reaches y) (IsGood y) fits.runs fits.differs n (worker_at y tree walk ws) s.view) same st.core;
+  entries = λ j. st.entries j ∙ ap (λ (n : Machine Effect). n.entries) same;
+  notes = λ j. st.notes j ∙ ap (λ (n : Machine Effect). n.notes) same;
+  awake = st.awake;
+  counts = λ r. ap (λ (n : Machine Effect). n.counts r) (sym same) ∙ st.counts r;
+  bounded = λ r. subst (λ (n : Machine Effect). n.counts r ≤ made) same (st.bounded r);
+  most = st.most;
+  numbers = st.numbers;
+  free = subst (λ (n : Machine Effect). (r : ℕ) → nat_lt r (length y.resources) ≡ true → n.holder r ≡ None → HasValue (s.content r) (value_in (layout_of y) (last_state (rules_of y settings) n) r)) same st.free;
+}
+
 module _ (y : System) (settings : Settings) (turns : List ℕ) (k : ℕ) (nobody : nat_lt k (length y.members) ≡ false) where
   nobody_turns : turned y settings (turns ++ (k ∷ [])) ≡ turned y settings turns
   nobody_turns =
@@ -31,14 +46,4 @@ module _ (y : System) (settings : Settings) (turns : List ℕ) (k : ℕ) (nobody
 
   pub nobody_stands : {C : Type 0} (tree : Trees) (walk : C → Walk) (made : ℕ) (ws : List (Worker C)) (s : AllViews Effect) (fits : CoreFits y tree settings) → StandsWith y tree walk settings fits turns made ws s
       → StandsWith y tree walk settings fits (turns ++ (k ∷ [])) made ws s
-  nobody_stands tree walk made ws s fits st = record {
-    core = subst (λ n. IsCore (world_of (layout_of y)) (program_of y tree settings) (Reaches y) (IsGood y) fits.runs fits.differs n (worker_at y tree walk ws) s.view) (sym nobody_turns) st.core;
-    entries = λ j. st.entries j ∙ ap (λ (n : Machine Effect). n.entries) (sym nobody_turns);
-    notes = λ j. st.notes j ∙ ap (λ (n : Machine Effect). n.notes) (sym nobody_turns);
-    awake = st.awake;
-    counts = λ r. ap (λ (n : Machine Effect). n.counts r) nobody_turns ∙ st.counts r;
-    bounded = λ r. subst (λ (n : Machine Effect). n.counts r ≤ made) (sym nobody_turns) (st.bounded r);
-    most = st.most;
-    numbers = st.numbers;
-    free = subst (λ (n : Machine Effect). (r : ℕ) → nat_lt r (length y.resources) ≡ true → n.holder r ≡ None → HasValue (s.content r) (value_in (layout_of y) (last_state (rules_of y settings) n) r)) (sym nobody_turns) st.free;
-  }
+  nobody_stands tree walk made ws s fits st = stands_there y settings turns (turns ++ (k ∷ [])) (sym nobody_turns) tree walk made ws s fits st

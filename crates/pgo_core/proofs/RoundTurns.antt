@@ -1,11 +1,11 @@
 -- The turns that rounds make are those of the machine's rounds.
-use Rattle.std.proofs.Common.{◌≡◌, ◌<◌, ℕ, zero, suc, ◌+◌, Bool, true, false, List, [], ◌∷◌, ◌++◌, length, map, Option, Some, None, option_map, refl, sym, ap, ◌∙◌, subst, arith, append_assoc, length-append, lt-ltb}
-use Rattle.std.specs.Prelude.{if◌then◌else◌, nat_eq, nat_lt, IsSome}
+use Rattle.std.proofs.Common.{◌≡◌, ◌<◌, ◌≤◌, ℕ, zero, suc, ◌+◌, Bool, true, false, List, [], ◌∷◌, ◌++◌, length, map, Option, Some, None, option_map, refl, sym, ap, ◌∙◌, subst, arith, append_assoc, length-append, lt-ltb}
+use Rattle.std.specs.Prelude.{if◌then◌else◌, nat_eq, nat_lt}
 use Rattle.pgo_base.specs.Lookup.{Vars, find}
 use Rattle.pgo_model.specs.Core.{Settings, Reaches, rules_of, is_place, end_by, end_or_spent}
 use Rattle.pgo_model.specs.Core as core
 use Rattle.pgo_model.specs.Log.{Effect}
-use Rattle.pgo_model.specs.Machine.{Machine, nth, last_ends}
+use Rattle.pgo_model.specs.Machine.{Machine, nth, last_ends, opened}
 use Rattle.pgo_model.specs.Machine as machine
 use Rattle.pgo_model.specs.MachineAccounts.{append_none}
 use Rattle.pgo_model.specs.System.{System}
@@ -22,15 +22,19 @@ use Rattle.pgo_workers.specs.Sentences.{Meets}
 use Rattle.pgo_workers.specs.CoreSteps as steps
 use Rattle.pgo_section.specs.Programs.{Trees, IsGood, program_of}
 use Rattle.pgo_section.specs.Sight.{see, phase_at, ended, end_of, end_between}
+use Rattle.pgo_section.specs.declared.worker.Turn.{Turn}
+use Rattle.pgo_section.specs.declared.worker.Turn.TheVariants as turns
 use Rattle.pgo_section.specs.declared.worker.Worker.{Worker}
 use Rattle.pgo_resource.specs.declared.resource.Resource.{Ghosts}
 use Rattle.pgo_resource.specs.declared.sections.Sections as sections
 use Rattle.pgo_core.specs.AllViews.{AllViews}
-use Rattle.pgo_core.specs.Cores.{CoreFits, StandsWith, IsSafe, turned, worker_at}
+use Rattle.pgo_core.specs.Cores.{CoreFits, StandsWith, IsSafe, IsAnswer, counted, has_turned, turned, worker_at}
 use Rattle.pgo_core.specs.Instances.{FitsCore, IsSame, StandsAt, system_of, settings_of}
 use Rattle.pgo_core.specs.Rounds.{round_from, round_after, AreRounds, over, more}
 use Rattle.pgo_core.specs.declared.instances.Core.{Core}
-use Rattle.pgo_core.proofs.CoreTurned.{ends_so, ended_so, map_length, nth_inside}
+use Rattle.pgo_core.proofs.CoreTurned as core_turned
+use Rattle.pgo_core.proofs.CoreTurned.{ends_so, map_length, nth_inside}
+use Rattle.pgo_core.proofs.Nobody.{stands_there}
 
 -- ---- the machine's rounds
 
@@ -39,10 +43,10 @@ module _ (y : System) (settings : Settings) where
   E d k = machine.has_ended (rules_of y settings) (turned y settings d) k
 
   -- of one instance
-  pub one_over : (d : List ℕ) (k : ℕ) → E d k ≡ true → round_from y settings d k 1 ≡ []
+  one_over : (d : List ℕ) (k : ℕ) → E d k ≡ true → round_from y settings d k 1 ≡ []
   one_over d k e = ap (λ b. if b then [] else k ∷ []) e
 
-  pub one_turn : (d : List ℕ) (k : ℕ) → E d k ≡ false → round_from y settings d k 1 ≡ k ∷ []
+  one_turn : (d : List ℕ) (k : ℕ) → E d k ≡ false → round_from y settings d k 1 ≡ k ∷ []
   one_turn d k e = ap (λ b. if b then [] else k ∷ []) e
 
   -- one instance more
@@ -145,15 +149,56 @@ module _ {C : Type 0} (y : System) (tree : Trees) (walk : C → Walk) (settings 
         steps.ended_as W P (Reaches y) (IsGood y) fits.runs m k (see walk w) (s.view k) (subst (λ w. steps.Stands W P (Reaches y) (IsGood y) fits.runs m k w (s.view k)) mine (st.core.stands k there))
         (subst (λ w. Meets W P (Reaches y) (IsGood y) w (s.view k)) mine (st.core.meets k there)) (fits.good turns) there
 
-    some : (o : Option End) → end_of w ≡ o → IsSome o → has_ended W P (see walk w) ≡ true
-    some None e h = absurd (grind (arith, h))
-    some (Some x) e h = ended_so y tree walk settings w x (safe.seats k w here).settings_are (st.awake k w here) e
+-- ---- what a turn's answer tells of a round
 
-    pub has_over : IsSome (end_of w) → round_from y settings turns k 1 ≡ []
-    has_over h = one_over y settings turns k (as_worker ∙ some (end_of w) refl h)
+pub at_most_one : (t : Turn) → counted t ≤ 1
+at_most_one turns.Went = omega arith
+at_most_one (turns.Committed n) = omega arith
+at_most_one (turns.Noted kind n) = omega arith
+at_most_one (turns.Refused x) = omega arith
+at_most_one (turns.Idle e) = omega arith
+at_most_one turns.NoMemory = omega arith
 
-    pub has_turn : end_of w ≡ None → round_from y settings turns k 1 ≡ k ∷ []
-    has_turn h = one_turn y settings turns k (as_worker ∙ goes_so w (safe.seats k w here).settings_are (st.awake k w here) h)
+pub was_idle : (t : Turn) → has_turned t ≡ true → counted t ≡ 0 → (e : End) × (t ≡ turns.Idle e)
+was_idle turns.Went has none = absurd (omega (arith, none))
+was_idle (turns.Committed n) has none = absurd (omega (arith, none))
+was_idle (turns.Noted kind n) has none = absurd (omega (arith, none))
+was_idle (turns.Refused x) has none = absurd (omega (arith, none))
+was_idle (turns.Idle e) has none = (e, refl)
+was_idle turns.NoMemory has none = absurd (grind (arith, has))
+
+counts_one : (t : Turn) → has_turned t ≡ true → ((e : End) → t ≡ turns.Idle e → ⊥) → counted t ≡ 1
+counts_one turns.Went has on = refl
+counts_one (turns.Committed n) has on = refl
+counts_one (turns.Noted kind n) has on = refl
+counts_one (turns.Refused x) has on = refl
+counts_one (turns.Idle e) has on = absurd (on e refl)
+counts_one turns.NoMemory has on = absurd (grind (arith, has))
+
+unchanged : {A : Type 0} (a b : Bool) (m x : A) → a ≡ true → b ≡ true → (if a then (if b then m else x) else m) ≡ m
+unchanged a b m x t o = (λ i. if t i then (if o i then m else x) else m)
+
+module _ (y : System) (settings : Settings) (before : List ℕ) (k : ℕ) (is_there : nat_lt k (length y.members) ≡ true) where
+  -- a turn of an instance that has ended changes nothing
+  idle_turn : E y settings before k ≡ true → turned y settings (before ++ (k ∷ [])) ≡ turned y settings before
+  idle_turn had = core_turned.one_more (rules_of y settings) opened before k ∙ unchanged (nat_lt k (length y.members)) (E y settings before k) (turned y settings before) _ is_there had
+
+  pub counted_right : (t : Turn) → has_turned t ≡ true → IsAnswer y settings (turned y settings before) k t → counted t ≡ length (round_from y settings before k 1)
+  counted_right t has a = go (E y settings before k) refl
+    where
+      go : (b : Bool) → E y settings before k ≡ b → counted t ≡ length (round_from y settings before k 1)
+      go true had = let q = a.at_end is_there had in ap counted q.2 ∙ sym (ap length (one_over y settings before k had))
+      go false on = counts_one t has (a.goes_on is_there on) ∙ sym (ap length (one_turn y settings before k on))
+
+  pub stands_counted : {C : Type 0} (tree : Trees) (walk : C → Walk) (made : ℕ) (ws : List (Worker C)) (s : AllViews Effect) (fits : CoreFits y tree settings) → StandsWith y tree walk settings fits (before ++ (k ∷ [])) made ws s
+      → StandsWith y tree walk settings fits (before ++ round_from y settings before k 1) made ws s
+  stands_counted tree walk made ws s fits st = go (E y settings before k) refl
+    where
+      go : (b : Bool) → E y settings before k ≡ b → StandsWith y tree walk settings fits (before ++ round_from y settings before k 1) made ws s
+      go true had =
+          subst (λ l. StandsWith y tree walk settings fits l made ws s) (append_none before ∙ ap (λ l. before ++ l) (sym (one_over y settings before k had)))
+          (stands_there y settings (before ++ (k ∷ [])) before (idle_turn had) tree walk made ws s fits st)
+      go false on = subst (λ l. StandsWith y tree walk settings fits l made ws s) (ap (λ l. before ++ l) (sym (one_turn y settings before k on))) st
 
 -- ---- what doesn't change
 

@@ -1,22 +1,28 @@
 -- A turn in memory, as it is called.
-use Rattle.std.proofs.Common.{◌≡◌, ℕ, ◌&&◌, Bool, true, false, List, Some, refl, sym, ◌∙◌, subst, arith, ◌⊎◌, inl, inr}
+use Rattle.std.proofs.Common.{◌≡◌, ℕ, zero, suc, ◌&&◌, Bool, true, false, List, [], ◌∷◌, Some, refl, sym, ap, ◌∙◌, subst, arith, ◌⊎◌, inl, inr, set}
+use Rattle.std.specs.Prelude.{IsSome}
 use Rattle.pgo_model.specs.Core.{Settings}
 use Rattle.pgo_model.specs.Log.{Effect}
 use Rattle.pgo_model.specs.Machine.{nth}
 use Rattle.pgo_model.specs.System.{System}
 use Rattle.pgo_syntax.specs.RecordView.{settings_view}
+use Rattle.pgo_syntax.specs.declared.records.End.{End}
+use Rattle.pgo_workers.specs.View.{View}
 use Rattle.pgo_workers.specs.Walk.{Walk}
 use Rattle.pgo_workers.specs.Worlds.{Layout, layout_of, world_of}
 use Rattle.pgo_resource.specs.declared.resource.Resource.{Ghosts}
 use Rattle.pgo_section.specs.Programs.{Trees, RunsSystem}
-use Rattle.pgo_section.specs.Turns.{Met}
+use Rattle.pgo_section.specs.Sight.{end_of}
+use Rattle.pgo_section.specs.Turns.{Met, TurnedBy}
 use Rattle.pgo_section.specs.declared.worker.Turn.{Turn}
+use Rattle.pgo_section.specs.declared.worker.Turn.TheVariants as turns
 use Rattle.pgo_section.specs.declared.worker.Worker.{Worker}
 use Rattle.pgo_core.specs.AllViews.{AllViews, Became, Leaves, IsBoard}
-use Rattle.pgo_core.specs.Cores.{IsSafe, TurnedAt, StoppedAt}
+use Rattle.pgo_core.specs.Cores.{IsSafe, HadEnded, TurnedAt, StoppedAt}
 use Rattle.pgo_core.specs.ExclusiveBoards.{board_layout, views_of}
 use Rattle.pgo_core.specs.declared.exclusive_board.ExclusiveBoard.{ExclusiveBoard}
 use Rattle.pgo_core.proofs.BoardOfAll.{is_board}
+use Rattle.pgo_core.proofs.CoreTurned.{same_some}
 use Rattle.pgo_core.proofs.SafeKept.{became_met}
 
 pub neither : (a b : Bool) → (a && b) ≡ false → (a ≡ false) ⊎ (b ≡ false)
@@ -41,3 +47,17 @@ module _ {C : Type 0} (y : System) (tree : Trees) (walk : C → Walk) (settings 
 
     pub stop_at : (vs : List (Worker C)) (t : AllViews Effect) → Leaves u t → StoppedAt y tree walk k ws vs (t.view t.current) → StoppedAt y tree walk k ws vs (t.view k)
     stop_at vs t leaves x = subst (λ j. StoppedAt y tree walk k ws vs (t.view j)) (leaves.current ∙ became.current) x
+
+set_same : {A : Type 0} (l : List A) (k : ℕ) (x : A) → nth l k ≡ Some x → set l k x ≡ l
+set_same [] k x e = refl
+set_same (y ∷ l) zero x e = ap (λ x. x ∷ l) (sym (same_some y x e))
+set_same (y ∷ l) (suc k) x e = ap (λ l. y ∷ l) (set_same l k x e)
+
+-- where worker k had ended, nothing was done
+pub idle_keeps : {C : Type 0} (y : System) (tree : Trees) (walk : C → Walk) (k : ℕ) (ws vs : List (Worker C)) (b c : View Effect) (t : Turn) → TurnedAt y tree walk k ws vs b c t → (e : End) → t ≡ turns.Idle e → HadEnded k ws vs
+idle_keeps y tree walk k ws vs b c t x e is =
+    let rests : TurnedBy y tree walk x.worker b x.after c (turns.Idle e) = subst (TurnedBy y tree walk x.worker b x.after c) is x.turned in
+    record {
+      workers = x.workers ∙ ap (set ws k) rests.1 ∙ set_same ws k x.worker x.there;
+      ended = λ w here. subst (λ w. IsSome (end_of w)) (same_some x.worker w (sym x.there ∙ here)) (subst IsSome (sym rests.0) refl);
+    }

@@ -60,6 +60,15 @@ has_turned (turns.Refused x) = true
 has_turned (turns.Idle e) = true
 has_turned turns.NoMemory = false
 
+-- how many turns of an instance that hadn't ended a turn was
+abbrev pub counted : Turn → ℕ
+counted turns.Went = 1
+counted (turns.Committed n) = 1
+counted (turns.Noted kind n) = 1
+counted (turns.Refused x) = 1
+counted (turns.Idle e) = 0
+counted turns.NoMemory = 0
+
 -- what a turn of k answers where the machine is m: that nobody has the number, or the end of an instance that has ended; of one
 -- that hasn't, no end
 pub record IsAnswer (y : System) (settings : Settings) (m : Machine Effect) (k : ℕ) (t : Turn) : Type 0 where
@@ -172,11 +181,6 @@ AllEnded {C} ws = (j : ℕ) (w : Worker C) → nth ws j ≡ Some w → IsSome (s
 abbrev pub attempts_from : ℕ → List Record → List (ℕ × Record)
 attempts_from n [] = []
 attempts_from n (x ∷ xs) = (n, x) ∷ attempts_from (suc n) xs
-
--- whether worker k has no end yet
-abbrev pub GoesOn : {C : Type 0} → ℕ → List (Worker C) → Bool → Type 0
-GoesOn {C} k ws false = (w : Worker C) → nth ws k ≡ Some w → IsSome (sight.end_of w)
-GoesOn {C} k ws true = (w : Worker C) → nth ws k ≡ Some w → sight.end_of w ≡ None
 
 -- worker k had ended, and nothing was done
 pub record HadEnded {C : Type 0} (k : ℕ) (ws vs : List (Worker C)) : Type 0 where

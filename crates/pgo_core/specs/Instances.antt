@@ -9,13 +9,15 @@ use Rattle.pgo_model.specs.System.{System}
 use Rattle.pgo_journal.specs.Journal.{JournalView}
 use Rattle.pgo_journal.specs.declared.finished.Account.{Account}
 use Rattle.pgo_syntax.specs.RecordView.{settings_view}
+use Rattle.pgo_syntax.specs.declared.records.End.{End}
 use Rattle.pgo_workers.specs.Worlds.{layout_of}
 use Rattle.pgo_section.specs.declared.worker.Turn.{Turn}
+use Rattle.pgo_section.specs.declared.worker.Turn.TheVariants as turns
 use Rattle.pgo_section.specs.declared.worker.Worker.{Worker}
 use Rattle.pgo_resource.specs.declared.resource.Resource.{Ghosts}
 use Rattle.pgo_resource.specs.declared.sections.Sections as sections
 use Rattle.pgo_core.specs.declared.instances.Core.{Core}
-use Rattle.pgo_core.specs.Cores.{CoreFits, IsSafe, Stands, SameJournal, Rested, RestedBelow, AreAccounts, EachEnds, IsAnswer, has_turned, told, turned}
+use Rattle.pgo_core.specs.Cores.{CoreFits, IsSafe, Stands, SameJournal, Rested, RestedBelow, AreAccounts, EachEnds, HadEnded, IsAnswer, has_turned, told, turned}
 use Rattle.pgo_core.specs.ExclusiveBoards.{board_layout, views_of}
 use Rattle.pgo_core.specs.Rounds.{round_from, AreRounds}
 
@@ -58,6 +60,10 @@ module _ {S R P : Type 0} {s : sections.Ghosts S P} {g : Ghosts R} where
 
   abbrev pub workers_in : Core S R P s g → List (Worker P)
   workers_in c = c.workers.items
+
+  -- where a turn of k answers that k had ended, it had, and each worker is as it was
+  abbrev pub IdleKeeps : ℕ → Turn → Core S R P s g → Core S R P s g → Type 0
+  IdleKeeps k t c d = (e : End) → t ≡ turns.Idle e → HadEnded k (workers_in c) (workers_in d)
 
   -- further turns were made, those of n instances from number k on in a round; there are `count` of them
   pub record MadeFrom (before : List ℕ) (k n count : ℕ) (c : Core S R P s g) : Type 0 where

@@ -6,7 +6,7 @@ ghost use Rattle.pgo_syntax.specs.RecordView.{settings_view};
 ghost use Rattle.pgo_workers.specs.Worlds.{layout_of};
 ghost use Rattle.pgo_section.specs.Programs.{RunsSystem};
 ghost use Rattle.pgo_section.specs.Turns.{Met};
-ghost use Rattle.pgo_core.specs.Cores.{all_roomy, has_turned, TurnedAt, StoppedAt};
+ghost use Rattle.pgo_core.specs.Cores.{all_roomy, counted, has_turned, TurnedAt, StoppedAt};
 
 use crate::accounts::accounts_of;
 use crate::exclusive_board::ExclusiveBoard;
@@ -56,6 +56,20 @@ fn has_turned(turn: Turn) -> bool
     }
 }
 
+/// How many turns of an instance that hadn't ended it was.
+fn counted(turn: Turn) -> usize
+    ensures { result ≡ counted turn }
+{
+    match turn {
+        Turn::Went => 1,
+        Turn::Committed { .. } => 1,
+        Turn::Noted { .. } => 1,
+        Turn::Refused { .. } => 1,
+        Turn::Idle { .. } => 0,
+        Turn::NoMemory => 0,
+    }
+}
+
 /// One turn of worker k.
 fn turn_of<S: Sections, B: Board>(
     alloc: Global,
@@ -96,7 +110,7 @@ fn stop_of<S: Sections, B: Board>(
 }
 
 impl<S: Sections + Drop, R: Resource> Core<S, R> {
-    ghost use Rattle.pgo_core.specs.Instances.{Safe, IsSame, StandsAt, Turns, Stops, StoppedBelow, IsJournalOf, AreAccountsIn};
+    ghost use Rattle.pgo_core.specs.Instances.{Safe, IsSame, StandsAt, Turns, IdleKeeps, Stops, StoppedBelow, IsJournalOf, AreAccountsIn};
 
     /// One turn of instance k: the next event of its attempt, or of its next one; nothing where it has ended, and
     /// `Idle` with `Nobody` where no instance has the number. Where memory is wanting, its attempt is dropped, and it makes no
@@ -105,6 +119,7 @@ impl<S: Sections + Drop, R: Resource> Core<S, R> {
         requires safe { Safe self.old }
         ensures safe { Safe self.new }
         ensures turns { Turns k result self.old self.new }
+        ensures idle { IdleKeeps k result self.old self.new }
     {
         if k as usize >= self.workers.len() {
             return Turn::Idle { end: End::Nobody };
@@ -122,6 +137,7 @@ impl<S: Sections + Drop, R: Resource> Core<S, R> {
         requires safe { Safe self.old }
         ensures safe { Safe self.new }
         ensures turns { Turns k result self.old self.new }
+        ensures idle { IdleKeeps k result self.old self.new }
     {
         self.made += 1;
         self.board.set_current(k);

@@ -1,13 +1,15 @@
 -- The places of bound names are the same at each choice of members.
 use Rattle.std.proofs.Common.{◌≡◌, ℕ, Bool, true, false, List, [], ◌∷◌, ◌++◌, length, map, reverse, refl, ap, sym, ◌∙◌}
 use Rattle.std.proofs.lemmas.List.{length-map, map_push, reverse-append}
-use Rattle.std.specs.Prelude.{Some, if◌then◌else◌}
+use Rattle.std.specs.Prelude.{Option, Some, None, if◌then◌else◌}
 use Rattle.pgo_base.specs.BindingsView.{bound_name, ArePlaces}
 use Rattle.pgo_base.specs.LastPlace.{place_among, last_place}
 use Rattle.pgo_base.specs.Lookup.{Name, same_name}
 use Rattle.pgo_base.specs.declared.bindings.BoundName.{BoundName}
 use Rattle.pgo_base.specs.declared.name_map.NameMap.{NameMap}
 use Rattle.pgo_eval.specs.Choices.{over_of, over_bound}
+use Rattle.pgo_eval.specs.PlacesView.{AreKnown, ArePlacesOf}
+use Rattle.pgo_eval.specs.declared.places.Places.{Places}
 
 module _ {A B : Type 0} (g : A → B) (f : B → Name) (x : Name) where
   place_mapped : (rs : List A) → place_among f x (map g rs) ≡ place_among (λ a. f (g a)) x rs
@@ -30,3 +32,11 @@ module _ {A B : Type 0} (g : A → B) (f : B → Name) (x : Name) where
 -- the same names over the same sets have the same places
 pub still_placed : (bs cs : List BoundName) (p : NameMap ℕ) → over_bound cs ≡ over_bound bs → ArePlaces bound_name bs p → ArePlaces bound_name cs p
 still_placed bs cs p e h x = h x ∙ sym (last_mapped over_of (λ q. q.0) x bs) ∙ ap (last_place (λ q. q.0) x) (sym e) ∙ last_mapped over_of (λ q. q.0) x cs
+
+-- what is known of them stays so
+still_known : (bs cs : List BoundName) (p : Option (NameMap ℕ)) → over_bound cs ≡ over_bound bs → AreKnown bs p → AreKnown cs p
+still_known bs cs None e h = h
+still_known bs cs (Some p) e h = still_placed bs cs p e h
+
+pub places_stay : (bs cs : List BoundName) (p : Places) → over_bound cs ≡ over_bound bs → ArePlacesOf bs p → ArePlacesOf cs p
+places_stay bs cs p e h = still_known bs cs p.known e h

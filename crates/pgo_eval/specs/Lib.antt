@@ -2,6 +2,8 @@ pub mod ScopeView
 pub mod Strict
 pub mod Choices
 pub mod HeldView
+pub mod Leaves
 pub mod Newest
 pub mod Decided
 pub mod Paths
+pub mod PlacesView

@@ -1,11 +1,11 @@
 // Quantifiers and functions of binders: what is made of an expression at each choice of members.
 ghost use Rattle.std.specs.Prelude.{◌≡◌, map, option_map, IfOk};
-ghost use Rattle.pgo_base.specs.BindingsView.{bound_name, ArePlaces};
 ghost use Rattle.pgo_base.specs.ExprView.{tree, bound_tree};
 ghost use Rattle.pgo_base.specs.Tree.{quantified, fun_of, bound};
 ghost use Rattle.pgo_base.specs.View.{data_of};
 ghost use Rattle.pgo_model.specs.Val.{val, ranges, with_names, name_values, names_over};
 ghost use Rattle.pgo_eval.specs.Choices.{over_bound, AreAt, chosen};
+ghost use Rattle.pgo_eval.specs.PlacesView.{ArePlacesOf};
 ghost use Rattle.pgo_eval.specs.ScopeView.{scope_view};
 
 use crate::answers::from_truth;
@@ -13,12 +13,11 @@ use crate::choice::{advance, are_few, start};
 use crate::evaluate::held;
 use crate::held::owned;
 use crate::members::{add_binder, keyed, truth_in};
+use crate::places::Places;
 use crate::quantifiers::{is_decided, joined, over_none};
 use crate::scope::Scope;
 use pgo_base::bindings::{Bindings, BoundName};
 use pgo_base::expr::{Expr, Names, Quantifier};
-use pgo_base::last_place::last_places;
-use pgo_base::name_map::NameMap;
 use pgo_base::value::Value;
 use pgo_sets::answers::value_or_none;
 use pgo_sets::build::function_of;
@@ -48,14 +47,14 @@ fn bound_names<'a>(
 fn value_bound<'a>(
     alloc: Global,
     names: &[BoundName],
-    places: &NameMap<usize>,
+    places: &Places,
     e: &Expr,
     s: &Scope<'a, 'a, 'a>,
 ) -> Result<Option<Value>, AllocError>
-    requires { AreAt names.now × ArePlaces bound_name names.now places.now }
+    requires { AreAt names.now × ArePlacesOf names.now places.now }
     ensures { IfOk result (λ o. option_map data_of o ≡ val (tree e.now) (with_names (name_values (names_over (over_bound names.now)) (chosen names.now) s.now.names.now) (scope_view s.now))) }
 {
-    let all = Bindings::with_bound(&*names, &*places, &*s.names);
+    let all = Bindings::with_bound(&*names, places.lent(), &*s.names);
     let inner = Scope { names: &all, ..*s };
     owned(alloc, held(alloc, e, &inner)?)
 }
@@ -74,7 +73,7 @@ pub fn quantified<'a>(
     let Some(names) = bound_names(alloc, binders, s)? else {
         return Ok(None);
     };
-    let places = last_places(alloc, names.as_slice())?;
+    let places = Places::of(alloc, names.as_slice())?;
     let mut names = names;
     let mut found = over_none(q);
     let mut more = start(&mut names);
@@ -105,7 +104,7 @@ pub fn function_value<'a>(
     let Some(names) = bound_names(alloc, binders, s)? else {
         return Ok(None);
     };
-    let places = last_places(alloc, names.as_slice())?;
+    let places = Places::of(alloc, names.as_slice())?;
     let mut names = names;
     if !are_few(&names) {
         return Ok(None);

@@ -12,9 +12,10 @@ use crate::answers::from_truth;
 use crate::binders::{function_value, quantified};
 use crate::built::{functions, owning, plainly, product, record, records, set, tuple};
 use crate::control::{case_value, conditional, let_value};
-use crate::evaluated::Evaluated;
+use crate::evaluated::{Evaluated, value_held};
 use crate::held::{Held, lent, owned, part_at};
-use crate::names::{call_value, named_value};
+use crate::leaves::{Leaf, leaf_of};
+use crate::names::{applied, call_value, named_value};
 use crate::one_name::{chosen, filtered, image};
 use crate::operations::{decided, infixed, is_membership, prefixed};
 use crate::scope::Scope;
@@ -41,9 +42,10 @@ pub fn held<'a>(
         left: s.left - 1,
         ..*s
     };
-    match evaluated(alloc, e, &inner)? {
-        Some(v) => v.into_held(alloc),
-        None => Ok(None),
+    match leaf_of(e, s) {
+        Leaf::Value(v) => Ok(v),
+        Leaf::Definition(x) => applied(alloc, x, Vec::new(alloc), &inner),
+        Leaf::Other => value_held(alloc, evaluated(alloc, e, &inner)),
     }
 }
 

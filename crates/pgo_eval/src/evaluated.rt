@@ -1,8 +1,8 @@
 // What an expression comes to, before it is known whether its value is asked for or what it holds.
 ghost use Rattle.std.specs.Prelude.{◌≡◌, Some, option_map, IfOk};
 ghost use Rattle.pgo_base.specs.View.{data_of};
-ghost use Rattle.pgo_model.specs.Val.{word_sem};
-ghost use Rattle.pgo_eval.specs.HeldView.{held_data, evaluated_sem};
+ghost use Rattle.pgo_model.specs.Val.{Sem, word_sem};
+ghost use Rattle.pgo_eval.specs.HeldView.{held_data, evaluated_sem, sem_of};
 
 use crate::answers::held_or_none;
 use crate::held::Held;
@@ -58,6 +58,19 @@ impl<'a> Evaluated<'a> {
             Evaluated::Product(factors) => is_in_product(alloc, x, &factors),
             Evaluated::Records(fields) => is_in_records(alloc, x, fields),
         }
+    }
+}
+
+/// The value of what an expression comes to.
+pub fn value_held<'a>(
+    alloc: Global,
+    v: Result<Option<Evaluated<'a>>, AllocError>,
+) -> Result<Option<Held<'a>>, AllocError>
+    ensures { (m : Sem) → IfOk v.entry (λ o. sem_of o ≡ m) → IfOk result (λ h. option_map held_data h ≡ m.value) }
+{
+    match v? {
+        Some(v) => v.into_held(alloc),
+        None => Ok(None),
     }
 }
 

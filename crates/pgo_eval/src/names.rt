@@ -97,7 +97,7 @@ fn called_value<'a>(
 
 /// The newest definition of a name on these arguments.
 #[cycle(evaluate)]
-fn applied<'a>(
+pub fn applied<'a>(
     alloc: Global,
     x: &Text,
     args: Vec<Value>,

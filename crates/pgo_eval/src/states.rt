@@ -34,26 +34,40 @@ pub fn unchanged_value(names: &[Text], s: &Scope<'_, '_, '_>) -> Option<Value>
     }
 }
 
-/// Whether all of these have the same value in both states, where all are variables of both.
+/// Whether all of these have the same value in both states, where all are variables of both. Each is looked for first behind
+/// the one before it.
 fn same_variables(names: &[Text], now: &State, next: &State) -> Option<bool>
     ensures { result ≡ same_variables names.now now.now next.now }
 {
     let mut all = true;
+    let mut first = (0, 0);
     for x in names {
-        match same_variable(x, now, next) {
+        match same_variable(x, now, next, first) {
             None => return None,
-            Some(same) => all = all && same,
+            Some((same, behind)) => {
+                all = all && same;
+                first = behind;
+            }
         }
     }
     Some(all)
 }
 
-/// Whether a variable has the same value in both states, where it is a variable of both.
-fn same_variable(x: &Text, now: &State, next: &State) -> Option<bool>
-    ensures { result ≡ same_variable now.now next.now x.now }
+/// Whether a variable has the same value in both states, where it is a variable of both, and the places behind it. It is
+/// looked for at these places first.
+fn same_variable(
+    x: &Text,
+    now: &State,
+    next: &State,
+    first: (usize, usize),
+) -> Option<(bool, (usize, usize))>
+    ensures { option_map (λ r. r.0) result ≡ same_variable now.now next.now x.now }
 {
-    match (now.find(x), next.find(x)) {
-        (Some(v), Some(w)) => Some(compare(v, w).is_eq()),
+    match (now.find_near(x, first.0), next.find_near(x, first.1)) {
+        (Some((i, v)), Some((j, w))) => {
+            let behind = (i.saturating_add(1), j.saturating_add(1));
+            Some((compare(v, w).is_eq(), behind))
+        }
         _ => None,
     }
 }

@@ -8,5 +8,5 @@ use pgo_base::text::Text;
 pub fn is_word(x: &Text, word: &[u8]) -> bool
     ensures { result ≡ same_name x.now word.now }
 {
-    x.as_bytes().cmp(word).is_eq()
+    x.as_bytes() == word
 }

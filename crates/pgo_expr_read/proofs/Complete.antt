@@ -9,7 +9,7 @@ use Rattle.pgo_expr_read.specs.Kinds as kind
 use Rattle.pgo_expr_read.specs.Spells.{Spelled, Range, Item, Behind, Items}
 use Rattle.pgo_expr_read.specs.Spells as s
 use Rattle.pgo_expr_read.proofs.Reach.{Reaches}
-use Rattle.pgo_expr_read.proofs.ReachLists.{ReachesRange, ReachesItem, ReachesBehind, ReachesItems, ReachesJoined, reach_any, reach_endless, reach_tree, reach_item, reach_binder, reach_field, reach_definition, reach_arm, reach_index_step, reach_field_step, reach_update, reach_none, reach_one_more, reach_items, reach_joined_none, reach_joined_more, reach_junction, reach_parens}
+use Rattle.pgo_expr_read.proofs.ReachLists.{ReachesRange, ReachesItem, ReachesBehind, ReachesItems, ReachesJoined, reach_any, reach_endless, reach_tree, reach_item, reach_binder, reach_field, reach_definition, reach_arm, reach_index_step, reach_tuple_step, reach_field_step, reach_update, reach_none, reach_one_more, reach_items, reach_joined_none, reach_joined_more, reach_junction, reach_parens}
 use Rattle.pgo_expr_read.proofs.ReachForms.{reach_name, reach_primed, reach_number, reach_text, reach_truth, reach_at, reach_boolean, reach_variable, reach_value, reach_call, reach_unary, reach_operation, reach_member, reach_index, reach_select}
 use Rattle.pgo_expr_read.proofs.ReachBrackets.{reach_no_tuple, reach_no_set, reach_tuple, reach_filter, reach_set, reach_image, reach_fun_of, reach_record_of, reach_record_set, reach_fun_set, reach_except, reach_unchanged, reach_quantified, reach_choose, reach_cond_of, reach_let_in, reach_case_of, reach_case_other}
 
@@ -63,6 +63,7 @@ mutual
   reach_thing (s.definition d) = reach_definition (reach d)
   reach_thing (s.arm d d') = reach_arm (reach d) (reach d')
   reach_thing (s.index_step d) = reach_index_step (reach d)
+  reach_thing (s.tuple_step d b) = reach_tuple_step b (reach d) (reach_behind b)
   reach_thing s.field_step = reach_field_step
   reach_thing (s.update m d) = reach_update m (reach_list m) (reach d)
 

@@ -3,7 +3,7 @@ use Rattle.std.proofs.Common.{◌≡◌, ℕ, zero, suc, ◌+◌, ◌<◌, ◌�
 use Rattle.std.proofs.lemmas.List.{append_assoc, append-nil, length-append}
 use Rattle.pgo_base.specs.declared.expr.Infix.TheVariants as op
 use Rattle.pgo_base.specs.declared.expr.Word.{Word}
-use Rattle.pgo_base.specs.Tree.{Tree}
+use Rattle.pgo_base.specs.Tree.{Tree, trees}
 use Rattle.pgo_base.specs.Tree as e
 use Rattle.pgo_lexer.specs.declared.symbol.Bracket.TheVariants as bracket
 use Rattle.pgo_lexer.specs.declared.symbol.Junction.{Junction}
@@ -27,9 +27,9 @@ use Rattle.pgo_expr_read.specs.Kinds as kind
 use Rattle.pgo_expr_read.specs.Table.{low}
 use Rattle.pgo_expr_read.specs.Spells.{Spelled, Range, Item, Behind, Items, infix_of, joined}
 use Rattle.pgo_expr_read.specs.Spells as s
-use Rattle.pgo_expr_read.specs.Reading.{◌>>=◌, ◌>>◌, Parser, Outcome, pure, past, made, part, pushed, joins, folded, goes, pass, more_at, one_more, listed_at, leaf, field_step, index_step, range_by, range, binder, field, arm, step, update, item, items, one_more_joined, close_by, level, expr}
+use Rattle.pgo_expr_read.specs.Reading.{◌>>=◌, ◌>>◌, Parser, Outcome, pure, past, made, part, pushed, joins, folded, goes, pass, more_at, one_more, listed_at, leaf, field_step, one_step, tuple_step, index_step, range_by, range, binder, field, arm, step, update, item, items, one_more_joined, close_by, level, expr}
 use Rattle.pgo_expr_read.specs.Fronts.{Ended}
-use Rattle.pgo_expr_read.proofs.Measures.{thing_height, things_height, of_steps}
+use Rattle.pgo_expr_read.proofs.Measures.{thing_height, things_height, of_trees, of_steps}
 use Rattle.pgo_expr_read.proofs.Steps.{next_step, fold_ends, fold_goes}
 use Rattle.pgo_expr_read.proofs.Reach.{read, Quiet, Stops, Reaches, expect_gives, node_gives, stops, inside, unroll, names_give, pass_gives}
 use Rattle.pgo_expr_read.proofs.Heads.{starts, not_endless, not_other}
@@ -117,7 +117,7 @@ reach_arm {f} {g} {o} {u} {xs} {ys} {a} {c} r r' l rest h ends =
     )
 
 pub reach_index_step : {f : Form} {o : Ending} {ts : List Token} {a : Tree} → Reaches f o ts a → ReachesItem kind.step ending.Closed (t.Symbol (sign.Open bracket.Square) ∷ (ts ++ (t.Symbol (sign.Close bracket.Square) ∷ []))) a
-unfolding step index_step past
+unfolding step index_step one_step past
 reach_index_step {f} {o} {ts} {a} r l rest h ends = (
   form.Closed,
   ap (λ i. step (suc l) (expr l) (t.Symbol (sign.Open bracket.Square) ∷ i)) (append_assoc ts (t.Symbol (sign.Close bracket.Square) ∷ []) rest)
@@ -156,6 +156,7 @@ some_item (s.field d) = omega arith
 some_item (s.definition d) = omega arith
 some_item (s.arm d d') = omega arith
 some_item (s.index_step d) = omega arith
+some_item (s.tuple_step d b) = omega arith
 some_item s.field_step = omega arith
 some_item (s.update m d) = omega arith
 
@@ -168,6 +169,7 @@ goes_item rest (s.field d) = refl
 goes_item rest (s.definition d) = refl
 goes_item rest (s.arm {xs = xs} {ys = ys} d d') = ap not (ap (λ i. sees sign.Other i) (append_assoc xs (t.Symbol sign.Arrow ∷ ys) rest) ∙ not_other (t.Symbol sign.Arrow ∷ (ys ++ rest)) (starts d))
 goes_item rest (s.index_step d) = refl
+goes_item rest (s.tuple_step d b) = refl
 goes_item rest s.field_step = refl
 goes_item rest (s.update m d) = refl
 
@@ -182,6 +184,7 @@ follows_item ending.Closed rest m (s.arm d d') = refl
 follows_item ending.Open rest m (s.arm d d') = refl
 follows_item ending.Case rest m (s.arm d d') = cc
 follows_item o rest m (s.index_step d) = tt
+follows_item o rest m (s.tuple_step d b) = tt
 follows_item o rest m s.field_step = tt
 follows_item o rest m (s.update m' d) = tt
 
@@ -231,6 +234,36 @@ reach_items {k} {o} {u} {xs} {ys} {a} {as'} d b r m l rest hs g ends =
     ap (λ i. items (suc l) (expr l) k i) (append_assoc xs ys rest)
     ∙ next_step _ _ _ _ _ first.1 (m l (length (ys ++ rest)) (max 0 (thing_height k a)) (a ∷ []) rest hb (omega (arith, length-append ys rest)) g ends)
     ∙ ap (λ z. Some (part u z (a ∷ as'), rest)) high
+
+-- ---- several indices
+
+-- the first comma
+comma_next : {o u : Ending} {ys : List Token} {c : Tree} {bs : List Tree} (rest : List Token) → Behind kind.tree o u ys (c ∷ bs) → sees sign.Comma (ys ++ rest) ≡ true
+comma_next rest (s.one_more m d b) = refl
+
+index_ended : {o u : Ending} {ys : List Token} {c : Tree} {bs : List Tree} (rest : List Token) → Behind kind.tree o u ys (c ∷ bs) → look.after (ys ++ rest) ≡ next.End
+index_ended rest (s.one_more m d b) = refl
+
+pub reach_tuple_step : {f : Form} {o u : Ending} {xs ys : List Token} {a c : Tree} {bs : List Tree} → Behind kind.tree o u ys (c ∷ bs) → Reaches f o xs a → ReachesBehind kind.tree o u ys (c ∷ bs)
+    → ReachesItem kind.step ending.Closed (t.Symbol (sign.Open bracket.Square) ∷ (xs ++ (ys ++ (t.Symbol (sign.Close bracket.Square) ∷ [])))) (e.tuple (trees (a ∷ (c ∷ bs))))
+unfolding step index_step tuple_step past
+reach_tuple_step {f} {o} {u} {xs} {ys} {a} {c} {bs} b r m l rest h ends =
+    let up = of_trees (c ∷ bs) in
+    let j = t.Symbol (sign.Close bracket.Square) ∷ rest in
+    let ha : height a ≤ l = omega (arith, h) in
+    let hb : things_height kind.tree (c ∷ bs) ≤ l = omega (arith, h, up) in
+    let low : height (e.tuple (trees (a ∷ (c ∷ bs)))) ≤ suc l = omega (arith, h) in
+    let flat : (xs ++ (ys ++ (t.Symbol (sign.Close bracket.Square) ∷ []))) ++ rest ≡ xs ++ (ys ++ j) = simp append_assoc in
+    let high : max (max 0 (height a)) (things_height kind.tree (c ∷ bs)) + 1 ≡ height (e.tuple (trees (a ∷ (c ∷ bs)))) = omega (arith, up) in (
+      form.Closed,
+      ap (λ i. step (suc l) (expr l) (t.Symbol (sign.Open bracket.Square) ∷ i)) flat
+          ∙ next_step _ _ _ _ _ (expect_gives (sign.Open bracket.Square) (xs ++ (ys ++ j)))
+          (next_step _ _ _ _ _ (inside f o xs a r l (ys ++ j) ha (ended o _ (index_ended j b)))
+          (ap (λ z. cond z (tuple_step (suc l) (expr l) (read f o a) (ys ++ j)) (one_step (suc l) (expr l) (read f o a) (ys ++ j))) (comma_next j b)
+          ∙ next_step _ _ _ _ _ (m l (length (ys ++ j)) (max 0 (height a)) (a ∷ []) j hb (omega (arith, length-append ys j)) refl tt)
+          (next_step _ _ _ _ _ (expect_gives (sign.Close bracket.Square) rest)
+          (node_gives (suc l) form.Closed ending.Closed (max (max 0 (height a)) (things_height kind.tree (c ∷ bs))) (e.tuple (trees (a ∷ (c ∷ bs)))) rest high low)))),
+    )
 
 -- ---- junction lists
 

@@ -14,9 +14,11 @@ use Rattle.pgo_lexer.specs.declared.symbol.Symbol.TheVariants as y
 use Rattle.pgo_lexer.specs.declared.symbol.Symbol.{Symbol}
 use Rattle.pgo_lexer.specs.declared.token.Token.{Token}
 use Rattle.pgo_lexer.specs.declared.token.Token.TheVariants as t
+use Rattle.pgo_expr_read.specs.declared.table.Form.{Form}
 use Rattle.pgo_expr_read.specs.declared.table.Form.TheVariants as form
 use Rattle.pgo_expr_read.specs.declared.lookahead.Square.{Square}
 use Rattle.pgo_expr_read.specs.declared.lookahead.Square.TheVariants as square
+use Rattle.pgo_expr_read.specs.declared.read.Ending.{Ending}
 use Rattle.pgo_expr_read.specs.declared.read.Ending.TheVariants as ending
 use Rattle.pgo_expr_read.specs.declared.read.Read.{Read}
 use Rattle.pgo_expr_read.specs.Lookahead.{sees, begins_binder, form_of_square, square_of, is_name, endless_of}
@@ -24,9 +26,9 @@ use Rattle.pgo_expr_read.specs.Heights.{height}
 use Rattle.pgo_expr_read.specs.Kinds.{Kind, ItemOf, Name, variable_name, value_name, is_case}
 use Rattle.pgo_expr_read.specs.Kinds as kind
 use Rattle.pgo_expr_read.specs.Table.{prefix_least}
-use Rattle.pgo_expr_read.specs.Spells.{Spelled, Item, prefix_token, opened}
+use Rattle.pgo_expr_read.specs.Spells.{Spelled, Item, Behind, prefix_token, opened}
 use Rattle.pgo_expr_read.specs.Spells as s
-use Rattle.pgo_expr_read.specs.Reading.{Parser, past, expect, name, text, one_of, folded, one_more, listed, names, node, leaf, field_step, index_step, some_tuple, plain_name, some_set, last_arm, range_by, range, binder, field, arm, step, update, item, items, prefixed, call, named_form, tuple, filter, image, members, other_set, set, fun_of, record_of, record_set, fun_set, except, other_square, square_by, square_form, quantified, choose, cond_of, case_other, case_form, let_in, unchanged, leaf_at, text_form, primary}
+use Rattle.pgo_expr_read.specs.Reading.{Parser, past, expect, name, text, one_of, folded, one_more, listed, names, node, leaf, field_step, one_step, tuple_step, index_step, some_tuple, plain_name, some_set, last_arm, range_by, range, binder, field, arm, step, update, item, items, prefixed, call, named_form, tuple, filter, image, members, other_set, set, fun_of, record_of, record_set, fun_set, except, other_square, square_by, square_form, quantified, choose, cond_of, case_other, case_form, let_in, unchanged, leaf_at, text_form, primary}
 use Rattle.pgo_expr_read.specs.Signs.{is_sign}
 use Rattle.pgo_expr_read.proofs.Measures.{things_height, of_trees, of_steps, of_bound, of_fields, of_definitions, of_arms, of_paths}
 use Rattle.pgo_expr_read.proofs.Steps.{bind_then, some_pair}
@@ -140,16 +142,57 @@ module _ (limit below : ℕ) (ex : ℕ → Parser (Read Tree)) (S : Sound below 
       let P : Read Tree → Type 0 = λ x. GoodItem kind.step (t.Symbol y.Dot ∷ i1) x rest in
       subst P q.0 (record { front = (t.Symbol y.Dot ∷ (t.Name x ∷ [])); split = ap (λ z. t.Symbol y.Dot ∷ z) ((name_some i1 x i2 h1) ∙ ap (λ z. t.Name x ∷ z) q.1); item = s.field_step; height = refl }))
 
+  members_height : (a : Tree) (h m : ℕ) (others all : List Tree) → h ≡ height a → m ≡ max (max 0 h) (things_height kind.tree others) → all ≡ a ∷ others → m + 1 ≡ height (e.set_of (trees all))
+  members_height a h m others all x y z =
+      let up = of_trees others in
+      let P : List Tree → Type 0 = λ l. m + 1 ≡ height (e.set_of (trees l)) in
+      subst P (sym z) (omega (arith, x, y, up))
+
+  -- what stands behind the first index, where a comma does
+  tuple_of : {f : Form} {o u : Ending} {xs ys : List Token} {a : Tree} {bs : List Tree} (rest : List Token) → Spelled f o xs a → Behind kind.tree o u ys bs → sees y.Comma (ys ++ (t.Symbol (y.Close bracket.Square) ∷ rest)) ≡ true
+      → Item kind.step ending.Closed (t.Symbol (y.Open bracket.Square) ∷ (xs ++ (ys ++ (t.Symbol (y.Close bracket.Square) ∷ [])))) (e.tuple (trees (a ∷ bs)))
+  tuple_of rest d s.none h = cc
+  tuple_of rest d (s.one_more m i b) h = s.tuple_step d (s.one_more m i b)
+
+  sound_tuple_step : (i i0 : List Token) (c : Read Tree) → Good below i c i0 → sees y.Comma i0 ≡ true → (r : Read Tree) (rest : List Token) → tuple_step limit ex c i0 ≡ Some (r, rest) → GoodItem kind.step (t.Symbol (y.Open bracket.Square) ∷ i) r rest
+  unfolding tuple_step
+  sound_tuple_step i i0 c gf comma r rest got =
+      bind_then (folded (sees y.Comma) (one_more kind.tree (ex 0)) (length i0) (one_of c) i0) _ _ _ got (λ all i1 ha got.
+      let m = sound_behind kind.tree (ex 0) sound_tree (length i0) (one_of c) i0 all i1 ha in
+      bind_then (expect (y.Close bracket.Square) i1) _ _ _ got (λ u i2 hc got.
+      let close = expect_some (y.Close bracket.Square) i1 u i2 hc in
+      let g = give_some _ _ _ _ got in
+      let q = raised_some limit form.Closed ending.Closed all.height (e.tuple (trees all.tree)) r g.0 in
+      let split0 : i0 ≡ m.front ++ (t.Symbol (y.Close bracket.Square) ∷ i2) = m.split ∙ ap (λ z. m.front ++ z) close in
+      let C : List Token → Type 0 = λ z. sees y.Comma z ≡ true in
+      let Q : List Tree → Type 0 = λ z. Item kind.step ending.Closed (t.Symbol (y.Open bracket.Square) ∷ (gf.front ++ (m.front ++ (t.Symbol (y.Close bracket.Square) ∷ [])))) (e.tuple (trees z)) in
+      let P : Read Tree → Type 0 = λ x. GoodItem kind.step (t.Symbol (y.Open bracket.Square) ∷ i) x rest in
+      subst P (sym q.1) (record {
+        front = t.Symbol (y.Open bracket.Square) ∷ (gf.front ++ (m.front ++ (t.Symbol (y.Close bracket.Square) ∷ [])));
+        split = ap (λ z. t.Symbol (y.Open bracket.Square) ∷ z) (gf.split ∙ ap (λ z. gf.front ++ z) (split0 ∙ ap (λ z. m.front ++ (t.Symbol (y.Close bracket.Square) ∷ z)) g.1)) ∙ simp append_assoc;
+        item = subst Q (sym m.tree) (tuple_of i2 gf.spelled m.behind (subst C split0 comma));
+        height = members_height c.tree c.height all.height m.others all.tree gf.height m.height m.tree;
+      })))
+
+  sound_one_step : (i i0 : List Token) (c : Read Tree) → Good below i c i0 → (r : Read Tree) (rest : List Token) → one_step limit ex c i0 ≡ Some (r, rest) → GoodItem kind.step (t.Symbol (y.Open bracket.Square) ∷ i) r rest
+  unfolding one_step
+  sound_one_step i i0 c gf r rest got =
+      bind_then (expect (y.Close bracket.Square) i0) _ _ _ got (λ u i1 hc got.
+      let q = some_pair _ _ _ _ got in
+      let P : Read Tree → Type 0 = λ x. GoodItem kind.step (t.Symbol (y.Open bracket.Square) ∷ i) x rest in
+      subst P q.0 (record { front = (t.Symbol (y.Open bracket.Square) ∷ (gf.front ++ (t.Symbol (y.Close bracket.Square) ∷ []))); split = ap (λ z. t.Symbol (y.Open bracket.Square) ∷ z) (gf.split ∙ ap (λ z. gf.front ++ z) ((expect_some (y.Close bracket.Square) i0 u i1 hc) ∙ ap (λ z. t.Symbol (y.Close bracket.Square) ∷ z) q.1)) ∙ simp append_assoc; item = s.index_step gf.spelled; height = gf.height }))
+
+  index_by : (b : Bool) (i i0 : List Token) (c : Read Tree) → Good below i c i0 → sees y.Comma i0 ≡ b → (r : Read Tree) (rest : List Token) → cond b (tuple_step limit ex c i0) (one_step limit ex c i0) ≡ Some (r, rest) → GoodItem kind.step (t.Symbol (y.Open bracket.Square) ∷ i) r rest
+  index_by true i i0 c gf comma r rest got = sound_tuple_step i i0 c gf comma r rest got
+  index_by false i i0 c gf comma r rest got = sound_one_step i i0 c gf r rest got
+
   sound_index_step : (i1 : List Token) (r : Read Tree) (rest : List Token) → index_step limit ex i1 ≡ Some (r, rest) → GoodItem kind.step i1 r rest
   unfolding index_step
   sound_index_step i1 r rest got =
-      bind_then (expect (y.Open bracket.Square) i1) _ _ _ got (λ u1 i2 h1 got.
-      bind_then (ex 0 i2) _ _ _ got (λ a i3 h2 got.
-      let ga = S 0 i2 a i3 h2 in
-      bind_then (expect (y.Close bracket.Square) i3) _ _ _ got (λ u3 i4 h3 got.
-      let q = some_pair _ _ _ _ got in
-      let P : Read Tree → Type 0 = λ x. GoodItem kind.step i1 x rest in
-      subst P q.0 (record { front = (t.Symbol (y.Open bracket.Square) ∷ (ga.0.front ++ (t.Symbol (y.Close bracket.Square) ∷ []))); split = ((expect_some (y.Open bracket.Square) i1 _ i2 h1) ∙ ap (λ z. t.Symbol (y.Open bracket.Square) ∷ z) (ga.0.split ∙ ap (λ z. ga.0.front ++ z) ((expect_some (y.Close bracket.Square) i3 _ i4 h3) ∙ ap (λ z. t.Symbol (y.Close bracket.Square) ∷ z) q.1))) ∙ simp append_assoc; item = s.index_step ga.0.spelled; height = ga.0.height }))))
+      bind_then (expect (y.Open bracket.Square) i1) _ _ _ got (λ u i2 ho got.
+      bind_then (ex 0 i2) _ _ _ got (λ c i3 hc got.
+      let P : List Token → Type 0 = λ z. GoodItem kind.step z r rest in
+      subst P (sym (expect_some (y.Open bracket.Square) i1 u i2 ho)) (index_by (sees y.Comma i3) i2 i3 c (S 0 i2 c i3 hc).0 refl r rest got)))
 
   sound_step : (i : List Token) (r : Read Tree) (rest : List Token) → step limit ex i ≡ Some (r, rest) → GoodItem kind.step i r rest
   unfolding step
@@ -263,12 +306,6 @@ module _ (limit below : ℕ) (ex : ℕ → Parser (Read Tree)) (S : Sound below 
       let ga = sound_range i3 a i4 h3 in
       bind_then (expect (y.Close bracket.Curly) i4) _ _ _ got (λ u4 i5 h4 got.
       good_raised limit form.Closed ending.Closed _ _ r (t.Symbol (y.Open bracket.Curly) ∷ (gf.front ++ (t.Symbol y.Colon ∷ (t.Name x ∷ (t.Symbol (y.Infix op.In) ∷ (ga.front ++ (t.Symbol (y.Close bracket.Curly) ∷ []))))))) (t.Symbol (y.Open bracket.Curly) ∷ i) i5 rest got (ap (λ z. t.Symbol (y.Open bracket.Curly) ∷ z) (gf.split ∙ ap (λ z. gf.front ++ z) (split ∙ ap (λ z. t.Symbol y.Colon ∷ z) ((name_some i1 x i2 h1) ∙ ap (λ z. t.Name x ∷ z) ((expect_some (y.Infix op.In) i2 _ i3 h2) ∙ ap (λ z. t.Symbol (y.Infix op.In) ∷ z) (ga.split ∙ ap (λ z. ga.front ++ z) ((expect_some (y.Close bracket.Curly) i4 _ i5 h4) ∙ ap (λ z. t.Symbol (y.Close bracket.Curly) ∷ z) refl)))))) ∙ simp append_assoc) (s.image gf.apart gf.spelled ga.range) (omega (arith, gf.height, ga.height))))))
-
-  members_height : (a : Tree) (h m : ℕ) (others all : List Tree) → h ≡ height a → m ≡ max (max 0 h) (things_height kind.tree others) → all ≡ a ∷ others → m + 1 ≡ height (e.set_of (trees all))
-  members_height a h m others all x y z =
-      let up = of_trees others in
-      let P : List Tree → Type 0 = λ l. m + 1 ≡ height (e.set_of (trees l)) in
-      subst P (sym z) (omega (arith, x, y, up))
 
   sound_members : (i i0 : List Token) (c : Read Tree) → Apart i c i0 → (r : Read Tree) (rest : List Token) → members limit ex c i0 ≡ Some (r, rest) → Good limit (t.Symbol (y.Open bracket.Curly) ∷ i) r rest
   unfolding members

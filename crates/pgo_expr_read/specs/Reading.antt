@@ -28,7 +28,7 @@ use Rattle.pgo_expr_read.specs.declared.read.Ending.{Ending}
 use Rattle.pgo_expr_read.specs.declared.read.Ending.TheVariants as ending
 use Rattle.pgo_expr_read.specs.declared.read.Read.{Read}
 use Rattle.pgo_expr_read.specs.Lookahead as look
-use Rattle.pgo_expr_read.specs.Lookahead.{sees_list_next, begins_binder, form_of_square, endless, has_mapped}
+use Rattle.pgo_expr_read.specs.Lookahead.{sees, sees_list_next, begins_binder, form_of_square, endless, has_mapped}
 use Rattle.pgo_expr_read.specs.Kinds.{Kind, ItemOf, Name, variable_name, value_name, is_case}
 use Rattle.pgo_expr_read.specs.Kinds as kind
 use Rattle.pgo_expr_read.specs.Spells.{applied, opened}
@@ -92,12 +92,23 @@ module _ (limit : ℕ) (ex : ℕ → Parser (Read Tree)) where
     x ← name
     pure (part ending.Closed 1 (e.text x))
 
+  unfoldable pub one_step : Read Tree → Parser (Read Tree)
+  one_step a = do
+    expect (sign.Close bracket.Square)
+    pure (part ending.Closed a.height a.tree)
+
+  -- several indices are a tuple
+  unfoldable pub tuple_step : Read Tree → Parser (Read Tree)
+  tuple_step first = do
+    all ← behind kind.tree (ex 0) (one_of first)
+    expect (sign.Close bracket.Square)
+    node ending.Closed all.height (e.tuple (trees all.tree))
+
   unfoldable pub index_step : Parser (Read Tree)
   index_step = do
     expect (sign.Open bracket.Square)
     a ← ex 0
-    expect (sign.Close bracket.Square)
-    pure (part ending.Closed a.height a.tree)
+    λ i. if sees sign.Comma i then tuple_step a i else one_step a i
 
   unfoldable pub step : Parser (Read Tree)
   step = do

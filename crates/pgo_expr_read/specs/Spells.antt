@@ -172,6 +172,9 @@ mutual
     definition : {x : Name} {f : Form} {o : Ending} {ts : List Token} {a : Tree} → Spelled f o ts a → Item kind.definition o (t.Name x ∷ (t.Symbol s.Defines ∷ ts)) (x, a)
     arm : {f g : Form} {o u : Ending} {xs ys : List Token} {a b : Tree} → Spelled f o xs a → Spelled g u ys b → Item kind.arm u (xs ++ (t.Symbol s.Arrow ∷ ys)) (a, b)
     index_step : {f : Form} {o : Ending} {ts : List Token} {a : Tree} → Spelled f o ts a → Item kind.step ending.Closed (t.Symbol (s.Open bracket.Square) ∷ (ts ++ (t.Symbol (s.Close bracket.Square) ∷ []))) a
+    -- `[a, b]`: the tuple of these
+    tuple_step : {f : Form} {o u : Ending} {xs ys : List Token} {a b : Tree} {bs : List Tree} → Spelled f o xs a → Behind kind.tree o u ys (b ∷ bs)
+        → Item kind.step ending.Closed (t.Symbol (s.Open bracket.Square) ∷ (xs ++ (ys ++ (t.Symbol (s.Close bracket.Square) ∷ [])))) (e.tuple (trees (a ∷ (b ∷ bs))))
     field_step : {x : Name} → Item kind.step ending.Closed (t.Symbol s.Dot ∷ (t.Name x ∷ [])) (e.text x)
     update : {f : Form} {o u : Ending} {xs ys : List Token} {as' : List Tree} {a : Tree} → Items kind.step u xs as' → Spelled f o ys a
         → Item kind.update o (t.Symbol s.Bang ∷ (xs ++ (t.Symbol (s.Infix op.Equal) ∷ ys))) (as', a)

@@ -8,9 +8,9 @@ ghost use Rattle.pgo_expr_read.specs.Reading as spec;
 ghost use Rattle.pgo_expr_read.specs.Reading.{Reads};
 
 use crate::cursor::Cursor;
-use crate::lists::{Between, OneExpr, OneField, is_case, names, pushed};
+use crate::lists::{Between, OneField, is_case, names};
 use crate::lookahead::{PrimaryForm, Square};
-use crate::read::{Ending, Read, part};
+use crate::read::{Ending, Read};
 use crate::table::{Form, prefix_least};
 use pgo_base::expr::{Arms, Expr, Exprs, Infix, Named, Prefix, Quantifier, Sub, Word};
 use pgo_base::text::Text;
@@ -218,9 +218,7 @@ impl<F: Fn(Global, &mut Cursor<'_>, u32, u8) -> Result<Read<Sub>, TextStop>> Gra
         requires { Nests self.now.below (F.pre self.now.expr) (F.post self.now.expr) }
         ensures { Reads (spec.members self.now.limit (spec.expr self.now.below) first cursor.old) result cursor.new }
     {
-        let none = part(Ending::Closed, 0, Exprs::new(self.alloc));
-        let one = pushed::<OneExpr>(none, first)?;
-        let all = self.behind(cursor, &OneExpr, Between::Comma, one)?;
+        let all = self.trees_behind(cursor, first)?;
         cursor.expect(Symbol::Close(Bracket::Curly))?;
         self.node(cursor, Ending::Closed, all.height, Expr::SetOf(all.tree))
     }

@@ -254,7 +254,7 @@ impl Item for OneArm {
     }
 }
 
-/// A step of a path of EXCEPT: an index, or a field, which is the index that is a string of its name.
+/// A step of a path of EXCEPT: an index, or a field.
 pub struct OneStep;
 
 impl Item for OneStep {
@@ -266,21 +266,17 @@ impl Item for OneStep {
 
     ghost join = { λ xs x. xs ++ x ∷ [] };
 
-    #[tactic(auto, unfolding(crate::specs::Reading::step, crate::specs::Reading::field_step, crate::specs::Reading::index_step))]
+    #[tactic(auto, unfolding(crate::specs::Reading::step))]
     fn read<F: Fn(Global, &mut Cursor<'_>, u32, u8) -> Result<Read<Sub>, TextStop>>(
         &self,
         grammar: &Grammar<F>,
         cursor: &mut Cursor<'_>,
     ) -> Result<Read<Sub>, TextStop> {
         if cursor.eat(Symbol::Dot) {
-            let name = cursor.name(grammar.alloc)?;
-            let tree = Sub::new(grammar.alloc, Expr::Text(name))?;
-            return Ok(part(Ending::Closed, 1, tree));
+            grammar.field_step(cursor)
+        } else {
+            grammar.index_step(cursor)
         }
-        cursor.expect(Symbol::Open(Bracket::Square))?;
-        let a = grammar.expr(cursor, 0)?;
-        cursor.expect(Symbol::Close(Bracket::Square))?;
-        Ok(part(Ending::Closed, a.height, a.tree))
     }
 
     fn push(list: &mut Exprs, one: Sub) -> Result<(), AllocError> {
@@ -397,6 +393,20 @@ impl<F: Fn(Global, &mut Cursor<'_>, u32, u8) -> Result<Read<Sub>, TextStop>> Gra
         self.items(cursor, &OneExpr, Between::Comma, Exprs::new(self.alloc))
     }
 
+    /// The first of some expressions, and those behind it, each behind a comma.
+    pub fn trees_behind(
+        &self,
+        cursor: &mut Cursor<'_>,
+        first: Read<Sub>,
+    ) -> Result<Read<Exprs>, TextStop>
+        requires { Nests self.now.below (F.pre self.now.expr) (F.post self.now.expr) }
+        ensures { Reads (spec.behind kind.tree (spec.expr self.now.below 0) (spec.one_of first) cursor.old) result cursor.new }
+    {
+        let none = part(Ending::Closed, 0, Exprs::new(self.alloc));
+        let one = pushed::<OneExpr>(none, first)?;
+        self.behind(cursor, &OneExpr, Between::Comma, one)
+    }
+
     /// Binders with commas between them.
     pub fn binders(&self, cursor: &mut Cursor<'_>) -> Result<Read<Binders>, TextStop>
         requires { Nests self.now.below (F.pre self.now.expr) (F.post self.now.expr) }
@@ -424,6 +434,42 @@ impl<F: Fn(Global, &mut Cursor<'_>, u32, u8) -> Result<Read<Sub>, TextStop>> Gra
         ensures { Reads (spec.items self.now.limit (spec.expr self.now.below) kind.arm cursor.old) result cursor.new }
     {
         self.items(cursor, &OneArm, Between::Arm, Arms::new(self.alloc))
+    }
+
+    /// A field, which is the index that is a string of its name.
+    #[tactic(auto, unfolding(crate::specs::Reading::field_step))]
+    fn field_step(&self, cursor: &mut Cursor<'_>) -> Result<Read<Sub>, TextStop>
+        ensures { Reads (spec.field_step self.now.limit (spec.expr self.now.below) cursor.old) result cursor.new }
+    {
+        let name = cursor.name(self.alloc)?;
+        let tree = Sub::new(self.alloc, Expr::Text(name))?;
+        Ok(part(Ending::Closed, 1, tree))
+    }
+
+    /// Several indices are the index that is their tuple.
+    #[tactic(auto, unfolding(crate::specs::Reading::tuple_step))]
+    fn tuple_step(&self, cursor: &mut Cursor<'_>, first: Read<Sub>) -> Result<Read<Sub>, TextStop>
+        requires { Nests self.now.below (F.pre self.now.expr) (F.post self.now.expr) }
+        ensures { Reads (spec.tuple_step self.now.limit (spec.expr self.now.below) first cursor.old) result cursor.new }
+    {
+        let all = self.trees_behind(cursor, first)?;
+        cursor.expect(Symbol::Close(Bracket::Square))?;
+        self.node(cursor, Ending::Closed, all.height, Expr::Tuple(all.tree))
+    }
+
+    /// An index, or several.
+    #[tactic(auto, unfolding(crate::specs::Reading::index_step, crate::specs::Reading::one_step))]
+    fn index_step(&self, cursor: &mut Cursor<'_>) -> Result<Read<Sub>, TextStop>
+        requires { Nests self.now.below (F.pre self.now.expr) (F.post self.now.expr) }
+        ensures { Reads (spec.index_step self.now.limit (spec.expr self.now.below) cursor.old) result cursor.new }
+    {
+        cursor.expect(Symbol::Open(Bracket::Square))?;
+        let a = self.expr(cursor, 0)?;
+        if cursor.sees(Symbol::Comma) {
+            return self.tuple_step(cursor, a);
+        }
+        cursor.expect(Symbol::Close(Bracket::Square))?;
+        Ok(part(Ending::Closed, a.height, a.tree))
     }
 
     /// The path of an update.

@@ -241,6 +241,7 @@ mutual
   formed_item (s.definition d) h = (h.0, formed d h.2.2)
   formed_item (s.arm {xs = xs} d d') h = let q = told_parts xs _ h in (formed d q.0, formed d' q.1.2)
   formed_item (s.index_step {ts = ts} d) h = formed d (told_parts ts _ h.2).0
+  formed_item (s.tuple_step {xs = xs} {ys = ys} {b = b} {bs = bs} d m) h = let q = told_parts xs _ h.2 in (formed d q.0, all_trees (b ∷ bs) (formed_behind m (told_parts ys _ q.1).0))
   formed_item (s.field_step {x = x}) h = words_printed x (name_bytes x h.2.0.0)
   formed_item (s.update {xs = xs} {as' = as'} m d) h = let q = told_parts xs _ h.2 in (some_steps as' (formed_items m q.0), formed d q.1.2)
 

@@ -1,6 +1,6 @@
 -- A text that is written piece by piece.
 use Rattle.std.proofs.Common.{◌≡◌, ◌≤◌, ℕ, ◌+◌, ◌-◌, List, length, take, drop, min, Option, ap, sym, ◌∙◌, subst, arith}
-use Rattle.std.proofs.Math.Seq.{take-take}
+use Rattle.std.proofs.Math.Seq.{take-length, take-take}
 use Rattle.std.proofs.lemmas.List.{take_min}
 use Rattle.pgo_io.specs.Sink.{Grows, GrowsByPrefix}
 use Rattle.pgo_io.proofs.Pieces.{grows_more}
@@ -17,3 +17,7 @@ piece_in_part a b c xs piece i e g (n, h) =
     let m = min n (length piece) in
     let below : m ≤ length piece = omega arith in
     (i + m, grows_more a b c xs i m g (subst (Grows b c) (sym (take_min n piece) ∙ ap (take m) e ∙ take-take m (length piece) (take (length xs - i) (drop i xs)) below) h))
+
+-- an output that took all of a text, and holds the same since, has taken a prefix of it
+pub all_in_part : (a b c : Option (List ℕ)) (xs : List ℕ) → Grows a b xs → c ≡ b → GrowsByPrefix a c xs
+all_in_part a b c xs g same = (length xs, subst (Grows a c) (sym (take-length xs)) (subst (λ t. Grows a t xs) (sym same) g))

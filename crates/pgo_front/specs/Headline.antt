@@ -30,54 +30,54 @@ pub record Headline {S O E : Type 0} (words : List (List ℕ)) (input : Stream S
   pub spent : s ≡ status.Spent → WritesBundle words (before input) 21 (before out) (after out)
   pub full : s ≡ status.Full → WritesBundle words (before input) 23 (before out) (after out)
   pub runs : (schedule : Schedule) (settings : Settings) (text : List ℕ) (consts : List (Name × Data))
-      → IsToldToExecute schedule settings words (before input) consts text → (Failed input → ⊥) → (Failed out → ⊥)
+      → IsToldToExecute schedule settings words (before input) consts text → ¬ Failed input → ¬ Failed out
       → length text ≤ most_bytes → IsExpandable text consts → IsRunOrNoMemory s
   -- Modules and expansions.
   pub translates : (target : Target) (text : List ℕ) (consts : List (Name × Data))
-      → IsToldToTranslate target words (before input) consts text → (Failed input → ⊥) → (Failed out → ⊥)
+      → IsToldToTranslate target words (before input) consts text → ¬ Failed input → ¬ Failed out
       → length text ≤ most_bytes → IsExpandable text consts → OrNoMemory s status.Fine
   -- Checks.
   pub not_a_run : s ≡ status.NotARun → WritesVerdict words (before input) IsBadVerdict (before out) (after out)
   pub is_run : (text : List ℕ) (m : Module) (consts : List (Name × Data)) (l : Log)
-      → IsToldToCheck words (before input) text → (Failed input → ⊥) → (Failed out → ⊥)
+      → IsToldToCheck words (before input) text → ¬ Failed input → ¬ Failed out
       → length text ≤ most_bundle_bytes → IsReadBundle text m consts l → IsRun m consts l.ids l.start l.entries → OrNoMemory s status.Fine
   pub is_no_run : (text : List ℕ) (m : Module) (consts : List (Name × Data)) (l : Log)
-      → IsToldToCheck words (before input) text → (Failed input → ⊥) → (Failed out → ⊥)
-      → length text ≤ most_bundle_bytes → IsReadBundle text m consts l → (IsRun m consts l.ids l.start l.entries → ⊥)
+      → IsToldToCheck words (before input) text → ¬ Failed input → ¬ Failed out
+      → length text ≤ most_bundle_bytes → IsReadBundle text m consts l → ¬ IsRun m consts l.ids l.start l.entries
       → OrNoMemory s status.NotARun
   -- The load.
-  pub loads : (size : ℕ) → AsksLoad size words → (Failed out → ⊥) → IsExpandable (load_text size) (load_consts size) → OrNoMemory s status.Fine
+  pub loads : (size : ℕ) → AsksLoad size words → ¬ Failed out → IsExpandable (load_text size) (load_consts size) → OrNoMemory s status.Fine
   -- What refuses: the words; of a run, of a translation and of a check the text; and the specification of a load.
   pub stopped : IsRefusal s → Stops words (before input) (input.faults input.old) (input.faults input.new) s
   pub usage : AsksNothing words → OrNoMemory s status.Usage
   pub too_long : (schedule : Schedule) (settings : Settings) (text : List ℕ) (consts : List (Name × Data))
-      → IsToldToExecute schedule settings words (before input) consts text → (Failed input → ⊥)
+      → IsToldToExecute schedule settings words (before input) consts text → ¬ Failed input
       → most_bytes < length text → OrNoMemory s status.TooLong
   pub refused : (schedule : Schedule) (settings : Settings) (text : List ℕ) (consts : List (Name × Data))
-      → IsToldToExecute schedule settings words (before input) consts text → (Failed input → ⊥)
-      → length text ≤ most_bytes → (IsExpandable text consts → ⊥) → OrNoMemory s status.SpecRefused
+      → IsToldToExecute schedule settings words (before input) consts text → ¬ Failed input
+      → length text ≤ most_bytes → ¬ IsExpandable text consts → OrNoMemory s status.SpecRefused
   pub too_long_to_translate : (target : Target) (text : List ℕ) (consts : List (Name × Data))
-      → IsToldToTranslate target words (before input) consts text → (Failed input → ⊥)
+      → IsToldToTranslate target words (before input) consts text → ¬ Failed input
       → most_bytes < length text → OrNoMemory s status.TooLong
   pub not_translated : (target : Target) (text : List ℕ) (consts : List (Name × Data))
-      → IsToldToTranslate target words (before input) consts text → (Failed input → ⊥)
-      → length text ≤ most_bytes → (IsExpandable text consts → ⊥) → OrNoMemory s status.SpecRefused
-  pub too_long_bundle : (text : List ℕ) → IsToldToCheck words (before input) text → (Failed input → ⊥)
+      → IsToldToTranslate target words (before input) consts text → ¬ Failed input
+      → length text ≤ most_bytes → ¬ IsExpandable text consts → OrNoMemory s status.SpecRefused
+  pub too_long_bundle : (text : List ℕ) → IsToldToCheck words (before input) text → ¬ Failed input
       → most_bundle_bytes < length text → OrNoMemory s status.TooLong
-  pub no_bundle : (text : List ℕ) → IsToldToCheck words (before input) text → (Failed input → ⊥)
+  pub no_bundle : (text : List ℕ) → IsToldToCheck words (before input) text → ¬ Failed input
       → length text ≤ most_bundle_bytes → IsNoBundle text → OrNoMemory s status.BadBundle
-  pub load_refused : (size : ℕ) → AsksLoad size words → (IsExpandable (load_text size) (load_consts size) → ⊥) → OrNoMemory s status.SpecRefused
+  pub load_refused : (size : ℕ) → AsksLoad size words → ¬ IsExpandable (load_text size) (load_consts size) → OrNoMemory s status.SpecRefused
   -- A refusal writes nothing but its line.
   pub kept : IsRefusal s → out.new ≡ out.old
-  pub says : (Failed err → ⊥) → SaysLine s (before err) (after err)
-  pub says_refusal : s ≡ status.SpecRefused → (Failed err → ⊥) → SaysRefusal words (before input) (before err) (after err)
-  pub says_bundle : s ≡ status.BadBundle → (Failed err → ⊥) → SaysBundleLine (before input) (before err) (after err)
+  pub says : ¬ Failed err → SaysLine s (before err) (after err)
+  pub says_refusal : s ≡ status.SpecRefused → ¬ Failed err → SaysRefusal words (before input) (before err) (after err)
+  pub says_bundle : s ≡ status.BadBundle → ¬ Failed err → SaysBundleLine (before input) (before err) (after err)
   -- A failure of the input or the output is never passed over.
   pub read_failed : (s ≡ status.ReadFault) ⊎ (input.faults input.new ≡ input.faults input.old)
   pub write_failed : (s ≡ status.WriteFault) ⊎ (out.faults out.new ≡ out.faults out.old)
   pub write_fault : s ≡ status.WriteFault → Failed out
   pub prefix : s ≡ status.WriteFault → WritesPrefix words (before input) (before out) (after out)
   -- What is read to its end, what isn't read, and where nothing is said.
-  pub ended : (AsksSomeLoad words → ⊥) → ReadsAll s → IsAtEnd (before input) (after input)
+  pub ended : ¬ AsksSomeLoad words → ReadsAll s → IsAtEnd (before input) (after input)
   pub unread : ReadsNothing words → input.new ≡ input.old
   pub silent : IsSilent s → err.new ≡ err.old

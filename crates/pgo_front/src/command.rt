@@ -39,7 +39,8 @@ use std::alloc::Global;
 ///   from N, with I instances and S entries, whose bundle is judged a run. No input is read.
 ///
 /// The words come first, then the input is read to its end, then the text is read, then the run, the check or the translation
-/// is made, and only then is the output written, line by line. A refusal puts its one line on `err`, whose faults change no status.
+/// is made, and only then is the output written, line by line, and then flushed. A refusal puts its one line on `err`, whose faults
+/// change no status.
 /// The specification of a load may be refused as one of the input may: with `SpecRefused` and its line. The statuses are those of
 /// `Status`. This project's choice.
 pub fn pgo<S: Source, O: Sink, E: Sink>(
@@ -90,8 +91,19 @@ fn write_end<O: Sink>(made: Result<Output, Ended>, out: &mut O) -> Ended
     }
 }
 
-/// Writes lines or a text, one piece a line.
+/// Writes lines or a text, and hands on what the output has kept back of them.
 fn write_made<O: Sink>(out: &mut O, written: &Written) -> Result<(), Failed>
+    ensures all { OnOk result (Grows (O.held out.old) (O.held out.new) (bytes_of written.now)) }
+    ensures prefix { OnErr result (GrowsByPrefix (O.held out.old) (O.held out.new) (bytes_of written.now)) }
+    ensures cause { OnErr result (Rose (O.faults out.old) (O.faults out.new)) }
+    ensures steady { OnOk result (O.faults out.new ≡ O.faults out.old) }
+{
+    write_pieces(out, written)?;
+    out.flush()
+}
+
+/// Writes lines or a text, one piece a line.
+fn write_pieces<O: Sink>(out: &mut O, written: &Written) -> Result<(), Failed>
     ensures all { OnOk result (Grows (O.held out.old) (O.held out.new) (bytes_of written.now)) }
     ensures prefix { OnErr result (GrowsByPrefix (O.held out.old) (O.held out.new) (bytes_of written.now)) }
     ensures cause { OnErr result (Rose (O.faults out.old) (O.faults out.new)) }

@@ -1,4 +1,4 @@
-ghost use Rattle.std.specs.Prelude.{◌≡◌, ◌-◌, ◌≤◌, ◌⊎◌, ◌↔◌, [], min, length, take, ◌++◌, Some, IsTrue, IsErr, IfOk, OnOk, OnErr};
+ghost use Rattle.std.specs.Prelude.{◌≡◌, ◌-◌, ◌≤◌, ◌⊎◌, ◌↔◌, [], min, length, take, ◌++◌, Some, IsTrue, IsErr, IsOk, IfOk, OnOk, OnErr};
 ghost use Rattle.pgo_io.specs.Calls.{IsListed, with_success, with_fault};
 ghost use Rattle.pgo_io.specs.Faults.{Rose};
 ghost use Rattle.pgo_io.specs.MemSink.{LacksRoom};
@@ -94,5 +94,13 @@ impl Sink for MemSink {
         self.calls.make(fits > 0 || piece.is_empty())?;
         self.bytes.extend_from_slice(&piece[..fits]).unwrap();
         Ok(fits)
+    }
+
+    /// It keeps nothing back.
+    fn flush(&mut self) -> Result<(), Failed>
+        ensures same { self.new ≡ self.old }
+        ensures never_fails { IsOk result }
+    {
+        Ok(())
     }
 }

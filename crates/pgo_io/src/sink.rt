@@ -24,4 +24,13 @@ pub trait Sink {
         ensures cause { OnErr result (Rose (faults self.old) (faults self.new)) }
         ensures steady { OnOk result (faults self.new ≡ faults self.old) }
         ensures count { faults self.old ≤ faults self.new };
+
+    /// Hands on what it has taken and kept back until now.
+    ///
+    /// `Failed`: that failed, which the sink counted. It holds what it held.
+    fn flush(&mut self) -> Result<(), Failed>
+        ensures kept { held self.new ≡ held self.old }
+        ensures cause { OnErr result (Rose (faults self.old) (faults self.new)) }
+        ensures steady { OnOk result (faults self.new ≡ faults self.old) }
+        ensures count { faults self.old ≤ faults self.new };
 }

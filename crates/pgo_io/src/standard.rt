@@ -1,5 +1,5 @@
 ghost use Rattle.std.specs.Prelude.{◌≡◌, ◌<◌, ◌≤◌, length, None, IfOk, OnOk, OnErr};
-ghost use Rattle.std.specs.Io.KnownBytes.{ReadConsumes, WriteAppends};
+ghost use Rattle.std.specs.Io.KnownBytes.{Keeps, ReadConsumes, WriteAppends};
 ghost use Rattle.pgo_io.specs.Faults.{Rose};
 
 use crate::errors::Failed;
@@ -75,7 +75,8 @@ impl<W> Model for StdSink<W> {
 
 impl<W: Write> StdSink<W> {
     /// A sink over this writer, which has not failed yet. Each `Err` of the writer is a fault, and
-    /// so is a write that takes nothing of a piece that is not empty. The writer is never flushed.
+    /// so is a write that takes nothing of a piece that is not empty. The writer is flushed where the
+    /// sink is.
     pub fn new(inner: W) -> StdSink<W>
         ensures { result ≡ record { inner = inner; faults = 0 } }
     {
@@ -100,6 +101,23 @@ impl<W: Write> Sink for StdSink<W> {
         match self.inner.write(piece) {
             Ok(n) if n > 0 || piece.is_empty() => Ok(n),
             _ => {
+                self.faults = self.faults.saturating_add(1);
+                Err(Failed)
+            }
+        }
+    }
+
+    /// Flushes the writer.
+    fn flush(&mut self) -> Result<(), Failed>
+        // What the writer says of its bytes, where it does.
+        ensures writer { Keeps (W.contents self.old.inner) (W.contents self.new.inner) }
+        ensures cause { OnErr result (Rose self.old.faults self.new.faults) }
+        ensures steady { OnOk result (self.new.faults ≡ self.old.faults) }
+        ensures count { self.old.faults ≤ self.new.faults }
+    {
+        match self.inner.flush() {
+            Ok(()) => Ok(()),
+            Err(_) => {
                 self.faults = self.faults.saturating_add(1);
                 Err(Failed)
             }

@@ -1,4 +1,4 @@
-ghost use Rattle.std.specs.Prelude.{◌≡◌, ◌+◌, ◌≤◌, ◌↔◌, true, [], ◌++◌, take, length, IfOk, IsTrue};
+ghost use Rattle.std.specs.Prelude.{◌≡◌, ◌+◌, ◌≤◌, ◌↔◌, true, [], ◌++◌, take, length, IfOk, IsOk, IsTrue};
 ghost use Rattle.pgo_io.specs.SureSink.{told};
 
 use crate::errors::{Failed, NoMemory};
@@ -74,5 +74,13 @@ impl Sink for SureSink {
         self.bytes.extend_from_slice(&piece[..fits]).unwrap();
         self.is_whole = self.is_whole && fits == piece.len();
         Ok(piece.len())
+    }
+
+    /// It keeps nothing back.
+    fn flush(&mut self) -> Result<(), Failed>
+        ensures same { self.new ≡ self.old }
+        ensures never_fails { IsOk result }
+    {
+        Ok(())
     }
 }

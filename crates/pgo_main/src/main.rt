@@ -19,17 +19,22 @@ use pgo_io::write_all::write_all;
 use std::alloc::{AllocError, Global};
 use std::env::{self, Args};
 use std::io;
-use std::io::ErrorKind;
+use std::io::{BufWriter, ErrorKind};
 use std::process::ExitCode;
 
 fn main(rt: HostRuntime) -> ExitCode {
-    run(
-        rt.alloc(),
-        env::args(&rt),
-        &mut StdSource::new(rt.stdin()),
-        &mut StdSink::new(rt.stdout()),
-        &mut StdSink::new(rt.stderr()),
-    )
+    let alloc = rt.alloc();
+    let mut err = StdSink::new(rt.stderr());
+    match BufWriter::new(alloc, rt.stdout()) {
+        Ok(out) => run(
+            alloc,
+            env::args(&rt),
+            &mut StdSource::new(rt.stdin()),
+            &mut StdSink::new(out),
+            &mut err,
+        ),
+        Err(_) => exit_code(no_memory(&mut err)),
+    }
 }
 
 /// Runs the command that the arguments ask for, and answers the code that the process ends with.
@@ -84,7 +89,7 @@ fn words_from(alloc: Global, mut arguments: Args) -> Result<Vec<Word>, AllocErro
     Ok(words)
 }
 
-/// Says on the error output that there is no memory for the words.
+/// Says on the error output that there is no memory, for the words or for the buffer before the output.
 fn no_memory<E: Sink>(err: &mut E) -> Status
     ensures status { result ≡ Status.NoMemory }
     ensures says { ¬ Rose (E.faults err.old) (E.faults err.new) →

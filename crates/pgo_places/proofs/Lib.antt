@@ -4,6 +4,7 @@ mod FirstReads
 mod Identifiers
 mod Moves
 mod Names
+mod OwnPuts
 mod Picks
 mod PlaceLaws
 mod Puts
@@ -11,3 +12,4 @@ mod LabelSections
 pub mod Standing
 pub mod Starts
 mod Updates
+pub mod FirstLeft

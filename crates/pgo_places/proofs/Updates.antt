@@ -3,11 +3,10 @@ use Rattle.std.proofs.Common.{◌≡◌, ℕ, zero, suc, ◌<◌, ◌≤◌, Lis
 use Rattle.std.specs.Prelude.{if◌then◌else◌}
 use Rattle.pgo_base.specs.BindingsView.{named_view}
 use Rattle.pgo_base.specs.Data.{Data}
-use Rattle.pgo_base.specs.Lookup.{Name, Names, same_name}
-use Rattle.pgo_base.specs.View.{data_of, named_data}
+use Rattle.pgo_base.specs.Lookup.{Name, Names}
+use Rattle.pgo_base.specs.View.{data_of}
 use Rattle.pgo_base.specs.declared.bindings.NamedValue.{NamedValue}
-use Rattle.pgo_base.specs.declared.value.Value.{Value}
-use Rattle.pgo_places.specs.Stands.{updated, own_put}
+use Rattle.pgo_places.specs.Stands.{updated}
 
 -- behind the first n of a list
 abbrev pub behind : {A : Type 0} → ℕ → (List A → List A) → List A → List A
@@ -48,16 +47,3 @@ update_step t o left rest w xs i j d x' l h n e =
     ap (λ k. behind k (updated t o rest) (map named_view (set xs i x'))) n
     ∙ updated_more t o w rest xs i d x' h e
     ∙ ap (λ ls. behind i (updated t o ls) (map named_view xs)) (sym l)
-
-own_more : (y : Name) (v : Data) (xs : List (Name × Value)) (i : ℕ) (d x' : Name × Value)
-    → i < length xs → named_data x' ≡ ((get_or xs i d).0, (if same_name (get_or xs i d).0 y then v else data_of (get_or xs i d).1))
-    → behind (suc i) (own_put y v) (map named_data (set xs i x')) ≡ behind i (own_put y v) (map named_data xs)
-own_more y v [] i d x' h e = absurd (omega (arith, h))
-own_more y v (x ∷ xs) zero d x' h e = ap (λ n. n ∷ own_put y v (map named_data xs)) e
-own_more y v (x ∷ xs) (suc i) d x' h e = ap (λ l. named_data x ∷ l) (own_more y v xs i d x' (omega (arith, h)) e)
-
--- one component more
-pub own_step : (y : Name) (v : Data) (xs : List (Name × Value)) (i j : ℕ) (d x' : Name × Value)
-    → i < length xs → j ≡ suc i → named_data x' ≡ ((get_or xs i d).0, (if same_name (get_or xs i d).0 y then v else data_of (get_or xs i d).1))
-    → behind j (own_put y v) (map named_data (set xs i x')) ≡ behind i (own_put y v) (map named_data xs)
-own_step y v xs i j d x' h n e = ap (λ k. behind k (own_put y v) (map named_data (set xs i x'))) n ∙ own_more y v xs i d x' h e

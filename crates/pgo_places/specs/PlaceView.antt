@@ -1,7 +1,7 @@
 -- Stands in memory, as the stands that they are.
 use Rattle.std.specs.Prelude.{false, [], map, option_map, reverse, None}
 use Rattle.pgo_base.specs.BindingsView.{named_view}
-use Rattle.pgo_base.specs.View.{data_of, named_data}
+use Rattle.pgo_base.specs.View.{data_of}
 use Rattle.pgo_model.specs.ModuleView.{defined_view}
 use Rattle.pgo_model.specs.Val.{meanings}
 use Rattle.pgo_syntax.specs.declared.bound.Bound.{Bound}
@@ -24,7 +24,7 @@ stand_view s = record {
   value = option_map data_of s.value;
   env = reverse (map named_view s.env.items);
   variables = map named_view s.variables.items;
-  own = map named_data s.own.items;
+  own = s.own;
   words = words_of s.picks;
   progress = progress_view s;
 }

@@ -63,6 +63,12 @@ abbrev pub own_put : Name → Data → Own → Own
 own_put y v [] = []
 own_put y v (p ∷ o) = (p.0, if same_name p.0 y then v else p.1) ∷ own_put y v o
 
+-- the component at a place has this value, where it has this name
+abbrev pub own_put_at : Name → Data → ℕ → Own → Own
+own_put_at y v n [] = []
+own_put_at y v zero (p ∷ o) = (p.0, if same_name p.0 y then v else p.1) ∷ o
+own_put_at y v (suc n) (p ∷ o) = p ∷ own_put_at y v n o
+
 -- the own components where the section ends at this written label
 abbrev pub labelled : Name → Own → Own
 labelled l o = own_put pc (string l) o

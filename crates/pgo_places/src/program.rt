@@ -50,9 +50,8 @@ fn left_by(alloc: Global, label: Text, stand: Stand) -> Result<(State, Values), 
 {
     let Stand { own, prints, .. } = stand;
     let mut own = own;
-    let pc = Text::from_slice(alloc, b"pc")?;
-    put_own(alloc, &mut own, &pc, &Value::Str(label))?;
-    Ok((State::from_vec(own), Values::from_vec(prints)))
+    put_own(alloc, &mut own, b"pc", &Value::Str(label))?;
+    Ok((own, Values::from_vec(prints)))
 }
 
 /// An index once more, if there is one.

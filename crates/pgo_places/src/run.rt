@@ -14,37 +14,45 @@ use crate::behind::behind;
 use crate::evaluated::{Frame, value_of};
 use crate::flow::Flow;
 use crate::stand::{Stand, under};
+use crate::variables::is_named;
 use pgo_base::depth::is_deeper;
+use pgo_base::scope::State;
 use pgo_base::text::Text;
 use pgo_base::value::Value;
 use pgo_code::instruction::{Instruction, Target};
 use pgo_syntax::records::NoteKind;
 use std::alloc::{AllocError, Global};
 
-/// Whether each own component can stand in a state, where `pc` is a label.
-pub fn all_fit(alloc: Global, own: &[(Text, Value)]) -> Result<bool, AllocError>
-    ensures { IfOk result (λ b. (l : Name) → all_shallow (labelled l (map named_data own.now)) ≡ b) }
+/// Whether each of these can stand in a state, where `pc` is a label.
+fn rows_fit(own: &[(Text, Value)]) -> bool
+    ensures { (l : Name) → all_shallow (labelled l (map named_data own.now)) ≡ result }
 {
-    let pc = Text::from_slice(alloc, b"pc")?;
     for component in own {
-        if !component.0.is(&pc) && is_deeper(&component.1, 255) {
-            return Ok(false);
+        if !is_named(&component.0, b"pc") && is_deeper(&component.1, 255) {
+            return false;
         }
     }
-    Ok(true)
+    true
+}
+
+/// Whether each own component can stand in a state, where `pc` is a label.
+fn all_fit(own: &State) -> bool
+    ensures { (l : Name) → all_shallow (labelled l own.now) ≡ result }
+{
+    rows_fit(own.as_slice())
 }
 
 /// The section's end, where no value is too deep for a state.
-fn ended(alloc: Global, stand: &Stand) -> Result<Flow, AllocError>
-    ensures { IfOk result (λ f. (a : Attempt) (k : Fixed) (l : Name) → LeadsTo a k (End l) (stand_view stand.now) f (stand_view stand.now)) }
+fn ended(stand: &Stand) -> Flow
+    ensures { (a : Attempt) (k : Fixed) (l : Name) → LeadsTo a k (End l) (stand_view stand.now) result (stand_view stand.now) }
 {
     if !stand.too_deep.is_empty() {
-        return Ok(Flow::Noted(NoteKind::NoValue));
+        return Flow::Noted(NoteKind::NoValue);
     }
-    if all_fit(alloc, &stand.own)? {
-        Ok(Flow::Ended)
+    if all_fit(&stand.own) {
+        Flow::Ended
     } else {
-        Ok(Flow::Noted(NoteKind::NoValue))
+        Flow::Noted(NoteKind::NoValue)
     }
 }
 
@@ -108,7 +116,7 @@ fn plain(
             stand.onward();
             Ok(Flow::Over(*over))
         }
-        Instruction::End(_) => ended(alloc, stand),
+        Instruction::End(_) => Ok(ended(stand)),
         Instruction::Fail => Ok(Flow::Noted(NoteKind::NoValue)),
         _ => Err(AllocError),
     }

@@ -9,6 +9,7 @@ ghost use Rattle.pgo_code.specs.Steps.{unbound};
 
 use crate::variables::{Meant, put_own, update};
 use pgo_base::bindings::NamedValue;
+use pgo_base::scope::State;
 use pgo_base::text::Text;
 use pgo_base::value::Value;
 use pgo_resource::picks::Picks;
@@ -35,7 +36,7 @@ pub struct Stand {
     /// the variables, the last one first; a global has a value while it is seen
     pub variables: Vec<NamedValue>,
     /// the own components as they are now
-    pub own: Vec<(Text, Value)>,
+    pub own: State,
     /// the resources that are too deep for a state now, the newest first
     pub too_deep: Vec<u32>,
     pub picks: Picks,
@@ -102,7 +103,7 @@ impl Stand {
     ) -> Result<(), AllocError>
         ensures { IfOk result (λ _. stand_view self.new ≡ assigned (fixed_view fixed.now) name.now (data_of value.now) (stand_view self.old)) }
     {
-        put_own(alloc, &mut self.own, name, value)?;
+        put_own(alloc, &mut self.own, name.as_bytes(), value)?;
         update(
             alloc,
             &mut self.variables,

@@ -40,13 +40,12 @@ fn section_named(sections: &[Section<'_>], label: &Text) -> Option<usize>
 }
 
 /// The number of the section at which the own components are, in the code of their instance.
-fn section_at(alloc: Global, code: &Code<'_>, own: &State) -> Result<Option<usize>, AllocError>
-    ensures { IfOk result (λ o. option_and_then (λ j. option_map (λ s. (section_view s).1) (nth code.now.sections.items j)) o ≡ steps_named (find pc own.now) code.now) }
+fn section_at(code: &Code<'_>, own: &State) -> Option<usize>
+    ensures { option_and_then (λ j. option_map (λ s. (section_view s).1) (nth code.now.sections.items j)) result ≡ steps_named (find pc own.now) code.now }
 {
-    let pc = Text::from_slice(alloc, b"pc")?;
-    match own.find(&pc) {
-        Some(Value::Str(label)) => Ok(section_named(&code.sections, label)),
-        _ => Ok(None),
+    match own.find_bytes(b"pc") {
+        Some(Value::Str(label)) => section_named(&code.sections, label),
+        _ => None,
     }
 }
 
@@ -73,23 +72,41 @@ fn owners_of(alloc: Global, variables: &[Variable]) -> Result<Vec<Option<Text>>,
     Ok(owners)
 }
 
-/// The value that an own component has.
-fn value_in(alloc: Global, own: &State, name: &Text) -> Result<Option<Value>, AllocError>
+/// The place before this one, or the first one.
+fn before(place: usize) -> usize {
+    if place > 0 { place - 1 } else { 0 }
+}
+
+/// The value that an own component has. It is looked for first at the guessed place; the next one is guessed before it.
+fn value_in(
+    alloc: Global,
+    own: &State,
+    name: &Text,
+    guess: &mut usize,
+) -> Result<Option<Value>, AllocError>
     ensures { IfOk result (λ o. option_map data_of o ≡ find name.now own.now) }
 {
-    match own.find(name) {
-        Some(v) => Ok(Some(v.copy(alloc)?)),
+    match own.find_near(name, *guess) {
+        Some((place, v)) => {
+            *guess = before(place);
+            Ok(Some(v.copy(alloc)?))
+        }
         None => Ok(None),
     }
 }
 
 /// A variable with what it has at the start.
-fn start_value(alloc: Global, variable: &Variable, own: &State) -> Result<NamedValue, AllocError>
+fn start_value(
+    alloc: Global,
+    variable: &Variable,
+    own: &State,
+    guess: &mut usize,
+) -> Result<NamedValue, AllocError>
     ensures { IfOk result (λ n. named_view n ≡ variable_of own.now variable.now) }
 {
     let name = variable.name.copy(alloc)?;
     let value = match &variable.own {
-        Some(y) => value_in(alloc, own, y)?,
+        Some(y) => value_in(alloc, own, y, guess)?,
         None => None,
     };
     Ok(NamedValue { name, value })
@@ -103,11 +120,12 @@ fn start_values(
 ) -> Result<Vec<NamedValue>, AllocError>
     ensures { IfOk result (λ ns. map named_view ns.items ≡ reverse (map (variable_of own.now) variables.now)) }
 {
-    let mut values = Vec::new(alloc);
+    let mut values = Vec::with_capacity(alloc, variables.len())?;
     let mut left = variables;
-    while let Some((last, before)) = left.split_last() {
-        values.push(start_value(alloc, last, own)?)?;
-        left = before;
+    let mut guess = before(own.as_slice().len());
+    while let Some((last, others)) = left.split_last() {
+        values.push(start_value(alloc, last, own, &mut guess)?)?;
+        left = others;
     }
     Ok(values)
 }
@@ -133,7 +151,7 @@ fn stand(alloc: Global, code: &Code<'_>, own: &State, picks: Picks) -> Result<St
     ensures { IfOk result (λ s. stand_view s ≡ start_of code.now own.now (words_of picks)) }
 {
     let variables = start_values(alloc, &code.variables, own)?;
-    let own = own.copy(alloc)?.into_vec();
+    let own = own.copy(alloc)?;
     Ok(Stand {
         done: 0,
         value: None,
@@ -166,7 +184,7 @@ fn nowhere(alloc: Global, picks: Picks) -> Place
             value: None,
             env: Vec::new(alloc),
             variables: Vec::new(alloc),
-            own: Vec::new(alloc),
+            own: State::from_vec(Vec::new(alloc)),
             too_deep: Vec::new(alloc),
             picks,
             prints: Vec::new(alloc),
@@ -198,7 +216,7 @@ fn first_in(
     requires fresh { used_of picks ≡ 0 }
     ensures { IfOk result (λ p. walk_in program.now p ≡ limited (count_of program.now.bound.now) (on no_value (steps_named (find pc own.now) code.now) (λ xs. resume (attempt_with program.now.bound.now (data_of id.now)) (fixed_of code.now) (suc (length xs)) xs (start_of code.now own.now (words_of picks))))) }
 {
-    let Some(section) = section_at(alloc, code, own)? else {
+    let Some(section) = section_at(code, own) else {
         return Ok(nowhere(alloc, picks));
     };
     let count = count_in(program, instance, section);

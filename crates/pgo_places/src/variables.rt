@@ -1,15 +1,17 @@
 // The values of variables and of own components.
-ghost use Rattle.std.specs.Prelude.{◌≡◌, map, option_map, if◌then◌else◌, IfOk};
+ghost use Rattle.std.specs.Prelude.{◌≡◌, ◌<◌, length, map, option_map, if◌then◌else◌, IfOk};
 ghost use Rattle.pgo_base.specs.BindingsView.{named_view};
 ghost use Rattle.pgo_base.specs.Lookup.{same_name};
-ghost use Rattle.pgo_base.specs.View.{data_of, named_data};
+ghost use Rattle.pgo_base.specs.View.{data_of};
 ghost use Rattle.pgo_places.specs.Meant.{test_of};
-ghost use Rattle.pgo_places.specs.Stands.{updated, own_put, is_global_named, is_own_named};
+ghost use Rattle.pgo_places.specs.Stands.{updated, own_put, own_put_at, is_global_named, is_own_named};
 
 use pgo_base::bindings::NamedValue;
+use pgo_base::scope::State;
 use pgo_base::text::Text;
 use pgo_base::value::Value;
 use std::alloc::{AllocError, Global};
+use std::mem::drop;
 
 /// Which variables are meant: all globals, the globals of a name, or those that are the own component of a name.
 #[derive(Clone, Copy)]
@@ -97,32 +99,37 @@ pub fn update(
     Ok(())
 }
 
-/// The component has this value, where it has the name.
+/// Whether these are the bytes of the name.
+pub fn is_named(name: &Text, bytes: &[u8]) -> bool
+    ensures { result ≡ same_name name.now bytes.now }
+{
+    name.as_bytes() == bytes
+}
+
+/// The component at this place has this value, where it has the name.
 fn renew_own(
     alloc: Global,
-    component: &mut (Text, Value),
-    name: &Text,
+    own: &mut State,
+    place: usize,
+    name: &[u8],
     value: &Value,
 ) -> Result<(), AllocError>
-    ensures { IfOk result (λ _. named_data component.new ≡ (component.old.0, (if same_name component.old.0 name.now then data_of value.now else data_of component.old.1))) }
+    requires { place < length own.old }
+    ensures { IfOk result (λ _. own.new ≡ own_put_at name.now (data_of value.now) place own.old) }
 {
-    if component.0.is(name) {
-        component.1 = value.copy(alloc)?;
+    if is_named(&own.as_slice()[place].0, name) {
+        let value = value.copy(alloc)?;
+        drop(own.replace(place, value));
     }
     Ok(())
 }
 
 /// The own component of the name has this value.
-pub fn put_own(
-    alloc: Global,
-    own: &mut Vec<(Text, Value)>,
-    name: &Text,
-    value: &Value,
-) -> Result<(), AllocError>
-    ensures { IfOk result (λ _. map named_data own.new.items ≡ own_put name.now (data_of value.now) (map named_data own.old.items)) }
+pub fn put_own(alloc: Global, own: &mut State, name: &[u8], value: &Value) -> Result<(), AllocError>
+    ensures { IfOk result (λ _. own.new ≡ own_put name.now (data_of value.now) own.old) }
 {
-    for component in own.iter_mut() {
-        renew_own(alloc, component, name, value)?;
+    for place in 0..own.as_slice().len() {
+        renew_own(alloc, own, place, name, value)?;
     }
     Ok(())
 }

@@ -102,7 +102,7 @@ pub fn resource_changes<S: Sections>(
     requires { AllBelow (length (layout_of (S.system sections.now)).resources) (map at_of values.items) }
     ensures { IfOk result (λ cs. map change_view cs.items ≡ map (resource_change (layout_of (S.system sections.now))) (map at_of values.items)) }
 {
-    let mut changes = Vec::new(alloc);
+    let mut changes = Vec::with_capacity(alloc, values.len())?;
     for (resource, value) in values {
         changes.push(resource_change(alloc, sections, resource, value)?)?;
     }

@@ -1,6 +1,6 @@
 // The own components of an instance: where it stands, and what of them an entry records.
 ghost use Rattle.std.specs.Prelude.{◌≡◌, ◌++◌, ◌<◌, length, map, Some, option_map, IfOk};
-ghost use Rattle.pgo_base.specs.Lookup.{find, same_name};
+ghost use Rattle.pgo_base.specs.Lookup.{find};
 ghost use Rattle.pgo_base.specs.View.{data_of, named_data};
 ghost use Rattle.pgo_model.specs.Core.{is_place};
 ghost use Rattle.pgo_model.specs.Log.{differs, label_in};
@@ -16,30 +16,11 @@ use pgo_base::text::Text;
 use pgo_base::value::Value;
 use std::alloc::{AllocError, Global};
 
-/// Whether a text is of these bytes.
-fn is_named(bytes: &[u8], text: &Text) -> bool
-    ensures { result ≡ same_name bytes.now text.now }
-{
-    bytes.cmp(text.as_bytes()).is_eq()
-}
-
-/// What the instance has under a name.
-fn component<'own>(own: &'own State, name: &[u8]) -> Option<&'own Value>
-    ensures { option_map (λ r. data_of r.now) result ≡ find name.now own.now }
-{
-    for p in own.as_slice() {
-        if is_named(name, &p.0) {
-            return Some(&p.1);
-        }
-    }
-    None
-}
-
 /// The label at which the instance stands.
 fn place_in(own: &State) -> Option<&Value>
     ensures { option_map (λ r. data_of r.now) result ≡ find pc own.now }
 {
-    component(own, b"pc")
+    own.find_bytes(b"pc")
 }
 
 /// Whether a value is this text.
@@ -47,7 +28,7 @@ fn is_at(bytes: &[u8], v: &Value) -> bool
     ensures { result ≡ is_place bytes.now (Some (data_of v.now)) }
 {
     match v {
-        Value::Str(t) => is_named(bytes, t),
+        Value::Str(t) => t.is_bytes(bytes),
         _ => false,
     }
 }
@@ -104,7 +85,8 @@ fn own_change(
     Ok(Change { component, value })
 }
 
-/// The own components that differ behind a section, in order, added at the end.
+/// The own components that differ behind a section, in order, added at the end. Both states have the same names in the same
+/// order, so each component is looked for at its own place first.
 pub fn push_own_changes(
     changes: &mut Vec<Change>,
     alloc: Global,
@@ -115,10 +97,11 @@ pub fn push_own_changes(
 ) -> Result<(), AllocError>
     ensures { IfOk result (λ _. map change_view changes.new.items ≡ map change_view changes.old.items ++ changed_own instance (data_of id.now) own.now next.now) }
 {
-    for p in own.as_slice() {
-        if let Some(v) = next.find(&p.0) {
-            if compare(&p.1, v).is_ne() {
-                changes.push(own_change(alloc, instance, id, &p.0, v)?)?;
+    let components = own.as_slice();
+    for (place, p) in components.iter().enumerate() {
+        if let Some(found) = next.find_near(&p.0, place) {
+            if compare(&p.1, found.1).is_ne() {
+                changes.push(own_change(alloc, instance, id, &p.0, found.1)?)?;
             }
         }
     }

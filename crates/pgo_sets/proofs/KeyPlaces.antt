@@ -1,9 +1,7 @@
 -- What stands at the place of a key.
-use Rattle.std.proofs.Common.{◌≡◌, ℕ, zero, suc, ◌<◌, List, [], ◌∷◌, length, map, get_or, set, refl, ap, ◌∙◌, subst, arith}
+use Rattle.std.proofs.Common.{◌≡◌, ℕ, zero, suc, ◌<◌, List, [], ◌∷◌, length, refl, ap, ◌∙◌, subst, arith}
 use Rattle.std.specs.Prelude.{Bool, true, false, if◌then◌else◌, Option, Some, None, option_map}
-use Rattle.pgo_base.specs.declared.value.Value.{Value}
-use Rattle.pgo_base.specs.Data.{Data, keys}
-use Rattle.pgo_base.specs.View.{data_of, pair_of}
+use Rattle.pgo_base.specs.Data.{Data}
 use Rattle.pgo_model.specs.Operators.{same_data, lookup, replace_at}
 use Rattle.pgo_sets.specs.KeyPlace.{key_place, value_in, set_value}
 use Rattle.pgo_sets.proofs.Replacing.{same_exact}
@@ -52,24 +50,8 @@ set_again n v w [] = refl
 set_again zero v w (p ∷ ps) = refl
 set_again (suc n) v w (p ∷ ps) = ap (λ qs. p ∷ qs) (set_again n v w ps)
 
--- another value leaves the keys as they are
-pub keys_set : (n : ℕ) (v : Data) (ps : List (Data × Data)) → keys (set_value n v ps) ≡ keys ps
-keys_set n v [] = refl
-keys_set zero v (p ∷ ps) = refl
-keys_set (suc n) v (p ∷ ps) = ap (λ ks. p.0 ∷ ks) (keys_set n v ps)
-
+-- another value leaves the number of pairs as it is
 pub length_set : (n : ℕ) (v : Data) (ps : List (Data × Data)) → length (set_value n v ps) ≡ length ps
 length_set n v [] = refl
 length_set zero v (p ∷ ps) = refl
 length_set (suc n) v (p ∷ ps) = ap suc (length_set n v ps)
-
--- the value at a place as it lies in memory
-pub value_there : (ps : List (Value × Value)) (n : ℕ) (q : Value × Value) → n < length ps → q ≡ get_or ps n q → Some (data_of q.1) ≡ value_in n (map pair_of ps)
-value_there [] n q h e = absurd (omega arith)
-value_there (p ∷ ps) zero q h e = ap (λ (r : Value × Value). Some (data_of r.1)) e
-value_there (p ∷ ps) (suc n) q h e = value_there ps n q (omega arith) e
-
-pub value_set : (ps : List (Value × Value)) (n : ℕ) (q : Value × Value) (v : Value) → n < length ps → q ≡ get_or ps n q → map pair_of (set ps n (q.0, v)) ≡ set_value n (data_of v) (map pair_of ps)
-value_set [] n q v h e = absurd (omega arith)
-value_set (p ∷ ps) zero q v h e = ap (λ (r : Value × Value). (data_of r.0, data_of v) ∷ map pair_of ps) e
-value_set (p ∷ ps) (suc n) q v h e = ap (λ qs. pair_of p ∷ qs) (value_set ps n q v (omega arith) e)

@@ -1,18 +1,14 @@
 // A value that is changed part by part, in place.
-ghost use Rattle.std.specs.Prelude.{◌≡◌, ◌<◌, ◌∷◌, length, map, Some, option_map, IfOk};
-ghost use Rattle.std.specs.List.Sorted.{IsStrictlySortedBy};
-ghost use Rattle.pgo_base.specs.Data.{keys, function, pairs};
-ghost use Rattle.pgo_base.specs.Order.{data_cmp};
-ghost use Rattle.pgo_base.specs.View.{data_of, pair_of};
+ghost use Rattle.std.specs.Prelude.{◌≡◌, ◌∷◌, map, Some, option_map, IfOk};
+ghost use Rattle.pgo_base.specs.Data.{function, pairs};
+ghost use Rattle.pgo_base.specs.View.{data_of};
 ghost use Rattle.pgo_model.specs.Operators as operators;
-ghost use Rattle.pgo_sets.specs.KeyPlace as places;
 
 use crate::build::tested;
 use crate::lookup::key_place;
 use pgo_base::value::{Fun, Value};
 use std::alloc::AllocError;
 use std::marker::Model;
-use std::mem::replace;
 
 /// A value that is changed.
 #[derive(Drop)]
@@ -54,8 +50,8 @@ impl Changed {
         self.content
     }
 
-    /// The value with v at a path, as EXCEPT makes it: where an index isn't in a domain, nothing is changed. Of each function
-    /// on the way the pairs are gone over once, and copied where another value has them too; no other part is.
+    /// The value with v at a path, as EXCEPT makes it: where an index isn't in a domain, nothing is changed. Each function on the
+    /// way is changed in one step, and its pairs are copied where another value has them too; no other part is.
     ///
     /// None where there is no function on the way, one has more than 65,536 keys or becomes deeper than 2,048. Source:
     /// "Specifying Systems".
@@ -92,32 +88,20 @@ fn put_in(f: Fun, i: &Value, rest: &[Value], v: Value) -> Result<Option<Value>, 
     let Some(place) = key_place(&f, i) else {
         return Ok(Some(Value::Fun(f)));
     };
-    let mut list = f.into_pairs()?;
-    let part = put_value(&mut list, place, Value::Bool(false));
+    let (without, part) = f.replace_at(place, Value::Bool(false))?;
     match put_within(part, rest, v)? {
         Some(w) => {
-            put_value(&mut list, place, w);
-            remade(list)
+            let (changed, _) = without.replace_at(place, w)?;
+            Ok(if_value(changed))
         }
         None => Ok(None),
     }
 }
 
-/// Another value at a place; the result is the one before.
-pub(crate) fn put_value(list: &mut Vec<(Value, Value)>, place: usize, v: Value) -> Value
-    requires { place < length list.old.items }
-    ensures before { Some (data_of result) ≡ places.value_in place (map pair_of list.old.items) }
-    ensures after { map pair_of list.new.items ≡ places.set_value place (data_of v) (map pair_of list.old.items) }
+/// This function, where it is a value.
+fn if_value(f: Fun) -> Option<Value>
+    ensures { option_map data_of result ≡ operators.function_of f }
 {
-    replace(&mut list[place].1, v)
-}
-
-/// The function of these pairs, which are in order, where that is a value.
-fn remade(list: Vec<(Value, Value)>) -> Result<Option<Value>, AllocError>
-    requires { IsStrictlySortedBy data_cmp (keys (map pair_of list.items)) }
-    ensures { IfOk result (λ o. option_map data_of o ≡ operators.function_of (map pair_of list.items)) }
-{
-    let f = Fun::from_sorted(list)?;
     let count = f.len();
-    Ok(tested(count, Value::Fun(f)))
+    tested(count, Value::Fun(f))
 }

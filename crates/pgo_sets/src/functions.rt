@@ -9,7 +9,6 @@ ghost use Rattle.pgo_sets.specs.Answers.{Answers};
 ghost use Rattle.pgo_sets.specs.Replaced.{with_value};
 
 use crate::build::{function_of, sorted_function, sorted_set};
-use crate::changed::put_value;
 use crate::errors::EvalStop;
 use crate::lookup::{at, key_place, value_at};
 use pgo_base::value::{Fun, Value};
@@ -135,8 +134,9 @@ pub fn replaced(
         return pairs_of(alloc, function);
     };
     let v = value.copy(alloc)?;
-    let mut pairs = pairs_of(alloc, function)?;
-    put_value(&mut pairs, place, v);
+    let other = function.copy(alloc)?;
+    let (changed, _) = other.replace_at(place, v)?;
+    let pairs = changed.into_pairs()?;
     Ok(pairs)
 }
 

@@ -30,7 +30,7 @@ pub fn contains(set: &Set, v: &Value) -> bool
 }
 
 /// The place of a key among the pairs of this function; none where it isn't in its domain.
-pub(crate) fn key_place(function: &Fun, key: &Value) -> Option<usize>
+pub fn key_place(function: &Fun, key: &Value) -> Option<usize>
     ensures { result ≡ places.key_place (data_of key.now) function.now }
 {
     match function.in_order().binary_search_by(|p| compare(&p.0, key)) {

@@ -110,7 +110,8 @@ fn own_of(
     let mut list = Vec::new(alloc);
     list.push(component(alloc, start, id, pc)?)?;
     add_all(alloc, &mut list, layout, start, id)?;
-    Ok(State::from_vec(list))
+    let own = State::from_vec(list).names_once(alloc)?;
+    Ok(own)
 }
 
 /// The own components of an instance as a run starts: `pc`, and the variables of its process.

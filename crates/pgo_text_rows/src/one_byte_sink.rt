@@ -19,4 +19,8 @@ impl Sink for OneByteSink {
     fn write(&mut self, piece: &[u8]) -> Result<usize, Failed> {
         self.inner.write(&piece[..piece.len().min(1)])
     }
+
+    fn flush(&mut self) -> Result<(), Failed> {
+        self.inner.flush()
+    }
 }

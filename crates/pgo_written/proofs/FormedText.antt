@@ -205,6 +205,7 @@ module _ (N : Name → Type 0) (m : Bool) (names_stand : (x : Name) → IsName x
     formed_item (s.definition d) h = (h.0, formed d h.2.2)
     formed_item (s.arm {xs = xs} d d') h = let q = told_parts m xs _ h in (formed d q.0, formed d' q.1.2)
     formed_item (s.index_step {ts = ts} d) h = formed d (told_parts m ts _ h.2).0
+    formed_item (s.tuple_step {xs = xs} {ys = ys} {b = c} {bs = bs} d b) h = let q = told_parts m xs _ h.2 in (formed d q.0, all_trees (c ∷ bs) (formed_behind b (told_parts m ys _ q.1).0))
     formed_item (s.field_step {x = x}) h = name_text x h.2.0
     formed_item (s.update {xs = xs} {as' = as'} i d) h = let q = told_parts m xs _ h.2 in (some_steps as' (formed_items i q.0), formed d q.1.2)
 

@@ -1,8 +1,8 @@
 // Rounds, until all instances have ended.
 ghost use Rattle.std.specs.Prelude.{◌≡◌, ◌≤◌, ◌<◌, ℕ, List, vec_len, IfOk};
-ghost use Rattle.pgo_core.specs.Cores.{AllEnded, GoesOn, HadEnded};
+ghost use Rattle.pgo_core.specs.Cores.{AllEnded, HadEnded};
 
-use super::{Core, has_turned};
+use super::{Core, counted, has_turned};
 use pgo_resource::resource::Resource;
 use pgo_resource::sections::Sections;
 use std::alloc::{AllocError, Global};
@@ -10,15 +10,7 @@ use std::alloc::{AllocError, Global};
 impl<S: Sections + Drop, R: Resource> Core<S, R> {
     ghost use Rattle.pgo_core.specs.Instances.{Safe, IsSame, StandsAt, MadeFrom, MadeRound, ComesToEnd, workers_in};
 
-    /// Whether instance k hasn't ended.
-    fn goes_on(&self, k: usize) -> bool
-        requires { k < vec_len self.now.workers }
-        ensures { GoesOn k (workers_in self.now) result }
-    {
-        self.workers[k].end().is_none()
-    }
-
-    /// One turn of instance k, where it hasn't ended: how many turns were made.
+    /// One turn of instance k: how many turns were made, none where it had ended.
     fn turn_if(&mut self, alloc: Global, k: usize) -> Result<usize, AllocError>
         requires there { k < vec_len self.old.workers }
         requires safe { Safe self.old }
@@ -28,12 +20,9 @@ impl<S: Sections + Drop, R: Resource> Core<S, R> {
         ensures stands { IfOk result (λ n. (before : List ℕ) → StandsAt before self.old → MadeFrom before k 1 n self.new) }
         ensures ended { IfOk result (λ n. n ≡ 0 → HadEnded k (workers_in self.old) (workers_in self.new)) }
     {
-        if !self.goes_on(k) {
-            return Ok(0);
-        }
         let turn = self.turn(alloc, k as u32);
         if has_turned(turn) {
-            Ok(1)
+            Ok(counted(turn))
         } else {
             Err(AllocError)
         }

@@ -2,8 +2,7 @@ use Rattle.std.proofs.Common.{◌≡◌, ◌≤◌, ◌+◌, [], map, length, ar
 use Rattle.std.proofs.lemmas.Bool.Decides.{nat_tests}
 use Rattle.std.proofs.lemmas.List.{length-map}
 use Rattle.std.specs.Prelude.{Bool, true, false, Some, None, Option, option_map, option_and_then, IfOk, if◌then◌else◌, not, nat_lt}
-use Rattle.pgo_base.specs.BindingsView.{onto, named_view, bound_name, ArePlaces}
-use Rattle.pgo_base.specs.LastPlace.{last_place}
+use Rattle.pgo_base.specs.BindingsView.{onto, named_view}
 use Rattle.pgo_base.specs.Data.{Data}
 use Rattle.pgo_base.specs.declared.bindings.NamedValue.{NamedValue}
 use Rattle.pgo_base.specs.ExprView.{tree, named_tree, arm_tree, bound_tree, path_tree}
@@ -18,7 +17,7 @@ use Rattle.pgo_eval.specs.ScopeView.{scope_view, next_view}
 use Rattle.pgo_eval.proofs.Operands.{unary_values, binary_values, membership_holds}
 use Rattle.pgo_eval.proofs.Walks.{arms_done, let_more, several, assert_two, assert_other}
 use Rattle.pgo_eval.specs.Choices.{over_bound, AreAt, join, over_choices, still_left, sets_of}
-use Rattle.pgo_eval.proofs.BoundPlaces.{still_placed}
+use Rattle.pgo_eval.proofs.BoundPlaces.{places_stay}
 use Rattle.pgo_eval.proofs.Ranges.{ranges_more, set_at}
 use Rattle.pgo_eval.proofs.Choices.{names_at}
 use Rattle.pgo_eval.proofs.Quantify.{asks, none_join, asked_here, asked_more, asked_all, asked_enough, fewer_left, quantified_is}
@@ -28,6 +27,7 @@ use Rattle.pgo_eval.proofs.Functions.{pair_at, pair_here, nothing_yet, pairs_mor
 use Rattle.pgo_eval.proofs.Filters.{asks_of, kept_none, kept_all, filter_is, made_of, made_none, made_all, image_is}
 use Rattle.pgo_eval.proofs.UpdateSteps.{updated_by, updates_more, updates_all, update_here, update_nowhere}
 use Rattle.pgo_eval.specs.Paths.{part_on}
+use Rattle.pgo_eval.specs.PlacesView.{ArePlacesOf}
 use Rattle.pgo_eval.proofs.PutAt.{put_at_is}
 use Rattle.pgo_eval.proofs.+evaluate.Goals as goal
 
@@ -123,9 +123,9 @@ binders::quantified-value_bound-requires t c = (
   omega arith,
   (
     subst AreAt (sym c.deref.ensures.value) (c.loop-more.invariant.at c.loop-more-test.true),
-    subst (λ bs. ArePlaces bound_name bs c.in_ok-places.places) (sym c.deref.ensures.value)
-        (still_placed c.in-Some.names.items c.loop-more.names.items c.in_ok-places.places (c.loop-more.invariant.over ∙ c.start-more.ensures.over)
-        (λ x. c.in_ok-places.ensures x ∙ ap (last_place bound_name x) c.as_slice.ensures.value)),
+    subst (λ bs. ArePlacesOf bs c.in_ok-places.places) (sym c.deref.ensures.value)
+        (places_stay c.in-Some.names.items c.loop-more.names.items c.in_ok-places.places (c.loop-more.invariant.over ∙ c.start-more.ensures.over)
+        (subst (λ bs. ArePlacesOf bs c.in_ok-places.places) c.as_slice.ensures.value c.in_ok-places.ensures)),
   ),
 )
 
@@ -176,9 +176,9 @@ binders::function_value-value_bound-requires t c = (
   omega arith,
   (
     subst AreAt (sym c.deref-in-loop-more.ensures.value) (c.loop-more.invariant.at c.loop-more-test.true),
-    subst (λ bs. ArePlaces bound_name bs c.in_ok-places.places) (sym c.deref-in-loop-more.ensures.value)
-        (still_placed c.in-Some.names.items c.loop-more.names.items c.in_ok-places.places (c.loop-more.invariant.over ∙ c.start-more.ensures.over)
-        (λ x. c.in_ok-places.ensures x ∙ ap (last_place bound_name x) c.as_slice.ensures.value)),
+    subst (λ bs. ArePlacesOf bs c.in_ok-places.places) (sym c.deref-in-loop-more.ensures.value)
+        (places_stay c.in-Some.names.items c.loop-more.names.items c.in_ok-places.places (c.loop-more.invariant.over ∙ c.start-more.ensures.over)
+        (subst (λ bs. ArePlacesOf bs c.in_ok-places.places) c.as_slice.ensures.value c.in_ok-places.ensures)),
   ),
 )
 
@@ -362,3 +362,9 @@ names::applied-returns-in_default t c =
     let args = map data_of c.args.args.items in
     subst (λ v. IfOk c.default_value.result (λ o. option_map held_data o ≡ v)) (sym (c.in_default.ensures args s.state.now (next_view s)))
     (c.default_value.ensures args (omega (arith, c.len.ensures, length-map c.args.args.items data_of)))
+
+pub evaluate::held-returns-in-Other : goal.evaluate::held-returns-in-Other
+evaluate::held-returns-in-Other t c = c.value_held.ensures (sem (tree c.args.e.now) (scope_view c.args.s.now)) c.evaluated.ensures
+
+pub binders::value_bound-with_bound-all-requires : goal.binders::value_bound-with_bound-all-requires
+binders::value_bound-with_bound-all-requires t c = c.lent.ensures c.args.names.now c.requires.1

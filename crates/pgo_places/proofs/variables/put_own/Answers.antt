@@ -1,21 +1,20 @@
 -- The components one after the other.
-use Rattle.std.proofs.Common.{◌≡◌, ◌<◌, ◌≤◌, length, map, refl, ap, sym, ◌∙◌, arith, take_at, drop}
+use Rattle.std.proofs.Common.{◌≤◌, ◌+◌, length, ap, sym, ◌∙◌, arith}
+use Rattle.std.proofs.lemmas.List.{length-map}
+use Rattle.pgo_base.specs.Lookup.{Vars}
 use Rattle.pgo_base.specs.View.{data_of, named_data}
-use Rattle.pgo_places.specs.Stands.{own_put}
-use Rattle.pgo_places.proofs.Updates.{behind_end, own_step}
+use Rattle.pgo_places.proofs.OwnPuts.{own_behind, own_behind_end, own_behind_step, own_put_length}
 use Rattle.pgo_places.proofs.variables.put_own.Goals as goal
 
-pub loop-component-preserved : goal.loop-component-preserved
-loop-component-preserved c =
-    let lt : c.loop-component.component-index < length c.loop-component.component-items = omega arith in
-    own_step c.args.name.now (data_of c.args.value.now) c.loop-component.component-items c.loop-component.component-index _ c.component-item.result c.renew_own.new.component
-    lt (omega arith) c.in_ok-renew_own.ensures
-    ∙ c.loop-component.invariant
+pub loop-place-preserved : goal.loop-place-preserved
+loop-place-preserved c =
+    let y = c.args.name.now in let v = data_of c.args.value.now in let n = c.loop-place.place in (
+      ap (λ (o : Vars). own_behind (n + 1) y v o) c.in_ok-renew_own.ensures ∙ own_behind_step n (n + 1) y v c.loop-place.own (omega arith) ∙ c.loop-place.invariant.0,
+      ap (λ (o : Vars). length o) c.in_ok-renew_own.ensures ∙ own_put_length n y v c.loop-place.own ∙ c.loop-place.invariant.1,
+    )
 
 pub returns : goal.returns
 returns c =
-    let all : length c.loop-component.component-items ≡ c.args.own.now.len = omega arith in
-    let past : length c.loop-component.component-items ≤ c.loop-component.component-index = omega arith in
-    ap (map named_data) (take_at c.loop-component.component-items (drop (length c.loop-component.component-items) c.args.own.now.items) c.args.own.now.len all)
-    ∙ sym (behind_end named_data (own_put c.args.name.now (data_of c.args.value.now)) refl c.loop-component.component-items c.loop-component.component-index past)
-    ∙ c.loop-component.invariant ∙ ap (λ xs. own_put c.args.name.now (data_of c.args.value.now) (map named_data xs)) c.deref_mut-component-items.ensures.value
+    let past : length c.loop-place.own ≤ c.loop-place.place =
+    (let e1 = c.loop-place.invariant.1 in let e2 = ap (λ (o : Vars). length o) c.as_slice-place-end.ensures in let e3 = length-map c.as_slice-place-end.result.now named_data in omega (arith, e1, e2, e3)) in
+    sym (own_behind_end c.loop-place.place c.args.name.now (data_of c.args.value.now) c.loop-place.own past) ∙ c.loop-place.invariant.0

@@ -4,7 +4,8 @@ use Rattle.std.specs.Prelude.{Some}
 use Rattle.pgo_base.specs.declared.value.Value.{Value}
 use Rattle.pgo_base.specs.View.{data_of, pair_of}
 use Rattle.pgo_sets.specs.KeyPlace.{value_in}
-use Rattle.pgo_sets.proofs.KeyPlaces.{at_place, no_place, value_there}
+use Rattle.pgo_base.proofs.ValuePlaces.{value_there}
+use Rattle.pgo_sets.proofs.KeyPlaces.{at_place, no_place}
 use Rattle.pgo_sets.proofs.lookup.value_at.Goals as goal
 
 pub bounds-pairs-i : goal.bounds-pairs-i

@@ -16,4 +16,4 @@ returns c =
     ap (λ xs. nth (map (λ m. m.0) (map member_view xs)) c.args.k) (sym c.as_slice.ensures)
     ∙ nth_id c.as_slice.result.now c.args.k c.index-as_slice-k.result (subst (λ xs. c.args.k < length (map (λ m. m.0) (map member_view xs))) (sym c.as_slice.ensures) c.requires) in
     let first : map named_data c.push.new.self.items ≡ own_at 0 id (pc ∷ []) s = search rules in
-    c.from_vec.ensures ∙ assembled y.ids y.own s c.args.k id (map named_data c.push.new.self.items) (map named_data c.add_all.new.list.items) there first c.in_ok-add_all.ensures
+    c.in_ok-own.ensures ∙ c.from_vec.ensures ∙ assembled y.ids y.own s c.args.k id (map named_data c.push.new.self.items) (map named_data c.add_all.new.list.items) there first c.in_ok-add_all.ensures

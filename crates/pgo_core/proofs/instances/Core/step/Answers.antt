@@ -7,7 +7,7 @@ use Rattle.pgo_workers.specs.Worlds.{layout_of}
 use Rattle.pgo_core.proofs.CoreTurned.{stands_after, told_after}
 use Rattle.pgo_core.proofs.SafeKept.{safe_kept}
 use Rattle.pgo_core.proofs.TurnAnswers.{turn_answers}
-use Rattle.pgo_core.proofs.StepMade.{neither, board_at, runs_of, met_of, turn_at}
+use Rattle.pgo_core.proofs.StepMade.{neither, board_at, runs_of, met_of, turn_at, idle_keeps}
 use Rattle.pgo_core.proofs.instances.Core.step.Goals as goal
 
 pub turn_of-turn-requires-clause-runs : goal.turn_of-turn-requires-clause-runs
@@ -69,3 +69,11 @@ returns-else-is_mixed-clause-turns g c =
       told_is = λ has turns st fits. told_after y tree walk (settings_of a) turns a.made k ws vs s u t answer c.requires.safe.seats became old before after c.turn_of-turn.ensures.stays x has unmixed c.requires.made fits (st fits);
       answer = λ has turns st fits. turn_answers y tree walk (settings_of a) fits turns a.made k ws s (st fits) c.requires.safe.seats x.worker x.there x.after (u.view k) (t.view k) answer has x.turned;
     }
+
+pub returns-then-is_mixed-clause-idle : goal.returns-then-is_mixed-clause-idle
+returns-then-is_mixed-clause-idle g c = λ e q. absurd (grind (arith, q))
+
+pub returns-else-is_mixed-clause-idle : goal.returns-else-is_mixed-clause-idle
+returns-else-is_mixed-clause-idle g c =
+    let a = c.args.self.now in
+    idle_keeps (g.S.Sections.system a.sections) (g.S.Sections.tree a.sections) (g.S.Sections.walk a.sections) c.args.k a.workers.items c.turn_of-turn.new.workers.items _ _ c.turn_of-turn.result c.turn_of-turn.ensures.turned

@@ -3,6 +3,7 @@ use Rattle.std.specs.Prelude.{nat_lt}
 use Rattle.pgo_core.specs.Instances.{settings_of}
 use Rattle.pgo_core.specs.ExclusiveBoards.{views_of}
 use Rattle.pgo_core.specs.Cores.{turned}
+use Rattle.pgo_core.proofs.CoreTurned.{nth_inside}
 use Rattle.pgo_core.proofs.Nobody.{nobody_records, nobody_stands}
 use Rattle.pgo_core.proofs.TurnAnswers.{nobody_answers}
 use Rattle.pgo_core.proofs.instances.Core.turn.Goals as goal
@@ -20,3 +21,8 @@ returns-then-k-len-clause-turns g c =
       told_is = λ has turns st fits. nobody_records y (settings_of a) turns c.args.k none;
       answer = λ has turns st fits. nobody_answers y (settings_of a) (turned y (settings_of a) turns) c.args.k none;
     }
+
+pub returns-then-k-len-clause-idle : goal.returns-then-k-len-clause-idle
+returns-then-k-len-clause-idle g c =
+    let a = c.args.self.now in
+    λ e q. record { workers = refl; ended = λ w here. let inside = nth_inside a.workers.items c.args.k w here in absurd (omega (arith, inside, c.if-k-len.true, c.len.ensures, a.workers.ok.0)) }

@@ -1,35 +1,33 @@
-use Rattle.std.proofs.Common.{◌≡◌, ◌∷◌, [], ◌++◌, length, sym, ap, ◌∙◌, subst, arith}
-use Rattle.pgo_model.specs.MachineAccounts.{append_none}
-use Rattle.pgo_core.specs.Cores.{CoreFits, GoesOn, StandsWith}
+use Rattle.std.proofs.Common.{◌≡◌, ◌≤◌, true, length, sym, ap, ◌∙◌, subst, arith, lt-ltb}
+use Rattle.std.specs.Prelude.{nat_lt}
+use Rattle.pgo_core.specs.Cores.{has_turned}
 use Rattle.pgo_core.specs.ExclusiveBoards.{views_of}
-use Rattle.pgo_core.specs.Instances.{FitsCore, settings_of, system_of}
-use Rattle.pgo_core.specs.Rounds.{round_from}
-use Rattle.pgo_core.proofs.RoundsEnd.{there_is}
-use Rattle.pgo_core.proofs.RoundTurns.{has_over, has_turn, fits_back, same_from}
+use Rattle.pgo_core.specs.Instances.{settings_of, system_of}
+use Rattle.pgo_core.proofs.RoundTurns.{at_most_one, was_idle, counted_right, stands_counted, fits_back, same_from}
 use Rattle.pgo_core.proofs.instances.Core.turn_if.Goals as goal
 
-pub returns-then-not-goes_on-clause-stands : goal.returns-then-not-goes_on-clause-stands
-returns-then-not-goes_on-clause-stands g c =
-    let a = c.args.self.now in
-    let y = g.S.Sections.system a.sections in let tree = g.S.Sections.tree a.sections in let walk = g.S.Sections.walk a.sections in
-    let w = there_is a.workers.items c.args.k (omega (arith, c.requires.there, a.workers.ok.0)) in
-    λ before st.
-    let none : (fits : CoreFits y tree (settings_of a)) → round_from y (settings_of a) before c.args.k 1 ≡ [] = (λ fits. has_over y tree walk (settings_of a) fits before a.made c.args.k a.workers.items (views_of a.board) (st fits) c.requires.safe.seats w.0 w.1 (subst (GoesOn c.args.k a.workers.items) c.if-not-goes_on.true c.goes_on.ensures w.0 w.1)) in
-    record {
-      stands = λ fits. subst (λ l. StandsWith y tree walk (settings_of a) fits l a.made a.workers.items (views_of a.board)) (append_none before ∙ ap (λ l. before ++ l) (sym (none fits))) (st fits);
-      many = λ fits. sym (ap length (none fits));
-    }
+pub returns-then-has_turned-clause-one : goal.returns-then-has_turned-clause-one
+returns-then-has_turned-clause-one g c = subst (λ n. n ≤ 1) (sym c.counted.ensures) (at_most_one c.turn-turn.result)
 
 pub returns-then-has_turned-clause-stands : goal.returns-then-has_turned-clause-stands
 returns-then-has_turned-clause-stands g c =
-    let a = c.args.self.now in let n = c.turn-turn.new.self in let same = c.turn-turn.ensures.turns.same in
-    let y = g.S.Sections.system a.sections in let tree = g.S.Sections.tree a.sections in let walk = g.S.Sections.walk a.sections in
-    let w = there_is a.workers.items c.args.k (omega (arith, c.requires.there, a.workers.ok.0)) in
+    let a = c.args.self.now in let n = c.turn-turn.new.self in let same = c.turn-turn.ensures.turns.same in let k = c.args.k in
+    let has : has_turned c.turn-turn.result ≡ true = sym c.has_turned.ensures ∙ c.if-has_turned.true in
+    let there : nat_lt k (length (g.S.Sections.system a.sections).members) ≡ true = lt-ltb k (length (g.S.Sections.system a.sections).members) (omega (arith, c.requires.there, a.workers.ok.0, c.requires.safe.seats.as_many)) in
+    let there_still : nat_lt k (length (g.S.Sections.system n.sections).members) ≡ true = subst (λ x. nat_lt k (length (g.S.Sections.system x).members) ≡ true) (sym same.sections) there in
     λ before st.
-    let one : (fits : FitsCore n) → round_from (system_of n) (settings_of n) before c.args.k 1 ≡ c.args.k ∷ [] = (λ fits. sym (same_from a n same before c.args.k 1) ∙ has_turn y tree walk (settings_of a) (fits_back a n same fits) before a.made c.args.k a.workers.items (views_of a.board) (st (fits_back a n same fits)) c.requires.safe.seats w.0 w.1 (subst (GoesOn c.args.k a.workers.items) c.if-not-goes_on.false c.goes_on.ensures w.0 w.1)) in
     record {
       stands = λ fits.
-          subst (λ l. StandsWith (g.S.Sections.system n.sections) (g.S.Sections.tree n.sections) (g.S.Sections.walk n.sections) (settings_of n) fits l n.made n.workers.items (views_of n.board)) (ap (λ l. before ++ l) (sym (one fits)))
-          (c.turn-turn.ensures.turns.stands (sym c.has_turned.ensures ∙ c.if-has_turned.true) before st fits);
-      many = λ fits. sym (ap length (one fits));
+          stands_counted (g.S.Sections.system n.sections) (settings_of n) before k there_still (g.S.Sections.tree n.sections) (g.S.Sections.walk n.sections) n.made n.workers.items (views_of n.board) fits
+          (c.turn-turn.ensures.turns.stands has before st fits);
+      many = λ fits.
+          c.counted.ensures
+          ∙ counted_right (system_of a) (settings_of a) before k there c.turn-turn.result has (c.turn-turn.ensures.turns.answer has before st (fits_back a n same fits))
+          ∙ ap length (same_from a n same before k 1);
     }
+
+pub returns-then-has_turned-clause-ended : goal.returns-then-has_turned-clause-ended
+returns-then-has_turned-clause-ended g c =
+    λ none.
+    let idle = was_idle c.turn-turn.result (sym c.has_turned.ensures ∙ c.if-has_turned.true) (sym c.counted.ensures ∙ none) in
+    c.turn-turn.ensures.idle idle.0 idle.1
