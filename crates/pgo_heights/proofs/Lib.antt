@@ -1,0 +1,4 @@
+mod Actions
+mod Greatest
+mod Modules
+mod Limits
