@@ -11,6 +11,7 @@ ghost use Rattle.pgo_execute.specs.Accepts.{Accepts};
 ghost use Rattle.pgo_execute.specs.Follows.{Follows};
 ghost use Rattle.pgo_execute.specs.Gives.{Gives, Leaves};
 ghost use Rattle.pgo_execute.specs.Schedules.{schedule_view};
+ghost use Rattle.pgo_lower.specs.Agree.{AreLowered};
 ghost use Rattle.pgo_meaning.specs.LabelSections.{AreUnlabelled};
 ghost use Rattle.pgo_meaning.specs.System.{system_of};
 ghost use Rattle.pgo_pluscal.specs.PlusCalOf.{pluscal_of};
@@ -67,6 +68,18 @@ fn run_schedule<S: Sections + Drop, R: Resource>(
     }
 }
 
+/// The sections of what a specification is bound to, to be run.
+fn sections<'a>(alloc: Global, bound: &'a Bound) -> Result<Runnable<'a>, AllocError>
+    requires { AreUnlabelled bound.now.spec.macros }
+    ensures bound { IfOk result (λ s. s.program.bound ≡ bound.entry) }
+    ensures codes { IfOk result (λ s. AreLowered bound.entry.now bound.entry.now.instances s.program.codes.items) }
+{
+    let definitions = evaluated_for_sections(alloc, bound)?;
+    let program = lower(alloc, bound, definitions)?;
+    let runnable = Runnable::new(alloc, program)?;
+    Ok(runnable)
+}
+
 /// The core of what a specification is bound to, before its first turn.
 fn opened<'a>(
     alloc: Global,
@@ -85,10 +98,9 @@ fn opened<'a>(
     ensures fits { IfOk result (λ c. CoreFits (system_of bound.entry.now) (tree_of bound.entry.now) (settings_view settings.now) → FitsCore c) }
 {
     programs_run();
-    let definitions = evaluated_for_sections(alloc, bound)?;
-    let program = lower(alloc, bound, definitions)?;
+    let sections = sections(alloc, bound)?;
     let (owns, cells) = both(all_own_at_start(alloc, bound), contents(alloc, bound))?;
-    Core::open(alloc, Runnable { program }, bound, owns, cells, settings)
+    Core::open(alloc, sections, bound, owns, cells, settings)
 }
 
 /// Runs what a specification is bound to under the schedule, and stops it.

@@ -2,6 +2,7 @@ mod Contents
 pub mod Evaluations
 mod FirstReads
 mod Identifiers
+mod InstanceNames
 mod Moves
 mod Names
 mod OwnPuts

@@ -14,7 +14,7 @@ use Rattle.pgo_code.specs.Steps.{Step}
 use Rattle.pgo_places.specs.declared.place.Finish.{Finish}
 use Rattle.pgo_places.specs.declared.place.Place.{Place}
 use Rattle.pgo_places.specs.declared.flow.Flow.{Flow}
-use Rattle.pgo_places.specs.Flows.{flow_walk}
+use Rattle.pgo_places.specs.Flows.{flow_walk, LeadsTo}
 use Rattle.pgo_places.specs.Performs.{Performs}
 use Rattle.pgo_places.specs.PlaceView.{stand_view, fixed_view, attempt_view}
 use Rattle.pgo_places.specs.PlaceWalk.{core_walk, count_of, instructions_in, steps_at, stop_walk, walk_in}
@@ -23,10 +23,10 @@ use Rattle.pgo_places.proofs.Moves.{leads_on}
 
 -- what is left at `new`, seen from a place that has the same instructions and names
 abbrev pub seen_from : Program → Place → Place → Walk
-seen_from p old new = limited (count_of p.bound.now) (core_walk (attempt_view p.bound.now old.fixed) (fixed_view old.fixed) (steps_at p old) new)
+seen_from p old new = limited (count_of p.bound.now) (core_walk (attempt_view p.bound.now old.fixed.value) (fixed_view old.fixed.value) (steps_at p old) new)
 
 pub frame_walk : (p : Program) (old new : Place) → new ≡ record old { stopped = new.stopped } → walk_in p new ≡ seen_from p old new
-frame_walk p old new e = ap (λ (q : Place). limited (count_of p.bound.now) (core_walk (attempt_view p.bound.now q.fixed) (fixed_view q.fixed) (steps_at p q) new)) e
+frame_walk p old new e = ap (λ (q : Place). limited (count_of p.bound.now) (core_walk (attempt_view p.bound.now q.fixed.value) (fixed_view q.fixed.value) (steps_at p q) new)) e
 
 pub at_instruction : (a : Attempt) (k : Fixed) (xs : List Step) (p : Place) (i : Step) (is : List Step) → p.stopped ≡ None → 0 < p.left → drop p.position xs ≡ i ∷ is
     → core_walk a k xs p ≡ resume a k (suc (p.left - 1)) (i ∷ is) (stand_view p.stand)
@@ -57,22 +57,22 @@ drop_all (suc n) (x ∷ xs) h = drop_all n xs (omega (arith, h))
 
 pub stopped_walk : (p : Program) (q : Place) (e : Finish) → q.stopped ≡ Some e → walk_in p q ≡ limited (count_of p.bound.now) (stop_walk e (stand_view q.stand))
 stopped_walk p q e h =
-    ap (λ o. limited (count_of p.bound.now) (on (resume (attempt_view p.bound.now q.fixed) (fixed_view q.fixed) q.left (drop q.position (steps_at p q)) (stand_view q.stand)) o (λ f. stop_walk f (stand_view q.stand)))) h
+    ap (λ o. limited (count_of p.bound.now) (on (resume (attempt_view p.bound.now q.fixed.value) (fixed_view q.fixed.value) q.left (drop q.position (steps_at p q)) (stand_view q.stand)) o (λ f. stop_walk f (stand_view q.stand)))) h
 
 pub some_tells : (p : Program) (q : Place) (o : Option NextEvent)
     → IfSome o (λ e. (a : Attempt) (k : Fixed) (xs : List Step) (m : ℕ) → Tells (limited m (core_walk a k xs q)) e) → IfSome o (λ e. Tells (walk_in p q) e)
 some_tells p q None h = h
-some_tells p q (Some e) h = h (attempt_view p.bound.now q.fixed) (fixed_view q.fixed) (steps_at p q) (count_of p.bound.now)
+some_tells p q (Some e) h = h (attempt_view p.bound.now q.fixed.value) (fixed_view q.fixed.value) (steps_at p q) (count_of p.bound.now)
 
 -- where there is no value and the place fails
 pub fails_same : (p : Program) (old new : Place) → new ≡ record old { stopped = new.stopped }
     → ((a : Attempt) (k : Fixed) (xs : List Step) → core_walk a k xs new ≡ no_value)
-    → core_walk (attempt_view p.bound.now old.fixed) (fixed_view old.fixed) (steps_at p old) old ≡ no_value → walk_in p new ≡ walk_in p old
-fails_same p old new e f h = frame_walk p old new e ∙ ap (limited (count_of p.bound.now)) (f (attempt_view p.bound.now old.fixed) (fixed_view old.fixed) (steps_at p old) ∙ sym h)
+    → core_walk (attempt_view p.bound.now old.fixed.value) (fixed_view old.fixed.value) (steps_at p old) old ≡ no_value → walk_in p new ≡ walk_in p old
+fails_same p old new e f h = frame_walk p old new e ∙ ap (limited (count_of p.bound.now)) (f (attempt_view p.bound.now old.fixed.value) (fixed_view old.fixed.value) (steps_at p old) ∙ sym h)
 
 pub fails_tells : (p : Program) (old new : Place) (n : NextEvent) → new ≡ record old { stopped = new.stopped }
     → ((a : Attempt) (k : Fixed) (xs : List Step) (m : ℕ) → Tells (limited m (core_walk a k xs new)) n) → Tells (walk_in p new) n
-fails_tells p old new n e f = f (attempt_view p.bound.now new.fixed) (fixed_view new.fixed) (steps_at p new) (count_of p.bound.now)
+fails_tells p old new n e f = f (attempt_view p.bound.now new.fixed.value) (fixed_view new.fixed.value) (steps_at p new) (count_of p.bound.now)
 
 pub instruction_here : (xs : List Instruction) (n : ℕ) (d : Instruction) → n < length xs → drop n (map step_of xs) ≡ step_of (get_or xs n d) ∷ drop (suc n) (map step_of xs)
 instruction_here [] n d h = absurd (omega (arith, h))
@@ -89,15 +89,30 @@ drop_all_steps (x ∷ xs) (suc n) h = drop_all_steps xs n (omega (arith, h))
 pub access_leads : (p : Program) (old new : Place) (i : Step) (f : Flow) (t : Stand) (before behind : Data)
     → old.stopped ≡ None → 0 < old.left → drop old.position (steps_at p old) ≡ i ∷ drop (suc old.position) (steps_at p old)
     → new.instance ≡ old.instance → new.section ≡ old.section → new.fixed ≡ old.fixed
-    → Performs (attempt_view p.bound.now old.fixed) (fixed_view old.fixed) i (stand_view old.stand) f t before behind
-    → core_walk (attempt_view p.bound.now old.fixed) (fixed_view old.fixed) (steps_at p old) new
-    ≡ flow_walk (attempt_view p.bound.now old.fixed) (fixed_view old.fixed) (old.left - 1) i (drop (suc old.position) (steps_at p old)) f t
+    → Performs (attempt_view p.bound.now old.fixed.value) (fixed_view old.fixed.value) i (stand_view old.stand) f t before behind
+    → core_walk (attempt_view p.bound.now old.fixed.value) (fixed_view old.fixed.value) (steps_at p old) new
+    ≡ flow_walk (attempt_view p.bound.now old.fixed.value) (fixed_view old.fixed.value) (old.left - 1) i (drop (suc old.position) (steps_at p old)) f t
     → LeadsOn (walk_in p old) (walk_in p new) before behind
 access_leads p old new i f t before behind none more here e1 e2 e3 h w =
-    let a = attempt_view p.bound.now old.fixed in let k = fixed_view old.fixed in let xs = steps_at p old in
+    let a = attempt_view p.bound.now old.fixed.value in let k = fixed_view old.fixed.value in let xs = steps_at p old in
     let is = drop (suc old.position) xs in let g = h (old.left - 1) is in
     let seen : seen_from p old new ≡ walk_in p new =
-    λ j. limited (count_of p.bound.now) (core_walk (attempt_view p.bound.now (sym e3 j)) (fixed_view (sym e3 j)) (map step_of (instructions_in p.codes.items (sym e1 j) (sym e2 j))) new) in
+    λ j. limited (count_of p.bound.now) (core_walk (attempt_view p.bound.now (sym e3 j).value) (fixed_view (sym e3 j).value) (map step_of (instructions_in p.codes.items (sym e1 j) (sym e2 j))) new) in
     subst (λ (v : Walk). LeadsOn (walk_in p old) v before behind) seen
     (leads_on (count_of p.bound.now) (core_walk a k xs old) (core_walk a k xs new) g.0 g.1 g.2 before behind
     (at_instruction a k xs old i is none more here ∙ g.3) g.4 (w ∙ sym g.5))
+
+-- a place behind an instruction that is no access
+pub run_leads : (p : Program) (old new : Place) (i : Step) (f : Flow) (t : Stand)
+    → old.stopped ≡ None → 0 < old.left → drop old.position (steps_at p old) ≡ i ∷ drop (suc old.position) (steps_at p old)
+    → new.instance ≡ old.instance → new.section ≡ old.section → new.fixed ≡ old.fixed
+    → LeadsTo (attempt_view p.bound.now old.fixed.value) (fixed_view old.fixed.value) i (stand_view old.stand) f t
+    → core_walk (attempt_view p.bound.now old.fixed.value) (fixed_view old.fixed.value) (steps_at p old) new
+    ≡ flow_walk (attempt_view p.bound.now old.fixed.value) (fixed_view old.fixed.value) (old.left - 1) i (drop (suc old.position) (steps_at p old)) f t
+    → walk_in p new ≡ walk_in p old
+run_leads p old new i f t none more here e1 e2 e3 h w =
+    let a = attempt_view p.bound.now old.fixed.value in let k = fixed_view old.fixed.value in let xs = steps_at p old in
+    let is = drop (suc old.position) xs in
+    let seen : walk_in p new ≡ seen_from p old new =
+    λ j. limited (count_of p.bound.now) (core_walk (attempt_view p.bound.now (e3 j).value) (fixed_view (e3 j).value) (map step_of (instructions_in p.codes.items (e1 j) (e2 j))) new) in
+    seen ∙ ap (limited (count_of p.bound.now)) (w ∙ sym (h (old.left - 1) is) ∙ sym (at_instruction a k xs old i is none more here))

@@ -1,3 +1,4 @@
+pub mod AllNames
 pub mod Flows
 pub mod Inside
 pub mod Meant

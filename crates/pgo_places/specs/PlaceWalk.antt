@@ -1,5 +1,5 @@
 -- What is left at a place.
-use Rattle.std.specs.Prelude.{ℕ, List, [], length, drop, map}
+use Rattle.std.specs.Prelude.{Box, ℕ, List, [], length, drop, map}
 use Rattle.pgo_model.specs.Machine.{nth}
 use Rattle.pgo_model.specs.Options.{on}
 use Rattle.pgo_syntax.specs.RecordView.{kind_view}
@@ -39,4 +39,8 @@ abbrev pub count_of : Bound → ℕ
 count_of b = length (system_of b).resources
 
 abbrev pub walk_in : Program → Place → Walk
-walk_in p place = limited (count_of p.bound.now) (core_walk (attempt_view p.bound.now place.fixed) (fixed_view place.fixed) (steps_at p place) place)
+walk_in p place = limited (count_of p.bound.now) (core_walk (attempt_view p.bound.now place.fixed.value) (fixed_view place.fixed.value) (steps_at p place) place)
+
+-- the same of a place in a box
+abbrev pub boxed_walk : {Z : Type 0} → Program → Box Place Z → Walk
+boxed_walk p place = walk_in p place.value

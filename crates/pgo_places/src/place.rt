@@ -22,6 +22,7 @@ use pgo_code::program::{Code, Program};
 use pgo_resource::sections::NextEvent;
 use pgo_syntax::records::NoteKind;
 use std::alloc::{AllocError, Global};
+use std::sync::Arc;
 
 /// How a section has come to its end: at a written label, or in a note.
 #[derive(Drop)]
@@ -40,7 +41,8 @@ pub struct Place {
     /// how many instructions may still be run
     pub left: usize,
     pub stopped: Option<Finish>,
-    pub fixed: Fixed,
+    /// the same for all attempts of the instance
+    pub fixed: Arc<Fixed>,
     pub stand: Stand,
 }
 

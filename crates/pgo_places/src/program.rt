@@ -1,5 +1,6 @@
 // The sections of a program.
-ghost use Rattle.std.specs.Prelude.{◌≡◌, ◌<◌, ◌∷◌, suc, drop, length, option_map, Some, None, OnOk, IfOk};
+ghost use Rattle.std.specs.Prelude.{◌≡◌, ◌<◌, ◌∷◌, suc, drop, length, map, option_map, Some, None, OnOk, IfOk};
+ghost use Rattle.std.specs.Arc.{arc_value};
 ghost use Rattle.pgo_base.specs.View.{data_of};
 ghost use Rattle.pgo_model.specs.LogView.{component_view};
 ghost use Rattle.pgo_model.specs.Machine.{nth};
@@ -9,6 +10,7 @@ ghost use Rattle.pgo_meaning.specs.System.{resource_of, system_of};
 ghost use Rattle.pgo_resource.specs.Nexts.{LeadsOn};
 ghost use Rattle.pgo_workers.specs.Walk.{Stop, Goes};
 ghost use Rattle.pgo_workers.specs.Worlds.{component_of, layout_of};
+ghost use Rattle.pgo_places.specs.AllNames.{AreNames, are_names_prop};
 ghost use Rattle.pgo_places.specs.PlaceView.{stand_view};
 ghost use Rattle.pgo_places.specs.PlaceWalk.{walk_in, steps_at};
 ghost use Rattle.pgo_places.specs.Stands.{labelled};
@@ -16,8 +18,8 @@ ghost use Rattle.pgo_places.specs.Stands.{labelled};
 use crate::evaluated::Frame;
 use crate::perform::perform;
 use crate::place::{Finish, Place, at, instructions, moved, next_event};
-use crate::stand::Stand;
-use crate::start::first_place;
+use crate::stand::{Fixed, Stand};
+use crate::start::{all_names, first_place};
 use crate::variables::put_own;
 use pgo_base::log::{Component, Owner, Values};
 use pgo_base::scope::State;
@@ -29,6 +31,7 @@ use pgo_resource::resource::Resource;
 use pgo_resource::sections::{NextEvent, Sections};
 use pgo_syntax::bound;
 use std::alloc::{AllocError, Global};
+use std::sync::Arc;
 
 /// What a section that has ended leaves of the own components, and what it printed.
 fn end_of(alloc: Global, program: &Program<'_>, place: Place) -> Result<(State, Values), AllocError>
@@ -150,25 +153,47 @@ fn id_in<'x>(bound: &'x bound::Bound, instance: u32) -> &'x Value
     &bound.instances.as_slice()[instance as usize].id
 }
 
-/// A program whose sections are run.
+/// A program whose sections are run, and what the names of the attempts of each instance are.
 #[derive(Drop)]
 pub struct Runnable<'a> {
     pub program: Program<'a>,
+    names: Vec<Arc<Fixed>>,
+    ghost are_names: { AreNames program (map arc_value names.items) } by { are_names_prop program (map arc_value names.items) },
+}
+
+impl<'a> Runnable<'a> {
+    /// A program, to be run.
+    ///
+    /// Err only where there is no memory.
+    pub fn new(alloc: Global, program: Program<'a>) -> Result<Runnable<'a>, AllocError>
+        ensures { IfOk result (λ r. r.program ≡ program.entry) }
+    {
+        let names = all_names(alloc, &program)?;
+        Ok(Runnable { program, names })
+    }
+}
+
+/// The place, where moving it is cheap.
+fn boxed(alloc: Global, place: Place) -> Result<Box<Place>, AllocError>
+    ensures { IfOk result (λ b. b.value ≡ place) }
+{
+    Ok(Box::new(alloc, place)?)
 }
 
 impl<'a> Sections for Runnable<'a> {
-    type Place = Place;
+    /// A place is several hundred bytes, and a worker moves it in each turn.
+    type Place = Box<Place>;
 
     ghost use Rattle.pgo_meaning.specs.System.{system_of};
     ghost use Rattle.pgo_places.specs.Inside.{tree_inside};
-    ghost use Rattle.pgo_places.specs.PlaceWalk.{walk_in};
+    ghost use Rattle.pgo_places.specs.PlaceWalk.{boxed_walk};
     ghost use Rattle.pgo_places.specs.Trees.{tree_in};
 
     ghost system = { λ p. system_of p.program.bound.now };
 
     ghost tree = { λ p. tree_in p.program };
 
-    ghost walk = { λ p. walk_in p.program };
+    ghost walk = { λ p. boxed_walk p.program };
 
     fn begin(
         &self,
@@ -177,25 +202,34 @@ impl<'a> Sections for Runnable<'a> {
         instance: u32,
         attempt: u32,
         own: &State,
-    ) -> Result<Place, AllocError> {
-        first_place(alloc, &self.program, seed, instance, attempt, own)
+    ) -> Result<Box<Place>, AllocError> {
+        let place = first_place(
+            alloc,
+            &self.program,
+            &self.names,
+            seed,
+            instance,
+            attempt,
+            own,
+        )?;
+        boxed(alloc, place)
     }
 
-    fn next(&self, alloc: Global, place: &mut Place) -> Result<NextEvent, AllocError> {
+    fn next(&self, alloc: Global, place: &mut Box<Place>) -> Result<NextEvent, AllocError> {
         next_event(alloc, &self.program, place)
     }
 
     fn operate<R: Resource>(
         &self,
         alloc: Global,
-        place: &mut Place,
+        place: &mut Box<Place>,
         content: &mut R,
     ) -> Result<(), AllocError> {
         operated(alloc, &self.program, place, content)
     }
 
-    fn end(&self, alloc: Global, place: Place) -> Result<(State, Values), AllocError> {
-        end_of(alloc, &self.program, place)
+    fn end(&self, alloc: Global, place: Box<Place>) -> Result<(State, Values), AllocError> {
+        end_of(alloc, &self.program, Box::into_inner(place))
     }
 
     fn component(&self, alloc: Global, r: u32) -> Result<Component, AllocError> {

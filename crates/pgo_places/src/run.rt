@@ -14,7 +14,6 @@ use crate::behind::behind;
 use crate::evaluated::{Frame, value_of};
 use crate::flow::Flow;
 use crate::stand::{Stand, under};
-use crate::variables::is_named;
 use pgo_base::depth::is_deeper;
 use pgo_base::scope::State;
 use pgo_base::text::Text;
@@ -28,7 +27,7 @@ fn rows_fit(own: &[(Text, Value)]) -> bool
     ensures { (l : Name) → all_shallow (labelled l (map named_data own.now)) ≡ result }
 {
     for component in own {
-        if !is_named(&component.0, b"pc") && is_deeper(&component.1, 255) {
+        if !component.0.is_bytes(b"pc") && is_deeper(&component.1, 255) {
             return false;
         }
     }

@@ -1,5 +1,6 @@
 // The first place of an attempt.
-ghost use Rattle.std.specs.Prelude.{◌≡◌, suc, length, map, reverse, option_map, option_and_then, Some, None, IfOk};
+ghost use Rattle.std.specs.Prelude.{◌≡◌, ◌++◌, ◌∷◌, [], suc, length, map, reverse, option_map, option_and_then, Some, None, IfOk};
+ghost use Rattle.std.specs.Arc.{arc_value};
 ghost use Rattle.pgo_base.specs.BindingsView.{named_view};
 ghost use Rattle.pgo_model.specs.Machine.{nth};
 ghost use Rattle.pgo_base.specs.Lookup.{find};
@@ -10,6 +11,7 @@ ghost use Rattle.pgo_code.specs.declared.program.Program.{Program as ProgramView
 ghost use Rattle.pgo_model.specs.Options.{on};
 ghost use Rattle.pgo_resource.specs.Picked.{words_of, used_of};
 ghost use Rattle.pgo_accesses.specs.Accesses.{no_value};
+ghost use Rattle.pgo_places.specs.AllNames.{AreNames, names_from, seen};
 ghost use Rattle.pgo_places.specs.PlaceView.{stand_view, fixed_view};
 ghost use Rattle.pgo_places.specs.PlaceWalk.{count_of, instructions_in, walk_in};
 ghost use Rattle.pgo_places.specs.Stands.{limited, resume};
@@ -24,8 +26,10 @@ use pgo_base::text::Text;
 use pgo_base::value::Value;
 use pgo_code::program::{Code, Program, Section, Variable};
 use pgo_resource::picks::Picks;
+use pgo_syntax::bound::Instance;
 use pgo_syntax::records::NoteKind;
 use std::alloc::{AllocError, Global};
+use std::sync::Arc;
 
 /// The number of the first section of a label, from 0.
 fn section_named(sections: &[Section<'_>], label: &Text) -> Option<usize>
@@ -72,11 +76,6 @@ fn owners_of(alloc: Global, variables: &[Variable]) -> Result<Vec<Option<Text>>,
     Ok(owners)
 }
 
-/// The place before this one, or the first one.
-fn before(place: usize) -> usize {
-    if place > 0 { place - 1 } else { 0 }
-}
-
 /// The value that an own component has. It is looked for first at the guessed place; the next one is guessed before it.
 fn value_in(
     alloc: Global,
@@ -88,7 +87,7 @@ fn value_in(
 {
     match own.find_near(name, *guess) {
         Some((place, v)) => {
-            *guess = before(place);
+            *guess = place.saturating_sub(1);
             Ok(Some(v.copy(alloc)?))
         }
         None => Ok(None),
@@ -122,7 +121,7 @@ fn start_values(
 {
     let mut values = Vec::with_capacity(alloc, variables.len())?;
     let mut left = variables;
-    let mut guess = before(own.as_slice().len());
+    let mut guess = own.as_slice().len().saturating_sub(1);
     while let Some((last, others)) = left.split_last() {
         values.push(start_value(alloc, last, own, &mut guess)?)?;
         left = others;
@@ -145,6 +144,55 @@ fn fixed(alloc: Global, code: &Code<'_>, id: &Value) -> Result<Fixed, AllocError
     })
 }
 
+/// They, for several owners.
+fn shared(alloc: Global, fixed: Fixed) -> Result<Arc<Fixed>, AllocError>
+    ensures { IfOk result (λ x. arc_value x ≡ fixed) }
+{
+    Ok(Arc::new(alloc, fixed)?)
+}
+
+/// Adds what the names of an instance's attempts are.
+fn add_names(
+    alloc: Global,
+    names: &mut Vec<Arc<Fixed>>,
+    code: &Code<'_>,
+    id: &Value,
+) -> Result<(), AllocError>
+    ensures { IfOk result (λ _. map seen (map arc_value names.new.items) ≡ map seen (map arc_value names.old.items) ++ (fixed_of code.now, data_of id.now) ∷ []) }
+{
+    let fixed = fixed(alloc, code, id)?;
+    let shared = shared(alloc, fixed)?;
+    names.push(shared)?;
+    Ok(())
+}
+
+/// What the names of the attempts of each instance are that has code, in order.
+fn names_of(
+    alloc: Global,
+    codes: &[Code<'_>],
+    instances: &[Instance],
+) -> Result<Vec<Arc<Fixed>>, AllocError>
+    ensures { IfOk result (λ xs. map seen (map arc_value xs.items) ≡ names_from codes.now instances.now) }
+{
+    let mut names = Vec::new(alloc);
+    let mut left = instances;
+    for code in codes {
+        let Some((instance, others)) = left.split_first() else {
+            return Ok(names);
+        };
+        left = others;
+        add_names(alloc, &mut names, code, &instance.id)?;
+    }
+    Ok(names)
+}
+
+/// What the names of the attempts of each instance are, in order.
+pub fn all_names(alloc: Global, program: &Program<'_>) -> Result<Vec<Arc<Fixed>>, AllocError>
+    ensures { IfOk result (λ xs. AreNames program.now (map arc_value xs.items)) }
+{
+    names_of(alloc, &program.codes, program.bound.instances.as_slice())
+}
+
 /// Where an attempt stands first.
 fn stand(alloc: Global, code: &Code<'_>, own: &State, picks: Picks) -> Result<Stand, AllocError>
     requires { used_of picks ≡ 0 }
@@ -165,20 +213,24 @@ fn stand(alloc: Global, code: &Code<'_>, own: &State, picks: Picks) -> Result<St
 }
 
 /// A place at which there is no value.
-fn nowhere(alloc: Global, picks: Picks) -> Place
-    ensures { (p : ProgramView) → walk_in p result ≡ no_value }
+fn nowhere(alloc: Global, picks: Picks) -> Result<Place, AllocError>
+    ensures { IfOk result (λ q. (p : ProgramView) → walk_in p q ≡ no_value) }
 {
-    Place {
+    let fixed = shared(
+        alloc,
+        Fixed {
+            identity: Text::new(alloc),
+            id: Value::Bool(false),
+            owners: Vec::new(alloc),
+        },
+    )?;
+    Ok(Place {
         instance: 0,
         section: 0,
         position: 0,
         left: 0,
         stopped: Some(Finish::Noted(NoteKind::NoValue)),
-        fixed: Fixed {
-            identity: Text::new(alloc),
-            id: Value::Bool(false),
-            owners: Vec::new(alloc),
-        },
+        fixed,
         stand: Stand {
             done: 0,
             value: None,
@@ -189,7 +241,7 @@ fn nowhere(alloc: Global, picks: Picks) -> Place
             picks,
             prints: Vec::new(alloc),
         },
-    }
+    })
 }
 
 /// How many instructions a section has.
@@ -207,23 +259,24 @@ fn first_in(
     alloc: Global,
     program: &Program<'_>,
     code: &Code<'_>,
-    id: &Value,
+    fixed: &Arc<Fixed>,
     instance: usize,
     own: &State,
     picks: Picks,
 ) -> Result<Place, AllocError>
     requires code { nth program.now.codes.items instance ≡ Some code.now }
+    requires names { fixed_view (arc_value fixed.now) ≡ fixed_of code.now }
     requires fresh { used_of picks ≡ 0 }
-    ensures { IfOk result (λ p. walk_in program.now p ≡ limited (count_of program.now.bound.now) (on no_value (steps_named (find pc own.now) code.now) (λ xs. resume (attempt_with program.now.bound.now (data_of id.now)) (fixed_of code.now) (suc (length xs)) xs (start_of code.now own.now (words_of picks))))) }
+    ensures { IfOk result (λ p. walk_in program.now p ≡ limited (count_of program.now.bound.now) (on no_value (steps_named (find pc own.now) code.now) (λ xs. resume (attempt_with program.now.bound.now (data_of (arc_value fixed.now).id)) (fixed_of code.now) (suc (length xs)) xs (start_of code.now own.now (words_of picks))))) }
 {
     let Some(section) = section_at(code, own) else {
-        return Ok(nowhere(alloc, picks));
+        return nowhere(alloc, picks);
     };
     let count = count_in(program, instance, section);
     if count == usize::MAX {
         return Err(AllocError);
     }
-    let (fixed, stand) = both(fixed(alloc, code, id), stand(alloc, code, own, picks))?;
+    let (fixed, stand) = both(Arc::try_clone(fixed), stand(alloc, code, own, picks))?;
     Ok(Place {
         instance,
         section,
@@ -239,20 +292,22 @@ fn first_in(
 pub fn first_place(
     alloc: Global,
     program: &Program<'_>,
+    names: &[Arc<Fixed>],
     seed: u64,
     instance: u32,
     attempt: u32,
     own: &State,
 ) -> Result<Place, AllocError>
+    requires { AreNames program.now (map arc_value names.now) }
     ensures { IfOk result (λ p. walk_in program.now p ≡ tree_in program.now seed instance attempt own.now) }
 {
     let picks = Picks::of_seed(seed, instance, attempt);
     let k = instance as usize;
     let Some(code) = at(&program.codes, k) else {
-        return Ok(nowhere(alloc, picks));
+        return nowhere(alloc, picks);
     };
-    let Some(i) = at(program.bound.instances.as_slice(), k) else {
-        return Ok(nowhere(alloc, picks));
+    let Some(fixed) = at(names, k) else {
+        return nowhere(alloc, picks);
     };
-    first_in(alloc, program, code, &i.id, k, own, picks)
+    first_in(alloc, program, code, fixed, k, own, picks)
 }

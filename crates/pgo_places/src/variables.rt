@@ -1,7 +1,6 @@
 // The values of variables and of own components.
 ghost use Rattle.std.specs.Prelude.{◌≡◌, ◌<◌, length, map, option_map, if◌then◌else◌, IfOk};
 ghost use Rattle.pgo_base.specs.BindingsView.{named_view};
-ghost use Rattle.pgo_base.specs.Lookup.{same_name};
 ghost use Rattle.pgo_base.specs.View.{data_of};
 ghost use Rattle.pgo_places.specs.Meant.{test_of};
 ghost use Rattle.pgo_places.specs.Stands.{updated, own_put, own_put_at, is_global_named, is_own_named};
@@ -11,7 +10,6 @@ use pgo_base::scope::State;
 use pgo_base::text::Text;
 use pgo_base::value::Value;
 use std::alloc::{AllocError, Global};
-use std::mem::drop;
 
 /// Which variables are meant: all globals, the globals of a name, or those that are the own component of a name.
 #[derive(Clone, Copy)]
@@ -99,13 +97,6 @@ pub fn update(
     Ok(())
 }
 
-/// Whether these are the bytes of the name.
-pub fn is_named(name: &Text, bytes: &[u8]) -> bool
-    ensures { result ≡ same_name name.now bytes.now }
-{
-    name.as_bytes() == bytes
-}
-
 /// The component at this place has this value, where it has the name.
 fn renew_own(
     alloc: Global,
@@ -117,9 +108,9 @@ fn renew_own(
     requires { place < length own.old }
     ensures { IfOk result (λ _. own.new ≡ own_put_at name.now (data_of value.now) place own.old) }
 {
-    if is_named(&own.as_slice()[place].0, name) {
+    if own.as_slice()[place].0.is_bytes(name) {
         let value = value.copy(alloc)?;
-        drop(own.replace(place, value));
+        own.replace(place, value);
     }
     Ok(())
 }

@@ -3,7 +3,7 @@ ghost use Rattle.std.specs.Prelude.{◌≡◌, ◌<◌, length, [], None, IfOk};
 ghost use Rattle.pgo_model.specs.Core.{Settings as SettingsView};
 ghost use Rattle.pgo_bound.specs.State.{AreDifferent, variables_of};
 ghost use Rattle.pgo_meaning.specs.System.{system_of};
-ghost use Rattle.pgo_places.specs.PlaceWalk.{walk_in};
+ghost use Rattle.pgo_places.specs.PlaceWalk.{boxed_walk};
 ghost use Rattle.pgo_places.specs.Trees.{tree_in};
 ghost use Rattle.pgo_resource.specs.PlainBoards.{board_layout, shows_of};
 ghost use Rattle.pgo_section.specs.Programs.{RunsSystem};
@@ -38,7 +38,8 @@ fn sections<'a>(alloc: Global, bound: &'a Bound) -> Result<Runnable<'a>, AllocEr
     programs_run();
     let definitions = evaluated_for_sections(alloc, bound)?;
     let program = lower(alloc, bound, definitions)?;
-    Ok(Runnable { program })
+    let runnable = Runnable::new(alloc, program)?;
+    Ok(runnable)
 }
 
 /// What one step says: a turn, a stop, or how many entries or records there are.
@@ -46,14 +47,14 @@ fn step(
     alloc: Global,
     sections: &Runnable<'_>,
     board: &mut PlainBoard<Cell>,
-    worker: &mut Worker<Place>,
+    worker: &mut Worker<Box<Place>>,
     word: &str,
 ) -> Result<String, AllocError>
     requires layout { board_layout board.old ≡ layout_of (system_of sections.now.program.bound.now) }
     requires runs { (s : SettingsView) → RunsSystem (system_of sections.now.program.bound.now) (tree_in sections.now.program) s }
-    requires met { Met (system_of sections.now.program.bound.now) (tree_in sections.now.program) (walk_in sections.now.program) worker.old (shows_of board.old) }
+    requires met { Met (system_of sections.now.program.bound.now) (tree_in sections.now.program) (boxed_walk sections.now.program) worker.old (shows_of board.old) }
     ensures layout { board_layout board.new ≡ layout_of (system_of sections.now.program.bound.now) }
-    ensures met { Met (system_of sections.now.program.bound.now) (tree_in sections.now.program) (walk_in sections.now.program) worker.new (shows_of board.new) }
+    ensures met { Met (system_of sections.now.program.bound.now) (tree_in sections.now.program) (boxed_walk sections.now.program) worker.new (shows_of board.new) }
 {
     if word == "turn" {
         return told(alloc, worker.turn(alloc, sections, board));
@@ -70,12 +71,12 @@ fn steps(
     alloc: Global,
     sections: &Runnable<'_>,
     board: &mut PlainBoard<Cell>,
-    worker: &mut Worker<Place>,
+    worker: &mut Worker<Box<Place>>,
     words: &str,
 ) -> Result<String, AllocError>
     requires layout { board_layout board.old ≡ layout_of (system_of sections.now.program.bound.now) }
     requires runs { (s : SettingsView) → RunsSystem (system_of sections.now.program.bound.now) (tree_in sections.now.program) s }
-    requires met { Met (system_of sections.now.program.bound.now) (tree_in sections.now.program) (walk_in sections.now.program) worker.old (shows_of board.old) }
+    requires met { Met (system_of sections.now.program.bound.now) (tree_in sections.now.program) (boxed_walk sections.now.program) worker.old (shows_of board.old) }
 {
     let mut answer = String::new(alloc);
     for word in words.split("; ") {

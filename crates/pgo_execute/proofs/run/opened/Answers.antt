@@ -9,16 +9,16 @@ use Rattle.pgo_syntax.specs.RecordView.{settings_view}
 
 pub returns-clause-safe : goal.returns-clause-safe
 returns-clause-safe c =
-    let p = c.in_ok-program.program in let b = c.args.bound.now in
-    let is = ap (λ r. r.now) c.in_ok-program.ensures.bound in
+    let p = c.in_ok-sections.sections.program in let b = c.args.bound.now in
+    let is = ap (λ r. r.now) c.in_ok-sections.ensures.bound in
     IfOk-weaker c.open.result _ _
-    (λ core h. h (c.programs_run.ensures.runs b p (settings_view c.args.settings.now) is c.requires.sound.numbered c.in_ok-program.ensures.codes c.requires.runs)) c.open.ensures.safe
+    (λ core h. h (c.programs_run.ensures.runs b p (settings_view c.args.settings.now) is c.requires.sound.numbered c.in_ok-sections.ensures.codes c.requires.runs)) c.open.ensures.safe
 
 pub returns-clause-fits : goal.returns-clause-fits
 returns-clause-fits c =
-    let p = c.in_ok-program.program in let b = c.args.bound.now in
-    let is = ap (λ r. r.now) c.in_ok-program.ensures.bound in
-    let fits = fits_program p b (settings_view c.args.settings.now) is (c.programs_run.ensures.trees b p is c.requires.sound.numbered c.in_ok-program.ensures.codes) in
+    let p = c.in_ok-sections.sections.program in let b = c.args.bound.now in
+    let is = ap (λ r. r.now) c.in_ok-sections.ensures.bound in
+    let fits = fits_program p b (settings_view c.args.settings.now) is (c.programs_run.ensures.trees b p is c.requires.sound.numbered c.in_ok-sections.ensures.codes) in
     IfOk-weaker c.open.result _ _
     (λ core h f. subst (λ x. CoreFits (system_of x.program.bound.now) (tree_in x.program) (settings_view core.settings)) (sym h.0)
     (subst (λ t. CoreFits (system_of p.bound.now) (tree_in p) t) (sym h.1) (fits f)))

@@ -16,7 +16,7 @@ returns-in-Some-clause-tells c =
 
 pub returns-in_default-instructions-clause-same : goal.returns-in_default-instructions-clause-same
 returns-in_default-instructions-clause-same c =
-    let b = c.args.program.now.bound.now in let p = c.args.place.now in let a = attempt_view b p.fixed in let k = fixed_view p.fixed in
+    let b = c.args.program.now.bound.now in let p = c.args.place.now in let a = attempt_view b p.fixed.value in let k = fixed_view p.fixed.value in
     let none : instructions_in c.args.program.now.codes.items p.instance p.section ≡ [] =
     ap (λ cs. instructions_in cs p.instance p.section) (sym c.deref.ensures.value) ∙ c.in_default-instructions.ensures in
     fails_same c.args.program.now p c.fail.new.place c.fail.ensures.frame c.fail.ensures.same
@@ -29,7 +29,7 @@ pub returns-then-place-eq0-clause-same : goal.returns-then-place-eq0-clause-same
 returns-then-place-eq0-clause-same c =
     let p = c.args.place.now in
     fails_same c.args.program.now p c.fail-then-place-eq0.new.place c.fail-then-place-eq0.ensures.frame c.fail-then-place-eq0.ensures.same
-    (no_more_left (attempt_view c.args.program.now.bound.now p.fixed) (fixed_view p.fixed) (steps_at c.args.program.now p) p c.in_default.is c.if-place-eq0.true)
+    (no_more_left (attempt_view c.args.program.now.bound.now p.fixed.value) (fixed_view p.fixed.value) (steps_at c.args.program.now p) p c.in_default.is c.if-place-eq0.true)
 
 pub returns-then-place-eq0-clause-tells : goal.returns-then-place-eq0-clause-tells
 returns-then-place-eq0-clause-tells c =
@@ -41,7 +41,7 @@ returns-then-place-list-clause-same c =
     let list : c.in-Some-instructions.list.now ≡ instructions_in c.args.program.now.codes.items p.instance p.section =
     c.in-Some-instructions.ensures ∙ ap (λ cs. instructions_in cs p.instance p.section) c.deref.ensures.value in
     fails_same c.args.program.now p c.fail-then-place-list.new.place c.fail-then-place-list.ensures.frame c.fail-then-place-list.ensures.same
-    (nothing_left (attempt_view c.args.program.now.bound.now p.fixed) (fixed_view p.fixed) (steps_at c.args.program.now p) p c.in_default.is
+    (nothing_left (attempt_view c.args.program.now.bound.now p.fixed.value) (fixed_view p.fixed.value) (steps_at c.args.program.now p) p c.in_default.is
     (ap (λ is. drop p.position (map step_of is)) (sym list) ∙ drop_all_steps c.in-Some-instructions.list.now p.position c.if-place-list.true))
 
 pub returns-then-place-list-clause-tells : goal.returns-then-place-list-clause-tells

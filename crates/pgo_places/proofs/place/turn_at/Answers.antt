@@ -1,25 +1,26 @@
 -- An instruction that stands at an access, or doesn't.
-use Rattle.std.proofs.Common.{◌≡◌, suc, ◌-◌, drop, length, ap, sym, ◌∙◌, subst}
+use Rattle.std.proofs.Common.{◌≡◌, suc, ◌-◌, ◌∷◌, drop, length, ap, sym, ◌∙◌, subst, arith}
 use Rattle.std.proofs.lemmas.List.{length-map}
 use Rattle.std.proofs.lemmas.Result.{IfOk-weaker}
 use Rattle.pgo_workers.specs.Walk.{Walk}
 use Rattle.pgo_meaning.specs.System.{resource_of}
 use Rattle.pgo_resource.specs.Nexts.{Tells}
 use Rattle.pgo_code.specs.See.{step_of}
-use Rattle.pgo_places.specs.Flows.{IsTouchOf}
-use Rattle.pgo_places.specs.PlaceView.{fixed_view, attempt_view}
+use Rattle.pgo_places.specs.Flows.{IsTouchOf, LeadsTo}
+use Rattle.pgo_places.specs.PlaceView.{stand_view, fixed_view, attempt_view}
 use Rattle.pgo_places.specs.PlaceWalk.{core_walk, count_of, steps_at}
-use Rattle.pgo_places.specs.Stands.{limited}
-use Rattle.pgo_places.proofs.PlaceLaws.{frame_walk, at_instruction, fails_same, fails_tells, some_tells}
+use Rattle.pgo_places.specs.Stands.{limited, resume}
+use Rattle.pgo_places.specs.declared.stand.Fixed as memory
+use Rattle.pgo_places.proofs.PlaceLaws.{frame_walk, at_instruction, fails_same, fails_tells, run_leads, some_tells}
 use Rattle.pgo_places.proofs.place.turn_at.Goals as goal
 
 pub returns-in-Of-clause-same : goal.returns-in-Of-clause-same
 returns-in-Of-clause-same c =
     let b = c.args.program.now.bound.now in let p = c.args.place.now in
-    let a = attempt_view b p.fixed in let k = fixed_view p.fixed in let xs = steps_at c.args.program.now p in
+    let a = attempt_view b p.fixed.value in let k = fixed_view p.fixed.value in let xs = steps_at c.args.program.now p in
     let is = drop (suc p.position) xs in
     let touch : IsTouchOf c.in-Of.r (core_walk a k xs p) =
-    subst (IsTouchOf c.in-Of.r) (sym (at_instruction a k xs p (step_of c.args.instruction.now) is c.requires.runs c.requires.more c.requires.here)) (c.in-Of.ensures (p.left - 1) is) in
+    subst (IsTouchOf c.in-Of.r) (sym (at_instruction a k xs p (step_of c.args.instruction.now) is c.requires.runs c.requires.more c.requires.here)) (subst (λ (x : memory.Fixed). IsTouchOf c.in-Of.r (resume (attempt_view b x) (fixed_view x) (suc (p.left - 1)) (step_of c.args.instruction.now ∷ is) (stand_view p.stand))) c.deref.ensures (c.in-Of.ensures (p.left - 1) is)) in
     let m : length c.as_slice.result.now ≡ count_of b = ap (λ rs. length rs) c.as_slice.ensures ∙ sym (length-map b.resources resource_of) in
     frame_walk c.args.program.now p c.reached.new.place c.reached.ensures.frame
     ∙ ap (λ n. limited n (core_walk a k xs c.reached.new.place)) (sym m) ∙ c.reached.ensures.same a k xs touch ∙ ap (λ n. limited n (core_walk a k xs p)) m
@@ -27,10 +28,10 @@ returns-in-Of-clause-same c =
 pub returns-in-Of-clause-tells : goal.returns-in-Of-clause-tells
 returns-in-Of-clause-tells c =
     let b = c.args.program.now.bound.now in let p = c.args.place.now in
-    let a = attempt_view b p.fixed in let k = fixed_view p.fixed in let xs = steps_at c.args.program.now p in
+    let a = attempt_view b p.fixed.value in let k = fixed_view p.fixed.value in let xs = steps_at c.args.program.now p in
     let is = drop (suc p.position) xs in
     let touch : IsTouchOf c.in-Of.r (core_walk a k xs p) =
-    subst (IsTouchOf c.in-Of.r) (sym (at_instruction a k xs p (step_of c.args.instruction.now) is c.requires.runs c.requires.more c.requires.here)) (c.in-Of.ensures (p.left - 1) is) in
+    subst (IsTouchOf c.in-Of.r) (sym (at_instruction a k xs p (step_of c.args.instruction.now) is c.requires.runs c.requires.more c.requires.here)) (subst (λ (x : memory.Fixed). IsTouchOf c.in-Of.r (resume (attempt_view b x) (fixed_view x) (suc (p.left - 1)) (step_of c.args.instruction.now ∷ is) (stand_view p.stand))) c.deref.ensures (c.in-Of.ensures (p.left - 1) is)) in
     let m : length c.as_slice.result.now ≡ count_of b = ap (λ rs. length rs) c.as_slice.ensures ∙ sym (length-map b.resources resource_of) in
     subst (λ (w : Walk). Tells w c.reached.result) (sym (frame_walk c.args.program.now p c.reached.new.place c.reached.ensures.frame))
     (subst (λ n. Tells (limited n (core_walk a k xs c.reached.new.place)) c.reached.result) m (c.reached.ensures.tells a k xs touch))
@@ -38,13 +39,27 @@ returns-in-Of-clause-tells c =
 pub returns-in-Nothing-clause-same : goal.returns-in-Nothing-clause-same
 returns-in-Nothing-clause-same c =
     let b = c.args.program.now.bound.now in let p = c.args.place.now in
-    let a = attempt_view b p.fixed in let k = fixed_view p.fixed in let xs = steps_at c.args.program.now p in
+    let a = attempt_view b p.fixed.value in let k = fixed_view p.fixed.value in let xs = steps_at c.args.program.now p in
     let is = drop (suc p.position) xs in
     fails_same c.args.program.now p c.fail.new.place c.fail.ensures.frame c.fail.ensures.same
-    (at_instruction a k xs p (step_of c.args.instruction.now) is c.requires.runs c.requires.more c.requires.here ∙ c.in-Nothing.ensures (p.left - 1) is)
+    (at_instruction a k xs p (step_of c.args.instruction.now) is c.requires.runs c.requires.more c.requires.here
+    ∙ ap (λ (x : memory.Fixed). resume (attempt_view b x) (fixed_view x) (suc (p.left - 1)) (step_of c.args.instruction.now ∷ is) (stand_view p.stand)) (sym c.deref.ensures) ∙ c.in-Nothing.ensures (p.left - 1) is)
 
 pub returns-in-Nothing-clause-tells : goal.returns-in-Nothing-clause-tells
 returns-in-Nothing-clause-tells c = fails_tells c.args.program.now c.args.place.now c.fail.new.place c.fail.result c.fail.ensures.frame c.fail.ensures.tells
+
+pub returns-in_ok-flow-in-No-clause-same : goal.returns-in_ok-flow-in-No-clause-same
+returns-in_ok-flow-in-No-clause-same c =
+    let b = c.args.program.now.bound.now in let p = c.args.place.now in
+    let a = attempt_view b p.fixed.value in let k = fixed_view p.fixed.value in let xs = steps_at c.args.program.now p in
+    let is = drop (suc p.position) xs in let i = step_of c.args.instruction.now in
+    let one : p.left ≡ suc (p.left - 1) = (let more = c.requires.more in omega (arith, more)) in
+    IfOk-weaker c.moved.result _ _
+    (λ o h. run_leads c.args.program.now p c.moved.new.place i c.in_ok-flow-in-No.flow (stand_view c.run.new.stand)
+    c.requires.runs c.requires.more c.requires.here c.moved.ensures.frame c.moved.ensures.section c.moved.ensures.fixed
+    (subst (λ (x : memory.Fixed). LeadsTo (attempt_view b x) (fixed_view x) i (stand_view p.stand) c.in_ok-flow-in-No.flow (stand_view c.run.new.stand)) c.deref.ensures c.in_ok-flow-in-No.ensures)
+    (h a k xs (p.left - 1) is c.requires.count one c.requires.here))
+    c.moved.ensures.walk
 
 pub returns-in_ok-flow-in-No-clause-tells : goal.returns-in_ok-flow-in-No-clause-tells
 returns-in_ok-flow-in-No-clause-tells c = IfOk-weaker c.moved.result _ _ (λ o h. some_tells c.args.program.now c.moved.new.place o h) c.moved.ensures.tells

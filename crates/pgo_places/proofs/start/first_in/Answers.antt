@@ -17,10 +17,10 @@ returns c =
     let code = c.args.code.now in
     let own = c.args.own.now in
     let codes = c.args.program.now.codes.items in
-    let f : fixed_view c.in_ok-fixed.fixed ≡ fixed_of code = rw c.in_ok-fixed.ensures.first at c.fixed.ensures.names in
-    let d : data_of c.in_ok-fixed.fixed.id ≡ data_of c.args.id.now = rw c.in_ok-fixed.ensures.first at c.fixed.ensures.id in
+    let x : c.in_ok-fixed.fixed.value ≡ c.args.fixed.now.value = rw c.in_ok-fixed.ensures.first at c.try_clone.ensures in
+    let f : fixed_view c.in_ok-fixed.fixed.value ≡ fixed_of code = ap fixed_view x ∙ c.requires.names in
     let t : stand_view c.in_ok-fixed.stand ≡ start_of code own (words_of c.args.picks) = rw c.in_ok-fixed.ensures.second at c.stand.ensures in
     ap (limited (count_of b)) (
-    (λ i. resume (attempt_with b (d i)) (f i) (c.count_in-count.result + 1) (map step_of (instructions_in codes c.args.instance c.in-Some.section)) (t i))
-    ∙ first_left (attempt_with b (data_of c.args.id.now)) (fixed_of code) (start_of code own (words_of c.args.picks)) codes c.args.instance c.in-Some.section c.count_in-count.result code (steps_named (find pc own) code) c.requires.code c.in-Some.ensures c.count_in-count.ensures
+    (λ i. resume (attempt_with b (data_of (x i).id)) (f i) (c.count_in-count.result + 1) (map step_of (instructions_in codes c.args.instance c.in-Some.section)) (t i))
+    ∙ first_left (attempt_with b (data_of c.args.fixed.now.value.id)) (fixed_of code) (start_of code own (words_of c.args.picks)) codes c.args.instance c.in-Some.section c.count_in-count.result code (steps_named (find pc own) code) c.requires.code c.in-Some.ensures c.count_in-count.ensures
     )

@@ -1,0 +1,13 @@
+-- The place in its box.
+use Rattle.std.proofs.Common.{subst}
+use Rattle.std.specs.Prelude.{OnOk}
+use Rattle.pgo_resource.specs.Nexts.{LeadsOn}
+use Rattle.pgo_places.specs.PlaceWalk.{walk_in}
+use Rattle.pgo_places.specs.declared.place.Place.{Place}
+use Rattle.pgo_places.proofs.program.RunnableSections.operate.Goals as goal
+
+pub returns-clause-on : goal.returns-clause-on
+returns-clause-on g c =
+    let p = c.args.self.now.program in
+    subst (λ (q : Place). OnOk c.operated.result (LeadsOn (walk_in p q) (walk_in p c.operated.new.place) (g.R.Resource.shows c.args.content.now).current (g.R.Resource.shows c.operated.new.content).current))
+    c.deref_mut.ensures.value c.operated.ensures.on
