@@ -104,6 +104,20 @@ impl Journal {
         self.entries.len() as u32
     }
 
+    /// At how many entries it is full.
+    pub fn steps(&self) -> u32
+        ensures { result ≡ self.now.steps }
+    {
+        self.steps
+    }
+
+    /// For how many notes it has room.
+    pub fn room(&self) -> u32
+        ensures { result ≡ self.now.room }
+    {
+        self.room
+    }
+
     /// Entry i, from 1.
     pub fn entry(&self, i: u32) -> &Entry
         requires { (1 ≤ i) × (i ≤ length self.now.entries) }

@@ -1,0 +1,4 @@
+pub mod Rows
+pub mod SeatBoards
+pub mod Seats
+pub mod Tables

@@ -1,0 +1,15 @@
+pub mod Sums
+pub mod Logs
+pub mod Traces
+pub mod Stands
+pub mod Keeps
+pub mod HoldSteps
+pub mod NotesBound
+pub mod JournalSteps
+pub mod Seating
+pub mod Seated
+pub mod Closes
+pub mod Together
+pub mod Worlds
+pub mod Releases
+pub mod Cuts

@@ -1,0 +1,9 @@
+pub mod SeatViews
+pub mod Code
+pub mod Rule
+pub mod Steps
+pub mod Places
+pub mod SeatCalls
+pub mod Openings
+pub mod Closing
+pub mod Seen
