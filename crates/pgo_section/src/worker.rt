@@ -1,5 +1,5 @@
 // A worker: one instance at work.
-ghost use Rattle.std.specs.Prelude.{◌≡◌, ◌<◌, ℕ, [], ◌∷◌, ◌++◌, length, map, true, false, option_map, IfOk};
+ghost use Rattle.std.specs.Prelude.{◌≡◌, ◌<◌, ◌↔◌, ℕ, [], ◌∷◌, ◌++◌, length, map, true, false, None, option_map, IfOk, IsTrue};
 ghost use Rattle.pgo_model.specs.Core.{is_listed, end_by};
 ghost use Rattle.pgo_model.specs.Log.{Effect};
 ghost use Rattle.pgo_model.specs.System.{System};
@@ -128,6 +128,20 @@ impl<P: Drop> Worker<P> {
             dropped: false,
             out_of_memory: false,
         })
+    }
+
+    /// The number of its instance. It takes no memory.
+    pub fn number(&self) -> u32
+        ensures { result ≡ self.now.number }
+    {
+        self.number
+    }
+
+    /// Whether no attempt is under way and no give is left. It takes no memory.
+    pub fn is_resting(&self) -> bool
+        ensures { IsTrue result ↔ ((self.now.giving ≡ false) × (self.now.place ≡ None)) }
+    {
+        !self.giving && self.place.is_none()
     }
 
     /// What became of its attempts, in order. It takes no memory.

@@ -1,0 +1,4 @@
+pub mod MadeEntries
+pub mod ClosedRuns
+pub mod Ends
+pub mod Rows

@@ -1,0 +1,4 @@
+pub mod MadeEntries
+pub mod ClosedBoards
+pub mod ClosedRuns
+pub mod SystemRuns

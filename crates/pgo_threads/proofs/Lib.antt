@@ -1,0 +1,5 @@
+pub mod Crossing_pgo_base
+pub mod Crossing_pgo_section
+pub mod Ended
+pub mod Sent
+pub mod Turns
