@@ -1,4 +1,4 @@
--- What the core machine does is a run of a module that agrees with what is bound.
+-- Entries that are steps of a bound specification's sections are a run of a module that agrees with it.
 use Rattle.std.proofs.Common.{◌≡◌, ◌≤◌, ℕ, zero, suc, List, [], ◌∷◌, length, Option, Some, None, inl, refl, sym, ap, ◌∙◌, subst, arith, option_and_then}
 use Rattle.std.proofs.lemmas.Option.{same_Some}
 use Rattle.pgo_base.specs.Data.{Data, string}
@@ -6,10 +6,10 @@ use Rattle.pgo_base.specs.Lookup.{Name, Vars, find}
 use Rattle.pgo_model.specs.Accounts.{EntriesMade, EntryMade}
 use Rattle.pgo_model.specs.Acts.{Acts}
 use Rattle.pgo_model.specs.Choice.{Seeded, words_of}
-use Rattle.pgo_model.specs.Core.{Settings, Core, rules_of}
+use Rattle.pgo_model.specs.Core.{Settings, rules_of}
 use Rattle.pgo_model.specs.IsRun.{IsStep, IsRun}
 use Rattle.pgo_model.specs.Log.{Effect, After, StateAt, label_in, label_of}
-use Rattle.pgo_model.specs.Machine.{Entry, Rules, finished_of, nth, state_at}
+use Rattle.pgo_model.specs.Machine.{Entry, Finished, Rules, nth, state_at}
 use Rattle.pgo_model.specs.MachineLists.{nth_below}
 use Rattle.pgo_model.specs.Module.{Module}
 use Rattle.pgo_model.specs.Operators.{apply}
@@ -63,7 +63,7 @@ state_below s t (e ∷ l) (suc n) h = go (After s e.change) (λ u k. state_below
     go None more g = absurd (cc)
     go (Some u) more g = let q = more u g in omega (arith, q)
 
-module _ (s : Spec) (consts : List (Name × Data)) (accepted : IsAccepted s consts) (keeps : KeepsStates (bound_of s consts)) (m : Module) (agrees : Agrees m (constants_with s consts) (bound_of s consts)) (settings : Settings) (turns : List ℕ) where
+module _ (s : Spec) (consts : List (Name × Data)) (accepted : IsAccepted s consts) (keeps : KeepsStates (bound_of s consts)) (m : Module) (agrees : Agrees m (constants_with s consts) (bound_of s consts)) (settings : Settings) (f : Finished Effect) where
   abbrev b : Bound
   b = bound_of s consts
 
@@ -74,12 +74,12 @@ module _ (s : Spec) (consts : List (Name × Data)) (accepted : IsAccepted s cons
   R = rules_of y settings
 
   abbrev entries : List (Entry Effect)
-  entries = (Core y settings turns).entries
+  entries = f.entries
 
   abbrev at : ℕ → Vars
   at n = state_at R y.start entries n
 
-  module _ (made : EntriesMade R (finished_of (Core y settings turns))) (states : (n : ℕ) → n ≤ length entries → StateAt b.start entries n ≡ Some (at n)) (good : (n : ℕ) → n ≤ length entries → IsGoodState b (at n)) where
+  module _ (made : EntriesMade R f) (states : (n : ℕ) → n ≤ length entries → StateAt b.start entries n ≡ Some (at n)) (good : (n : ℕ) → n ≤ length entries → IsGoodState b (at n)) where
     is_state : (n : ℕ) → n ≤ length entries → IsState b (at n)
     is_state n le = ((states_same b (at n) keeps.sound keeps.globals).0 (good n le).state).state
 
@@ -90,7 +90,7 @@ module _ (s : Spec) (consts : List (Name × Data)) (accepted : IsAccepted s cons
       low_next : suc p ≤ length entries
       low_next = let q = nth_below entries p e h in omega (arith, q)
 
-      by : EntryMade R (finished_of (Core y settings turns)) p e
+      by : EntryMade R f p e
       by = made p e h
 
       x : Leads b e.instance (at p) (at (suc p)) (words_of (Seeded settings.seed e.instance e.attempt)) by.prints

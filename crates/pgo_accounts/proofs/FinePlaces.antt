@@ -1,12 +1,12 @@
 -- A section of one instance leaves the places of all others, so the status is 0 exactly where each instance is at Done.
-use Rattle.std.proofs.Common.{◌≡◌, ◌↔◌, ℕ, zero, suc, Bool, true, false, List, [], ◌∷◌, map, Option, Some, None, refl, sym, ap, ◌∙◌, arith}
+use Rattle.std.proofs.Common.{◌≡◌, ◌↔◌, ℕ, zero, suc, Bool, true, false, List, [], ◌∷◌, length, map, Option, Some, None, refl, sym, ap, ◌∙◌, arith}
 use Rattle.std.specs.Prelude.{◌⊎◌}
 use Rattle.pgo_base.specs.Data.{Data, string}
 use Rattle.pgo_base.specs.Lookup.{Vars, find}
 use Rattle.pgo_model.specs.Accounts.{Fits}
 use Rattle.pgo_model.specs.Core.{Core, Reaches, Settings, is_at_done, is_place, rules_of, status_of}
 use Rattle.pgo_model.specs.Log.{Effect}
-use Rattle.pgo_model.specs.Machine.{Rules, finished_of, last_state, nth}
+use Rattle.pgo_model.specs.Machine.{Finished, Rules, finished_of, last_ends, last_state, nth, state_at}
 use Rattle.pgo_model.specs.Operators.{same_data}
 use Rattle.pgo_model.specs.Options.{on}
 use Rattle.pgo_model.specs.Outcome.{Next}
@@ -77,7 +77,11 @@ module _ (b : Bound) (keeps : KeepsStates b) (settings : Settings) where
   leaves : LeavesOthers R (IsGoodState b)
   leaves k a s t prints good e j ne h = at_done_stays k s t _ prints good e j ne h
 
-  -- the status is 0 exactly where each instance is at Done in the last state
+  -- the status is 0 exactly where each instance is at Done in the last state, if none is that its last record ends
+  pub fine_by : (f : Finished Effect) → ((k : ℕ) → last_ends (f.records k) ≡ true → is_at_done y k (state_at R y.start f.entries (length f.entries)) ≡ false)
+      → (status_of y settings f ≡ 0) ↔ ((n : ℕ) (i : Member) → nth y.members n ≡ Some i → place_of i.id (state_at R y.start f.entries (length f.entries)) ≡ Some (string done))
+  fine_by f undone = (zero_is_done y settings f, done_is_zero y settings f undone)
+
   pub fine : Fits R (Reaches y) (IsGoodState b) → (turns : List ℕ)
       → (status_of y settings (finished_of (Core y settings turns)) ≡ 0) ↔ ((n : ℕ) (i : Member) → nth y.members n ≡ Some i → place_of i.id (last_state R (Core y settings turns)) ≡ Some (string done))
   fine fits turns =

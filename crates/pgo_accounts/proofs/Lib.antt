@@ -14,3 +14,5 @@ pub mod Following
 pub mod FineMachine
 pub mod FineStatus
 pub mod FinePlaces
+pub mod MadeRuns
+pub mod Closed

@@ -4,16 +4,17 @@
 ghost use Rattle.std.specs.Prelude.{◌≡◌, ◌≤◌, ◌↔◌, ℕ, true, false, nat_lt, List, length, Some};
 ghost use Rattle.std.specs.List.{AllByRecursion};
 ghost use Rattle.pgo_base.specs.Data.{Data, string};
-ghost use Rattle.pgo_base.specs.Lookup.{Name};
-ghost use Rattle.pgo_model.specs.Accounts.{Accounts, JointAccounts, at};
+ghost use Rattle.pgo_base.specs.Lookup.{Name, Vars};
+ghost use Rattle.pgo_model.specs.Accounts.{Accounts, EntriesMade, JointAccounts, at};
 ghost use Rattle.pgo_model.specs.Core.{Core, Reaches, Settings, rules_of, status_of};
 ghost use Rattle.pgo_model.specs.IsRun.{IsRun};
-ghost use Rattle.pgo_model.specs.Log.{StateAt};
-ghost use Rattle.pgo_model.specs.Machine.{after_turns, finished_of, last_state, nth, opened};
+ghost use Rattle.pgo_model.specs.Log.{Effect, StateAt};
+ghost use Rattle.pgo_model.specs.Machine.{Entry, Finished, Note, after_turns, finished_of, last_state, nth, opened};
 ghost use Rattle.pgo_model.specs.Module.{Module};
 ghost use Rattle.pgo_model.specs.System.{Member, ids_of};
 ghost use Rattle.pgo_model.specs.Variables.{place_of};
 ghost use Rattle.pgo_model.specs.Written.{done};
+ghost use Rattle.pgo_syntax.specs.declared.bound.Bound.{Bound};
 ghost use Rattle.pgo_syntax.specs.declared.bound.Instance.{Instance};
 ghost use Rattle.pgo_syntax.specs.declared.spec.Spec.{Spec};
 ghost use Rattle.pgo_bound.specs.BoundOf.{bound_of};
@@ -23,6 +24,8 @@ ghost use Rattle.pgo_systems.specs.Counted.{AllCounted, IsCounted};
 ghost use Rattle.pgo_systems.specs.Gotos.{GotosKnown};
 ghost use Rattle.pgo_systems.specs.Premises.{IsGoodState, KeepsStates};
 ghost use Rattle.pgo_workers.specs.CoreStands.{Differs};
+ghost use Rattle.pgo_workers.specs.View.{Told, View};
+ghost use Rattle.pgo_workers.specs.Worker.{Worker};
 ghost use Rattle.pgo_workers.specs.Worlds.{layout_of, world_of};
 ghost use Rattle.pgo_accesses.specs.Programs.{tree_of};
 ghost use Rattle.pgo_section.specs.Programs.{IsGood, RunsSystem, Trees, program_of};
@@ -32,10 +35,13 @@ ghost use Rattle.pgo_mpcal_read.specs.Texts.{SpellsSpec};
 ghost use Rattle.pgo_value_text.specs.IsValueText.{IsValueText};
 ghost use Rattle.pgo_accept.specs.Answers.{NothingRefuses};
 ghost use Rattle.pgo_agrees.specs.Accepted.{IsAccepted};
+ghost use Rattle.pgo_closed.specs.SystemRuns.{EachHasEnd, SystemPremises};
+ghost use Rattle.pgo_accounts.specs.ClosedTexts.{PremisesHold, RunIsClosed, left_of};
 ghost use Rattle.pgo_accounts.specs.Runs.{NextHolds};
 ghost use Rattle.pgo_accounts.specs.Texts.{AllLiteralsFit, NeverJumps};
 
 use pgo_agrees::{modules_agree, texts_are_accepted};
+use pgo_closed::closed_runs_are_accounted;
 use pgo_runnable::accepted_runs;
 use pgo_systems::{bound_accounts, system_fits, values_are_given};
 
@@ -144,4 +150,51 @@ pub fn statuses_are_fine()
 {
     system_fits();
     texts_keep_states();
+}
+
+/// Entries that are steps of a bound specification's sections (`EntriesMade`), whoever made them and in whatever order turns came:
+///
+/// - `good`: each state along them is good, where the states of the specification are kept (`KeepsStates` of pgo_systems).
+/// - `states`: the state by components after n of them is there, and is that state.
+/// - `run`, `next`: they are a run of a module that says what the specification is bound to says, and its Next is TRUE along them.
+///
+/// Source: this project's choice.
+pub fn made_entries_are_runs()
+    ensures good { (b : Bound) (settings : Settings) (f : Finished Effect) → KeepsStates b → EntriesMade (rules_of (system_of b) settings) f → (n : ℕ) → n ≤ length f.entries → IsGoodState b (at (rules_of (system_of b) settings) f n) }
+    ensures states { (b : Bound) (settings : Settings) (f : Finished Effect) → KeepsStates b → EntriesMade (rules_of (system_of b) settings) f → (n : ℕ) → n ≤ length f.entries → StateAt b.start f.entries n ≡ Some (at (rules_of (system_of b) settings) f n) }
+    ensures run { (s : Spec) (consts : List (Name × Data)) (m : Module) (settings : Settings) (f : Finished Effect) → IsAccepted s consts → KeepsStates (bound_of s consts) → Agrees m (constants_with s consts) (bound_of s consts) → EntriesMade (rules_of (system_of (bound_of s consts)) settings) f → IsRun m (constants_with s consts) (ids_of (system_of (bound_of s consts))) (bound_of s consts).start f.entries }
+    ensures next { (s : Spec) (consts : List (Name × Data)) (m : Module) (settings : Settings) (f : Finished Effect) → IsAccepted s consts → KeepsStates (bound_of s consts) → Agrees m (constants_with s consts) (bound_of s consts) → EntriesMade (rules_of (system_of (bound_of s consts)) settings) f → NextHolds m (constants_with s consts) (bound_of s consts).start f.entries }
+{
+    values_are_given();
+    system_fits();
+}
+
+/// The law of a run on threads. What the law of closed boards (`closed_runs_are_accounted` of pgo_closed) asks holds of each bound specification
+/// whose states are kept and good, and whose trees do what its sections do, whatever its start is (`bound`). So it holds of the one specification
+/// that a text spells, where nothing refuses it with these constants and the constants are values whose sets have at most 2^63 - 1 members
+/// (`premises`); and there, where each worker has ended over its board and the boards are closed (`RunIsClosed`), whatever the schedule was, of what is
+/// left (`left_of`)
+///
+/// - `made`: the entries are steps of its sections.
+/// - `accounts`: the records of an instance say what became of each of its attempts; the journal may have been held.
+/// - `joint`: what those of all instances say together; each refusal has its cause.
+/// - `ended`: each instance has ended.
+/// - `fine`: the status is 0 exactly where each instance is at Done in the last state.
+///
+/// Source: this project's choice.
+pub fn closed_boards_are_runs()
+    ensures bound { (b : Bound) (settings : Settings) → KeepsStates b → ((t : Vars) → IsGoodState b t → IsGood (system_of b) t) → RunsSystem (system_of b) (tree_of b) settings → SystemPremises (system_of b) (tree_of b) settings }
+    ensures premises { (text : List ℕ) (s : Spec) (consts : List (Name × Data)) (settings : Settings) → SpellsSpec text s → NothingRefuses s consts → AllCounted consts → PremisesHold s consts settings }
+    ensures made { (text : List ℕ) (s : Spec) (consts : List (Name × Data)) (settings : Settings) (entries : List (Entry Effect)) (notes : List Note) (ws : ℕ → Worker) (bs : ℕ → View Effect) (told : ℕ → Told) → SpellsSpec text s → NothingRefuses s consts → AllCounted consts → RunIsClosed s consts settings entries notes ws bs told → EntriesMade (rules_of (system_of (bound_of s consts)) settings) (left_of s consts settings entries notes ws) }
+    ensures accounts { (text : List ℕ) (s : Spec) (consts : List (Name × Data)) (settings : Settings) (entries : List (Entry Effect)) (notes : List Note) (ws : ℕ → Worker) (bs : ℕ → View Effect) (told : ℕ → Told) → SpellsSpec text s → NothingRefuses s consts → AllCounted consts → RunIsClosed s consts settings entries notes ws bs told → (k : ℕ) → Accounts (rules_of (system_of (bound_of s consts)) settings) (Reaches (system_of (bound_of s consts))) true (left_of s consts settings entries notes ws) k }
+    ensures joint { (text : List ℕ) (s : Spec) (consts : List (Name × Data)) (settings : Settings) (entries : List (Entry Effect)) (notes : List Note) (ws : ℕ → Worker) (bs : ℕ → View Effect) (told : ℕ → Told) → SpellsSpec text s → NothingRefuses s consts → AllCounted consts → RunIsClosed s consts settings entries notes ws bs told → JointAccounts (rules_of (system_of (bound_of s consts)) settings) true (left_of s consts settings entries notes ws) }
+    ensures ended { (text : List ℕ) (s : Spec) (consts : List (Name × Data)) (settings : Settings) (entries : List (Entry Effect)) (notes : List Note) (ws : ℕ → Worker) (bs : ℕ → View Effect) (told : ℕ → Told) → SpellsSpec text s → NothingRefuses s consts → AllCounted consts → RunIsClosed s consts settings entries notes ws bs told → EachHasEnd (system_of (bound_of s consts)) settings (left_of s consts settings entries notes ws) }
+    ensures fine { (text : List ℕ) (s : Spec) (consts : List (Name × Data)) (settings : Settings) (entries : List (Entry Effect)) (notes : List Note) (ws : ℕ → Worker) (bs : ℕ → View Effect) (told : ℕ → Told) → SpellsSpec text s → NothingRefuses s consts → AllCounted consts → RunIsClosed s consts settings entries notes ws bs told → (status_of (system_of (bound_of s consts)) settings (left_of s consts settings entries notes ws) ≡ 0) ↔ ((n : ℕ) (i : Member) → nth (system_of (bound_of s consts)).members n ≡ Some i → place_of i.id (at (rules_of (system_of (bound_of s consts)) settings) (left_of s consts settings entries notes ws) (length entries)) ≡ Some (string done)) }
+{
+    texts_are_accepted();
+    system_fits();
+    accepted_runs();
+    texts_keep_states();
+    workers_follow_machines();
+    closed_runs_are_accounted();
 }

@@ -65,7 +65,7 @@ executes text consts b settings schedule status written a n g =
       passes = n;
       turns = g.turns;
       turns_of = g.turns_of;
-      ran = g.ran;
+      stepped = g.stepped;
       either = g.either;
     }
 

@@ -7,7 +7,7 @@ use Rattle.pgo_syntax.specs.declared.spec.Spec.{Spec}
 use Rattle.pgo_mpcal_read.specs.Texts.{SpellsSpec}
 use Rattle.pgo_accept.specs.Answers.{NothingRefuses}
 use Rattle.pgo_execute.specs.Gives.{IsRunStatus, TurnsOf}
-use Rattle.pgo_execute.specs.Ran.{Ran}
+use Rattle.pgo_execute.specs.Ran.{Stepped}
 use Rattle.pgo_execute.specs.Schedules.{Schedule, ends_all}
 
 -- the text spells this specification and no other, nothing refuses it with these constants, and this is what its run under
@@ -19,5 +19,5 @@ pub record Executes (text : List ℕ) (consts : List (Name × Data)) (settings :
   pub passes : NothingRefuses spec consts
   pub turns : List ℕ
   pub turns_of : TurnsOf schedule turns
-  pub ran : Ran spec consts (ends_all schedule) settings turns status written
+  pub stepped : Stepped spec consts (ends_all schedule) settings turns status written
   pub either : IsRunStatus status

@@ -11,10 +11,10 @@ use Rattle.pgo_model.specs.Core.{Core, Settings, rules_of}
 use Rattle.pgo_model.specs.Machine.{finished_of}
 use Rattle.pgo_model.specs.System.{System}
 use Rattle.pgo_syntax.specs.declared.spec.Spec.{Spec}
-use Rattle.pgo_execute.specs.Ran.{Ran}
+use Rattle.pgo_execute.specs.Ran.{Stepped}
 use Rattle.pgo_execute.specs.Schedules.{Schedule, Turns, Rounds, ends_all}
 
--- under a list of turns, these turns; of rounds any: `Ran` says which
+-- under a list of turns, these turns; of rounds any: `Stepped` says which
 abbrev pub TurnsOf : Schedule → List ℕ → Type 0
 TurnsOf (Turns ts) turns = turns ≡ ts
 TurnsOf Rounds turns = Unit {0}
@@ -36,5 +36,5 @@ pub record Leaves (y : System) (settings : Settings) (schedule : Schedule) (f : 
 pub record Gives (s : Spec) (consts : List (Name × Data)) (settings : Settings) (schedule : Schedule) (status : ℕ) (written : List ℕ) : Type 0 where
   pub turns : List ℕ
   pub turns_of : TurnsOf schedule turns
-  pub ran : Ran s consts (ends_all schedule) settings turns status written
+  pub stepped : Stepped s consts (ends_all schedule) settings turns status written
   pub either : IsRunStatus status

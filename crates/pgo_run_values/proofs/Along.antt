@@ -5,9 +5,9 @@ use Rattle.pgo_base.specs.Data.{Data}
 use Rattle.pgo_base.specs.Lookup.{Name, Vars, same_name}
 use Rattle.pgo_model.specs.Accounts.{EntriesMade}
 use Rattle.pgo_model.specs.Choice.{Seeded, words_of}
-use Rattle.pgo_model.specs.Core.{Settings, Core, rules_of}
+use Rattle.pgo_model.specs.Core.{Settings, rules_of}
 use Rattle.pgo_model.specs.Log.{Effect}
-use Rattle.pgo_model.specs.Machine.{Entry, Rules, finished_of, nth, state_at}
+use Rattle.pgo_model.specs.Machine.{Entry, Finished, Rules, nth, state_at}
 use Rattle.pgo_model.specs.Names.{same_name-self}
 use Rattle.pgo_model.specs.System.{System}
 use Rattle.pgo_model.specs.Written.{pc}
@@ -63,17 +63,17 @@ module _ (s : Spec) (consts : List (Name × Data)) (text : IsOfText s) (literals
   written_in : (k : ℕ) (i : Instance) → nth b.instances k ≡ Some i → InstanceWithin spellable b i
   written_in k i at_k = record { definitions = definitions_fit spellable s consts spelled literals.start; sections = sections_fit spellable b i (text_fits spellable s consts literals k i at_k) }
 
-  module _ (settings : Settings) (turns : List ℕ) where
+  module _ (settings : Settings) (f : Finished Effect) where
     abbrev R : Rules Vars Effect
     R = rules_of y settings
 
     abbrev entries : List (Entry Effect)
-    entries = (Core y settings turns).entries
+    entries = f.entries
 
     abbrev at : ℕ → Vars
     at n = state_at R y.start entries n
 
-    module _ (made : EntriesMade R (finished_of (Core y settings turns))) (good : (n : ℕ) → n ≤ length entries → IsGoodState b (at n)) where
+    module _ (made : EntriesMade R f) (good : (n : ℕ) → n ≤ length entries → IsGoodState b (at n)) where
       is_state : (n : ℕ) → n ≤ length entries → IsState b (at n)
       is_state n le = ((states_same b (at n) keeps.sound keeps.globals).0 (good n le).state).state
 

@@ -44,5 +44,5 @@ pub accepted : (text : List ℕ) (consts : List (Name × Data)) (settings : Sett
     (v : Verdict) → Judged written v → v ≡ Run (length (finished x.spec consts settings x.turns).entries)
 accepted text consts settings schedule status written x v j =
     let f = finished x.spec consts settings x.turns in
-    bundle_accepted written (module_of x.spec) (constants_with x.spec consts) (log_of (system x.spec consts) f.entries) x.ran.is_read x.ran.read_run v j
+    bundle_accepted written (module_of x.spec) (constants_with x.spec consts) (log_of (system x.spec consts) f.entries) x.stepped.ran.is_read x.stepped.ran.read_run v j
     ∙ ap Run (length-map f.entries entry_read)

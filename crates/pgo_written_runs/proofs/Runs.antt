@@ -9,11 +9,11 @@ use Rattle.pgo_base.specs.Lookup.{Name, Vars}
 use Rattle.pgo_base.specs.Size.{depth}
 use Rattle.pgo_model.specs.Accounts.{Accounts, EntriesMade, EntryMade, JointAccounts, Told, journal}
 use Rattle.pgo_model.specs.Choice.{Seeded, words_of}
-use Rattle.pgo_model.specs.Core.{Core, Reaches, Settings, are_at_done, has_full, has_stopped, is_listed, last_ends_from, rules_of, status_of}
+use Rattle.pgo_model.specs.Core.{Reaches, Settings, are_at_done, has_full, has_stopped, is_listed, last_ends_from, rules_of, status_of}
 use Rattle.pgo_model.specs.BundleParts.{is_read_name, is_run_status}
 use Rattle.pgo_model.specs.Log as log
 use Rattle.pgo_model.specs.Log.{Change, Component, Effect, changes_between, components_of, own_components, resource_components}
-use Rattle.pgo_model.specs.Machine.{Entry, Finished, Record, Step, Noted, Held, Down, Full, Rules, finished_of, nth, state_at}
+use Rattle.pgo_model.specs.Machine.{Entry, Finished, Record, Step, Noted, Held, Down, Full, Rules, nth, state_at}
 use Rattle.pgo_model.specs.MachineLists.{nth_below}
 use Rattle.pgo_model.specs.ModuleText.{Text}
 use Rattle.pgo_model.specs.State.{is_shallow}
@@ -149,20 +149,17 @@ module _ (s : Spec) (consts : List (Name × Data)) (accepted : IsAccepted s cons
       let h = keeps.sound.numbered.few_instances in
       omega (arith, a, c, d, e, f, g, h)
 
-  module _ (settings : Settings) (turns : List ℕ) (steps : settings.steps < 2 ^ 32) (attempts : settings.attempts < 2 ^ 32) (downs : settings.down ≡ []) where
+  module _ (settings : Settings) (run : Bool) (f : Finished Effect) (steps : settings.steps < 2 ^ 32) (attempts : settings.attempts < 2 ^ 32) (downs : settings.down ≡ []) where
     abbrev R : Rules Vars Effect
     R = rules_of y settings
 
-    abbrev f : Finished Effect
-    f = finished_of (Core y settings turns)
-
     abbrev entries : List (Entry Effect)
-    entries = (Core y settings turns).entries
+    entries = f.entries
 
     abbrev at : ℕ → Vars
     at n = state_at R y.start entries n
 
-    module _ (made : EntriesMade R f) (good : (n : ℕ) → n ≤ length entries → IsGoodState b (at n)) (values : (n : ℕ) → n ≤ length entries → AllSpellable (at n)) (accounts : (k : ℕ) → Accounts R (Reaches y) false f k) (joint : JointAccounts R false f) where
+    module _ (made : EntriesMade R f) (good : (n : ℕ) → n ≤ length entries → IsGoodState b (at n)) (values : (n : ℕ) → n ≤ length entries → AllSpellable (at n)) (accounts : (k : ℕ) → Accounts R (Reaches y) run f k) (joint : JointAccounts R run f) where
       few_members : length y.members ≤ 64
       few_members = let g = length-map b.instances member_of in let h = keeps.sound.numbered.few_instances in omega (arith, g, h)
 
@@ -226,7 +223,7 @@ module _ (s : Spec) (consts : List (Name × Data)) (accepted : IsAccepted s cons
       resource_there : (r : ℕ) (q : Resource) → nth y.resources r ≡ Some q → IsWrittenResource y.resources r
       resource_there r q at_r = let d = resource_written q (among_nth q y.resources r at_r) in record { resource = q; found = at_r; variable = d.0; index = d.1 }
 
-      record_written : (k i : ℕ) (x : Record) → Told R (Reaches y) false f k i x → IsWrittenRecord y.resources x
+      record_written : (k i : ℕ) (x : Record) → Told R (Reaches y) run f k i x → IsWrittenRecord y.resources x
       record_written k i (Step n) t =
           let q = nth_below entries t.0 t.1 t.3 in
           let same = t.2 in
@@ -235,7 +232,7 @@ module _ (s : Spec) (consts : List (Name × Data)) (accepted : IsAccepted s cons
       record_written k i (Noted kind p) t = let q = t.2.0 in let room = joint.room in omega (arith, q, room, steps)
       record_written k i (Held r h) t = (let n = t.1 in omega (arith, n, few_members), go t.2)
         where
-          go : (Reaches y k r × Reaches y h r) ⊎ ((r ≡ journal) × (false ≡ true)) → (r ≡ journal) ⊎ IsWrittenResource y.resources r
+          go : (Reaches y k r × Reaches y h r) ⊎ ((r ≡ journal) × (run ≡ true)) → (r ≡ journal) ⊎ IsWrittenResource y.resources r
           go (inl q) = inr (resource_there r q.0.1 q.0.3)
           go (inr q) = inl q.0
       record_written k i (Down r o) t = absurd (let z : false ≡ true = ap (λ ds. is_listed ds r o) (sym downs) ∙ t in grind (arith, z))

@@ -1,4 +1,7 @@
 use Rattle.std.proofs.Common.{ℕ, List}
+use Rattle.pgo_model.specs.Core.{Core}
+use Rattle.pgo_model.specs.Machine.{finished_of}
+use Rattle.pgo_meaning.specs.System.{system_of}
 use Rattle.pgo_syntax.specs.declared.spec.Spec.{Spec}
 use Rattle.pgo_bound.specs.BoundOf.{bound_of}
 use Rattle.pgo_mpcal_read.specs.Texts.{SpellsSpec}
@@ -27,4 +30,10 @@ pub returns-clause-states : goal.returns-clause-states
 returns-clause-states c text s consts settings turns n spells passes spelled le =
     let b = bound_of s consts in
     let keeps = c.texts_keep_states.ensures.kept text s consts spells passes (all_counted consts spelled) in
-    all_spellable s consts (c.texts_are_accepted.ensures.of_text text s spells) (text_gives text s spells) spelled keeps settings turns (c.bound_accounts.ensures.entries b settings turns keeps) (c.bound_accounts.ensures.good b settings turns keeps) n le
+    all_spellable s consts (c.texts_are_accepted.ensures.of_text text s spells) (text_gives text s spells) spelled keeps settings (finished_of (Core (system_of b) settings turns)) (c.bound_accounts.ensures.entries b settings turns keeps) (c.bound_accounts.ensures.good b settings turns keeps) n le
+
+pub returns-clause-made : goal.returns-clause-made
+returns-clause-made c text s consts settings f n spells passes spelled made le =
+    let b = bound_of s consts in
+    let keeps = c.texts_keep_states.ensures.kept text s consts spells passes (all_counted consts spelled) in
+    all_spellable s consts (c.texts_are_accepted.ensures.of_text text s spells) (text_gives text s spells) spelled keeps settings f made (c.made_entries_are_runs.ensures.good b settings f keeps made) n le

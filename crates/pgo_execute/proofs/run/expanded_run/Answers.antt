@@ -80,28 +80,30 @@ returns c =
     record {
       turns = left.turns;
       turns_of = left.turns_of;
-      ran = record {
-        sound = c.texts_keep_states.ensures.sound a.text s consts a.spells n counted;
-        declared = subst (λ (b : Bound). Declares b b.start) a.bound_is a.declared;
-        bundle = bundle;
-        agrees = c.modules_agree.ensures a.text s consts (pluscal_of s) a.spells n (counted_values consts counted) refl;
-        alone = c.modules_are_read_back.ensures a.text s consts a.spells n short;
-        run = law.run a.text s consts settings left.turns a.spells n counted;
-        next = law.next a.text s consts settings left.turns a.spells n counted;
-        is_read = is_read;
-        only = c.one_bundle.ensures c.in_ok-text.text (module_of s) (constants_with s consts) (log_of (system_of (bound_of s consts)) own.entries) is_read;
-        read_run = run_read (module_of s) (constants_with s consts) (ids_of (system_of (bound_of s consts))) (bound_of s consts).start own.entries (law.run a.text s consts settings left.turns a.spells n counted);
-        accounts = λ k. law.accounts a.text s consts settings left.turns k a.spells n counted;
-        joint = record {
-          once = joint.once;
-          full = joint.full;
-          room = joint.room;
-          contended = λ e. subst (λ (b : Bound). Contended (rules_of (system_of b) settings) (finished_of (Core (system_of b) settings left.turns))) a.bound_is (left.contended e);
+      stepped = record {
+        ran = record {
+          sound = c.texts_keep_states.ensures.sound a.text s consts a.spells n counted;
+          declared = subst (λ (b : Bound). Declares b b.start) a.bound_is a.declared;
+          bundle = bundle;
+          agrees = c.modules_agree.ensures a.text s consts (pluscal_of s) a.spells n (counted_values consts counted) refl;
+          alone = c.modules_are_read_back.ensures a.text s consts a.spells n short;
+          run = law.run a.text s consts settings left.turns a.spells n counted;
+          next = law.next a.text s consts settings left.turns a.spells n counted;
+          is_read = is_read;
+          only = c.one_bundle.ensures c.in_ok-text.text (module_of s) (constants_with s consts) (log_of (system_of (bound_of s consts)) own.entries) is_read;
+          read_run = run_read (module_of s) (constants_with s consts) (ids_of (system_of (bound_of s consts))) (bound_of s consts).start own.entries (law.run a.text s consts settings left.turns a.spells n counted);
+          accounts = λ k. law.accounts a.text s consts settings left.turns k a.spells n counted;
+          joint = record {
+            once = joint.once;
+            full = joint.full;
+            room = joint.room;
+            contended = λ e. subst (λ (b : Bound). Contended (rules_of (system_of b) settings) (finished_of (Core (system_of b) settings left.turns))) a.bound_is (left.contended e);
+          };
+          ended = λ e. subst (λ (b : Bound). EachEnds (system_of b) settings (finished_of (Core (system_of b) settings left.turns))) a.bound_is (left.ended e);
+          status_is = status;
+          fine = subst (λ (m : ℕ). (m ≡ 0) ↔ AllDone s consts (last_state (rules_of (system_of (bound_of s consts)) settings) (Core (system_of (bound_of s consts)) settings left.turns))) (sym status) (c.statuses_are_fine.ensures.fine a.text s consts settings left.turns a.spells n counted);
         };
         rounds = λ e. subst (λ (b : Bound). AreRounds (system_of b) settings [] left.turns) a.bound_is (left.rounds e);
-        ended = λ e. subst (λ (b : Bound). EachEnds (system_of b) settings (finished_of (Core (system_of b) settings left.turns))) a.bound_is (left.ended e);
-        status_is = status;
-        fine = subst (λ (m : ℕ). (m ≡ 0) ↔ AllDone s consts (last_state (rules_of (system_of (bound_of s consts)) settings) (Core (system_of (bound_of s consts)) settings left.turns))) (sym status) (c.statuses_are_fine.ensures.fine a.text s consts settings left.turns a.spells n counted);
       };
       either = subst IsRunStatus (sym status) (one_of_four (system_of (bound_of s consts)) settings own);
     }

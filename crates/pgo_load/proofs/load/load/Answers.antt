@@ -16,7 +16,7 @@ returns-in-Ok-clause-ok c =
 
 pub unreachable-requires : goal.unreachable-requires
 unreachable-requires c =
-    is_bundle _ _ _ _ _ c.as_bytes.ensures c.in_ok-executed.ensures.ok.ran.is_read
+    is_bundle _ _ _ _ _ c.as_bytes.ensures c.in_ok-executed.ensures.ok.stepped.ran.is_read
     (subst (IsRefused c.as_bytes.result.now) c.in-Err-BadLog.field-0-is c.in-Err-BadLog.ensures.refused)
 
 pub returns-clause-refused : goal.returns-clause-refused

@@ -1,0 +1,50 @@
+use Rattle.std.proofs.Common.{ℕ, refl, true}
+use Rattle.pgo_bound.specs.BoundOf.{bound_of}
+use Rattle.pgo_meaning.specs.System.{system_of}
+use Rattle.pgo_model.specs.Bundle.{Bundle}
+use Rattle.pgo_model.specs.Accounts.{Accounts}
+use Rattle.pgo_model.specs.Core.{Reaches, rules_of, status_of}
+use Rattle.pgo_model.specs.System.{ids_of}
+use Rattle.pgo_pluscal.specs.PlusCalOf.{pluscal_of}
+use Rattle.pgo_systems.proofs.States.{counted_values}
+use Rattle.pgo_translate.specs.ModuleOf.{constants_with, module_of}
+use Rattle.pgo_log_text.specs.LogOf.{log_of}
+use Rattle.pgo_accounts.specs.ClosedTexts.{left_of}
+use Rattle.pgo_execute.proofs.ReadRuns.{run_read}
+use Rattle.pgo_execute.proofs.closed.closed_boards_ran.Goals as goal
+
+pub returns : goal.returns
+returns c text s consts settings entries notes ws bs told spells passes given short steps attempts downs declared run =
+    let b = bound_of s consts in let y = system_of b in
+    let f = left_of s consts settings entries notes ws in
+    let status = status_of y settings f in
+    let counted = c.spellable_values_are_read_back.ensures.all_counted consts (c.read_values_are_canonical.ensures.spellable consts given) in
+    let accepted = c.texts_are_accepted.ensures.accepted text s consts spells passes.names passes.labels passes.binding in
+    let keeps = c.texts_keep_states.ensures.kept text s consts spells passes counted in
+    let agrees = c.modules_agree.ensures text s consts (pluscal_of s) spells passes (counted_values consts counted) refl in
+    let law = c.closed_boards_are_runs.ensures in
+    let made = law.made text s consts settings entries notes ws bs told spells passes counted run in
+    let accounts : (k : ℕ) → Accounts (rules_of y settings) (Reaches y) true f k = λ k. law.accounts text s consts settings entries notes ws bs told spells passes counted run k in
+    let joint = law.joint text s consts settings entries notes ws bs told spells passes counted run in
+    let is_run = c.made_entries_are_runs.ensures.run s consts (module_of s) settings f accepted keeps agrees made in
+    let is_read = c.runs_are_read_back.ensures.read_made text s consts settings true f status spells passes given short steps attempts downs (c.runs_are_read_back.ensures.status y settings f) made accounts joint in
+    record {
+      left = f;
+      ran = record {
+        sound = c.texts_keep_states.ensures.sound text s consts spells passes counted;
+        declared = declared;
+        bundle = refl;
+        agrees = agrees;
+        alone = c.modules_are_read_back.ensures text s consts spells passes short;
+        run = is_run;
+        next = c.made_entries_are_runs.ensures.next s consts (module_of s) settings f accepted keeps agrees made;
+        is_read = is_read;
+        only = c.one_bundle.ensures (Bundle (module_of s) (constants_with s consts) y settings f status) (module_of s) (constants_with s consts) (log_of y f.entries) is_read;
+        read_run = run_read (module_of s) (constants_with s consts) (ids_of y) b.start f.entries is_run;
+        accounts = accounts;
+        joint = joint;
+        ended = λ _. law.ended text s consts settings entries notes ws bs told spells passes counted run;
+        status_is = refl;
+        fine = law.fine text s consts settings entries notes ws bs told spells passes counted run;
+      };
+    }
