@@ -1,0 +1,8 @@
+mod Sequences
+mod Bound
+mod Tested
+mod Meant
+mod Boxes
+mod QueueLaws
+mod QueueViews
+mod AlikeLaws

@@ -1,0 +1,10 @@
+pub mod Channel
+pub mod Tests
+pub mod Recognised
+pub mod Queues
+pub mod QueueOf
+pub mod Holdable
+pub mod Capacities
+pub mod Boxed
+pub mod BoxView
+pub mod Alike

@@ -1,0 +1,8 @@
+// Bounded mailboxes as queues.
+#![tactic(auto)]
+
+pub mod alike;
+mod capacity;
+pub mod channel;
+pub mod mailbox;
+mod queue;
