@@ -1,4 +1,4 @@
--- Threads may share and be sent these rows: written by tools/crossing-rows from the fields.
+-- Threads may share and be sent these rows: written by tools/crossing_rows from the fields.
 use denote.RattleType.{RattleType}
 use denote.Struct.Declared.{shape}
 use denote.Param.Send.{IsSend, struct_send, recorded_send}

@@ -11,7 +11,7 @@ use std::alloc::{AllocError, Global};
 use std::thread;
 use std::thread::Threads;
 
-/// A worker with its own board, and whether memory was wanting.
+/// A worker with its own board, and, once it has run, whether memory was wanting.
 #[derive(Drop)]
 pub struct Job<P: Drop, B: Board> {
     pub worker: Worker<P>,

@@ -1,4 +1,4 @@
-use Rattle.std.proofs.Common.{◌≡◌, ◌+◌, ◌<◌, ℕ, suc, length, Some, get_or, refl, sym, ap, ◌∙◌, subst, arith}
+use Rattle.std.proofs.Common.{◌≡◌, ◌+◌, ◌<◌, ℕ, suc, length, get_or, refl, sym, ap, ◌∙◌, subst, arith}
 use Rattle.pgo_model.specs.Machine.{nth}
 use Rattle.pgo_section.specs.Turns.{IsFresh}
 use Rattle.pgo_syntax.specs.RecordView.{settings_view}
