@@ -7,7 +7,7 @@ use Rattle.pgo_base.specs.declared.module.Defined.{Defined}
 use Rattle.pgo_base.specs.declared.value.Value.{Value}
 use Rattle.pgo_base.specs.View.{data_of}
 use Rattle.pgo_model.specs.Options.{on}
-use Rattle.pgo_model.specs.Outcome.{NoValue}
+use Rattle.pgo_model.specs.Outcome.{Kind, Blocked, NoValue, AssertFails}
 use Rattle.pgo_model.specs.System.{Words}
 use Rattle.pgo_definitions.specs.Meant.{meant}
 use Rattle.pgo_syntax.specs.declared.bound.Mapping.{Mapping}
@@ -31,7 +31,7 @@ use Rattle.pgo_accesses.specs.Accesses.{Attempt, Progress, choices, no_value, le
 use Rattle.pgo_code.specs.Steps.{Content, Step, Read, Write}
 use Rattle.pgo_places.specs.declared.flow.Flow.{Flow}
 use Rattle.pgo_places.specs.Flows.{flow_walk, resource_at, part_index}
-use Rattle.pgo_places.specs.Performs.{Performs, IsTold, ReadAnswers, WriteAnswers}
+use Rattle.pgo_places.specs.Performs.{Performs, IsNoMemory, IsTold, ReadAnswers, WriteAnswers}
 use Rattle.pgo_places.specs.Stands.{Fixed, Stand, binding, going, onward, with_words, resume}
 use Rattle.pgo_places.proofs.Standing.{read_is, write_is}
 
@@ -71,6 +71,26 @@ identity_written ds id x d w used used' new b h =
     let e = h (choices used) (length-replicate used _) in
     let same : Gives x (choices used) ≡ Gives new e.0 = sym (ap (write_put None d) (identity_writes ds id d x w (choices used) b)) ∙ e.2 in
     (ap (given_of new) (sym same), sym e.1 ∙ ap (λ m. length (made_in m)) (sym same) ∙ length-replicate used _)
+
+gives_stops : {A : Type 0} (x : A) (kind : Kind) (cs ds : List ChoiceMade) → Gives x cs ≡ Stops kind ds → ⊥
+gives_stops x kind cs ds h = cc
+
+-- nothing else stops it than want of memory
+pub identity_stops : (ds : List Defined) (id x d : Data) (w : Words) (used used' : ℕ) (stop : OpStop) → bindable (Some x) ≡ Some x
+    → StopsSo {A = Data} stop (λ e. Ends (write_of Identity ds id None x w d) used used' e) → IsNoMemory stop
+identity_stops ds id x d w used used' stop b = go stop
+  where
+    gives : write_of Identity ds id None x w d (choices used) ≡ Gives x (choices used)
+    gives = ap (write_put None d) (identity_writes ds id d x w (choices used) b)
+
+    never : (kind : Kind) → Ends (write_of Identity ds id None x w d) used used' (λ cs. Stops kind cs) → ⊥
+    never kind h = let e = h (choices used) (length-replicate used _) in gives_stops x kind (choices used) e.0 (sym gives ∙ e.2)
+
+    go : (s : OpStop) → StopsSo {A = Data} s (λ e. Ends (write_of Identity ds id None x w d) used used' e) → IsNoMemory s
+    go stops.Blocked h = never Blocked h
+    go stops.NoValue h = never NoValue h
+    go stops.AssertFails h = never AssertFails h
+    go stops.NoMemory h = tt
 
 pub read_answers : (m : Mapping) (ds : List Defined) (id : Data) (at : Option Data) (old new : Shown) (p q : Picks) (ans : Result Value OpStop) (pr : Progress)
     → IsRead m ds id at old new p q ans → IsTold ans

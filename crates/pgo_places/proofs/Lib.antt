@@ -1,5 +1,7 @@
 mod Contents
+mod Enough
 pub mod Evaluations
+mod FewerTurns
 mod FirstReads
 mod Identifiers
 mod InstanceNames
@@ -9,6 +11,7 @@ mod OwnPuts
 mod Picks
 mod PlaceLaws
 mod Puts
+mod Readiness
 mod LabelSections
 pub mod Standing
 pub mod Starts

@@ -1,5 +1,5 @@
 -- What stands behind an instruction, and what an instruction waits for.
-use Rattle.std.specs.Prelude.{◌≡◌, ℕ, suc, if◌then◌else◌, List, [], ◌∷◌, drop, Option, Some, None, option_and_then}
+use Rattle.std.specs.Prelude.{◌≡◌, ℕ, suc, Bool, true, false, if◌then◌else◌, List, [], ◌∷◌, drop, Option, Some, None, option_and_then}
 use Rattle.pgo_base.specs.Data.{Data}
 use Rattle.pgo_base.specs.Lookup.{Name}
 use Rattle.pgo_model.specs.Core.{number_among}
@@ -10,7 +10,7 @@ use Rattle.pgo_syntax.specs.RecordView.{kind_view}
 use Rattle.pgo_sections.specs.BoundValues.{bindable}
 use Rattle.pgo_workers.specs.Walk.{Walk, Stop, Touch, Goes, Sticks}
 use Rattle.pgo_accesses.specs.Accesses.{Attempt, printing, no_value, with_value, if_true, with_member}
-use Rattle.pgo_code.specs.Steps.{Unmapped, Evaluation, Content, Step, Bind, Pick, Set, Await, Assert, Print, Branch, End}
+use Rattle.pgo_code.specs.Steps.{Unmapped, Evaluation, Target, Resource, Own, Content, Step, Bind, Pick, Unbind, Assign, Set, Await, Assert, Print, Branch, Choose, Jump, End, Fail}
 use Rattle.pgo_code.specs.See.{unmapped_view}
 use Rattle.pgo_code.specs.declared.instruction.Unmapped as memory
 use Rattle.pgo_places.specs.declared.flow.Access.{Access}
@@ -85,8 +85,32 @@ access_to (Some r) = accesses.Of r
 abbrev pub IsTouchOf : ℕ → Walk → Type 0
 IsTouchOf r w = (leave : Data → Data) × (rest : Data → Walk) × (w ≡ Touch r leave rest)
 
+-- where the reads of the instruction are done, it has nothing to evaluate
+abbrev pub IsKnown : Step → Stand → Type 0
+IsKnown i s = left_of (evaluation_in i s.value) s ≡ [] → evaluation_in i s.value ≡ None
+
+-- an own component is assigned
+abbrev pub IsOwn : Target → Type 0
+IsOwn (Own y) = Unit {0}
+IsOwn (Resource r) = ⊥
+
+-- the instructions that evaluate nothing more and are no access
+abbrev pub is_plain : Step → Bool
+is_plain Unbind = true
+is_plain (Assign (Own y) w) = true
+is_plain (Set (Own y) e) = true
+is_plain (Choose js) = true
+is_plain (Jump j) = true
+is_plain (End l) = true
+is_plain Fail = true
+is_plain i = false
+
+-- where the instruction has nothing to evaluate, it is one of these
+abbrev pub IsPlain : Step → Stand → Type 0
+IsPlain i s = evaluation_in i s.value ≡ None → is_plain i ≡ true
+
 -- the access at which instruction i stands
 abbrev pub StandsAt : Attempt → Fixed → Step → Stand → Access → Type 0
-StandsAt a k i s accesses.No = left_of (evaluation_in i s.value) s ≡ []
+StandsAt a k i s accesses.No = (left_of (evaluation_in i s.value) s ≡ []) × IsPlain i s
 StandsAt a k i s accesses.Nothing = (n : ℕ) (is : List Step) → resume a k (suc n) (i ∷ is) s ≡ no_value
-StandsAt a k i s (accesses.Of r) = (n : ℕ) (is : List Step) → IsTouchOf r (resume a k (suc n) (i ∷ is) s)
+StandsAt a k i s (accesses.Of r) = ((n : ℕ) (is : List Step) → IsTouchOf r (resume a k (suc n) (i ∷ is) s)) × IsKnown i s

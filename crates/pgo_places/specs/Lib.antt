@@ -6,5 +6,7 @@ pub mod Performs
 pub mod Picked
 pub mod PlaceView
 pub mod PlaceWalk
+pub mod Ready
 pub mod Stands
 pub mod Trees
+pub mod Turns

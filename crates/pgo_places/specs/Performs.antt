@@ -56,6 +56,13 @@ abbrev pub WriteAnswers : Result Unit OpStop → (new : Data) → (now before : 
 WriteAnswers (Ok u) new now p m = (cs : List ChoiceMade) × (m ≡ Gives new cs) × (record p { used = length cs } ≡ now)
 WriteAnswers (Err x) new now p m = StopsSo x m
 
+-- nothing but want of memory stopped it
+abbrev pub IsNoMemory : OpStop → Type 0
+IsNoMemory stops.Blocked = ⊥
+IsNoMemory stops.NoValue = ⊥
+IsNoMemory stops.AssertFails = ⊥
+IsNoMemory stops.NoMemory = Unit {0}
+
 -- the answer says something
 abbrev pub IsTold : {A : Type 0} → Result A OpStop → Type 0
 IsTold (Ok v) = Unit {0}

@@ -1,5 +1,5 @@
 // The access at which an instruction stands.
-ghost use Rattle.std.specs.Prelude.{◌≡◌, [], drop, map, option_map, option_and_then, reverse, Some};
+ghost use Rattle.std.specs.Prelude.{◌≡◌, [], drop, map, option_map, option_and_then, reverse, ◌<◌, Some, IfSome};
 ghost use Rattle.pgo_base.specs.BindingsView.{named_view};
 ghost use Rattle.pgo_base.specs.View.{data_of};
 ghost use Rattle.pgo_model.specs.Core.{number_among};
@@ -41,7 +41,8 @@ pub fn evaluation<'x>(
 /// The read with this number, if there is one.
 #[tactic(auto, using(crate::proofs::FirstReads::read_here, crate::proofs::FirstReads::none_left))]
 fn read_at(reads: &[Unmapped], number: usize) -> Option<&Unmapped>
-    ensures { IsFirst (drop number (map unmapped_view reads.entry.now)) result }
+    ensures first { IsFirst (drop number (map unmapped_view reads.entry.now)) result }
+    ensures below { IfSome result (λ _. number < 18446744073709551615) }
 {
     if number < reads.len() {
         Some(&reads[number])
@@ -52,7 +53,8 @@ fn read_at(reads: &[Unmapped], number: usize) -> Option<&Unmapped>
 
 /// The next of the instruction's reads.
 pub fn next_read<'x>(instruction: &'x Instruction<'_>, stand: &Stand) -> Option<&'x Unmapped>
-    ensures { IsFirst (left_of (evaluation_in (step_of instruction.entry.now) (stand_view stand.now).value) (stand_view stand.now)) result }
+    ensures first { IsFirst (left_of (evaluation_in (step_of instruction.entry.now) (stand_view stand.now).value) (stand_view stand.now)) result }
+    ensures below { IfSome result (λ _. stand.now.done < 18446744073709551615) }
 {
     match evaluation(instruction, &stand.value) {
         Some(e) => read_at(&e.reads, stand.done),

@@ -1,15 +1,17 @@
 // What is done behind an evaluation.
-ghost use Rattle.std.specs.Prelude.{◌≡◌, ℕ, ◌<◌, length, List, map, option_map, option_and_then, Option, IfOk};
+ghost use Rattle.std.specs.Prelude.{◌≡◌, ℕ, ◌<◌, length, List, map, option_map, option_and_then, Option, None, Some, IfOk};
+ghost use Rattle.pgo_base.specs.Data.{Data};
 ghost use Rattle.pgo_base.specs.View.{data_of};
 ghost use Rattle.pgo_model.specs.Operators.{members_of, truth_of};
 ghost use Rattle.pgo_sections.specs.BoundValues.{bindable};
 ghost use Rattle.pgo_accesses.specs.Accesses.{Attempt, with_value, with_member, if_true, printing};
 ghost use Rattle.pgo_code.specs.Steps.{Step, Evaluation, Set};
 ghost use Rattle.pgo_code.specs.See.{step_of, target_view};
-ghost use Rattle.pgo_places.specs.Flows.{flow_walk, after};
+ghost use Rattle.pgo_places.specs.Flows.{flow_walk, after, evaluation_in};
 ghost use Rattle.pgo_places.specs.PlaceView.{stand_view, fixed_view, attempt_view};
 ghost use Rattle.pgo_places.specs.Picked.{picked, behind_pick, judging};
 ghost use Rattle.pgo_places.specs.Stands.{Fixed, Stand as StandView, resume, binding, going, putting, onward, with_words};
+ghost use Rattle.pgo_places.specs.Turns.{GoesOn, IsReadied};
 
 use crate::evaluated::{Frame, bindable_value};
 use crate::flow::Flow;
@@ -32,7 +34,8 @@ fn truth(value: &Option<Value>) -> Option<bool>
 
 /// At the next instruction where the condition is true, and elsewhere where it is false.
 fn tested(truth: Option<bool>, otherwise: Flow) -> Flow
-    ensures { (a : Attempt) (k : Fixed) (n : ℕ) (i : Step) (is : List Step) (s : StandView) → if_true truth (resume a k n is s) (flow_walk a k n i is otherwise s) ≡ flow_walk a k n i is result s }
+    ensures walk { (a : Attempt) (k : Fixed) (n : ℕ) (i : Step) (is : List Step) (s : StandView) → if_true truth (resume a k n is s) (flow_walk a k n i is otherwise s) ≡ flow_walk a k n i is result s }
+    ensures goes { GoesOn otherwise → GoesOn result }
 {
     match truth {
         Some(true) => Flow::On,
@@ -48,7 +51,8 @@ fn bound(
     value: Option<Value>,
     stand: &mut Stand,
 ) -> Result<Flow, AllocError>
-    ensures { IfOk result (λ f. (a : Attempt) (k : Fixed) (n : ℕ) (i : Step) (is : List Step) → with_value (bindable (option_map data_of value)) (λ v. resume a k n is (binding name.now v (stand_view stand.old))) ≡ flow_walk a k n i is f (stand_view stand.new)) }
+    ensures walk { IfOk result (λ f. (a : Attempt) (k : Fixed) (n : ℕ) (i : Step) (is : List Step) → with_value (bindable (option_map data_of value)) (λ v. resume a k n is (binding name.now v (stand_view stand.old))) ≡ flow_walk a k n i is f (stand_view stand.new)) }
+    ensures goes { IfOk result (λ f. GoesOn f) }
 {
     match bindable_value(value) {
         Some(v) => {
@@ -82,7 +86,8 @@ fn picked_from(
     members: &[Value],
     stand: &mut Stand,
 ) -> Result<Flow, AllocError>
-    ensures { IfOk result (λ f. (a : Attempt) (k : Fixed) (n : ℕ) (i : Step) (is : List Step) → with_member (with_words (stand_view stand.old).words a) (map data_of members.now) (stand_view stand.old).progress (λ v q. resume a k n is (binding name.now v (going q (stand_view stand.old)))) ≡ flow_walk a k n i is f (stand_view stand.new)) }
+    ensures walk { IfOk result (λ f. (a : Attempt) (k : Fixed) (n : ℕ) (i : Step) (is : List Step) → with_member (with_words (stand_view stand.old).words a) (map data_of members.now) (stand_view stand.old).progress (λ v q. resume a k n is (binding name.now v (going q (stand_view stand.old)))) ≡ flow_walk a k n i is f (stand_view stand.new)) }
+    ensures goes { IfOk result (λ f. GoesOn f) }
 {
     let found = member(alloc, members, stand)?;
     match found {
@@ -101,7 +106,8 @@ fn picked_member(
     value: Option<Value>,
     stand: &mut Stand,
 ) -> Result<Flow, AllocError>
-    ensures { IfOk result (λ f. (a : Attempt) (k : Fixed) (n : ℕ) (i : Step) (is : List Step) → with_value (option_and_then members_of (option_map data_of value)) (λ ms. with_member (with_words (stand_view stand.old).words a) ms (stand_view stand.old).progress (λ v q. resume a k n is (binding name.now v (going q (stand_view stand.old))))) ≡ flow_walk a k n i is f (stand_view stand.new)) }
+    ensures walk { IfOk result (λ f. (a : Attempt) (k : Fixed) (n : ℕ) (i : Step) (is : List Step) → with_value (option_and_then members_of (option_map data_of value)) (λ ms. with_member (with_words (stand_view stand.old).words a) ms (stand_view stand.old).progress (λ v q. resume a k n is (binding name.now v (going q (stand_view stand.old))))) ≡ flow_walk a k n i is f (stand_view stand.new)) }
+    ensures goes { IfOk result (λ f. GoesOn f) }
 {
     match value {
         Some(Value::Set(set)) => picked_from(alloc, name, set.members(), stand),
@@ -117,7 +123,8 @@ fn put(
     value: Value,
     stand: &mut Stand,
 ) -> Result<Flow, AllocError>
-    ensures { IfOk result (λ f. (a : Attempt) (n : ℕ) (e : Evaluation) (is : List Step) → putting (fixed_view frame.entry.fixed.now) (target_view target.now) (data_of value) (onward (stand_view stand.old)) (resume a (fixed_view frame.entry.fixed.now) n is) ≡ flow_walk a (fixed_view frame.entry.fixed.now) n (Set (target_view target.now) e) is f (stand_view stand.new)) }
+    ensures walk { IfOk result (λ f. (a : Attempt) (n : ℕ) (e : Evaluation) (is : List Step) → putting (fixed_view frame.entry.fixed.now) (target_view target.now) (data_of value) (onward (stand_view stand.old)) (resume a (fixed_view frame.entry.fixed.now) n is) ≡ flow_walk a (fixed_view frame.entry.fixed.now) n (Set (target_view target.now) e) is f (stand_view stand.new)) }
+    ensures again { IfOk result (λ f. IsReadied f None (stand_view stand.new).value) }
 {
     stand.onward();
     match target {
@@ -140,7 +147,8 @@ fn assigned(
     value: Option<Value>,
     stand: &mut Stand,
 ) -> Result<Flow, AllocError>
-    ensures { IfOk result (λ f. (a : Attempt) (n : ℕ) (e : Evaluation) (is : List Step) → with_value (bindable (option_map data_of value)) (λ v. putting (fixed_view frame.entry.fixed.now) (target_view target.now) v (onward (stand_view stand.old)) (resume a (fixed_view frame.entry.fixed.now) n is)) ≡ flow_walk a (fixed_view frame.entry.fixed.now) n (Set (target_view target.now) e) is f (stand_view stand.new)) }
+    ensures walk { IfOk result (λ f. (a : Attempt) (n : ℕ) (e : Evaluation) (is : List Step) → with_value (bindable (option_map data_of value)) (λ v. putting (fixed_view frame.entry.fixed.now) (target_view target.now) v (onward (stand_view stand.old)) (resume a (fixed_view frame.entry.fixed.now) n is)) ≡ flow_walk a (fixed_view frame.entry.fixed.now) n (Set (target_view target.now) e) is f (stand_view stand.new)) }
+    ensures again { IfOk result (λ f. IsReadied f None (stand_view stand.new).value) }
 {
     match bindable_value(value) {
         Some(v) => put(alloc, frame, target, v, stand),
@@ -150,7 +158,8 @@ fn assigned(
 
 /// The value is printed.
 fn printed(value: Option<Value>, stand: &mut Stand) -> Result<Flow, AllocError>
-    ensures { IfOk result (λ f. (a : Attempt) (k : Fixed) (n : ℕ) (i : Step) (is : List Step) → with_value (option_map data_of value) (λ v. resume a k n is (going (printing v (stand_view stand.old).progress) (stand_view stand.old))) ≡ flow_walk a k n i is f (stand_view stand.new)) }
+    ensures walk { IfOk result (λ f. (a : Attempt) (k : Fixed) (n : ℕ) (i : Step) (is : List Step) → with_value (option_map data_of value) (λ v. resume a k n is (going (printing v (stand_view stand.old).progress) (stand_view stand.old))) ≡ flow_walk a k n i is f (stand_view stand.new)) }
+    ensures goes { IfOk result (λ f. GoesOn f) }
 {
     match value {
         Some(v) => {
@@ -169,7 +178,8 @@ pub fn behind(
     value: Option<Value>,
     stand: &mut Stand,
 ) -> Result<Flow, AllocError>
-    ensures { IfOk result (λ f. (n : ℕ) (is : List Step) → after (attempt_view frame.entry.bound.now frame.entry.fixed.now) (fixed_view frame.entry.fixed.now) n is (step_of instruction.now) (stand_view stand.old) (option_map data_of value) ≡ flow_walk (attempt_view frame.entry.bound.now frame.entry.fixed.now) (fixed_view frame.entry.fixed.now) n (step_of instruction.now) is f (stand_view stand.new)) }
+    ensures walk { IfOk result (λ f. (n : ℕ) (is : List Step) → after (attempt_view frame.entry.bound.now frame.entry.fixed.now) (fixed_view frame.entry.fixed.now) n is (step_of instruction.now) (stand_view stand.old) (option_map data_of value) ≡ flow_walk (attempt_view frame.entry.bound.now frame.entry.fixed.now) (fixed_view frame.entry.fixed.now) n (step_of instruction.now) is f (stand_view stand.new)) }
+    ensures again { IfOk result (λ f. (o : Option Data) (e : Evaluation) → evaluation_in (step_of instruction.now) o ≡ Some e → IsReadied f o (stand_view stand.new).value) }
 {
     match instruction {
         Instruction::Bind { name, .. } => bound(alloc, name, value, stand),
@@ -182,7 +192,8 @@ pub fn behind(
 
 /// Where a condition leads; nowhere where the instruction has none.
 fn judged(instruction: &Instruction<'_>, value: &Option<Value>) -> Flow
-    ensures { (a : Attempt) (k : Fixed) (n : ℕ) (is : List Step) (s : StandView) → judging a k n is (step_of instruction.now) s (option_map data_of value.now) ≡ flow_walk a k n (step_of instruction.now) is result s }
+    ensures walk { (a : Attempt) (k : Fixed) (n : ℕ) (is : List Step) (s : StandView) → judging a k n is (step_of instruction.now) s (option_map data_of value.now) ≡ flow_walk a k n (step_of instruction.now) is result s }
+    ensures goes { GoesOn result }
 {
     match instruction {
         Instruction::Await(_) => tested(truth(value), Flow::Noted(NoteKind::Blocked)),

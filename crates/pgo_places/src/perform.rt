@@ -1,26 +1,30 @@
 // The access at which an instruction stands, done on a content.
-ghost use Rattle.std.specs.Prelude.{◌≡◌, ℕ, ◌∷◌, length, option_map, Some, List, IfOk, IsTrue};
+ghost use Rattle.std.specs.Prelude.{◌≡◌, ℕ, false, [], ◌∷◌, ◌<◌, length, map, reverse, option_map, option_and_then, Some, List, IfOk, IsSome, IsTrue};
 ghost use Rattle.pgo_base.specs.Data.{Data};
+ghost use Rattle.pgo_base.specs.BindingsView.{named_view};
 ghost use Rattle.pgo_base.specs.View.{data_of};
-ghost use Rattle.pgo_sections.specs.BoundValues.{bindable};
+ghost use Rattle.pgo_sections.specs.BoundValues.{bindable, value_under};
+ghost use Rattle.pgo_sections.specs.Context.{index_value};
 ghost use Rattle.pgo_sections.specs.Exec.{MacroEnd};
 ghost use Rattle.pgo_sections.specs.SectionRun.{ChoiceMade};
 ghost use Rattle.pgo_accesses.specs.Accesses.{Attempt, Progress, becoming, behind_block, behind_read, behind_write, can_stand, state_limit, set_limit};
-ghost use Rattle.pgo_code.specs.Steps.{Step, Unmapped as UnmappedStep, Evaluation, Assign as AssignStep, Set as SetStep, Read as ReadStep, Write as WriteStep};
-ghost use Rattle.pgo_code.specs.See.{step_of, content_view, target_view, unmapped_view};
-ghost use Rattle.pgo_places.specs.Flows.{evaluation_in, flow_walk, left_of, part_index};
-ghost use Rattle.pgo_places.specs.Performs.{Performs, Puts, Keeps, NotesAs, IsTold, ReadAnswers, WriteAnswers};
+ghost use Rattle.pgo_code.specs.Steps.{Step, Unmapped as UnmappedStep, Evaluation, Resource as TargetView, Assign as AssignStep, Set as SetStep, Read as ReadStep, Write as WriteStep};
+ghost use Rattle.pgo_code.specs.See.{step_of, content_view, unmapped_view};
+ghost use Rattle.pgo_places.specs.Flows.{evaluation_in, flow_walk, left_of, part_index, resource_at};
+ghost use Rattle.pgo_places.specs.Performs.{Performs, Puts, Keeps, NotesAs, IsNoMemory, IsTold, ReadAnswers, WriteAnswers};
+ghost use Rattle.pgo_places.specs.Ready.{IsAccess};
 ghost use Rattle.pgo_places.specs.Stands.{Fixed, binding, going, onward, resume};
 ghost use Rattle.pgo_places.specs.PlaceView.{stand_view, fixed_view, attempt_view};
 
-use crate::access::{index_in, next_read, resource_number};
+use crate::access::{index_in, next_read};
 use crate::evaluated::Frame;
 use crate::flow::Flow;
 use crate::stand::{Stand, under};
+use pgo_base::bindings::NamedValue;
 use pgo_base::depth::is_deeper;
 use pgo_base::text::Text;
 use pgo_base::value::Value;
-use pgo_code::instruction::{Content, Instruction, Target, Unmapped};
+use pgo_code::instruction::{Content, Instruction, Unmapped};
 use pgo_resource::resource::{MacroEnv, OpStop, Resource};
 use pgo_syntax::bound::Mapping;
 use pgo_syntax::records::NoteKind;
@@ -42,14 +46,24 @@ fn look<R: Resource>(
     stand: &mut Stand,
     content: &R,
 ) -> Result<Flow, AllocError>
+    requires there { IsSome unmapped.now.resource }
+    requires below { stand.old.done < 18446744073709551615 }
     ensures { IfOk result (λ f. (a : Attempt) (i : Step) (xs : List UnmappedStep) → left_of (evaluation_in i (stand_view stand.old).value) (stand_view stand.old) ≡ unmapped_view unmapped.now ∷ xs → Performs a (fixed_view frame.entry.fixed.now) i (stand_view stand.old) f (stand_view stand.new) (R.shows content.now).current (R.shows content.now).current) }
 {
-    let Some(_) = unmapped.resource else {
-        return Err(AllocError);
-    };
     let value = content.value(alloc)?;
     stand.look(alloc, frame.fixed, &unmapped.name, &value)?;
     Ok(Flow::Again)
+}
+
+/// What stopped an access that nothing but want of memory can stop.
+fn without_memory(stop: OpStop) -> Result<(), AllocError>
+    requires { IsNoMemory stop }
+    ensures { IfOk result (λ _. ⊥) }
+{
+    match stop {
+        OpStop::NoMemory => Err(AllocError),
+        _ => unreachable!(),
+    }
 }
 
 /// The content becomes the value as it is.
@@ -74,7 +88,7 @@ fn overwrite<R: Resource>(
     let m = Mapping::Identity;
     match content.write(alloc, &m, env, None, value, &mut stand.picks) {
         Ok(()) => Ok(()),
-        Err(_) => Err(AllocError),
+        Err(stop) => without_memory(stop),
     }
 }
 
@@ -82,20 +96,17 @@ fn overwrite<R: Resource>(
 fn put<R: Resource>(
     alloc: Global,
     frame: Frame<'_>,
-    resource: Option<u32>,
+    resource: u32,
     value: Value,
     stand: &mut Stand,
     content: &mut R,
 ) -> Result<Flow, AllocError>
-    ensures puts { IfOk result (λ f. Puts resource (data_of value) (stand_view stand.old) f (stand_view stand.new) (R.shows content.new).current) }
+    ensures puts { IfOk result (λ f. Puts (Some resource) (data_of value) (stand_view stand.old) f (stand_view stand.new) (R.shows content.new).current) }
     ensures content { Keeps (R.shows content.old) (R.shows content.new) }
 {
-    let Some(r) = resource else {
-        return Err(AllocError);
-    };
     let is_too_deep = is_deeper(&value, 256);
     overwrite(alloc, frame, value, stand, content)?;
-    stand.mark(alloc, is_too_deep, r)?;
+    stand.mark(alloc, is_too_deep, resource)?;
     stand.onward();
     Ok(Flow::On)
 }
@@ -204,50 +215,73 @@ fn write_end<R: Resource>(
     }
 }
 
+/// The value of an index, if there is one.
+fn index_there<'x>(index: &Option<Text>, env: &'x [NamedValue]) -> Option<&'x Value>
+    requires { IsSome (index_value index.now (reverse (map named_view env.now))) }
+    ensures { Some (option_map (λ r. data_of r.now) result) ≡ index_value index.now (reverse (map named_view env.entry.now)) }
+{
+    match index_in(index, env) {
+        Some(j) => j,
+        None => unreachable!(),
+    }
+}
+
+/// What a name in scope stands for.
+fn value_there<'x>(env: &'x [NamedValue], name: &Text) -> &'x Value
+    requires { IsSome (value_under name.now (reverse (map named_view env.now))) }
+    ensures { Some (data_of result.now) ≡ value_under name.now (reverse (map named_view env.entry.now)) }
+{
+    match under(env, name) {
+        Some(v) => v,
+        None => unreachable!(),
+    }
+}
+
 /// A mapped parameter is read.
 fn mapped_read<R: Resource>(
     alloc: Global,
     frame: Frame<'_>,
+    resource: u32,
     read: (&Text, &Content<'_>, &Option<Text>),
     stand: &mut Stand,
     content: &mut R,
 ) -> Result<Flow, AllocError>
+    requires { option_and_then (λ j. resource_at (attempt_view frame.bound.now frame.fixed.now) (content_view read.1.now) j) (index_value read.2.now (stand_view stand.old).env) ≡ Some resource }
     ensures performs { IfOk result (λ f. Performs (attempt_view frame.entry.bound.now frame.entry.fixed.now) (fixed_view frame.entry.fixed.now) (ReadStep read.entry.0.now (content_view read.entry.1.now) read.entry.2.now) (stand_view stand.old) f (stand_view stand.new) (R.shows content.old).current (R.shows content.new).current) }
     ensures content { Keeps (R.shows content.old) (R.shows content.new) }
 {
     let (name, c, index) = read;
-    let Some(j) = index_in(index, &stand.env) else {
-        return Err(AllocError);
-    };
-    let Some(r) = resource_number(frame, c, j) else {
-        return Err(AllocError);
-    };
+    let j = index_there(index, &stand.env);
     let env = MacroEnv {
         defs: frame.definitions,
         id: &frame.fixed.id,
     };
     let answer = content.read(alloc, c.mapped.mapping, env, part(c, j), &mut stand.picks);
-    read_end(alloc, name, (c.is_element, r), answer, stand, content)
+    read_end(
+        alloc,
+        name,
+        (c.is_element, resource),
+        answer,
+        stand,
+        content,
+    )
 }
 
 /// A mapped parameter is written.
 fn mapped_write<R: Resource>(
     alloc: Global,
     frame: Frame<'_>,
+    resource: u32,
     write: (&Content<'_>, &Option<Text>, &Text),
     stand: &mut Stand,
     content: &mut R,
 ) -> Result<Flow, AllocError>
+    requires { option_and_then (λ j. resource_at (attempt_view frame.bound.now frame.fixed.now) (content_view write.0.now) j) (index_value write.1.now (stand_view stand.old).env) ≡ Some resource }
     ensures performs { IfOk result (λ f. Performs (attempt_view frame.entry.bound.now frame.entry.fixed.now) (fixed_view frame.entry.fixed.now) (WriteStep (content_view write.entry.0.now) write.entry.1.now write.entry.2.now) (stand_view stand.old) f (stand_view stand.new) (R.shows content.old).current (R.shows content.new).current) }
     ensures content { Keeps (R.shows content.old) (R.shows content.new) }
 {
     let (c, index, name) = write;
-    let Some(j) = index_in(index, &stand.env) else {
-        return Err(AllocError);
-    };
-    let Some(r) = resource_number(frame, c, j) else {
-        return Err(AllocError);
-    };
+    let j = index_there(index, &stand.env);
     let Some(v) = under(&stand.env, name) else {
         return Ok(Flow::Noted(NoteKind::NoValue));
     };
@@ -264,80 +298,93 @@ fn mapped_write<R: Resource>(
         value,
         &mut stand.picks,
     );
-    write_end(alloc, (c.is_element, r), answer, stand, content)
+    write_end(alloc, (c.is_element, resource), answer, stand, content)
 }
 
 /// A resource becomes what a name stands for.
 fn put_named<R: Resource>(
     alloc: Global,
     frame: Frame<'_>,
-    put_of: (&Target, &Text),
+    resource: u32,
+    name: &Text,
     stand: &mut Stand,
     content: &mut R,
 ) -> Result<Flow, AllocError>
-    ensures performs { IfOk result (λ f. (a : Attempt) → Performs a (fixed_view frame.entry.fixed.now) (AssignStep (target_view put_of.entry.0.now) put_of.entry.1.now) (stand_view stand.old) f (stand_view stand.new) (R.shows content.old).current (R.shows content.new).current) }
+    requires { IsSome (value_under name.now (stand_view stand.old).env) }
+    ensures performs { IfOk result (λ f. (a : Attempt) → Performs a (fixed_view frame.entry.fixed.now) (AssignStep (TargetView (Some resource)) name.now) (stand_view stand.old) f (stand_view stand.new) (R.shows content.old).current (R.shows content.new).current) }
     ensures content { Keeps (R.shows content.old) (R.shows content.new) }
 {
-    let (target, name) = put_of;
-    let Target::Resource(resource) = target else {
-        return Err(AllocError);
-    };
-    let Some(v) = under(&stand.env, name) else {
-        return Err(AllocError);
-    };
-    let value = v.copy(alloc)?;
-    put(alloc, frame, *resource, value, stand, content)
+    let value = value_there(&stand.env, name).copy(alloc)?;
+    put(alloc, frame, resource, value, stand, content)
 }
 
 /// A resource becomes the value that stands ready.
 fn put_value<R: Resource>(
     alloc: Global,
     frame: Frame<'_>,
-    target: &Target,
+    resource: u32,
     stand: &mut Stand,
     content: &mut R,
 ) -> Result<Flow, AllocError>
-    ensures performs { IfOk result (λ f. (a : Attempt) (e : Evaluation) → Performs a (fixed_view frame.entry.fixed.now) (SetStep (target_view target.now) e) (stand_view stand.old) f (stand_view stand.new) (R.shows content.old).current (R.shows content.new).current) }
+    requires { IsSome (stand_view stand.old).value }
+    ensures performs { IfOk result (λ f. (a : Attempt) (e : Evaluation) → Performs a (fixed_view frame.entry.fixed.now) (SetStep (TargetView (Some resource)) e) (stand_view stand.old) f (stand_view stand.new) (R.shows content.old).current (R.shows content.new).current) }
     ensures content { Keeps (R.shows content.old) (R.shows content.new) }
 {
-    let Target::Resource(resource) = target else {
-        return Err(AllocError);
-    };
     let Some(value) = replace(&mut stand.value, None) else {
-        return Err(AllocError);
+        unreachable!()
     };
-    put(alloc, frame, *resource, value, stand, content)
+    put(alloc, frame, resource, value, stand, content)
 }
 
-/// The access at which an instruction stands. Where it stands at none there is no answer but want of memory.
-pub fn perform<R: Resource>(
+/// The access at which an instruction stands whose reads are done.
+fn performed<R: Resource>(
     alloc: Global,
     frame: Frame<'_>,
+    resource: u32,
     instruction: &Instruction<'_>,
     stand: &mut Stand,
     content: &mut R,
 ) -> Result<Flow, AllocError>
+    requires reads { left_of (evaluation_in (step_of instruction.now) (stand_view stand.old).value) (stand_view stand.old) ≡ [] }
+    requires access { IsAccess (attempt_view frame.bound.now frame.fixed.now) (fixed_view frame.fixed.now) resource (step_of instruction.now) (stand_view stand.old) }
     ensures performs { IfOk result (λ f. Performs (attempt_view frame.entry.bound.now frame.entry.fixed.now) (fixed_view frame.entry.fixed.now) (step_of instruction.now) (stand_view stand.old) f (stand_view stand.new) (R.shows content.old).current (R.shows content.new).current) }
     ensures content { Keeps (R.shows content.old) (R.shows content.new) }
 {
-    if let Some(u) = next_read(instruction, stand) {
-        return look(alloc, frame, u, stand, content);
-    }
     match instruction {
-        Instruction::Assign { target, name } => {
-            put_named(alloc, frame, (target, name), stand, content)
+        Instruction::Assign { name, .. } => {
+            put_named(alloc, frame, resource, name, stand, content)
         }
-        Instruction::Set { target, .. } => put_value(alloc, frame, target, stand, content),
+        Instruction::Set { .. } => put_value(alloc, frame, resource, stand, content),
         Instruction::Read {
             name,
             content: c,
             index,
-        } => mapped_read(alloc, frame, (name, c, index), stand, content),
+        } => mapped_read(alloc, frame, resource, (name, c, index), stand, content),
         Instruction::Write {
             content: c,
             index,
             name,
-        } => mapped_write(alloc, frame, (c, index, name), stand, content),
-        _ => Err(AllocError),
+        } => mapped_write(alloc, frame, resource, (c, index, name), stand, content),
+        // no other instruction is an access
+        _ => unreachable!(),
+    }
+}
+
+/// The access at which an instruction stands, which is of this resource.
+pub fn perform<R: Resource>(
+    alloc: Global,
+    frame: Frame<'_>,
+    resource: u32,
+    instruction: &Instruction<'_>,
+    stand: &mut Stand,
+    content: &mut R,
+) -> Result<Flow, AllocError>
+    requires { IsAccess (attempt_view frame.bound.now frame.fixed.now) (fixed_view frame.fixed.now) resource (step_of instruction.now) (stand_view stand.old) }
+    ensures performs { IfOk result (λ f. Performs (attempt_view frame.entry.bound.now frame.entry.fixed.now) (fixed_view frame.entry.fixed.now) (step_of instruction.now) (stand_view stand.old) f (stand_view stand.new) (R.shows content.old).current (R.shows content.new).current) }
+    ensures content { Keeps (R.shows content.old) (R.shows content.new) }
+{
+    match next_read(instruction, stand) {
+        Some(u) => look(alloc, frame, u, stand, content),
+        None => performed(alloc, frame, resource, instruction, stand, content),
     }
 }

@@ -4,12 +4,17 @@ ghost use Rattle.pgo_model.specs.Machine.{nth};
 ghost use Rattle.pgo_workers.specs.Walk.{Walk};
 ghost use Rattle.pgo_accesses.specs.Accesses.{Attempt, no_value};
 ghost use Rattle.pgo_code.specs.Steps.{Step};
+ghost use Rattle.pgo_code.specs.declared.program.Program.{Program as ProgramView};
 ghost use Rattle.pgo_code.specs.See.{step_of};
 ghost use Rattle.pgo_resource.specs.Nexts.{Tells};
 ghost use Rattle.pgo_places.specs.Flows.{flow_walk, label_of, IsTouchOf};
+ghost use Rattle.pgo_places.specs.Ready.{IsReady};
 ghost use Rattle.pgo_places.specs.PlaceWalk.{core_walk, instructions_in, stop_walk, walk_in, steps_at};
 ghost use Rattle.pgo_places.specs.PlaceView.{stand_view, fixed_view, attempt_view};
+ghost use Rattle.pgo_places.specs.declared.place.Place.{Place as PlaceInMemory};
+ghost use Rattle.pgo_resource.specs.declared.sections.NextEvent.TheVariants.{Access as AccessEvent};
 ghost use Rattle.pgo_places.specs.Stands.{Fixed as FixedView, Stand as StandView, limited};
+ghost use Rattle.pgo_places.specs.Turns.{IsFewer, IsMoved, turns_at};
 
 use crate::access::access;
 use crate::evaluated::Frame;
@@ -118,8 +123,11 @@ pub fn moved(
     ensures frame { place.new.instance ≡ place.old.instance }
     ensures section { place.new.section ≡ place.old.section }
     ensures fixed { place.new.fixed ≡ place.old.fixed }
+    ensures stand { place.new.stand ≡ place.old.stand }
+    ensures moved { IfOk result (λ o. IsMoved flow o place.old.left place.new.left) }
     ensures walk { IfOk result (λ _. (a : Attempt) (k : FixedView) (xs : List Step) (n : ℕ) (is : List Step) → length xs ≡ count → place.old.left ≡ suc n → drop place.old.position xs ≡ step_of instruction.now ∷ is → core_walk a k xs place.new ≡ flow_walk a k n (step_of instruction.now) is flow (stand_view place.old.stand)) }
     ensures tells { IfOk result (λ o. IfSome o (λ e. (a : Attempt) (k : FixedView) (xs : List Step) (m : ℕ) → Tells (limited m (core_walk a k xs place.new)) e)) }
+    ensures ready { IfOk result (λ o. IfSome o (λ e. (p : ProgramView) → IsReady p place.new e)) }
 {
     match flow {
         Flow::On => advance(place, 0, count),
@@ -142,6 +150,7 @@ fn reached(place: &mut Place, resource: u32, resources: usize) -> NextEvent
     ensures frame { place.new ≡ record place.old { stopped = place.new.stopped } }
     ensures tells { (a : Attempt) (k : FixedView) (xs : List Step) → IsTouchOf resource (core_walk a k xs place.old) → Tells (limited resources (core_walk a k xs place.new)) result }
     ensures same { (a : Attempt) (k : FixedView) (xs : List Step) → IsTouchOf resource (core_walk a k xs place.old) → limited resources (core_walk a k xs place.new) ≡ limited resources (core_walk a k xs place.old) }
+    ensures ready { (p : ProgramView) → IsReady p place.old (AccessEvent resource) → IsReady p place.new result }
 {
     if (resource as usize) < resources {
         return NextEvent::Access(resource);
@@ -155,6 +164,7 @@ fn fail(place: &mut Place) -> NextEvent
     ensures frame { place.new ≡ record place.old { stopped = place.new.stopped } }
     ensures same { (a : Attempt) (k : FixedView) (xs : List Step) → core_walk a k xs place.new ≡ no_value }
     ensures tells { (a : Attempt) (k : FixedView) (xs : List Step) (m : ℕ) → Tells (limited m (core_walk a k xs place.new)) result }
+    ensures ready { (p : ProgramView) → IsReady p place.new result }
 {
     place.stopped = Some(Finish::Noted(NoteKind::NoValue));
     NextEvent::Note(NoteKind::NoValue)
@@ -162,7 +172,8 @@ fn fail(place: &mut Place) -> NextEvent
 
 /// The event of a place that has come to its end.
 fn stopped_event(stop: &Finish) -> NextEvent
-    ensures { (s : StandView) (m : ℕ) → Tells (limited m (stop_walk stop.now s)) result }
+    ensures tells { (s : StandView) (m : ℕ) → Tells (limited m (stop_walk stop.now s)) result }
+    ensures ready { (p : ProgramView) (q : PlaceInMemory) → q.stopped ≡ Some stop.now → IsReady p q result }
 {
     match stop {
         Finish::Ended(_) => NextEvent::Commit,
@@ -185,6 +196,8 @@ fn turn_at(
     requires here { drop place.old.position (steps_at program.now place.old) ≡ step_of instruction.now ∷ drop (suc place.old.position) (steps_at program.now place.old) }
     ensures same { OnOk result (walk_in program.now place.new ≡ walk_in program.now place.old) }
     ensures tells { IfOk result (λ o. IfSome o (λ e. Tells (walk_in program.now place.new) e)) }
+    ensures ready { IfOk result (λ o. IfSome o (λ e. IsReady program.now place.new e)) }
+    ensures fewer { IfOk result (λ o. IsFewer o (turns_at place.old) (turns_at place.new)) }
 {
     let frame = Frame {
         bound: program.bound,
@@ -210,6 +223,8 @@ pub fn turn(
 ) -> Result<Option<NextEvent>, AllocError>
     ensures same { OnOk result (walk_in program.now place.new ≡ walk_in program.now place.old) }
     ensures tells { IfOk result (λ o. IfSome o (λ e. Tells (walk_in program.now place.new) e)) }
+    ensures ready { IfOk result (λ o. IfSome o (λ e. IsReady program.now place.new e)) }
+    ensures fewer { IfOk result (λ o. IsFewer o (turns_at place.old) (turns_at place.new)) }
 {
     if let Some(stop) = &place.stopped {
         return Ok(Some(stopped_event(stop)));
@@ -234,11 +249,11 @@ pub fn next_event(
 ) -> Result<NextEvent, AllocError>
     ensures same { OnOk result (walk_in program.now place.new ≡ walk_in program.now place.old) }
     ensures tells { IfOk result (λ e. Tells (walk_in program.now place.new) e) }
+    ensures ready { IfOk result (λ e. IsReady program.now place.new e) }
 {
-    for _ in 0..u64::MAX {
+    loop {
         if let Some(event) = turn(alloc, program, place)? {
             return Ok(event);
         }
     }
-    Err(AllocError)
 }

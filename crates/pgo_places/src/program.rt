@@ -7,17 +7,19 @@ ghost use Rattle.pgo_model.specs.Machine.{nth};
 ghost use Rattle.pgo_bound.specs.Sound.{index_in};
 ghost use Rattle.pgo_code.specs.See.{step_of};
 ghost use Rattle.pgo_meaning.specs.System.{resource_of, system_of};
-ghost use Rattle.pgo_resource.specs.Nexts.{LeadsOn};
+ghost use Rattle.pgo_resource.specs.Nexts.{IsTouch, LeadsOn, StopsWith};
+ghost use Rattle.pgo_resource.specs.declared.sections.NextEvent.TheVariants.{Access as AccessEvent};
 ghost use Rattle.pgo_workers.specs.Walk.{Stop, Goes};
 ghost use Rattle.pgo_workers.specs.Worlds.{component_of, layout_of};
 ghost use Rattle.pgo_places.specs.AllNames.{AreNames, are_names_prop};
-ghost use Rattle.pgo_places.specs.PlaceView.{stand_view};
+ghost use Rattle.pgo_places.specs.PlaceView.{stand_view, fixed_view, attempt_view};
 ghost use Rattle.pgo_places.specs.PlaceWalk.{walk_in, steps_at};
+ghost use Rattle.pgo_places.specs.Ready.{IsAccess, IsAccessEvent};
 ghost use Rattle.pgo_places.specs.Stands.{labelled};
 
 use crate::evaluated::Frame;
 use crate::perform::perform;
-use crate::place::{Finish, Place, at, instructions, moved, next_event};
+use crate::place::{Finish, Place, instructions, moved, next_event};
 use crate::stand::{Fixed, Stand};
 use crate::start::{all_names, first_place};
 use crate::variables::put_own;
@@ -35,13 +37,14 @@ use std::sync::Arc;
 
 /// What a section that has ended leaves of the own components, and what it printed.
 fn end_of(alloc: Global, program: &Program<'_>, place: Place) -> Result<(State, Values), AllocError>
+    requires { StopsWith (walk_in program.now place) }
     ensures { IfOk result (λ e. walk_in program.now place ≡ Stop (Goes e.0 e.1)) }
 {
     let mut place = place;
     next_event(alloc, program, &mut place)?;
     let Place { stopped, stand, .. } = place;
     let Some(Finish::Ended(label)) = stopped else {
-        return Err(AllocError);
+        unreachable!()
     };
     left_by(alloc, label, stand)
 }
@@ -84,44 +87,50 @@ fn component(
     })
 }
 
-/// Does the access that comes next on a content, where the place stands at one.
+/// The resource of an access that was told.
+fn told_resource(event: NextEvent) -> u32
+    requires { IsAccessEvent event }
+    ensures { event ≡ AccessEvent result }
+{
+    match event {
+        NextEvent::Access(r) => r,
+        _ => unreachable!(),
+    }
+}
+
+/// Does the access that comes next on a content.
 fn operated<R: Resource>(
     alloc: Global,
     program: &Program<'_>,
     place: &mut Place,
     content: &mut R,
 ) -> Result<(), AllocError>
+    requires { IsTouch (walk_in program.now place.old) }
     ensures on { OnOk result (LeadsOn (walk_in program.now place.old) (walk_in program.now place.new) (R.shows content.old).current (R.shows content.new).current) }
     ensures content { R.shows content.new ≡ record (R.shows content.old) { current = (R.shows content.new).current } }
 {
-    next_event(alloc, program, place)?;
+    let event = next_event(alloc, program, place)?;
+    let resource = told_resource(event);
     let Some(list) = instructions(&program.codes, place.instance, place.section) else {
-        return Err(AllocError);
+        unreachable!()
     };
-    if place.stopped.is_some() {
-        return Err(AllocError);
-    }
-    if place.left == 0 {
-        return Err(AllocError);
-    }
-    if place.position >= list.len() {
-        return Err(AllocError);
-    }
     operate_at(
         alloc,
         program,
         place,
+        resource,
         &list[place.position],
         list.len(),
         content,
     )
 }
 
-/// Does the access of one of the instructions, of so many.
+/// Does the access of one of the instructions, of so many, which is of this resource.
 fn operate_at<R: Resource>(
     alloc: Global,
     program: &Program<'_>,
     place: &mut Place,
+    resource: u32,
     instruction: &Instruction<'_>,
     count: usize,
     content: &mut R,
@@ -131,6 +140,7 @@ fn operate_at<R: Resource>(
     requires runs { place.old.stopped ≡ None }
     requires count { length (steps_at program.now place.old) ≡ count }
     requires here { drop place.old.position (steps_at program.now place.old) ≡ step_of instruction.now ∷ drop (suc place.old.position) (steps_at program.now place.old) }
+    requires access { IsAccess (attempt_view program.now.bound.now (arc_value place.old.fixed)) (fixed_view (arc_value place.old.fixed)) resource (step_of instruction.now) (stand_view place.old.stand) }
     ensures on { OnOk result (LeadsOn (walk_in program.now place.old) (walk_in program.now place.new) (R.shows content.old).current (R.shows content.new).current) }
     ensures content { R.shows content.new ≡ record (R.shows content.old) { current = (R.shows content.new).current } }
 {
@@ -140,7 +150,14 @@ fn operate_at<R: Resource>(
         elements: &program.elements,
         fixed: &place.fixed,
     };
-    let flow = perform(alloc, frame, instruction, &mut place.stand, content)?;
+    let flow = perform(
+        alloc,
+        frame,
+        resource,
+        instruction,
+        &mut place.stand,
+        content,
+    )?;
     moved(alloc, place, instruction, count, flow)?;
     Ok(())
 }
@@ -151,6 +168,14 @@ fn id_in<'x>(bound: &'x bound::Bound, instance: u32) -> &'x Value
     ensures { nth (layout_of (system_of bound.entry.now)).ids instance ≡ Some (data_of result.now) }
 {
     &bound.instances.as_slice()[instance as usize].id
+}
+
+/// A resource.
+fn resource_in<'x>(bound: &'x bound::Bound, r: u32) -> &'x bound::Resource
+    requires { r < length (layout_of (system_of bound.now)).resources }
+    ensures { nth (layout_of (system_of bound.entry.now)).resources r ≡ Some (resource_of result.now) }
+{
+    &bound.resources.as_slice()[r as usize]
 }
 
 /// A program whose sections are run, and what the names of the attempts of each instance are.
@@ -233,10 +258,7 @@ impl<'a> Sections for Runnable<'a> {
     }
 
     fn component(&self, alloc: Global, r: u32) -> Result<Component, AllocError> {
-        match at(self.program.bound.resources.as_slice(), r as usize) {
-            Some(resource) => component(alloc, r, resource),
-            None => Err(AllocError),
-        }
+        component(alloc, r, resource_in(self.program.bound, r))
     }
 
     fn id(&self, instance: u32) -> &Value {

@@ -1,13 +1,14 @@
 // One instruction that stands at no access.
-ghost use Rattle.std.specs.Prelude.{◌≡◌, [], map, IfOk};
+ghost use Rattle.std.specs.Prelude.{◌≡◌, true, [], map, None, IfOk, IsSome};
 ghost use Rattle.pgo_base.specs.Lookup.{Name};
 ghost use Rattle.pgo_base.specs.View.{named_data};
 ghost use Rattle.pgo_accesses.specs.Accesses.{Attempt, all_shallow};
-ghost use Rattle.pgo_code.specs.Steps.{Assign, Choose, End};
+ghost use Rattle.pgo_code.specs.Steps.{Evaluation, Own as OwnTarget, Assign, Set, Choose, End};
 ghost use Rattle.pgo_code.specs.See.{step_of, target_view};
-ghost use Rattle.pgo_places.specs.Flows.{LeadsTo, evaluation_in, left_of};
+ghost use Rattle.pgo_places.specs.Flows.{IsOwn, IsPlain, LeadsTo, evaluation_in, is_plain, left_of};
 ghost use Rattle.pgo_places.specs.PlaceView.{stand_view, fixed_view, attempt_view};
 ghost use Rattle.pgo_places.specs.Stands.{Fixed, labelled};
+ghost use Rattle.pgo_places.specs.Turns.{GoesOn, IsReadied};
 
 use crate::access::evaluation;
 use crate::behind::behind;
@@ -21,6 +22,7 @@ use pgo_base::value::Value;
 use pgo_code::instruction::{Instruction, Target};
 use pgo_syntax::records::NoteKind;
 use std::alloc::{AllocError, Global};
+use std::mem::replace;
 
 /// Whether each of these can stand in a state, where `pc` is a label.
 fn rows_fit(own: &[(Text, Value)]) -> bool
@@ -43,7 +45,8 @@ fn all_fit(own: &State) -> bool
 
 /// The section's end, where no value is too deep for a state.
 fn ended(stand: &Stand) -> Flow
-    ensures { (a : Attempt) (k : Fixed) (l : Name) → LeadsTo a k (End l) (stand_view stand.now) result (stand_view stand.now) }
+    ensures walk { (a : Attempt) (k : Fixed) (l : Name) → LeadsTo a k (End l) (stand_view stand.now) result (stand_view stand.now) }
+    ensures goes { GoesOn result }
 {
     if !stand.too_deep.is_empty() {
         return Flow::Noted(NoteKind::NoValue);
@@ -57,7 +60,8 @@ fn ended(stand: &Stand) -> Flow
 
 /// As many instructions are passed over as the picked arm says.
 fn chosen(arms: &[usize], stand: &mut Stand) -> Result<Flow, AllocError>
-    ensures { IfOk result (λ f. (a : Attempt) (k : Fixed) → LeadsTo a k (Choose arms.now) (stand_view stand.old) f (stand_view stand.new)) }
+    ensures walk { IfOk result (λ f. (a : Attempt) (k : Fixed) → LeadsTo a k (Choose arms.now) (stand_view stand.old) f (stand_view stand.new)) }
+    ensures goes { IfOk result (λ f. GoesOn f) }
 {
     stand.onward();
     let count = arms.len();
@@ -72,19 +76,28 @@ fn chosen(arms: &[usize], stand: &mut Stand) -> Result<Flow, AllocError>
     Ok(Flow::Over(arms[i as usize]))
 }
 
-/// The own component becomes what the name stands for. A resource is written elsewhere.
+/// The own component that is assigned.
+fn own_of(target: &Target) -> &Text
+    requires { IsOwn (target_view target.now) }
+    ensures { target_view target.entry.now ≡ OwnTarget result.now }
+{
+    match target {
+        Target::Own(own) => own,
+        Target::Resource(_) => unreachable!(),
+    }
+}
+
+/// The own component becomes what the name stands for.
 fn assign(
     alloc: Global,
     frame: Frame<'_>,
-    target: &Target,
+    own: &Text,
     name: &Text,
     stand: &mut Stand,
 ) -> Result<Flow, AllocError>
-    ensures { IfOk result (λ f. (a : Attempt) → LeadsTo a (fixed_view frame.entry.fixed.now) (Assign (target_view target.now) name.now) (stand_view stand.old) f (stand_view stand.new)) }
+    ensures walk { IfOk result (λ f. (a : Attempt) → LeadsTo a (fixed_view frame.entry.fixed.now) (Assign (OwnTarget own.now) name.now) (stand_view stand.old) f (stand_view stand.new)) }
+    ensures goes { IfOk result (λ f. GoesOn f) }
 {
-    let Target::Own(own) = target else {
-        return Err(AllocError);
-    };
     let value = match under(&stand.env, name) {
         Some(v) => v.copy(alloc)?,
         None => return Ok(Flow::Noted(NoteKind::NoValue)),
@@ -94,14 +107,36 @@ fn assign(
     Ok(Flow::On)
 }
 
-/// One instruction that evaluates nothing and stands at no access.
+/// The own component becomes the value that stands ready.
+fn assign_ready(
+    alloc: Global,
+    frame: Frame<'_>,
+    own: &Text,
+    stand: &mut Stand,
+) -> Result<Flow, AllocError>
+    requires { IsSome (stand_view stand.old).value }
+    ensures walk { IfOk result (λ f. (a : Attempt) (e : Evaluation) → LeadsTo a (fixed_view frame.entry.fixed.now) (Set (OwnTarget own.now) e) (stand_view stand.old) f (stand_view stand.new)) }
+    ensures goes { IfOk result (λ f. GoesOn f) }
+{
+    let Some(value) = replace(&mut stand.value, None) else {
+        unreachable!()
+    };
+    stand.onward();
+    stand.assign(alloc, frame.fixed, own, &value)?;
+    Ok(Flow::On)
+}
+
+/// One instruction that evaluates nothing more and stands at no access.
 fn plain(
     alloc: Global,
     frame: Frame<'_>,
     instruction: &Instruction<'_>,
     stand: &mut Stand,
 ) -> Result<Flow, AllocError>
-    ensures { IfOk result (λ f. LeadsTo (attempt_view frame.entry.bound.now frame.entry.fixed.now) (fixed_view frame.entry.fixed.now) (step_of instruction.now) (stand_view stand.old) f (stand_view stand.new)) }
+    requires known { evaluation_in (step_of instruction.now) (stand_view stand.old).value ≡ None }
+    requires plain { is_plain (step_of instruction.now) ≡ true }
+    ensures walk { IfOk result (λ f. LeadsTo (attempt_view frame.entry.bound.now frame.entry.fixed.now) (fixed_view frame.entry.fixed.now) (step_of instruction.now) (stand_view stand.old) f (stand_view stand.new)) }
+    ensures goes { IfOk result (λ f. GoesOn f) }
 {
     match instruction {
         Instruction::Unbind => {
@@ -109,7 +144,8 @@ fn plain(
             stand.unbind();
             Ok(Flow::On)
         }
-        Instruction::Assign { target, name } => assign(alloc, frame, target, name, stand),
+        Instruction::Assign { target, name } => assign(alloc, frame, own_of(target), name, stand),
+        Instruction::Set { target, .. } => assign_ready(alloc, frame, own_of(target), stand),
         Instruction::Choose(arms) => chosen(arms, stand),
         Instruction::Jump(over) => {
             stand.onward();
@@ -117,19 +153,21 @@ fn plain(
         }
         Instruction::End(_) => Ok(ended(stand)),
         Instruction::Fail => Ok(Flow::Noted(NoteKind::NoValue)),
-        _ => Err(AllocError),
+        _ => unreachable!(),
     }
 }
 
-/// One instruction whose reads are done. Where it stands at an access there is no answer but want of memory.
+/// One instruction whose reads are done and that stands at no access.
 pub fn run(
     alloc: Global,
     frame: Frame<'_>,
     instruction: &Instruction<'_>,
     stand: &mut Stand,
 ) -> Result<Flow, AllocError>
-    requires { left_of (evaluation_in (step_of instruction.now) (stand_view stand.old).value) (stand_view stand.old) ≡ [] }
-    ensures { IfOk result (λ f. LeadsTo (attempt_view frame.entry.bound.now frame.entry.fixed.now) (fixed_view frame.entry.fixed.now) (step_of instruction.now) (stand_view stand.old) f (stand_view stand.new)) }
+    requires reads { left_of (evaluation_in (step_of instruction.now) (stand_view stand.old).value) (stand_view stand.old) ≡ [] }
+    requires plain { IsPlain (step_of instruction.now) (stand_view stand.old) }
+    ensures walk { IfOk result (λ f. LeadsTo (attempt_view frame.entry.bound.now frame.entry.fixed.now) (fixed_view frame.entry.fixed.now) (step_of instruction.now) (stand_view stand.old) f (stand_view stand.new)) }
+    ensures again { IfOk result (λ f. IsReadied f (stand_view stand.old).value (stand_view stand.new).value) }
 {
     match evaluation(instruction, &stand.value) {
         Some(e) => {

@@ -78,11 +78,9 @@ impl Stand {
         name: &Text,
         value: &Value,
     ) -> Result<(), AllocError>
+        requires { self.old.done < 18446744073709551615 }
         ensures { IfOk result (λ _. stand_view self.new ≡ looked (fixed_view fixed.now) name.now (data_of value.now) (stand_view self.old)) }
     {
-        if self.done == usize::MAX {
-            return Err(AllocError);
-        }
         self.done += 1;
         update(
             alloc,

@@ -272,16 +272,13 @@ fn first_in(
     let Some(section) = section_at(code, own) else {
         return nowhere(alloc, picks);
     };
-    let count = count_in(program, instance, section);
-    if count == usize::MAX {
-        return Err(AllocError);
-    }
+    let left = count_in(program, instance, section);
     let (fixed, stand) = both(Arc::try_clone(fixed), stand(alloc, code, own, picks))?;
     Ok(Place {
         instance,
         section,
         position: 0,
-        left: count + 1,
+        left,
         stopped: None,
         fixed,
         stand,

@@ -11,4 +11,4 @@ returns-in-Some c =
     let a = attempt_view c.args.frame.bound.now c.args.frame.fixed.now in let k = fixed_view c.args.frame.fixed.now in
     let i = step_of c.args.instruction.now in let s = stand_view c.args.stand.now in
     subst (λ x. StandsAt a k i s x) (sym c.access_to.ensures)
-    (read_stands a k i s c.in-Some.u.now.name c.in-Some.u.now.resource c.in-Some.ensures.0 c.in-Some.ensures.1)
+    (read_stands a k i s c.in-Some.u.now.name c.in-Some.u.now.resource c.in-Some.ensures.first.0 c.in-Some.ensures.first.1)

@@ -1,5 +1,6 @@
 -- What the content's answer says of the access.
 use Rattle.std.proofs.Common.{Option, ap, sym, ◌∙◌, subst, map, option_map, reverse}
+use Rattle.std.specs.Prelude.{IsSome}
 use Rattle.std.proofs.lemmas.Result.{IfOk-weaker}
 use Rattle.pgo_base.specs.BindingsView.{named_view}
 use Rattle.pgo_base.specs.Data.{Data}
@@ -11,9 +12,10 @@ use Rattle.pgo_resource.specs.Picked.{words_of, used_of}
 use Rattle.pgo_accesses.specs.Accesses.{choices}
 use Rattle.pgo_code.specs.Steps.{Read}
 use Rattle.pgo_code.specs.See.{content_view}
-use Rattle.pgo_places.specs.Flows.{part_index}
+use Rattle.pgo_places.specs.Flows.{part_index, resource_at}
 use Rattle.pgo_places.specs.PlaceView.{stand_view, fixed_view, attempt_view}
 use Rattle.pgo_places.proofs.Contents.{performs_read, read_answers, read_meant}
+use Rattle.pgo_places.proofs.Readiness.{first_there, second_there}
 use Rattle.pgo_places.proofs.perform.mapped_read.Goals as goal
 
 pub returns-clause-performs : goal.returns-clause-performs
@@ -21,16 +23,22 @@ returns-clause-performs g c =
     let a = attempt_view c.args.frame.bound.now c.args.frame.fixed.now in let k = fixed_view c.args.frame.fixed.now in
     let s = stand_view c.args.stand.now in let cv = content_view c.args.read.1.now in
     let p = c.args.stand.now.picks in let q = c.read-answer.new.picks in
-    let j : Option Data = option_map (λ r. data_of r.now) c.in-Some.j in
+    let j : Option Data = option_map (λ r. data_of r.now) c.index_there-j.result in
     let old = g.R.Resource.shows c.args.content.now in let new = g.R.Resource.shows c.read-answer.new.self in
     let m = c.args.read.1.now.mapped.mapping.now in let ds = c.args.frame.bound.now.defs in let id = data_of c.args.frame.fixed.now.id in
     IfOk-weaker c.read_end.result _ _
     (λ f h.
     let t = read_answers m ds id (part_index cv j) old new p q c.read-answer.result s.progress
     (subst (λ (at : Option Data). IsRead m ds id at old new p q c.read-answer.result) c.part.ensures (read_meant c.args.frame.definitions.now ds c.args.frame.same m id _ old new p q c.read-answer.result c.read-answer.ensures)) h.0 in
-    performs_read a k c.args.read.0.now cv c.args.read.2.now s (words_of q) (record s.progress { used = used_of q }) j c.in-Some-resource_number.r f
+    performs_read a k c.args.read.0.now cv c.args.read.2.now s (words_of q) (record s.progress { used = used_of q }) j c.args.resource f
     (stand_view c.read_end.new.stand) old.current new.current
-    (sym (c.in-Some.ensures ∙ ap (λ xs. index_value c.args.read.2.now (reverse (map named_view xs))) c.deref.ensures.value))
-    (sym c.in-Some-resource_number.ensures) t.2 t.0
+    (sym (c.index_there-j.ensures ∙ ap (λ xs. index_value c.args.read.2.now (reverse (map named_view xs))) c.deref.ensures.value))
+    (second_there (index_value c.args.read.2.now s.env) (λ j. resource_at a cv j) j c.args.resource c.requires
+    (c.index_there-j.ensures ∙ ap (λ xs. index_value c.args.read.2.now (reverse (map named_view xs))) c.deref.ensures.value)) t.2 t.0
     (λ n is. h.1 a k n (Read c.args.read.0.now cv c.args.read.2.now) is s.progress (read_of m ds id (part_index cv j) (words_of p) old.current (choices (used_of p))) t.1))
     c.read_end.ensures
+
+pub index_there-j-requires : goal.index_there-j-requires
+index_there-j-requires g c =
+    let a = attempt_view c.args.frame.bound.now c.args.frame.fixed.now in let s = stand_view c.args.stand.now in
+    subst (λ xs. IsSome (index_value c.args.read.2.now (reverse (map named_view xs)))) (sym c.deref.ensures.value) (first_there (index_value c.args.read.2.now s.env) (λ j. resource_at a (content_view c.args.read.1.now) j) c.args.resource c.requires)

@@ -1,7 +1,11 @@
--- What is left stays the same.
+-- What is left stays the same, and there are fewer turns.
 use Rattle.std.proofs.Common.{◌≡◌}
 use Rattle.pgo_places.specs.PlaceWalk.{walk_in}
+use Rattle.pgo_places.specs.Turns.{turns_at}
 use Rattle.pgo_places.proofs.place.next_event.Given as goal
 
-abbrev pub invariant-loop : goal.invariant-loop
-invariant-loop l = walk_in l.program l.place ≡ walk_in l.program l.initial.place
+abbrev pub invariant-loop-event : goal.invariant-loop-event
+invariant-loop-event l = walk_in l.program l.place ≡ walk_in l.program l.initial.place
+
+abbrev pub decreases-loop-event : goal.decreases-loop-event
+decreases-loop-event l = turns_at l.place

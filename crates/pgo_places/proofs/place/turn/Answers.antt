@@ -12,7 +12,7 @@ pub returns-in-Some-clause-tells : goal.returns-in-Some-clause-tells
 returns-in-Some-clause-tells c =
     let p = c.args.place.now in
     subst (λ (w : Walk). Tells w c.stopped_event.result) (sym (stopped_walk c.args.program.now p c.in-Some.stop c.in-Some.is))
-    (c.stopped_event.ensures (stand_view p.stand) (count_of c.args.program.now.bound.now))
+    (c.stopped_event.ensures.tells (stand_view p.stand) (count_of c.args.program.now.bound.now))
 
 pub returns-in_default-instructions-clause-same : goal.returns-in_default-instructions-clause-same
 returns-in_default-instructions-clause-same c =
@@ -56,3 +56,15 @@ turn_at-requires-clause-here c =
     subst (λ is. drop p.position (map step_of is) ≡ step_of c.index-list-place.result ∷ drop (suc p.position) (map step_of is)) list
     (instruction_here c.in-Some-instructions.list.now p.position c.index-list-place.result c.if-place-list.false
     ∙ ap (λ x. step_of x ∷ drop (suc p.position) (map step_of c.in-Some-instructions.list.now)) (sym c.index-list-place.is))
+
+pub returns-in-Some-clause-ready : goal.returns-in-Some-clause-ready
+returns-in-Some-clause-ready c = c.stopped_event.ensures.ready c.args.program.now c.args.place.now c.in-Some.is
+
+pub returns-in_default-instructions-clause-ready : goal.returns-in_default-instructions-clause-ready
+returns-in_default-instructions-clause-ready c = c.fail.ensures.ready c.args.program.now
+
+pub returns-then-place-eq0-clause-ready : goal.returns-then-place-eq0-clause-ready
+returns-then-place-eq0-clause-ready c = c.fail-then-place-eq0.ensures.ready c.args.program.now
+
+pub returns-then-place-list-clause-ready : goal.returns-then-place-list-clause-ready
+returns-then-place-list-clause-ready c = c.fail-then-place-list.ensures.ready c.args.program.now

@@ -1,9 +1,10 @@
 -- Where the access leads.
-use Rattle.std.proofs.Common.{◌≡◌, suc, ◌-◌, drop, subst, arith}
+use Rattle.std.proofs.Common.{◌≡◌, suc, ◌-◌, drop, sym, subst, arith}
 use Rattle.pgo_code.specs.See.{step_of}
 use Rattle.pgo_places.specs.PlaceView.{stand_view, fixed_view, attempt_view}
 use Rattle.pgo_places.specs.Performs.{Performs}
 use Rattle.pgo_places.specs.PlaceWalk.{steps_at}
+use Rattle.pgo_places.specs.Ready.{IsAccess}
 use Rattle.pgo_places.specs.declared.stand.Fixed as memory
 use Rattle.pgo_places.proofs.PlaceLaws.{access_leads}
 use Rattle.pgo_places.proofs.program.operate_at.Goals as goal
@@ -18,3 +19,8 @@ returns-clause-on g c =
     (subst (λ (x : memory.Fixed). Performs (attempt_view b x) (fixed_view x) (step_of c.args.instruction.now) (stand_view p.stand) c.in_ok-flow.flow (stand_view c.perform.new.stand)
     (g.R.Resource.shows c.args.content.now).current (g.R.Resource.shows c.perform.new.content).current) c.deref.ensures c.in_ok-flow.ensures.performs)
     (c.in_ok-moved.ensures.walk a k xs (p.left - 1) (drop (suc p.position) xs) c.requires.count one c.requires.here)
+
+pub perform-requires : goal.perform-requires
+perform-requires g c =
+    let b = c.args.program.now.bound.now in let p = c.args.place.now in
+    subst (λ (x : memory.Fixed). IsAccess (attempt_view b x) (fixed_view x) c.args.resource (step_of c.args.instruction.now) (stand_view p.stand)) (sym c.deref.ensures) c.requires.access

@@ -1,4 +1,4 @@
-use Rattle.std.proofs.Common.{◌≡◌, ◌+◌, map, ap, ◌∙◌}
+use Rattle.std.proofs.Common.{◌≡◌, map, ap, ◌∙◌}
 use Rattle.pgo_base.specs.View.{data_of}
 use Rattle.pgo_base.specs.Lookup.{find}
 use Rattle.pgo_code.specs.See.{step_of}
@@ -21,6 +21,6 @@ returns c =
     let f : fixed_view c.in_ok-fixed.fixed.value ≡ fixed_of code = ap fixed_view x ∙ c.requires.names in
     let t : stand_view c.in_ok-fixed.stand ≡ start_of code own (words_of c.args.picks) = rw c.in_ok-fixed.ensures.second at c.stand.ensures in
     ap (limited (count_of b)) (
-    (λ i. resume (attempt_with b (data_of (x i).id)) (f i) (c.count_in-count.result + 1) (map step_of (instructions_in codes c.args.instance c.in-Some.section)) (t i))
-    ∙ first_left (attempt_with b (data_of c.args.fixed.now.value.id)) (fixed_of code) (start_of code own (words_of c.args.picks)) codes c.args.instance c.in-Some.section c.count_in-count.result code (steps_named (find pc own) code) c.requires.code c.in-Some.ensures c.count_in-count.ensures
+    (λ i. resume (attempt_with b (data_of (x i).id)) (f i) c.count_in-left.result (map step_of (instructions_in codes c.args.instance c.in-Some.section)) (t i))
+    ∙ first_left (attempt_with b (data_of c.args.fixed.now.value.id)) (fixed_of code) (start_of code own (words_of c.args.picks)) codes c.args.instance c.in-Some.section c.count_in-left.result code (steps_named (find pc own) code) c.requires.code c.in-Some.ensures c.count_in-left.ensures
     )

@@ -1,7 +1,7 @@
 -- The place in its box.
-use Rattle.std.proofs.Common.{subst}
+use Rattle.std.proofs.Common.{sym, subst}
 use Rattle.std.specs.Prelude.{OnOk}
-use Rattle.pgo_resource.specs.Nexts.{LeadsOn}
+use Rattle.pgo_resource.specs.Nexts.{IsTouch, LeadsOn}
 use Rattle.pgo_places.specs.PlaceWalk.{walk_in}
 use Rattle.pgo_places.specs.declared.place.Place.{Place}
 use Rattle.pgo_places.proofs.program.RunnableSections.operate.Goals as goal
@@ -11,3 +11,8 @@ returns-clause-on g c =
     let p = c.args.self.now.program in
     subst (λ (q : Place). OnOk c.operated.result (LeadsOn (walk_in p q) (walk_in p c.operated.new.place) (g.R.Resource.shows c.args.content.now).current (g.R.Resource.shows c.operated.new.content).current))
     c.deref_mut.ensures.value c.operated.ensures.on
+
+pub operated-requires : goal.operated-requires
+operated-requires g c =
+    let p = c.args.self.now.program in
+    subst (λ (q : Place). IsTouch (walk_in p q)) (sym c.deref_mut.ensures.value) c.requires.touch
