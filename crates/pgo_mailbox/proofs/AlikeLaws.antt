@@ -141,7 +141,7 @@ plain_alike Aborts s t t' p p' q q' w Done (Stopped j) h k = absurd k
 plain_alike Aborts s t t' p p' q q' w Done (IsDown j) h k = absurd k
 
 -- ---- all calls
-all_alike : (cs : List Call) (s t t' : Shown) (p p' q q' : Picks) → SameWords p q → (as' bs : List Answer) → AllMade cs s t p p' as' → AllMade cs s t' q q' bs → (as' ≡ bs) × (t ≡ t') × SameWords p' q'
+pub all_alike : (cs : List Call) (s t t' : Shown) (p p' q q' : Picks) → SameWords p q → (as' bs : List Answer) → AllMade cs s t p p' as' → AllMade cs s t' q q' bs → (as' ≡ bs) × (t ≡ t') × SameWords p' q'
 all_alike [] s t t' p p' q q' w [] [] h k = (refl, h.0 ∙ sym k.0, same_words p p' q q' w h.1 k.1)
 all_alike [] s t t' p p' q q' w (a ∷ as') bs h k = absurd h
 all_alike [] s t t' p p' q q' w [] (b ∷ bs) h k = absurd k

@@ -1,8 +1,8 @@
 mod Sequences
 mod Bound
-mod Tested
+pub mod Tested
 mod Meant
 mod Boxes
 mod QueueLaws
 mod QueueViews
-mod AlikeLaws
+pub mod AlikeLaws

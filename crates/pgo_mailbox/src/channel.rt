@@ -42,7 +42,8 @@ impl BoxKind {
 ///
 /// Err only where there is no memory. Source: this project's choice.
 pub fn recognise(alloc: Global, m: &MappingMacro) -> Result<Option<BoxKind>, AllocError>
-    ensures { IfOk result (Recognised m.now) }
+    ensures is { IfOk result (Recognised m.now) }
+    ensures tested { IfOk result (λ o. option_map (λ k. k.capacity) o ≡ tests.channel_capacity m.now) }
 {
     match channel_capacity(m) {
         None => Ok(None),

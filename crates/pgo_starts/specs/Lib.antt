@@ -1,1 +1,4 @@
 pub mod Contents
+pub mod ContentView
+pub mod Mailboxes
+pub mod Alike

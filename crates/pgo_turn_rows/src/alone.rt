@@ -13,7 +13,6 @@ ghost use Rattle.pgo_workers.specs.Worlds.{layout_of};
 
 use crate::told::told;
 use pgo_base::results::both;
-use pgo_cells::cell::Cell;
 use pgo_definitions::sections::evaluated_for_sections;
 use pgo_lower::lower::lower;
 use pgo_places::place::Place;
@@ -23,6 +22,7 @@ use pgo_resource::layout::BoardLayout;
 use pgo_resource::plain_board::PlainBoard;
 use pgo_section::worker::Worker;
 use pgo_sheet::answers::push_word;
+use pgo_starts::content::Content;
 use pgo_starts::contents::contents;
 use pgo_starts::own::own_at_start;
 use pgo_syntax::bound::Bound;
@@ -46,7 +46,7 @@ fn sections<'a>(alloc: Global, bound: &'a Bound) -> Result<Runnable<'a>, AllocEr
 fn step(
     alloc: Global,
     sections: &Runnable<'_>,
-    board: &mut PlainBoard<Cell>,
+    board: &mut PlainBoard<Content>,
     worker: &mut Worker<Box<Place>>,
     word: &str,
 ) -> Result<String, AllocError>
@@ -70,7 +70,7 @@ fn step(
 fn steps(
     alloc: Global,
     sections: &Runnable<'_>,
-    board: &mut PlainBoard<Cell>,
+    board: &mut PlainBoard<Content>,
     worker: &mut Worker<Box<Place>>,
     words: &str,
 ) -> Result<String, AllocError>
@@ -92,7 +92,7 @@ fn board(
     bound: &Bound,
     instance: u32,
     settings: &Settings,
-) -> Result<PlainBoard<Cell>, AllocError>
+) -> Result<PlainBoard<Content>, AllocError>
     requires runs { Runs bound.now }
     requires instance { instance < length bound.now.instances }
     ensures layout { IfOk result (λ b. board_layout b ≡ layout_of (system_of bound.now)) }
