@@ -28,7 +28,7 @@ fn first_state(alloc: Global, start: &State) -> Result<State, AllocError>
 }
 
 /// The place of the first entry that is no step, from 0, where there is one.
-fn first_bad(
+pub fn first_bad(
     alloc: Global,
     m: &Assigned<'_>,
     ids: &[Value],

@@ -52,7 +52,7 @@ fn new_value(old: Value, index: &Option<Value>, value: Value) -> Result<Option<V
 }
 
 /// The state with one component changed, where the component is in it.
-fn changed(alloc: Global, state: State, change: &Change) -> Result<Option<State>, AllocError>
+pub fn changed(alloc: Global, state: State, change: &Change) -> Result<Option<State>, AllocError>
     ensures { IfOk result (λ o. o ≡ changed (change_view change.now) state) }
 {
     let mut state = state;
@@ -87,7 +87,7 @@ fn is_in(component: &Component, s: &State) -> bool
 }
 
 /// Whether each changed component is in a state.
-fn are_in(changes: &[Change], s: &State) -> bool
+pub fn are_in(changes: &[Change], s: &State) -> bool
     ensures { result ≡ are_in (map change_view changes.now) s.now }
 {
     for c in changes {
