@@ -1,5 +1,5 @@
 // The accounts of workers, in room that was taken before.
-ghost use Rattle.std.specs.Prelude.{◌≡◌, ◌≤◌, ◌<◌, ℕ, List, true, length, map, Some, vec_len, vec_capacity};
+ghost use Rattle.std.specs.Prelude.{◌≡◌, ◌≤◌, ◌<◌, ℕ, List, true, length, map, Some, vec_len, vec_capacity, IfOk};
 ghost use Rattle.pgo_model.specs.Machine.{nth};
 ghost use Rattle.pgo_syntax.specs.RecordView.{record_view, result_view};
 ghost use Rattle.pgo_core.specs.Cores.{all_roomy, attempts_from, IsAccountOf, AreAccountsOf};
@@ -8,6 +8,20 @@ use pgo_base::items::Items;
 use pgo_journal::finished::Account;
 use pgo_section::worker::Worker;
 use pgo_syntax::records::{AttemptResult, Record};
+use std::alloc::{AllocError, Global};
+
+/// So many empty lists, with room for the records of all attempts.
+pub fn rooms_of(alloc: Global, count: usize, attempts: u32) -> Result<Vec<Vec<Record>>, AllocError>
+    ensures as_many { IfOk result (λ rooms. vec_len rooms ≡ count) }
+    ensures roomy { IfOk result (λ rooms. all_roomy attempts rooms.items ≡ true) }
+{
+    let mut rooms = Vec::with_capacity(alloc, count)?;
+    for _ in 0..count {
+        let room = Vec::with_capacity(alloc, attempts as usize)?;
+        rooms.push_reserved(room);
+    }
+    Ok(rooms)
+}
 
 /// These results, numbered from 1.
 fn numbered(results: &[AttemptResult], mut room: Vec<Record>) -> Vec<Record>

@@ -79,8 +79,9 @@ fn note_room(attempts: u32, instances: usize) -> Result<u32, AllocError>
     }
 }
 
-/// A journal without entries and notes, with the room for all.
-fn empty_journal(
+/// A journal without entries and notes, with the room for all: the notes of so many attempts of each instance, or of one where there is
+/// none. Where those are more than 2^32 - 1, it answers want of memory.
+pub fn empty_journal(
     alloc: Global,
     bound: &Bound,
     steps: u32,

@@ -1,2 +1,5 @@
+pub mod AllRuns
+pub mod LeftAccounts
 pub mod Lists
 pub mod NewJobs
+pub mod Nobody

@@ -1,5 +1,8 @@
-// Jobs over one table: made from its seats, and ended into seats.
+// All instances of a bound specification, each in a thread of its own over one table.
 #![tactic(auto)]
 
-pub mod ending;
-pub mod opening;
+mod ending;
+mod finishing;
+mod opening;
+pub mod run_all;
+pub mod run_parked;

@@ -9,9 +9,10 @@ ghost use Rattle.pgo_syntax.specs.RecordView.{settings_view};
 ghost use Rattle.pgo_workers.specs.Worlds.{layout_of, own_in};
 ghost use Rattle.pgo_resource.specs.PlainRows.{FitsStart};
 ghost use Rattle.pgo_section.specs.Programs.{RunsSystem};
-ghost use Rattle.pgo_core.specs.Cores.{all_roomy, AreOpened, MayFail};
+ghost use Rattle.pgo_core.specs.Cores.{AreOpened, MayFail};
 
 use super::Core;
+use crate::accounts::rooms_of;
 use crate::exclusive_board::ExclusiveBoard;
 use crate::no_places::NoPlaces;
 use pgo_base::results::both;
@@ -20,7 +21,7 @@ use pgo_resource::resource::Resource;
 use pgo_resource::sections::Sections;
 use pgo_section::worker::Worker;
 use pgo_syntax::bound::Bound;
-use pgo_syntax::records::{Down, Record, Settings};
+use pgo_syntax::records::{Down, Settings};
 use std::alloc::{AllocError, Global};
 
 /// The same settings once more.
@@ -35,19 +36,6 @@ fn copied(alloc: Global, settings: &Settings) -> Result<Settings, AllocError>
         down: Down::from_vec(list),
         park: settings.park,
     })
-}
-
-/// So many empty lists, with room for the records of all attempts.
-fn rooms_of(alloc: Global, count: usize, attempts: u32) -> Result<Vec<Vec<Record>>, AllocError>
-    ensures as_many { IfOk result (λ rooms. vec_len rooms ≡ count) }
-    ensures roomy { IfOk result (λ rooms. all_roomy attempts rooms.items ≡ true) }
-{
-    let mut rooms = Vec::with_capacity(alloc, count)?;
-    for _ in 0..count {
-        let room = Vec::with_capacity(alloc, attempts as usize)?;
-        rooms.push_reserved(room);
-    }
-    Ok(rooms)
 }
 
 /// A worker for each of the own components, in order.

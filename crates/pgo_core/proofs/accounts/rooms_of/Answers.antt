@@ -1,7 +1,7 @@
 use Rattle.std.proofs.Common.{◌≡◌, true, sym, subst, arith}
 use Rattle.pgo_core.specs.Cores.{all_roomy}
 use Rattle.pgo_core.proofs.OpenedLists.{one_room}
-use Rattle.pgo_core.proofs.instances.opening.rooms_of.Goals as goal
+use Rattle.pgo_core.proofs.accounts.rooms_of.Goals as goal
 
 pub loop-preserved : goal.loop-preserved
 loop-preserved c = record {
