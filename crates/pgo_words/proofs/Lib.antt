@@ -11,4 +11,6 @@ pub mod OptionCuts
 pub mod OptionParts
 pub mod OptionReads
 pub mod OptionAsks
+pub mod ParkCuts
 pub mod ReadLaws
+pub mod ParkReads

@@ -39,7 +39,7 @@ digits_plain : (ds : List ℕ) → AllDigits 10 ds → is_plain ds ≡ true
 digits_plain [] h = refl
 digits_plain (d ∷ ds) h = plain_first d ds (λ e. let k = h.0 in let f = ap digit_value e in let g = dash_no_digit in omega (arith, k, f, g))
 
-decimal_plain : (n : ℕ) → n < 2 ^ 64 → is_plain (decimal n) ≡ true
+pub decimal_plain : (n : ℕ) → n < 2 ^ 64 → is_plain (decimal n) ≡ true
 decimal_plain n h = digits_plain (decimal n) (decimal_is_IsNumeral n h).0.1
 
 wide : (k : ℕ) → k < 2 ^ 32 → k < 2 ^ 64

@@ -17,14 +17,14 @@ name_dashed (a ∷ (b ∷ [])) e = absurd (true≢false (sym e))
 name_dashed (a ∷ (b ∷ (x ∷ xs))) e = ap not (and_parts (a == 45) _ e).0
 
 -- words that don't begin with `-` begin with no option
-no_name : (w : List ℕ) (ws : List (List ℕ)) → is_option_name w ≡ true → are_plain (w ∷ ws) ≡ true → ⊥
+pub no_name : (w : List ℕ) (ws : List (List ℕ)) → is_option_name w ≡ true → are_plain (w ∷ ws) ≡ true → ⊥
 no_name w ws n p = true≢false (sym (and_parts (is_plain w) _ p).0 ∙ name_dashed w n)
 
-abbrev first_or : List (List ℕ) → List ℕ
+abbrev pub first_or : List (List ℕ) → List ℕ
 first_or [] = []
 first_or (w ∷ ws) = w
 
-abbrev behind : List (List ℕ) → List (List ℕ)
+abbrev pub behind : List (List ℕ) → List (List ℕ)
 behind [] = []
 behind (w ∷ ws) = ws
 
@@ -48,7 +48,7 @@ pub record SoFar (words rest : List (List ℕ)) : Type 0 where
   pub words_are : words ≡ option_words front ++ rest
   pub formed : are_options front ≡ true
 
-words_more : (os : Pairs) (o : List ℕ × List ℕ) (later : List (List ℕ)) → option_words (os ++ o ∷ []) ++ later ≡ option_words os ++ (o.0 ∷ (o.1 ∷ later))
+pub words_more : (os : Pairs) (o : List ℕ × List ℕ) (later : List (List ℕ)) → option_words (os ++ o ∷ []) ++ later ≡ option_words os ++ (o.0 ∷ (o.1 ∷ later))
 words_more [] o later = refl
 words_more (d ∷ os) o later = ap (λ ws. d.0 ∷ (d.1 ∷ ws)) (words_more os o later)
 

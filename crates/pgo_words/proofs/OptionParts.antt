@@ -88,7 +88,7 @@ written (o ∷ os) e =
 
 -- ---- options as the words of a command have them
 
-among_passes : (p : List ℕ → Bool) (ns : List (List ℕ)) (n : List ℕ) → list_all p ns ≡ true → is_one_of n ns ≡ true → p n ≡ true
+pub among_passes : (p : List ℕ → Bool) (ns : List (List ℕ)) (n : List ℕ) → list_all p ns ≡ true → is_one_of n ns ≡ true → p n ≡ true
 among_passes p [] n all e = absurd (true≢false (sym e))
 among_passes p (m ∷ ns) n all e = go (same_bytes n m) refl e (among_passes p ns n (and_parts (p m) _ all).1)
   where

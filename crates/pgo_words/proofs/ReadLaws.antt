@@ -9,9 +9,9 @@ use Rattle.pgo_model.specs.ValueText.{same_bytes}
 use Rattle.pgo_words.specs.Asks.{Command, Compile, Expand, Step, Run, Check, Load, Request, HasParts, AsksStep, AsksRun, AsksBy, Asks}
 use Rattle.pgo_words.specs.Constants.{Constants}
 use Rattle.pgo_words.specs.Items.{SpelledOnly}
-use Rattle.pgo_words.specs.Options.{find_bytes}
+use Rattle.pgo_words.specs.Options.{find_bytes, MayPark}
 use Rattle.pgo_words.specs.Parts.{HasOptions, HasValues, Pairs, ReadsOptions, now_of, texts}
-use Rattle.pgo_words.specs.Reads.{ValuesGive, GivesBoth, BothOnly, BehindOnly, IsWordOf, RequestOnly, word_of, name_of}
+use Rattle.pgo_words.specs.Reads.{ValuesGive, GivesBoth, BothOnly, GivesRun, RunOnly, BehindOnly, IsWordOf, RequestOnly, word_of, name_of}
 use Rattle.pgo_words.specs.Settings.{NumberOr, SettingsOf, run_options, step_options}
 use Rattle.pgo_words.specs.Turns.{TurnList}
 use Rattle.pgo_words.specs.declared.commands.CommandName.{CommandName}
@@ -64,7 +64,7 @@ module _ (is_step : Bool) (behind : List (Bor (List ℕ))) (o : Options) (read :
   parts_are : (cs : List (Name × Data)) → Constants (texts o.rest.now) cs → HasParts (options_for is_step) (texts behind) read.0 cs
   parts_are cs k = record { rest = texts o.rest.now; words_are = read.1.words_are; options_are = read.1.options_are; consts_are = k }
 
-same_behind : (x : List ℕ) (a b : List (List ℕ)) → x ∷ a ≡ x ∷ b → b ≡ a
+pub same_behind : (x : List ℕ) (a b : List (List ℕ)) → x ∷ a ≡ x ∷ b → b ≡ a
 same_behind x a b e = cc
 
 -- a request of these parts
@@ -73,11 +73,25 @@ request c cs s = record { command = c; consts = cs; settings = s }
 
 -- ---- `run`
 
-run_has : (behind : List (List ℕ)) (cs : List (Name × Data)) (s : Settings) → (a : AsksRun (codes "run" ∷ behind) cs s)
-    → (rest : List (List ℕ)) × HasOptions false behind a.options rest × Constants rest cs
-run_has behind cs s a =
-    let p = subst (λ b. HasParts run_options b a.options cs) (same_behind (codes "run") behind a.behind a.words_are) a.parts in
-    (p.rest, asking.run_parts a.options s a.settings_are behind cs p, p.consts_are)
+pub run_has : (words : List (List ℕ)) (options : Pairs) (s : Settings) (cs : List (Name × Data)) → (g : GivesRun words options s cs) → HasOptions false words options g.parts.rest
+run_has words options s cs g = asking.run_parts options s g.settings_are words cs g.parts
+
+pub run_none_options : (words : List (Bor (List ℕ))) → ReadsOptions false words None → RunOnly (texts words) None
+run_none_options words o = λ options s cs g. o options g.parts.rest (run_has (texts words) options s cs g)
+
+module _ (words : List (Bor (List ℕ))) (o : Options) (read : ReadsOptions false words (Some o)) where
+  run_both : (options : Pairs) (s : Settings) (cs : List (Name × Data)) → GivesRun (texts words) options s cs → GivesBoth o s cs
+  run_both options s cs g = these_give false words o read options g.parts.rest cs s (run_has (texts words) options s cs g) g.settings_are g.parts.consts_are
+
+  pub run_none_both : BothOnly o None → RunOnly (texts words) None
+  run_none_both b = λ options s cs g. b s cs (run_both options s cs g)
+
+  pub run_some : (q : Settings × List (Name × Data)) → BothOnly o (Some q) → RunOnly (texts words) (Some (record { command = Run; consts = q.1; settings = q.0 }))
+  run_some q b = (
+    refl,
+    (read.0, record { parts = parts_are false words o read q.1 b.0.consts_are; settings_are = options_give read.0 o q.0 read.2 b.0.settings_are }),
+    λ options s cs g. b.1 s cs (run_both options s cs g),
+  )
 
 -- no run where this holds of none
 run_none : (behind : List (List ℕ)) → ((cs : List (Name × Data)) (s : Settings) → AsksRun (codes "run" ∷ behind) cs s → ⊥) → BehindOnly names.Run behind None
@@ -91,34 +105,36 @@ run_none behind f r n a = go r.command n a
     go Check n a = cc
     go (Load k) n a = cc
 
-pub run_none_options : (behind : List (Bor (List ℕ))) → ReadsOptions false behind None → BehindOnly names.Run (texts behind) None
-run_none_options behind o = run_none (texts behind) (λ cs s a. let h = run_has (texts behind) cs s a in o a.options h.0 h.1)
+-- what is read of the words that are left without `--park`
+module _ (behind others : List (List ℕ)) (stands : (options : Pairs) (rest : List (List ℕ)) → HasOptions false others options rest → MayPark options behind others)
+    (left : (cs : List (Name × Data)) (s : Settings) → (a : AsksRun (codes "run" ∷ behind) cs s) → a.others ≡ others) where
+  gives : (cs : List (Name × Data)) (s : Settings) → (a : AsksRun (codes "run" ∷ behind) cs s) → GivesRun others a.options s cs
+  gives cs s a = record { parts = subst (λ w. HasParts run_options w a.options cs) (left cs s a) a.parts; settings_are = a.settings_are }
 
-module _ (behind : List (Bor (List ℕ))) (o : Options) (read : ReadsOptions false behind (Some o)) where
-  run_both : (cs : List (Name × Data)) (s : Settings) → AsksRun (codes "run" ∷ texts behind) cs s → GivesBoth o s cs
-  run_both cs s a = let h = run_has (texts behind) cs s a in these_give false behind o read a.options h.0 cs s h.1 a.settings_are h.2
-
-  pub run_none_both : BothOnly o None → BehindOnly names.Run (texts behind) None
-  run_none_both b = run_none (texts behind) (λ cs s a. b s cs (run_both cs s a))
-
-  pub run_some : (q : Settings × List (Name × Data)) → BothOnly o (Some q) → BehindOnly names.Run (texts behind) (Some (record { command = Run; consts = q.1; settings = q.0 }))
-  run_some q b = (
-    record {
-      behind = texts behind;
-      options = read.0;
-      words_are = refl;
-      parts = parts_are false behind o read q.1 b.0.consts_are;
-      settings_are = options_give read.0 o q.0 read.2 b.0.settings_are;
-    },
-    λ r n a. go r.command r.consts r.settings n a,
-  )
+  pub run_by : (o : Option Request) → RunOnly others o → BehindOnly names.Run behind o
+  run_by None b = run_none behind (λ cs s a. b a.options s cs (gives cs s a))
+  run_by (Some q) b = (asks, λ r n a. go r.command r.consts r.settings n a)
     where
-      go : (c : Command) (cs : List (Name × Data)) (s : Settings) → name_of c ≡ names.Run → AsksBy c (codes "run" ∷ texts behind) cs s
-          → request c cs s ≡ request Run q.1 q.0
+      asks : Asks (codes "run" ∷ behind) q
+      asks =
+          let options = b.1.0 in
+          let g = b.1.1 in
+          subst (λ c. AsksBy c (codes "run" ∷ behind) q.consts q.settings) (sym b.0) (record {
+            behind = behind;
+            others = others;
+            options = options;
+            words_are = refl;
+            park = stands options g.parts.rest (run_has others options q.settings q.consts g);
+            parts = g.parts;
+            settings_are = g.settings_are;
+          })
+
+      go : (c : Command) (cs : List (Name × Data)) (s : Settings) → name_of c ≡ names.Run → AsksBy c (codes "run" ∷ behind) cs s
+          → request c cs s ≡ request q.command q.consts q.settings
       go Compile cs s n a = cc
       go Expand cs s n a = cc
       go (Step ts) cs s n a = cc
-      go Run cs s n a = let e = b.1 s cs (run_both cs s a) in λ i. record { command = Run; consts = e.1 i; settings = e.0 i }
+      go Run cs s n a = let e = b.2 a.options s cs (gives cs s a) in λ i. record { command = sym b.0 i; consts = e.1 i; settings = e.0 i }
       go Check cs s n a = cc
       go (Load k) cs s n a = cc
 
@@ -211,7 +227,7 @@ own_word names.Run = refl
 own_word names.Check = refl
 own_word names.Load = refl
 
-same_command : (k l : CommandName) → word_of k ≡ word_of l → k ≡ l
+pub same_command : (k l : CommandName) → word_of k ≡ word_of l → k ≡ l
 same_command k l e = some (sym (own_word k) ∙ ap command_by_word e ∙ own_word l)
   where
     some : Some k ≡ Some l → k ≡ l
@@ -226,7 +242,7 @@ word_first Run words cs s a = (a.behind, a.words_are)
 word_first Check words cs s a = ([], a.words_are)
 word_first (Load k) words cs s a = (decimal k ∷ [], a.alone.words_are)
 
-first_word_is : (words behind : List (List ℕ)) (word : List ℕ) (r : Request) → words ≡ word ∷ behind → Asks words r → word ≡ word_of (name_of r.command)
+pub first_word_is : (words behind : List (List ℕ)) (word : List ℕ) (r : Request) → words ≡ word ∷ behind → Asks words r → word ≡ word_of (name_of r.command)
 first_word_is words behind word r e a =
     let f = word_first r.command words r.consts r.settings a in heads word behind (word_of (name_of r.command)) f.0 (sym e ∙ f.1)
 

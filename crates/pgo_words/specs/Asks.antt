@@ -4,7 +4,7 @@ use Rattle.pgo_base.specs.Data.{Data}
 use Rattle.pgo_base.specs.Lookup.{Name}
 use Rattle.pgo_model.specs.Core.{Settings}
 use Rattle.pgo_words.specs.Constants.{Constants}
-use Rattle.pgo_words.specs.Options.{option_words, find_bytes, AreOptions}
+use Rattle.pgo_words.specs.Options.{option_words, find_bytes, AreOptions, MayPark}
 use Rattle.pgo_words.specs.Settings.{SettingsOf, run_options, step_options, default_settings}
 use Rattle.pgo_words.specs.Turns.{TurnList, most_turns}
 
@@ -50,12 +50,14 @@ pub record AsksStep (turns : List ℕ) (words : List (List ℕ)) (consts : List 
   pub spells : TurnList list turns
   pub few : length turns ≤ most_turns
 
--- `run`, its options, and constants
+-- `run`, its options, `--park` among them or not, and constants
 pub record AsksRun (words : List (List ℕ)) (consts : List (Name × Data)) (settings : Settings) : Type 0 where
   pub behind : List (List ℕ)
+  pub others : List (List ℕ)
   pub options : List (List ℕ × List ℕ)
   pub words_are : words ≡ codes "run" ∷ behind
-  pub parts : HasParts run_options behind options consts
+  pub park : MayPark options behind others
+  pub parts : HasParts run_options others options consts
   pub settings_are : SettingsOf options settings
 
 -- a command that has neither options nor constants, in these words

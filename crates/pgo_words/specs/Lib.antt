@@ -8,4 +8,5 @@ pub mod Cuts
 pub mod Items
 pub mod Commands
 pub mod Parts
+pub mod Park
 pub mod Reads

@@ -1,14 +1,15 @@
 -- That what is read is the one thing that the words ask for.
-use Rattle.std.specs.Prelude.{◌≡◌, ◌≤◌, ◌^◌, ℕ, List, [], ◌∷◌, Option, Some, None, codes, decimal}
+use Rattle.std.specs.Prelude.{◌≡◌, ◌≤◌, ◌^◌, ℕ, Bool, false, List, [], ◌∷◌, Option, Some, None, codes, decimal}
 use Rattle.pgo_base.specs.Data.{Data}
 use Rattle.pgo_base.specs.Lookup.{Name}
 use Rattle.pgo_model.specs.Core.{Settings}
 use Rattle.pgo_syntax.specs.RecordView.{settings_view}
 use Rattle.pgo_syntax.specs.declared.records.Settings as settings
-use Rattle.pgo_words.specs.Asks.{Command, Compile, Expand, Step, Run, Check, Load, Request, Asks, AsksOnly}
+use Rattle.pgo_model.specs.ValueText.{is_one_of}
+use Rattle.pgo_words.specs.Asks.{Command, Compile, Expand, Step, Run, Check, Load, Request, HasParts, Asks, AsksOnly}
 use Rattle.pgo_words.specs.Constants.{Constants}
-use Rattle.pgo_words.specs.Parts.{now_of, texts}
-use Rattle.pgo_words.specs.Settings.{NumberOr}
+use Rattle.pgo_words.specs.Parts.{Pairs, now_of, texts}
+use Rattle.pgo_words.specs.Settings.{NumberOr, SettingsOf, run_options}
 use Rattle.pgo_words.specs.declared.commands.CommandName.{CommandName}
 use Rattle.pgo_words.specs.declared.commands.CommandName.TheVariants as names
 use Rattle.pgo_words.specs.declared.options.Options.{Options}
@@ -50,6 +51,21 @@ BothOnly o None = (s : Settings) (cs : List (Name × Data)) → GivesBoth o s cs
 BothOnly o (Some p) =
     GivesBoth o p.0 p.1 × ((s : Settings) (cs : List (Name × Data)) → GivesBoth o s cs → (s ≡ p.0) × (cs ≡ p.1))
 
+-- options of `run` that have values, and constants, give these settings and constants
+pub record GivesRun (words : List (List ℕ)) (options : Pairs) (s : Settings) (consts : List (Name × Data)) : Type 0 where
+  pub parts : HasParts run_options words options consts
+  pub settings_are : SettingsOf options s
+
+abbrev pub GivesSomeRun : List (List ℕ) → Settings → List (Name × Data) → Type 0
+GivesSomeRun words s consts = (options : Pairs) × GivesRun words options s consts
+
+-- these, and no others
+abbrev pub RunOnly : List (List ℕ) → Option Request → Type 0
+RunOnly words None = (options : Pairs) (s : Settings) (cs : List (Name × Data)) → GivesRun words options s cs → ⊥
+RunOnly words (Some q) =
+    (q.command ≡ Run) × GivesSomeRun words q.settings q.consts
+    × ((options : Pairs) (s : Settings) (cs : List (Name × Data)) → GivesRun words options s cs → (s ≡ q.settings) × (cs ≡ q.consts))
+
 -- the word of each command
 abbrev pub word_of : CommandName → List ℕ
 word_of names.Compile = codes "compile"
@@ -63,6 +79,15 @@ word_of names.Load = codes "load"
 abbrev pub IsWordOf : List ℕ → Option CommandName → Type 0
 IsWordOf word None = (k : CommandName) → word ≡ word_of k → ⊥
 IsWordOf word (Some k) = word ≡ word_of k
+
+-- whether `--park` stands behind the command; `run` alone has it
+abbrev pub parks_at : CommandName → List (List ℕ) → Bool
+parks_at names.Compile behind = false
+parks_at names.Expand behind = false
+parks_at names.Step behind = false
+parks_at names.Run behind = is_one_of (codes "--park") behind
+parks_at names.Check behind = false
+parks_at names.Load behind = false
 
 abbrev pub name_of : Command → CommandName
 name_of Compile = names.Compile

@@ -3,7 +3,7 @@ use Rattle.std.specs.Prelude.{◌≡◌, ◌<◌, ◌^◌, ℕ, List, [], ◌∷
 use Rattle.pgo_model.specs.Core.{Settings}
 use Rattle.pgo_words.specs.Options.{find_bytes}
 
--- the names of the options of `run` and of `step`
+-- the names of the options of `run` and of `step` that have values
 abbrev pub run_options : List (List ℕ)
 run_options = codes "--seed" ∷ (codes "--attempts" ∷ (codes "--steps" ∷ []))
 

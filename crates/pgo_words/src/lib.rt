@@ -2,7 +2,7 @@
 //
 // - `request`: what they ask for.
 // - `read`: what words ask for, or that they ask for nothing that there is.
-// - `commands`, `options`, `settings`, `turns`, `constants`: the parts of the words.
+// - `commands`, `options`, `park`, `settings`, `turns`, `constants`: the parts of the words.
 // - `numbers`, `cuts`: the parts of one word.
 #![tactic(auto)]
 
@@ -12,6 +12,7 @@ mod cuts;
 pub mod errors;
 mod numbers;
 mod options;
+mod park;
 pub mod read;
 pub mod request;
 mod settings;

@@ -70,7 +70,7 @@ fn is_option_name(word: &str) -> bool
 }
 
 /// Whether the words begin with a name and a value.
-fn begins_option(words: &[&str]) -> bool
+pub fn begins_option(words: &[&str]) -> bool
     ensures { result ≡ parts.begins_option (texts words.now) }
 {
     match words {

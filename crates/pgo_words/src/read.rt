@@ -1,9 +1,10 @@
 // What words ask for.
-ghost use Rattle.std.specs.Prelude.{◌≡◌, IfOk, IfErr, IfSome, false, option_map};
+ghost use Rattle.std.specs.Prelude.{◌≡◌, IfOk, IfErr, IfSome, codes, false, option_map};
+ghost use Rattle.pgo_model.specs.ValueText.{is_one_of};
 ghost use Rattle.pgo_words.specs.Asks as asked;
 ghost use Rattle.pgo_words.specs.Asks.{Asks, IsAll};
 ghost use Rattle.pgo_words.specs.Parts.{texts};
-ghost use Rattle.pgo_words.specs.Reads.{BehindOnly, BothOnly, both_view, RequestOnly, SizeOnly};
+ghost use Rattle.pgo_words.specs.Reads.{BehindOnly, BothOnly, both_view, parks_at, RequestOnly, RunOnly, SizeOnly};
 ghost use Rattle.pgo_words.specs.Settings as spec;
 ghost use Rattle.pgo_words.specs.View.{command_view, request_view};
 ghost use Rattle.pgo_words.specs.declared.commands.CommandName.TheVariants as names;
@@ -13,6 +14,7 @@ use crate::constants::read_constants;
 use crate::errors::WordStop;
 use crate::numbers::number;
 use crate::options::{Options, read_options, texts_of};
+use crate::park::{park_place, without};
 use crate::request::{Command, Request};
 use crate::settings::{default_settings, read_settings};
 use crate::turns::read_list;
@@ -25,16 +27,17 @@ use std::alloc::{AllocError, Global};
 /// as the next word, at most once each and in any order, then its constants, `NAME=value` with an identifier of at most 512 bytes
 /// and the text of a value, each name once. `compile` and `expand` have constants, `step` and `run` options and constants; `check`
 /// has neither, and `load` a number from 1 to 32 alone. `step` and `run` have `--seed` (below 2^64, 0 where it isn't given),
-/// `--attempts` and `--steps` (at most 100,000 each, 10,000 where they aren't given); `step` has `--turns` besides, which must be
-/// given: one item or more, separated by commas, each `k` or `k*n`, n turns of k, where k is below 2^32 and n is at least 1, at
-/// most 1,000,000 turns in all. Numbers are decimal digits without sign or leading zeros.
+/// `--attempts` and `--steps` (at most 100,000 each, 10,000 where they aren't given); `run` has `--park` besides, which has no
+/// value, and `step` has `--turns`, which must be given: one item or more, separated by commas, each `k` or `k*n`, n turns of k,
+/// where k is below 2^32 and n is at least 1, at most 1,000,000 turns in all. Numbers are decimal digits without sign or leading
+/// zeros.
 ///
 /// `Usage` comes exactly where the words ask for nothing of these. Source: this project's choice.
 pub fn read_words(alloc: Global, words: &[Word]) -> Result<Request, WordStop>
     ensures asks { IfOk result (λ r. Asks words.now (request_view r)) }
     ensures only { IfOk result (λ r. IsAll words.now (request_view r)) }
     ensures usage { IfErr result (λ e. e ≡ WordStop.Usage → (other : asked.Request) → Asks words.now other → ⊥) }
-    ensures unparked { IfOk result (λ r. r.settings.park ≡ false) }
+    ensures parks { IfOk result (λ r. r.settings.park ≡ is_one_of (codes "--park") words.now) }
 {
     match read_request(alloc, words) {
         Ok(Some(request)) => Ok(request),
@@ -46,7 +49,7 @@ pub fn read_words(alloc: Global, words: &[Word]) -> Result<Request, WordStop>
 /// What the words ask for; none where they ask for nothing that there is.
 fn read_request(alloc: Global, words: &[Word]) -> Result<Option<Request>, AllocError>
     ensures reads { IfOk result (λ o. RequestOnly words.now (option_map request_view o)) }
-    ensures unparked { IfOk result (λ o. IfSome o (λ r. r.settings.park ≡ false)) }
+    ensures parks { IfOk result (λ o. IfSome o (λ r. r.settings.park ≡ is_one_of (codes "--park") words.now)) }
 {
     let texts = texts_of(alloc, words)?;
     match texts.as_slice() {
@@ -65,7 +68,7 @@ fn read_command(
     behind: &[&str],
 ) -> Result<Option<Request>, AllocError>
     ensures reads { IfOk result (λ o. BehindOnly name (texts behind.now) (option_map request_view o)) }
-    ensures unparked { IfOk result (λ o. IfSome o (λ r. r.settings.park ≡ false)) }
+    ensures parks { IfOk result (λ o. IfSome o (λ r. r.settings.park ≡ parks_at name (texts behind.now))) }
 {
     match name {
         CommandName::Compile => read_compile(alloc, behind),
@@ -80,7 +83,7 @@ fn read_command(
 /// `compile` and constants.
 fn read_compile(alloc: Global, behind: &[&str]) -> Result<Option<Request>, AllocError>
     ensures reads { IfOk result (λ o. BehindOnly names.Compile (texts behind.now) (option_map request_view o)) }
-    ensures unparked { IfOk result (λ o. IfSome o (λ r. r.settings.park ≡ false)) }
+    ensures parks { IfOk result (λ o. IfSome o (λ r. r.settings.park ≡ parks_at names.Compile (texts behind.now))) }
 {
     match read_constants(alloc, behind)? {
         Some(consts) => Ok(Some(without_options(alloc, Command::Compile, consts))),
@@ -91,7 +94,7 @@ fn read_compile(alloc: Global, behind: &[&str]) -> Result<Option<Request>, Alloc
 /// `expand` and constants.
 fn read_expand(alloc: Global, behind: &[&str]) -> Result<Option<Request>, AllocError>
     ensures reads { IfOk result (λ o. BehindOnly names.Expand (texts behind.now) (option_map request_view o)) }
-    ensures unparked { IfOk result (λ o. IfSome o (λ r. r.settings.park ≡ false)) }
+    ensures parks { IfOk result (λ o. IfSome o (λ r. r.settings.park ≡ parks_at names.Expand (texts behind.now))) }
 {
     match read_constants(alloc, behind)? {
         Some(consts) => Ok(Some(without_options(alloc, Command::Expand, consts))),
@@ -102,7 +105,7 @@ fn read_expand(alloc: Global, behind: &[&str]) -> Result<Option<Request>, AllocE
 /// `step`, its options and constants.
 fn read_step(alloc: Global, behind: &[&str]) -> Result<Option<Request>, AllocError>
     ensures reads { IfOk result (λ o. BehindOnly names.Step (texts behind.now) (option_map request_view o)) }
-    ensures unparked { IfOk result (λ o. IfSome o (λ r. r.settings.park ≡ false)) }
+    ensures parks { IfOk result (λ o. IfSome o (λ r. r.settings.park ≡ parks_at names.Step (texts behind.now))) }
 {
     let Some(options) = read_options(alloc, true, behind)? else {
         return Ok(None);
@@ -113,7 +116,7 @@ fn read_step(alloc: Global, behind: &[&str]) -> Result<Option<Request>, AllocErr
     let Some(turns) = read_list(alloc, list)? else {
         return Ok(None);
     };
-    match read_both(alloc, &options)? {
+    match read_both(alloc, &options, false)? {
         Some((settings, consts)) => Ok(Some(Request {
             command: Command::Step { turns },
             consts,
@@ -123,15 +126,33 @@ fn read_step(alloc: Global, behind: &[&str]) -> Result<Option<Request>, AllocErr
     }
 }
 
-/// `run`, its options and constants.
+/// `run`, its options, `--park` among them or not, and constants.
 fn read_run(alloc: Global, behind: &[&str]) -> Result<Option<Request>, AllocError>
     ensures reads { IfOk result (λ o. BehindOnly names.Run (texts behind.now) (option_map request_view o)) }
-    ensures unparked { IfOk result (λ o. IfSome o (λ r. r.settings.park ≡ false)) }
+    ensures parks { IfOk result (λ o. IfSome o (λ r. r.settings.park ≡ parks_at names.Run (texts behind.now))) }
 {
-    let Some(options) = read_options(alloc, false, behind)? else {
+    match park_place(behind) {
+        Some(at) => {
+            let others = without(alloc, behind, at)?;
+            read_run_options(alloc, others.as_slice(), true)
+        }
+        None => read_run_options(alloc, behind, false),
+    }
+}
+
+/// `run` with the options that have values and with constants, where blocked instances wait or not.
+fn read_run_options(
+    alloc: Global,
+    words: &[&str],
+    park: bool,
+) -> Result<Option<Request>, AllocError>
+    ensures reads { IfOk result (λ o. RunOnly (texts words.now) (option_map request_view o)) }
+    ensures parks { IfOk result (λ o. IfSome o (λ r. r.settings.park ≡ park)) }
+{
+    let Some(options) = read_options(alloc, false, words)? else {
         return Ok(None);
     };
-    match read_both(alloc, &options)? {
+    match read_both(alloc, &options, park)? {
         Some((settings, consts)) => Ok(Some(Request {
             command: Command::Run,
             consts,
@@ -142,11 +163,15 @@ fn read_run(alloc: Global, behind: &[&str]) -> Result<Option<Request>, AllocErro
 }
 
 /// The settings that the options give, and the constants behind them.
-fn read_both(alloc: Global, options: &Options) -> Result<Option<(Settings, Consts)>, AllocError>
+fn read_both(
+    alloc: Global,
+    options: &Options,
+    park: bool,
+) -> Result<Option<(Settings, Consts)>, AllocError>
     ensures reads { IfOk result (λ o. BothOnly options.now (option_map both_view o)) }
-    ensures unparked { IfOk result (λ o. IfSome o (λ p. p.0.park ≡ false)) }
+    ensures parks { IfOk result (λ o. IfSome o (λ p. p.0.park ≡ park)) }
 {
-    let Some(settings) = read_settings(alloc, options) else {
+    let Some(settings) = read_settings(alloc, options, park) else {
         return Ok(None);
     };
     match read_constants(alloc, options.rest)? {
@@ -158,7 +183,7 @@ fn read_both(alloc: Global, options: &Options) -> Result<Option<(Settings, Const
 /// `check` alone.
 fn read_check(alloc: Global, behind: &[&str]) -> Option<Request>
     ensures reads { BehindOnly names.Check (texts behind.now) (option_map request_view result) }
-    ensures unparked { IfSome result (λ r. r.settings.park ≡ false) }
+    ensures parks { IfSome result (λ r. r.settings.park ≡ parks_at names.Check (texts behind.now)) }
 {
     if behind.is_empty() {
         Some(without_options(alloc, Command::Check, Consts::new(alloc)))
@@ -170,7 +195,7 @@ fn read_check(alloc: Global, behind: &[&str]) -> Option<Request>
 /// `load` and a size.
 fn read_load(alloc: Global, behind: &[&str]) -> Option<Request>
     ensures reads { BehindOnly names.Load (texts behind.now) (option_map request_view result) }
-    ensures unparked { IfSome result (λ r. r.settings.park ≡ false) }
+    ensures parks { IfSome result (λ r. r.settings.park ≡ parks_at names.Load (texts behind.now)) }
 {
     if behind.len() != 1 {
         return None;

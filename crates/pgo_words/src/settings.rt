@@ -29,10 +29,10 @@ pub fn default_settings(alloc: Global) -> Settings
     }
 }
 
-/// The settings that the options give; none where a value is no number, or one too large.
-pub fn read_settings(alloc: Global, options: &Options) -> Option<Settings>
+/// The settings that the options give, where blocked instances wait or not; none where a value is no number, or one too large.
+pub fn read_settings(alloc: Global, options: &Options, park: bool) -> Option<Settings>
     ensures only { SettingsOnly options.now (option_map settings_view result) }
-    ensures unparked { IfSome result (λ s. s.park ≡ false) }
+    ensures parks { IfSome result (λ s. s.park ≡ park) }
 {
     let seed = seed_of(options.seed)?;
     let attempts = count_of(options.attempts)?;
@@ -42,7 +42,7 @@ pub fn read_settings(alloc: Global, options: &Options) -> Option<Settings>
         attempts,
         steps,
         down: Down::new(alloc),
-        park: false,
+        park,
     })
 }
 
