@@ -1,5 +1,11 @@
 pub mod Asked
+pub mod Crossing_pgo_base
+pub mod Crossing_pgo_code
+pub mod Crossing_pgo_places
+pub mod Crossing_pgo_rewrite
+pub mod Crossing_pgo_syntax
 pub mod Left
+pub mod LeftOnThreads
 pub mod Opened
 pub mod RanGiven
 pub mod ReadRuns

@@ -1,5 +1,5 @@
 -- What is said of a run, from what its parts give.
-use Rattle.std.proofs.Common.{◌≡◌, inl, inr, ℕ, Bool, true, false, List, length, refl, ◌∙◌}
+use Rattle.std.proofs.Common.{◌≡◌, inl, inr, ℕ, Bool, true, false, List, [], length, refl, ap, ◌∙◌}
 use Rattle.std.specs.Prelude.{if◌then◌else◌}
 use Rattle.pgo_base.specs.Data.{Data}
 use Rattle.pgo_base.specs.Lookup.{Name}
@@ -14,7 +14,10 @@ use Rattle.pgo_model.specs.System.{System}
 use Rattle.pgo_syntax.specs.declared.bound.Bound.{Bound}
 use Rattle.pgo_syntax.specs.declared.spec.Spec.{Spec}
 use Rattle.pgo_translate.specs.ModuleOf.{constants_with, module_of}
-use Rattle.pgo_execute.specs.Gives.{IsRunStatus}
+use Rattle.pgo_core.specs.Rounds.{AreRounds}
+use Rattle.pgo_execute.specs.Gives.{IsRunStatus, TurnsOf}
+use Rattle.pgo_execute.specs.Ran.{LeftBy, finished, system}
+use Rattle.pgo_execute.specs.Schedules.{Schedule, Turns, Rounds, Threads, ends_all, on_threads}
 
 -- the bytes are the bundle of the specification's own module, constants and system
 pub bundle_of : (s : Spec) (consts : List (Name × Data)) (b : Bound) (m : Module) (cs : List (Name × Data)) (settings : Settings) (turns : List ℕ) (status : ℕ) (written : List ℕ)
@@ -38,3 +41,16 @@ one_of_four y settings f =
     go false true c = inr (inr (inr refl))
     go false false true = inl refl
     go false false false = inr (inr (inl refl))
+
+-- a schedule that turns belong to is on one thread
+pub on_one : (schedule : Schedule) (turns : List ℕ) → TurnsOf schedule turns → on_threads schedule ≡ false
+on_one (Turns ts) turns h = refl
+on_one Rounds turns h = refl
+on_one Threads turns h = absurd h
+
+-- what the machine leaves after its turns is what a run under it left
+pub left_by : (s : Spec) (consts : List (Name × Data)) (schedule : Schedule) (settings : Settings) (turns : List ℕ) → TurnsOf schedule turns → (ends_all schedule ≡ true → AreRounds (system s consts) settings [] turns)
+    → LeftBy s consts schedule settings (finished s consts settings turns)
+left_by s consts (Turns ts) settings turns h rounds = ap (finished s consts settings) h
+left_by s consts Rounds settings turns h rounds = (turns, refl, rounds refl)
+left_by s consts Threads settings turns h rounds = absurd h

@@ -8,22 +8,25 @@ use Rattle.pgo_journal.specs.declared.finished.Finished.{Finished}
 use Rattle.pgo_log_write.specs.IsFinished.{IsFinished}
 use Rattle.pgo_model.specs.Accounts.{Contended}
 use Rattle.pgo_model.specs.Core.{Core, Settings, rules_of}
+use Rattle.pgo_model.specs.Log.{Effect}
+use Rattle.pgo_model.specs.Machine as machine
 use Rattle.pgo_model.specs.Machine.{finished_of}
 use Rattle.pgo_model.specs.System.{System}
 use Rattle.pgo_syntax.specs.declared.spec.Spec.{Spec}
-use Rattle.pgo_execute.specs.Ran.{Stepped}
-use Rattle.pgo_execute.specs.Schedules.{Schedule, Turns, Rounds, ends_all}
+use Rattle.pgo_execute.specs.Ran.{LeftBy, RanBy}
+use Rattle.pgo_execute.specs.Schedules.{Schedule, Turns, Rounds, Threads, ends_all, on_threads}
 
--- under a list of turns, these turns; of rounds any: `Stepped` says which
+-- under a list of turns, these turns; of rounds any: `LeftBy` says which
 abbrev pub TurnsOf : Schedule → List ℕ → Type 0
 TurnsOf (Turns ts) turns = turns ≡ ts
 TurnsOf Rounds turns = Unit {0}
+TurnsOf Threads turns = ⊥
 
 -- 0, 20, 21 or 23
 abbrev pub IsRunStatus : ℕ → Type 0
 IsRunStatus n = (n ≡ 0) ⊎ ((n ≡ 20) ⊎ ((n ≡ 21) ⊎ (n ≡ 23)))
 
--- what a run of a system under the schedule leaves in memory
+-- what a run of a system on one thread, under the schedule, leaves in memory
 pub record Leaves (y : System) (settings : Settings) (schedule : Schedule) (f : Finished) : Type 0 where
   pub turns : List ℕ
   pub turns_of : TurnsOf schedule turns
@@ -34,7 +37,7 @@ pub record Leaves (y : System) (settings : Settings) (schedule : Schedule) (f : 
 
 -- the bytes, and the status, of a run of the specification under the schedule
 pub record Gives (s : Spec) (consts : List (Name × Data)) (settings : Settings) (schedule : Schedule) (status : ℕ) (written : List ℕ) : Type 0 where
-  pub turns : List ℕ
-  pub turns_of : TurnsOf schedule turns
-  pub stepped : Stepped s consts (ends_all schedule) settings turns status written
+  pub left : machine.Finished Effect
+  pub by : LeftBy s consts schedule settings left
+  pub ran : RanBy s consts (on_threads schedule) (ends_all schedule) settings left status written
   pub either : IsRunStatus status

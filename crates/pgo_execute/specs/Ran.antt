@@ -25,6 +25,7 @@ use Rattle.pgo_translate.specs.ModuleOf.{constants_with, module_of}
 use Rattle.pgo_written.specs.Alone.{SpellsAlone}
 use Rattle.pgo_log_text.specs.ReadBundle.{IsReadBundle, IsOnlyBundle}
 use Rattle.pgo_log_text.specs.LogOf.{log_of}
+use Rattle.pgo_execute.specs.Schedules.{Schedule, Turns, Rounds, Threads}
 
 module _ (s : Spec) (consts : List (Name × Data)) where
   -- the system of what the specification is bound to
@@ -45,8 +46,8 @@ module _ (s : Spec) (consts : List (Name × Data)) where
       (p : ℕ) (t u : Vars) → StateAt (bound_of s consts).start entries p ≡ Some t → StateAt (bound_of s consts).start entries (suc p) ≡ Some u
       → IsNext (module_of s) (constants_with s consts) t u
 
-  -- these bytes, with this status, are what a run of the specification gives that left f. `threads`: instances ran at the same time, so
-  -- the journal may have been held. `all`: the run went on until each instance had ended
+  -- these bytes, with this status, are what a run of the specification gives that left f. `threads`: a record may
+  -- say that another instance held the journal; whether instances ran at the same time isn't said. `all`: the run went on until each instance had ended
   pub record RanBy (threads all : Bool) (settings : Settings) (f : Finished Effect) (status : ℕ) (written : List ℕ) : Type 0 where
     -- what it is bound to is sound, and starts as is declared
     pub sound : Sound (bound_of s consts)
@@ -67,8 +68,8 @@ module _ (s : Spec) (consts : List (Name × Data)) where
     -- and that log is a run of the module as well
     pub read_run : IsRun (module_of s) (constants_with s consts) (ids_of system) (bound_of s consts).start (log_of system f.entries).entries
     -- the records number each instance's attempts, and each is one entry, one note true at its place, or one refusal: by
-    -- another instance that is bound to the resource, by a pre-commit that is set to fail, or by a full journal; on threads by another
-    -- instance that held the journal, too
+    -- another instance that is bound to the resource, by a pre-commit that is set to fail, or by a full journal; on threads at
+    -- the journal, too
     pub accounts : (k : ℕ) → Accounts (rules_of system settings) (Reaches system) threads f k
     -- over all instances no failing pre-commit is answered twice, and a full journal has as many entries as the refusal says; and
     -- where the run went on until each instance had ended, each refusal has its cause among the recorded attempts
@@ -79,14 +80,9 @@ module _ (s : Spec) (consts : List (Name × Data)) where
     pub status_is : status ≡ status_of system settings f
     pub fine : (status ≡ 0) ↔ AllDone (at (rules_of system settings) f (length f.entries))
 
-  -- of a run on one thread: what it left is what the core machine leaves after these turns, stopped; and where it went on until each
-  -- instance had ended, its turns are those of rounds
-  pub record Stepped (all : Bool) (settings : Settings) (turns : List ℕ) (status : ℕ) (written : List ℕ) : Type 0 where
-    pub ran : RanBy false all settings (finished settings turns) status written
-    pub rounds : all ≡ true → AreRounds system settings [] turns
-
-  -- of a run on threads, left by some run in which each instance has ended: each refusal has its cause. Nothing here says in which order
-  -- the turns came, or on how many threads
-  pub record RanOnThreads (settings : Settings) (status : ℕ) (written : List ℕ) : Type 0 where
-    pub left : Finished Effect
-    pub ran : RanBy true true settings left status written
+  -- what a run under a schedule left: on one thread what the core machine leaves after the turns of the list, or after those of rounds,
+  -- stopped. On threads nothing is said here: in which order the turns came, or on how many threads
+  abbrev pub LeftBy : Schedule → Settings → Finished Effect → Type 0
+  LeftBy (Turns turns) settings f = f ≡ finished settings turns
+  LeftBy Rounds settings f = (turns : List ℕ) × (f ≡ finished settings turns) × AreRounds system settings [] turns
+  LeftBy Threads settings f = Unit {0}

@@ -6,3 +6,4 @@ mod constants;
 pub mod execute;
 mod run;
 pub mod schedule;
+mod threads;

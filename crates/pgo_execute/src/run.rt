@@ -28,7 +28,6 @@ use pgo_accounts::{
 use pgo_agrees::{modules_agree, premises_hold, texts_are_accepted};
 use pgo_base::consts::Consts;
 use pgo_base::results::both;
-use pgo_cells::cell::Cell;
 use pgo_core::instances::Core;
 use pgo_definitions::sections::evaluated_for_sections;
 use pgo_journal::finished::Finished;
@@ -42,6 +41,7 @@ use pgo_programs::programs_run;
 use pgo_resource::resource::Resource;
 use pgo_resource::sections::Sections;
 use pgo_run_values::spellable_values_are_read_back;
+use pgo_starts::content::Content;
 use pgo_starts::contents::contents;
 use pgo_starts::own::all_own_at_start;
 use pgo_syntax::bound::Bound;
@@ -69,7 +69,7 @@ fn run_schedule<S: Sections + Drop, R: Resource>(
 }
 
 /// The sections of what a specification is bound to, to be run.
-fn sections<'a>(alloc: Global, bound: &'a Bound) -> Result<Runnable<'a>, AllocError>
+pub fn sections<'a>(alloc: Global, bound: &'a Bound) -> Result<Runnable<'a>, AllocError>
     requires { AreUnlabelled bound.now.spec.macros }
     ensures bound { IfOk result (λ s. s.program.bound ≡ bound.entry) }
     ensures codes { IfOk result (λ s. AreLowered bound.entry.now bound.entry.now.instances s.program.codes.items) }
@@ -85,7 +85,7 @@ fn opened<'a>(
     alloc: Global,
     bound: &'a Bound,
     settings: &Settings,
-) -> Result<Core<Runnable<'a>, Cell>, AllocError>
+) -> Result<Core<Runnable<'a>, Content>, AllocError>
     requires macros { AreUnlabelled bound.now.spec.macros }
     requires names { AreDifferent (variables_of bound.now.spec) }
     requires sound { Sound bound.now }
@@ -128,7 +128,7 @@ fn count_is_short(count: u32)
 {}
 
 /// The counts of settings are below 2^32.
-fn counts_are_short(settings: &Settings)
+pub fn counts_are_short(settings: &Settings)
     ensures steps { (settings_view settings.now).steps < 4294967296 }
     ensures attempts { (settings_view settings.now).attempts < 4294967296 }
 {

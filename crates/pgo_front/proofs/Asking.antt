@@ -3,7 +3,7 @@ use Rattle.std.proofs.Common.{◌≡◌, inl, inr, ℕ, List, [], refl, ap, sym,
 use Rattle.pgo_base.specs.Data.{Data}
 use Rattle.pgo_base.specs.Lookup.{Name}
 use Rattle.pgo_model.specs.Core.{Settings}
-use Rattle.pgo_execute.specs.Schedules.{Schedule, Turns, Rounds}
+use Rattle.pgo_execute.specs.Schedules.{Schedule, Turns, Rounds, Threads}
 use Rattle.pgo_words.specs.Asks.{Command, Compile, Expand, Step, Run, Check, Load, Request, AsksBy, AsksOnly}
 use Rattle.pgo_words.specs.Reads.{name_of}
 use Rattle.pgo_words.specs.Settings.{default_settings}
@@ -12,8 +12,25 @@ use Rattle.pgo_words.specs.declared.commands.CommandName.TheVariants as names
 use Rattle.pgo_words.proofs.ReadLaws.{one_command}
 use Rattle.pgo_front.specs.declared.target.Target.{Target}
 use Rattle.pgo_front.specs.declared.target.Target.TheVariants as targets
-use Rattle.pgo_front.specs.Asked.{AsksCheck, ExecutesOnly, LoadsOnly, TranslatesOnly, command_to, command_under}
+use Rattle.pgo_front.specs.Asked.{AsksCheck, AsksExecution, ExecutesOnly, LoadsOnly, TranslatesOnly, command_to}
 use Rattle.pgo_front.specs.Answers.{AsksNothing, AsksOfInput, AsksSomeExecution, AsksSomeLoad, AsksSomeTranslation, ReadsNothing}
+
+-- ---- the command of a run
+
+-- that asks for a schedule; no words ask for rounds
+abbrev pub command_under : Schedule → Command
+command_under (Turns ts) = Step ts
+command_under Rounds = Run
+command_under Threads = Run
+
+asked_by : (words : List (List ℕ)) (schedule : Schedule) (settings : Settings) (consts : List (Name × Data)) → AsksExecution words schedule settings consts
+    → AsksBy (command_under schedule) words consts settings
+asked_by words (Turns ts) settings consts a = a
+asked_by words Rounds settings consts a = absurd a
+asked_by words Threads settings consts a = a
+
+run_asked : (words : List (List ℕ)) (a : AsksSomeExecution words) → AsksBy (command_under a.0) words a.2 a.1
+run_asked words a = asked_by words a.0 a.1 a.2 a.3
 
 -- ---- one command alone
 
@@ -26,6 +43,7 @@ same_name words k l consts others settings set a b =
 no_execution : (n : CommandName) → (names.Step ≡ n → ⊥) → (names.Run ≡ n → ⊥) → (schedule : Schedule) → name_of (command_under schedule) ≡ n → ⊥
 no_execution n a b (Turns ts) e = a e
 no_execution n a b Rounds e = b e
+no_execution n a b Threads e = b e
 
 no_translation : (n : CommandName) → (names.Expand ≡ n → ⊥) → (names.Compile ≡ n → ⊥) → (target : Target) → name_of (command_to target) ≡ n → ⊥
 no_translation n a b targets.Expansion e = a e
@@ -33,11 +51,11 @@ no_translation n a b targets.Module e = b e
 
 pub execution_no_check : (words : List (List ℕ)) → AsksSomeExecution words → AsksCheck words → ⊥
 execution_no_check words a check =
-    no_execution names.Check (λ e. cc) (λ e. cc) a.0 (same_name words (command_under a.0) Check a.2 [] a.1 default_settings a.3 check)
+    no_execution names.Check (λ e. cc) (λ e. cc) a.0 (same_name words (command_under a.0) Check a.2 [] a.1 default_settings (run_asked words a) check)
 
 pub execution_no_load : (words : List (List ℕ)) → AsksSomeExecution words → AsksSomeLoad words → ⊥
 execution_no_load words a load =
-    no_execution names.Load (λ e. cc) (λ e. cc) a.0 (same_name words (command_under a.0) (Load load.0) a.2 [] a.1 default_settings a.3 load.1)
+    no_execution names.Load (λ e. cc) (λ e. cc) a.0 (same_name words (command_under a.0) (Load load.0) a.2 [] a.1 default_settings (run_asked words a) load.1)
 
 pub translation_no_check : (words : List (List ℕ)) → AsksSomeTranslation words → AsksCheck words → ⊥
 translation_no_check words a check =
@@ -51,7 +69,7 @@ pub translation_no_execution : (words : List (List ℕ)) → AsksSomeTranslation
 translation_no_execution words a e =
     no_execution (name_of (command_to a.0)) (λ n. no_translation names.Step (λ m. cc) (λ m. cc) a.0 (sym n))
     (λ n. no_translation names.Run (λ m. cc) (λ m. cc) a.0 (sym n)) e.0
-    (same_name words (command_under e.0) (command_to a.0) e.2 a.1 e.1 default_settings e.3 a.2)
+    (same_name words (command_under e.0) (command_to a.0) e.2 a.1 e.1 default_settings (run_asked words e) a.2)
 
 pub check_no_load : (words : List (List ℕ)) → AsksCheck words → AsksSomeLoad words → ⊥
 check_no_load words check load =
@@ -66,7 +84,7 @@ input_no_load words (inr (inr a)) load = translation_no_load words a load
 -- ---- words that ask for something don't ask for nothing
 
 pub execution_something : (words : List (List ℕ)) → AsksSomeExecution words → AsksNothing words → ⊥
-execution_something words a nothing = nothing (record { command = command_under a.0; consts = a.2; settings = a.1 }) a.3
+execution_something words a nothing = nothing (record { command = command_under a.0; consts = a.2; settings = a.1 }) (run_asked words a)
 
 pub check_something : (words : List (List ℕ)) → AsksCheck words → AsksNothing words → ⊥
 check_something words a nothing = nothing (record { command = Check; consts = []; settings = default_settings }) a
@@ -93,16 +111,18 @@ abbrev pub record_of : Command → List (Name × Data) → Settings → Request
 record_of k cs s = record { command = k; consts = cs; settings = s }
 
 abbrev schedule_of : Command → Schedule
-schedule_of Compile = Rounds
-schedule_of Expand = Rounds
+schedule_of Compile = Threads
+schedule_of Expand = Threads
 schedule_of (Step ts) = Turns ts
-schedule_of Run = Rounds
-schedule_of Check = Rounds
-schedule_of (Load n) = Rounds
+schedule_of Run = Threads
+schedule_of Check = Threads
+schedule_of (Load n) = Threads
 
-schedule_back : (schedule : Schedule) → schedule_of (command_under schedule) ≡ schedule
-schedule_back (Turns ts) = refl
-schedule_back Rounds = refl
+schedule_back : (words : List (List ℕ)) (schedule : Schedule) (settings : Settings) (consts : List (Name × Data)) → AsksExecution words schedule settings consts
+    → schedule_of (command_under schedule) ≡ schedule
+schedule_back words (Turns ts) settings consts a = refl
+schedule_back words Rounds settings consts a = absurd a
+schedule_back words Threads settings consts a = refl
 
 abbrev target_of : Command → Target
 target_of Compile = targets.Module
@@ -129,12 +149,21 @@ default_to words targets.Expansion consts settings a = a.settings_are
 default_to words targets.Module consts settings a = a.settings_are
 
 module _ (words : List (List ℕ)) (consts : List (Name × Data)) (settings : Settings) where
-  pub execution_only : (schedule : Schedule) → AsksOnly words (record_of (command_under schedule) consts settings) → ExecutesOnly words schedule settings consts
-  execution_only schedule h = (h.0, λ other set others a. others_are other set others (h.1 (record { command = command_under other; consts = others; settings = set }) a))
+  pub execution_only : (schedule : Schedule) → AsksExecution words schedule settings consts → AsksOnly words (record_of (command_under schedule) consts settings)
+      → ExecutesOnly words schedule settings consts
+  execution_only schedule a h = (
+    a,
+    λ other set others b.
+        others_are other set others b (h.1 (record { command = command_under other; consts = others; settings = set }) (asked_by words other set others b)),
+  )
     where
-      others_are : (other : Schedule) (set : Settings) (others : List (Name × Data))
+      others_are : (other : Schedule) (set : Settings) (others : List (Name × Data)) → AsksExecution words other set others
           → record_of (command_under other) others set ≡ record_of (command_under schedule) consts settings → (other ≡ schedule) × (set ≡ settings) × (others ≡ consts)
-      others_are other set others e = (sym (schedule_back other) ∙ ap (λ r. schedule_of r.command) e ∙ schedule_back schedule, ap (λ r. r.settings) e, ap (λ r. r.consts) e)
+      others_are other set others b e = (
+        sym (schedule_back words other set others b) ∙ ap (λ r. schedule_of r.command) e ∙ schedule_back words schedule settings consts a,
+        ap (λ r. r.settings) e,
+        ap (λ r. r.consts) e,
+      )
 
   pub translation_only : (target : Target) → AsksOnly words (record_of (command_to target) consts settings) → TranslatesOnly words target consts
   translation_only target h = (

@@ -7,7 +7,7 @@ use Rattle.pgo_model.specs.State.{AllValues}
 use Rattle.pgo_model.specs.Value.{IsValue, AreValues, ArePairs}
 use Rattle.pgo_log_text.specs.IsBundle.{IsCanonicalValue, AreCanonical}
 use Rattle.pgo_value_text.specs.IsValueText.{IsValueText}
-use Rattle.pgo_execute.specs.Schedules.{Schedule, Turns, Rounds}
+use Rattle.pgo_execute.specs.Schedules.{Schedule, Turns, Rounds, Threads}
 use Rattle.pgo_model.specs.Core.{Settings}
 use Rattle.pgo_accept.proofs.TextValues.{OfPair, OfTexts, text_value}
 use Rattle.pgo_words.specs.Constants.{AreConstants}
@@ -54,10 +54,12 @@ translation_constants words targets.Module consts a = constants_are_values a.res
 pub run_constants : ((text : List ℕ) (v : Data) → IsValueText text v → IsCanonicalValue v) → (words : List (List ℕ)) (schedule : Schedule) (settings : Settings)
     (consts : List (Name × Data)) → AsksExecution words schedule settings consts → AreCanonical consts
 run_constants read words (Turns ts) settings consts a = constants_are_canonical read a.parts.rest consts a.parts.consts_are.each
-run_constants read words Rounds settings consts a = constants_are_canonical read a.parts.rest consts a.parts.consts_are.each
+run_constants read words Rounds settings consts a = absurd a
+run_constants read words Threads settings consts a = constants_are_canonical read a.parts.rest consts a.parts.consts_are.each
 
 -- and its settings set no pre-commit to fail
 pub run_no_failures : (words : List (List ℕ)) (schedule : Schedule) (settings : Settings) (consts : List (Name × Data)) → AsksExecution words schedule settings consts
     → settings.down ≡ []
 run_no_failures words (Turns ts) settings consts a = a.settings_are.none_down
-run_no_failures words Rounds settings consts a = a.settings_are.none_down
+run_no_failures words Rounds settings consts a = absurd a
+run_no_failures words Threads settings consts a = a.settings_are.none_down

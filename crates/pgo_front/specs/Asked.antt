@@ -3,20 +3,18 @@ use Rattle.std.specs.Prelude.{◌≡◌, ℕ, List, []}
 use Rattle.pgo_base.specs.Data.{Data}
 use Rattle.pgo_base.specs.Lookup.{Name}
 use Rattle.pgo_model.specs.Core.{Settings}
-use Rattle.pgo_execute.specs.Schedules.{Schedule, Turns, Rounds}
+use Rattle.pgo_execute.specs.Schedules.{Schedule, Turns, Rounds, Threads}
 use Rattle.pgo_words.specs.Asks.{Command, Compile, Expand, Step, Run, Check, Load, AsksBy}
 use Rattle.pgo_words.specs.Settings.{default_settings}
 use Rattle.pgo_front.specs.declared.target.Target.{Target}
 use Rattle.pgo_front.specs.declared.target.Target.TheVariants as targets
 
--- the command that runs under a schedule
-abbrev pub command_under : Schedule → Command
-command_under (Turns turns) = Step turns
-command_under Rounds = Run
-
--- the words ask for a run under this schedule, with these settings and values of constants
+-- the words ask for a run under this schedule, with these settings and values of constants: `step` asks for one under a list of turns,
+-- `run` for one on threads, and no words for rounds
 abbrev pub AsksExecution : List (List ℕ) → Schedule → Settings → List (Name × Data) → Type 0
-AsksExecution words schedule settings consts = AsksBy (command_under schedule) words consts settings
+AsksExecution words (Turns turns) settings consts = AsksBy (Step turns) words consts settings
+AsksExecution words Rounds settings consts = ⊥
+AsksExecution words Threads settings consts = AsksBy Run words consts settings
 
 -- the words ask for the check of a bundle
 abbrev pub AsksCheck : List (List ℕ) → Type 0

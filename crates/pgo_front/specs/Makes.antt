@@ -14,10 +14,12 @@ use Rattle.pgo_front.specs.declared.output.Written.{Written}
 use Rattle.pgo_front.specs.declared.output.Written.TheVariants as written
 use Rattle.pgo_front.specs.declared.status.Status.{Status}
 use Rattle.pgo_front.specs.declared.status.Status.TheVariants as status
+use Rattle.pgo_front.specs.declared.mode.Mode.{Mode}
+use Rattle.pgo_front.specs.declared.mode.Mode.TheVariants as modes
 use Rattle.pgo_front.specs.declared.task.Task.{Task}
 use Rattle.pgo_front.specs.declared.task.Task.TheVariants.{Execute, Check, Translate, Load}
 use Rattle.pgo_front.specs.declared.target.Target.{Target}
-use Rattle.pgo_execute.specs.Schedules.{Schedule, schedule_view}
+use Rattle.pgo_execute.specs.Schedules.{Schedule, Threads, schedule_view}
 use Rattle.pgo_load.specs.Load.{Loads}
 use Rattle.pgo_model.specs.Core.{Settings}
 use Rattle.pgo_syntax.specs.RecordView.{settings_view}
@@ -37,9 +39,14 @@ use Rattle.pgo_accept.specs.Refusals.{RefusedWith, rejection_line}
 use Rattle.pgo_accept.specs.declared.errors.Rejection.{Rejection}
 use Rattle.pgo_front.specs.Answers.{Asked, AsksSomeExecution, AsksSomeTranslation, Checked}
 
+-- the schedule of a run
+abbrev pub mode_view : Mode → Schedule
+mode_view (modes.OneThread schedule) = schedule_view schedule
+mode_view modes.Threads = Threads
+
 -- the words ask for this task and for nothing else
 abbrev pub AsksFor : List (List ℕ) → Task → Type 0
-AsksFor words (Execute schedule consts settings) = ExecutesOnly words (schedule_view schedule) (settings_view settings) consts
+AsksFor words (Execute mode consts settings) = ExecutesOnly words (mode_view mode) (settings_view settings) consts
 AsksFor words Check = AsksCheck words
 AsksFor words (Translate target consts) = TranslatesOnly words target consts
 AsksFor words (Load size) = LoadsOnly words size

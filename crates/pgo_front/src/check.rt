@@ -15,12 +15,17 @@ use pgo_lines::line::Piece::{Bytes, Number};
 use pgo_log_text::errors::LogStop;
 use pgo_verdicts::judge::judge;
 use std::alloc::{AllocError, Global};
+use std::thread::Threads;
 
 /// The most bytes of a bundle.
 const MOST_BUNDLE_BYTES: u64 = 268_435_456;
 
 /// Makes the line of the verdict on the bundle that the input is.
-pub fn make_check<S: Source>(alloc: Global, input: &mut S) -> Result<Output, Ended>
+pub fn make_check<T: Threads + Sync, S: Source>(
+    rt: &T,
+    alloc: Global,
+    input: &mut S,
+) -> Result<Output, Ended>
     ensures ok { IfOk result (λ m. IfSome (S.left input.old) (λ text. (length text ≤ most_bundle_bytes) × MakesJudged text m)) }
     ensures either { IfOk result IsVerdictStatus }
     ensures err { IfErr result (λ e. StopsCheck (S.left input.old) (S.faults input.old) (S.faults input.new) e.status) }
@@ -31,19 +36,19 @@ pub fn make_check<S: Source>(alloc: Global, input: &mut S) -> Result<Output, End
     ensures ended_refused { IfErr result (λ e. ReadsAll e.status → IsAtEnd (S.left input.old) (S.left input.new)) }
 {
     match read_input(alloc, input, MOST_BUNDLE_BYTES) {
-        Ok(text) => check_text(alloc, text.as_slice()),
+        Ok(text) => check_text(rt, alloc, text.as_slice()),
         Err(status) => Err(Ended::as_status(status)),
     }
 }
 
 /// Makes the line of the verdict on the bundle that the text is.
-fn check_text(alloc: Global, text: &[u8]) -> Result<Output, Ended>
+fn check_text<T: Threads + Sync>(rt: &T, alloc: Global, text: &[u8]) -> Result<Output, Ended>
     ensures ok { IfOk result (MakesJudged text.now) }
     ensures either { IfOk result IsVerdictStatus }
     ensures err { IfErr result (λ e. StopsJudging text.now e.status) }
     ensures line { IfErr result (λ e. HasBundleLine (Some text.now) e.status e.line) }
 {
-    match judge(alloc, text) {
+    match judge(rt, alloc, text) {
         Ok(judgement) => make_verdict(alloc, judgement.verdict),
         Err(LogStop::BadLog { line }) => Err(Ended::as_no_bundle(alloc, line)),
         Err(LogStop::NoMemory) => Err(Ended::as_status(Status::NoMemory)),

@@ -23,15 +23,20 @@ use pgo_io::sink::Sink;
 use pgo_io::source::Source;
 use pgo_io::write_all::write_all;
 use pgo_lines::line::Lines;
+use pgo_threads::gate::Gate;
 use pgo_words::errors::WordStop;
 use pgo_written_runs::read_values_are_canonical;
 use std::alloc::Global;
+use std::sync::Wait;
+use std::thread::Threads;
 
 /// Runs the command that the words ask for:
 ///
 /// - `step`, its options with `--turns LIST` among them, and constants, `NAME=value` each; or `run`, its options, and constants. A
-///   specification is the input, and the bundle of its run the output: under these turns, or in rounds until all instances have
-///   ended, with the settings that the options `--seed`, `--attempts` and `--steps` give.
+///   specification is the input, and the bundle of its run the output, with the settings that the options `--seed`, `--attempts`
+///   and `--steps` give. `step` runs it on one thread under these turns. `run` runs each instance in a thread of its own until it has
+///   ended, where the system gives one, so an output of more than one instance hangs on the schedule. The gate is called before each
+///   turn of an instance of such a run, and once more when it has ended.
 /// - `check`: a bundle is the input, and the verdict on its log the output, one line, `run steps` or `bad at why`.
 /// - `expand` or `compile`, and constants: a specification is the input, and its translation the output: the text of its expansion,
 ///   or that of its module.
@@ -43,17 +48,19 @@ use std::alloc::Global;
 /// change no status.
 /// The specification of a load may be refused as one of the input may: with `SpecRefused` and its line. The statuses are those of
 /// `Status`. This project's choice.
-pub fn pgo<S: Source, O: Sink, E: Sink>(
+pub fn pgo<T: Threads + Wait + Sync, S: Source, O: Sink, E: Sink, G: Gate + Sync>(
+    rt: &T,
     alloc: Global,
     words: &[Word],
     input: &mut S,
     out: &mut O,
     err: &mut E,
+    gate: &G,
 ) -> Status
     ensures { Headline words.now (around S.left S.faults input.old input.new) (around O.held O.faults out.old out.new)
         (around E.held E.faults err.old err.new) result }
 {
-    let made = make(alloc, words, input);
+    let made = make(rt, alloc, words, input, gate);
     let ended = write_end(made, out);
     say(err, &ended);
     ended.status
@@ -158,7 +165,13 @@ fn write_text<O: Sink>(out: &mut O, text: &[u8]) -> Result<(), Failed>
 }
 
 /// Makes the output that the words ask for, from all of the input, or from a load's number.
-fn make<S: Source>(alloc: Global, words: &[Word], input: &mut S) -> Result<Output, Ended>
+fn make<T: Threads + Wait + Sync, S: Source, G: Gate + Sync>(
+    rt: &T,
+    alloc: Global,
+    words: &[Word],
+    input: &mut S,
+    gate: &G,
+) -> Result<Output, Ended>
     ensures ok { IfOk result (MakesAsked words.now (S.left input.old)) }
     ensures err { IfErr result (λ e. Stops words.now (S.left input.old) (S.faults input.old) (S.faults input.new) e.status) }
     ensures line { IfErr result (λ e. HasOwnLine (S.left input.old) (RefusesSpec words.now (S.left input.old)) e.status e.line) }
@@ -170,13 +183,13 @@ fn make<S: Source>(alloc: Global, words: &[Word], input: &mut S) -> Result<Outpu
     ensures ended_refused { ¬ AsksSomeLoad words.now → IfErr result (λ e. ReadsAll e.status → IsAtEnd (S.left input.old) (S.left input.new)) }
 {
     match read_task(alloc, words) {
-        Ok(Task::Execute(schedule, consts, settings)) => {
+        Ok(Task::Execute(mode, consts, settings)) => {
             read_values_are_canonical();
-            make_execution(alloc, &schedule, &consts, &settings, input)
+            make_execution(rt, alloc, &mode, &consts, &settings, input, gate)
         }
-        Ok(Task::Check) => make_check(alloc, input),
+        Ok(Task::Check) => make_check(rt, alloc, input),
         Ok(Task::Translate(target, consts)) => make_translation(alloc, target, &consts, input),
-        Ok(Task::Load(size)) => make_load(alloc, size),
+        Ok(Task::Load(size)) => make_load(rt, alloc, size),
         Err(WordStop::Usage) => Err(Ended::as_status(Status::Usage)),
         Err(WordStop::NoMemory) => Err(Ended::as_status(Status::NoMemory)),
     }

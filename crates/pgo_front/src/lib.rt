@@ -7,6 +7,7 @@ mod ended;
 mod execution;
 mod input;
 mod load;
+mod mode;
 mod output;
 mod status;
 mod target;

@@ -13,15 +13,16 @@ use pgo_lines::line::Lines;
 use pgo_lines::line::Piece::{Bytes, Number};
 use pgo_load::load::{Loaded, load};
 use std::alloc::{AllocError, Global};
+use std::thread::Threads;
 
 /// Makes the line of the load of this size.
-pub fn make_load(alloc: Global, size: u32) -> Result<Output, Ended>
+pub fn make_load<T: Threads + Sync>(rt: &T, alloc: Global, size: u32) -> Result<Output, Ended>
     ensures ok { IfOk result (MakesLoad size) }
     ensures fine { IfOk result (λ m. m.status ≡ Status.Fine) }
     ensures err { IfErr result (λ e. StopsSpec (load_text size) (load_consts size) e.status) }
     ensures line { IfErr result (λ e. HasLine (RefusedWith (load_text size) (load_consts size)) e.status e.line) }
 {
-    match load(alloc, size) {
+    match load(rt, alloc, size) {
         Ok(loaded) => loaded_made(alloc, size, loaded),
         Err(rejection) => Err(Ended::as_rejected(alloc, &rejection)),
     }

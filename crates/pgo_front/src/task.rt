@@ -5,6 +5,7 @@ ghost use Rattle.pgo_front.specs.Answers.{AsksNothing};
 ghost use Rattle.pgo_words.specs.Asks.{AsksOnly};
 ghost use Rattle.pgo_front.specs.Makes.{AsksFor};
 
+use crate::mode::Mode;
 use crate::target::Target;
 use pgo_base::consts::Consts;
 use pgo_base::word::Word;
@@ -18,8 +19,8 @@ use std::alloc::Global;
 /// What a command has to do.
 #[derive(Drop)]
 pub enum Task {
-    /// A run under this schedule, with these values of constants and these settings.
-    Execute(Schedule, Consts, Settings),
+    /// A run of this kind, with these values of constants and these settings.
+    Execute(Mode, Consts, Settings),
     /// The check of a bundle.
     Check,
     /// This translation of a specification, with these values of constants.
@@ -50,11 +51,11 @@ fn task_of(request: Request) -> Task
     } = request;
     match command {
         Command::Step { turns } => Task::Execute(
-            Schedule::Turns(turns.into_vec()),
+            Mode::OneThread(Schedule::Turns(turns.into_vec())),
             consts,
             settings,
         ),
-        Command::Run => Task::Execute(Schedule::Rounds, consts, settings),
+        Command::Run => Task::Execute(Mode::Threads, consts, settings),
         Command::Check => Task::Check,
         Command::Expand => Task::Translate(Target::Expansion, consts),
         Command::Compile => Task::Translate(Target::Module, consts),

@@ -17,6 +17,7 @@ use pgo_value_text::laws::canonical_text_is_value_text;
 use pgo_verdicts::judge::{Judgement, judge};
 use pgo_verdicts::runs_are_accepted;
 use std::alloc::Global;
+use std::thread::Threads;
 
 /// How many instances the run of a load has, and how many entries.
 #[derive(Clone, Copy)]
@@ -64,13 +65,13 @@ fn load_of(judgement: Judgement) -> Loaded
 /// times, and as many that send it back, over mailboxes of length 1.
 ///
 /// The error is the refusal of that specification, or that there was no memory. Source: this project's choice.
-pub fn load(alloc: Global, size: u32) -> Result<Loaded, Rejection>
+pub fn load<T: Threads + Sync>(rt: &T, alloc: Global, size: u32) -> Result<Loaded, Rejection>
     ensures ok { IfOk result (λ r. Loads size r.instances r.steps) }
     ensures refused { IfErr result (λ e. GivesExpansion (load_text size) (load_consts size) (Err e)) }
 {
     runs_are_accepted();
     let executed = run_load(alloc, size)?;
-    match judge(alloc, executed.text.as_bytes()) {
+    match judge(rt, alloc, executed.text.as_bytes()) {
         Ok(judgement) => Ok(load_of(judgement)),
         Err(LogStop::BadLog { .. }) => unreachable!(),
         Err(LogStop::NoMemory) => Err(Rejection::NoMemory),

@@ -16,17 +16,21 @@ use pgo_io::sink::Sink;
 use pgo_io::source::Source;
 use pgo_io::standard::{StdSink, StdSource};
 use pgo_io::write_all::write_all;
+use pgo_threads::gate::OpenGate;
 use std::alloc::{AllocError, Global};
 use std::env::{self, Args};
 use std::io;
 use std::io::{BufWriter, ErrorKind};
 use std::process::ExitCode;
+use std::sync::Wait;
+use std::thread::Threads;
 
 fn main(rt: HostRuntime) -> ExitCode {
     let alloc = rt.alloc();
     let mut err = StdSink::new(rt.stderr());
     match BufWriter::new(alloc, rt.stdout()) {
         Ok(out) => run(
+            &rt,
             alloc,
             env::args(&rt),
             &mut StdSource::new(rt.stdin()),
@@ -37,8 +41,9 @@ fn main(rt: HostRuntime) -> ExitCode {
     }
 }
 
-/// Runs the command that the arguments ask for, and answers the code that the process ends with.
-fn run<S: Source, O: Sink, E: Sink>(
+/// Runs the command that the arguments ask for, and answers the code that the process ends with. No turn of an instance is held up.
+fn run<T: Threads + Wait + Sync, S: Source, O: Sink, E: Sink>(
+    rt: &T,
     alloc: Global,
     arguments: io::Result<Args>,
     input: &mut S,
@@ -50,7 +55,7 @@ fn run<S: Source, O: Sink, E: Sink>(
     ensures no_memory { LacksMemory arguments → exit_status result ≡ number_of Status.NoMemory }
 {
     match words(alloc, arguments) {
-        Ok(words) => exit_code(pgo(alloc, words.as_slice(), input, out, err)),
+        Ok(words) => exit_code(pgo(rt, alloc, words.as_slice(), input, out, err, &OpenGate)),
         Err(_) => exit_code(no_memory(err)),
     }
 }

@@ -9,8 +9,11 @@ use pgo_io::errors::NoMemory;
 use pgo_io::standard::StdSink;
 use pgo_io::sure_sink::SureSink;
 use pgo_io::sure_source::SureSource;
+use pgo_threads::gate::OpenGate;
 use std::alloc::{AllocError, Global};
 use std::io::BufWriter;
+use std::sync::Wait;
+use std::thread::Threads;
 
 /// The room of an output.
 const ROOM: usize = 65_536;
@@ -25,7 +28,8 @@ pub struct Answer {
 
 impl Answer {
     /// What the command of these words answers on this text.
-    pub fn of(
+    pub fn of<T: Threads + Wait + Sync>(
+        rt: &T,
         alloc: Global,
         words: &[Word],
         limits: &Limits,
@@ -38,7 +42,15 @@ impl Answer {
         };
         let mut out = sink(alloc, limits.writes, limits)?;
         let mut err = sink(alloc, limits.error_writes, limits)?;
-        let status = run(alloc, words, limits.buffer, &mut input, &mut out, &mut err);
+        let status = run(
+            rt,
+            alloc,
+            words,
+            limits.buffer,
+            &mut input,
+            &mut out,
+            &mut err,
+        );
         Answer::made(alloc, status, &input, &out, &err)
     }
 
@@ -67,7 +79,8 @@ impl Answer {
 }
 
 /// Runs the command of these words, with a buffer of so many bytes before the output where there is one.
-fn run(
+fn run<T: Threads + Wait + Sync>(
+    rt: &T,
     alloc: Global,
     words: &[Word],
     buffer: Option<u64>,
@@ -76,11 +89,14 @@ fn run(
     err: &mut CountedSink,
 ) -> Status {
     match buffer {
-        None => pgo(alloc, words, input, out, err),
+        None => pgo(rt, alloc, words, input, out, err, &OpenGate),
         Some(capacity) => {
             let writer = SinkWriter { sink: out };
             match BufWriter::with_capacity(alloc, capacity as usize, writer) {
-                Ok(writer) => pgo(alloc, words, input, &mut StdSink::new(writer), err),
+                Ok(writer) => {
+                    let mut buffered = StdSink::new(writer);
+                    pgo(rt, alloc, words, input, &mut buffered, err, &OpenGate)
+                }
                 Err(_) => Status::NoMemory,
             }
         }

@@ -9,7 +9,10 @@ mod counted_source;
 mod limits;
 mod rows;
 
+use crate::answer::Answer;
+use crate::limits::Limits;
 use crate::rows::Rows;
+use pgo_base::word::Word;
 use pgo_sheet::files::run_sheet;
 use std::{env, io};
 
@@ -18,7 +21,14 @@ fn main(rt: HostRuntime) -> io::Result<()> {
     let _name = files.next();
     let (mut rows, mut wrong) = (0u64, 0u64);
     for file in files {
-        let counts = run_sheet(&rt, file.as_str(), Rows::new(rt.alloc()))?;
+        let (alloc, runtime) = (rt.alloc(), rt.clone()?);
+        let run = Box::new(
+            alloc,
+            move |words: &[Word], limits: &Limits, text: Vec<u8>| {
+                Answer::of(&runtime, alloc, words, limits, text)
+            },
+        )?;
+        let counts = run_sheet(&rt, file.as_str(), Rows::new(alloc, run))?;
         rows = rows.saturating_add(counts.rows);
         wrong = wrong.saturating_add(counts.wrong);
     }

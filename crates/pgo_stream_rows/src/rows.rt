@@ -11,6 +11,8 @@ use std::alloc::{AllocError, Global};
 #[derive(Drop)]
 pub struct Rows {
     alloc: Global,
+    /// what runs a command on a text
+    run: Box<dyn Fn(&[Word], &Limits, Vec<u8>) -> Result<Answer, AllocError>>,
     text: Template,
     words: Vec<Word>,
     limits: Limits,
@@ -18,13 +20,20 @@ pub struct Rows {
     blanks: usize,
     /// the output that is wanted; where it is empty nothing is said of it
     lines: String,
+    ghost always: { IsAlwaysCallable run },
 }
 
 impl Rows {
-    /// No text, and no row.
-    pub fn new(alloc: Global) -> Rows {
+    /// No text, and no row, whose commands are run by this.
+    pub fn new(
+        alloc: Global,
+        run: Box<dyn Fn(&[Word], &Limits, Vec<u8>) -> Result<Answer, AllocError>>,
+    ) -> Rows
+        requires { IsAlwaysCallable run }
+    {
         Rows {
             alloc,
+            run,
             text: Template::new(alloc),
             words: Vec::new(alloc),
             limits: Limits::none(),
@@ -61,7 +70,7 @@ impl Rows {
             return Ok(Some(input));
         }
         let text = input.into_bytes();
-        let answer = Answer::of(self.alloc, self.words.as_slice(), &self.limits, text)?;
+        let answer = (self.run)(self.words.as_slice(), &self.limits, text)?;
         if answer.said.as_str() != wanted {
             return Ok(Some(answer.said));
         }

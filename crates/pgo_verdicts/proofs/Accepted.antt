@@ -16,7 +16,7 @@ use Rattle.pgo_log_text.specs.ReadBundle.{IsReadBundle}
 use Rattle.pgo_log_text.specs.LogOf.{log_of, entry_read}
 use Rattle.pgo_translate.specs.ModuleOf.{module_of, constants_with}
 use Rattle.pgo_execute.specs.Executes.{Executes}
-use Rattle.pgo_execute.specs.Ran.{finished, system}
+use Rattle.pgo_execute.specs.Ran.{system}
 use Rattle.pgo_execute.specs.Schedules.{Schedule}
 use Rattle.pgo_verdicts.specs.Judged.{Judged}
 
@@ -41,8 +41,7 @@ bundle_accepted text m consts l read run v j =
 
 -- nor does what a run of a text writes
 pub accepted : (text : List ℕ) (consts : List (Name × Data)) (settings : Settings) (schedule : Schedule) (status : ℕ) (written : List ℕ) (x : Executes text consts settings schedule status written)
-    (v : Verdict) → Judged written v → v ≡ Run (length (finished x.spec consts settings x.turns).entries)
+    (v : Verdict) → Judged written v → v ≡ Run (length x.left.entries)
 accepted text consts settings schedule status written x v j =
-    let f = finished x.spec consts settings x.turns in
-    bundle_accepted written (module_of x.spec) (constants_with x.spec consts) (log_of (system x.spec consts) f.entries) x.stepped.ran.is_read x.stepped.ran.read_run v j
-    ∙ ap Run (length-map f.entries entry_read)
+    bundle_accepted written (module_of x.spec) (constants_with x.spec consts) (log_of (system x.spec consts) x.left.entries) x.ran.is_read x.ran.read_run v j
+    ∙ ap Run (length-map x.left.entries entry_read)

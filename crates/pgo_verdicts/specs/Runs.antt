@@ -6,7 +6,6 @@ use Rattle.pgo_model.specs.Core.{Settings}
 use Rattle.pgo_check.specs.declared.verdict.Verdict.{Verdict}
 use Rattle.pgo_check.specs.declared.verdict.Verdict.TheVariants.{Run}
 use Rattle.pgo_execute.specs.Executes.{Executes}
-use Rattle.pgo_execute.specs.Ran.{finished}
 use Rattle.pgo_execute.specs.Schedules.{Schedule}
 use Rattle.pgo_verdicts.specs.Judged.{Judged}
 
@@ -15,4 +14,4 @@ pub record Runs (text : List ℕ) (consts : List (Name × Data)) (settings : Set
   -- the text spells one specification, nothing refuses it, and the bytes are the bundle of its run
   pub executes : Executes text consts settings schedule status written
   -- the verdict on these bytes is no other than that they are a run of so many entries
-  pub accepted : (v : Verdict) → Judged written v → v ≡ Run (length (finished executes.spec consts settings executes.turns).entries)
+  pub accepted : (v : Verdict) → Judged written v → v ≡ Run (length executes.left.entries)

@@ -29,22 +29,19 @@ returns c text s consts settings entries notes ws bs told spells passes given sh
     let is_run = c.made_entries_are_runs.ensures.run s consts (module_of s) settings f accepted keeps agrees made in
     let is_read = c.runs_are_read_back.ensures.read_made text s consts settings true f status spells passes given short steps attempts downs (c.runs_are_read_back.ensures.status y settings f) made accounts joint in
     record {
-      left = f;
-      ran = record {
-        sound = c.texts_keep_states.ensures.sound text s consts spells passes counted;
-        declared = declared;
-        bundle = refl;
-        agrees = agrees;
-        alone = c.modules_are_read_back.ensures text s consts spells passes short;
-        run = is_run;
-        next = c.made_entries_are_runs.ensures.next s consts (module_of s) settings f accepted keeps agrees made;
-        is_read = is_read;
-        only = c.one_bundle.ensures (Bundle (module_of s) (constants_with s consts) y settings f status) (module_of s) (constants_with s consts) (log_of y f.entries) is_read;
-        read_run = run_read (module_of s) (constants_with s consts) (ids_of y) b.start f.entries is_run;
-        accounts = accounts;
-        joint = joint;
-        ended = λ _. law.ended text s consts settings entries notes ws bs told spells passes counted run;
-        status_is = refl;
-        fine = law.fine text s consts settings entries notes ws bs told spells passes counted run;
-      };
+      sound = c.texts_keep_states.ensures.sound text s consts spells passes counted;
+      declared = declared;
+      bundle = refl;
+      agrees = agrees;
+      alone = c.modules_are_read_back.ensures text s consts spells passes short;
+      run = is_run;
+      next = c.made_entries_are_runs.ensures.next s consts (module_of s) settings f accepted keeps agrees made;
+      is_read = is_read;
+      only = c.one_bundle.ensures (Bundle (module_of s) (constants_with s consts) y settings f status) (module_of s) (constants_with s consts) (log_of y f.entries) is_read;
+      read_run = run_read (module_of s) (constants_with s consts) (ids_of y) b.start f.entries is_run;
+      accounts = accounts;
+      joint = joint;
+      ended = λ _. law.ended text s consts settings entries notes ws bs told spells passes counted run;
+      status_is = refl;
+      fine = law.fine text s consts settings entries notes ws bs told spells passes counted run;
     }

@@ -1,4 +1,4 @@
-use Rattle.std.proofs.Common.{◌≡◌, ◌≤◌, ◌↔◌, ℕ, List, [], IsTrue, length, ap, sym, subst, ◌∙◌, refl}
+use Rattle.std.proofs.Common.{◌≡◌, ◌≤◌, ◌↔◌, ℕ, false, List, [], IsTrue, length, ap, sym, subst, ◌∙◌, refl}
 use Rattle.pgo_accesses.specs.Programs.{tree_of}
 use Rattle.pgo_agrees.proofs.Premises as premises
 use Rattle.pgo_bound.specs.BoundOf.{bound_of}
@@ -22,8 +22,9 @@ use Rattle.pgo_systems.proofs.States.{counted_values}
 use Rattle.pgo_syntax.specs.RecordView.{settings_view}
 use Rattle.pgo_syntax.specs.declared.bound.Bound.{Bound}
 use Rattle.pgo_execute.specs.Gives.{IsRunStatus}
-use Rattle.pgo_execute.specs.Ran.{AllDone}
-use Rattle.pgo_execute.proofs.RanGiven.{bundle_of, one_of_four, status_is}
+use Rattle.pgo_execute.specs.Ran.{AllDone, RanBy}
+use Rattle.pgo_execute.specs.Schedules.{ends_all, schedule_view}
+use Rattle.pgo_execute.proofs.RanGiven.{bundle_of, left_by, on_one, one_of_four, status_is}
 use Rattle.pgo_execute.proofs.ReadRuns.{run_read}
 use Rattle.pgo_model.specs.System.{ids_of}
 use Rattle.pgo_execute.proofs.run.expanded_run.Goals as goal
@@ -77,33 +78,32 @@ returns c =
     let read = c.runs_are_read_back.ensures.read a.text s consts settings left.turns c.run_status-status.result a.spells n c.requires.constants short c.counts_are_short.ensures.steps c.counts_are_short.ensures.attempts c.requires.no_failures is_status in
     let is_read = subst (λ (w : List ℕ). IsReadBundle w (module_of s) (constants_with s consts) (log_of (system_of (bound_of s consts)) own.entries)) (sym bundle) read in
     let joint = law.joint a.text s consts settings left.turns a.spells n counted in
-    record {
-      turns = left.turns;
-      turns_of = left.turns_of;
-      stepped = record {
-        ran = record {
-          sound = c.texts_keep_states.ensures.sound a.text s consts a.spells n counted;
-          declared = subst (λ (b : Bound). Declares b b.start) a.bound_is a.declared;
-          bundle = bundle;
-          agrees = c.modules_agree.ensures a.text s consts (pluscal_of s) a.spells n (counted_values consts counted) refl;
-          alone = c.modules_are_read_back.ensures a.text s consts a.spells n short;
-          run = law.run a.text s consts settings left.turns a.spells n counted;
-          next = law.next a.text s consts settings left.turns a.spells n counted;
-          is_read = is_read;
-          only = c.one_bundle.ensures c.in_ok-text.text (module_of s) (constants_with s consts) (log_of (system_of (bound_of s consts)) own.entries) is_read;
-          read_run = run_read (module_of s) (constants_with s consts) (ids_of (system_of (bound_of s consts))) (bound_of s consts).start own.entries (law.run a.text s consts settings left.turns a.spells n counted);
-          accounts = λ k. law.accounts a.text s consts settings left.turns k a.spells n counted;
-          joint = record {
-            once = joint.once;
-            full = joint.full;
-            room = joint.room;
-            contended = λ e. subst (λ (b : Bound). Contended (rules_of (system_of b) settings) (finished_of (Core (system_of b) settings left.turns))) a.bound_is (left.contended e);
-          };
-          ended = λ e. subst (λ (b : Bound). EachEnds (system_of b) settings (finished_of (Core (system_of b) settings left.turns))) a.bound_is (left.ended e);
-          status_is = status;
-          fine = subst (λ (m : ℕ). (m ≡ 0) ↔ AllDone s consts (last_state (rules_of (system_of (bound_of s consts)) settings) (Core (system_of (bound_of s consts)) settings left.turns))) (sym status) (c.statuses_are_fine.ensures.fine a.text s consts settings left.turns a.spells n counted);
-        };
-        rounds = λ e. subst (λ (b : Bound). AreRounds (system_of b) settings [] left.turns) a.bound_is (left.rounds e);
+    let schedule = schedule_view c.args.schedule.now in
+    let ran : RanBy s consts false (ends_all schedule) settings own c.run_status-status.result c.in_ok-text.text = record {
+      sound = c.texts_keep_states.ensures.sound a.text s consts a.spells n counted;
+      declared = subst (λ (b : Bound). Declares b b.start) a.bound_is a.declared;
+      bundle = bundle;
+      agrees = c.modules_agree.ensures a.text s consts (pluscal_of s) a.spells n (counted_values consts counted) refl;
+      alone = c.modules_are_read_back.ensures a.text s consts a.spells n short;
+      run = law.run a.text s consts settings left.turns a.spells n counted;
+      next = law.next a.text s consts settings left.turns a.spells n counted;
+      is_read = is_read;
+      only = c.one_bundle.ensures c.in_ok-text.text (module_of s) (constants_with s consts) (log_of (system_of (bound_of s consts)) own.entries) is_read;
+      read_run = run_read (module_of s) (constants_with s consts) (ids_of (system_of (bound_of s consts))) (bound_of s consts).start own.entries (law.run a.text s consts settings left.turns a.spells n counted);
+      accounts = λ k. law.accounts a.text s consts settings left.turns k a.spells n counted;
+      joint = record {
+        once = joint.once;
+        full = joint.full;
+        room = joint.room;
+        contended = λ e. subst (λ (b : Bound). Contended (rules_of (system_of b) settings) (finished_of (Core (system_of b) settings left.turns))) a.bound_is (left.contended e);
       };
+      ended = λ e. subst (λ (b : Bound). EachEnds (system_of b) settings (finished_of (Core (system_of b) settings left.turns))) a.bound_is (left.ended e);
+      status_is = status;
+      fine = subst (λ (m : ℕ). (m ≡ 0) ↔ AllDone s consts (last_state (rules_of (system_of (bound_of s consts)) settings) (Core (system_of (bound_of s consts)) settings left.turns))) (sym status) (c.statuses_are_fine.ensures.fine a.text s consts settings left.turns a.spells n counted);
+    } in
+    record {
+      left = own;
+      by = left_by s consts schedule settings left.turns left.turns_of (λ e. subst (λ (b : Bound). AreRounds (system_of b) settings [] left.turns) a.bound_is (left.rounds e));
+      ran = subst (λ t. RanBy s consts t (ends_all schedule) settings own c.run_status-status.result c.in_ok-text.text) (sym (on_one schedule left.turns left.turns_of)) ran;
       either = subst IsRunStatus (sym status) (one_of_four (system_of (bound_of s consts)) settings own);
     }

@@ -6,24 +6,24 @@ use Rattle.pgo_front.proofs.Making.{verdict_status, judging_stopped, end_line, v
 use Rattle.pgo_front.proofs.check.check_text.Goals as goal
 
 pub returns-in-Err-BadLog-clause-err : goal.returns-in-Err-BadLog-clause-err
-returns-in-Err-BadLog-clause-err c =
+returns-in-Err-BadLog-clause-err g c =
     judging_stopped c.args.text.now _ c.as_no_bundle.result.status c.as_no_bundle.result.line
     (subst (IsRefused c.args.text.now) c.in-Err-BadLog.field-0-is c.in-Err-BadLog.ensures.refused) c.as_no_bundle.ensures
 
 pub returns-in-Err-BadLog-clause-line : goal.returns-in-Err-BadLog-clause-line
-returns-in-Err-BadLog-clause-line c =
+returns-in-Err-BadLog-clause-line g c =
     end_line c.args.text.now _ c.as_no_bundle.result.status c.as_no_bundle.result.line
     (subst (NamesLineOf c.args.text.now) c.in-Err-BadLog.field-0-is c.in-Err-BadLog.ensures.line) c.as_no_bundle.ensures
 
 pub returns-in-Ok-clause-ok : goal.returns-in-Ok-clause-ok
-returns-in-Ok-clause-ok c =
+returns-in-Ok-clause-ok g c =
     IfOk-weaker c.make_verdict.result _ _ (λ m h. (c.in-Ok.judgement.verdict, c.in-Ok.ensures.judged.0, h)) c.make_verdict.ensures.ok
 
 pub returns-in-Ok-clause-either : goal.returns-in-Ok-clause-either
-returns-in-Ok-clause-either c = IfOk-weaker c.make_verdict.result _ _ (λ m h. verdict_status c.in-Ok.judgement.verdict m h) c.make_verdict.ensures.ok
+returns-in-Ok-clause-either g c = IfOk-weaker c.make_verdict.result _ _ (λ m h. verdict_status c.in-Ok.judgement.verdict m h) c.make_verdict.ensures.ok
 
 pub returns-in-Ok-clause-err : goal.returns-in-Ok-clause-err
-returns-in-Ok-clause-err c = IfErr-weaker c.make_verdict.result _ _ (λ e h. inr h) c.make_verdict.ensures.err
+returns-in-Ok-clause-err g c = IfErr-weaker c.make_verdict.result _ _ (λ e h. inr h) c.make_verdict.ensures.err
 
 pub returns-in-Ok-clause-line : goal.returns-in-Ok-clause-line
-returns-in-Ok-clause-line c = verdict_line_none (Some c.args.text.now) c.make_verdict.result c.make_verdict.ensures.err c.make_verdict.ensures.line
+returns-in-Ok-clause-line g c = verdict_line_none (Some c.args.text.now) c.make_verdict.result c.make_verdict.ensures.err c.make_verdict.ensures.line

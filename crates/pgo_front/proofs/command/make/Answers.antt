@@ -1,9 +1,8 @@
 use Rattle.std.proofs.Common.{inl, inr, subst}
 use Rattle.std.proofs.lemmas.Result.{IfErr-weaker}
-use Rattle.pgo_execute.specs.Schedules.{schedule_view}
 use Rattle.pgo_syntax.specs.RecordView.{settings_view}
 use Rattle.pgo_front.specs.Answers.{RefusesSpec}
-use Rattle.pgo_front.specs.Makes.{AsksFor}
+use Rattle.pgo_front.specs.Makes.{AsksFor, mode_view}
 use Rattle.pgo_front.proofs.Asking.{input_unread}
 use Rattle.pgo_front.proofs.ConstantValues.{run_constants, run_no_failures}
 use Rattle.pgo_front.proofs.Loading.{load_lines, load_made, load_refuses, load_stopped}
@@ -11,25 +10,25 @@ use Rattle.pgo_front.proofs.Making.{execution_made, execution_stopped, execution
 use Rattle.pgo_front.proofs.command.make.Goals as goal
 
 pub make_execution-requires-clause-constants : goal.make_execution-requires-clause-constants
-make_execution-requires-clause-constants g c =
+make_execution-requires-clause-constants g c κs within =
     let words = c.args.words.now in
     let asked = c.in-Ok-Execute in
     let asks = subst (AsksFor words) asked.field-0-is asked.ensures.asks in
-    run_constants c.read_values_are_canonical.ensures.value words (schedule_view asked.schedule) (settings_view asked.settings) asked.consts asks.0
+    run_constants c.read_values_are_canonical.ensures.value words (mode_view asked.mode) (settings_view asked.settings) asked.consts asks.0
 
 pub make_execution-requires-clause-no_failures : goal.make_execution-requires-clause-no_failures
-make_execution-requires-clause-no_failures g c =
+make_execution-requires-clause-no_failures g c κs within =
     let words = c.args.words.now in
     let asked = c.in-Ok-Execute in
     let asks = subst (AsksFor words) asked.field-0-is asked.ensures.asks in
-    run_no_failures words (schedule_view asked.schedule) (settings_view asked.settings) asked.consts asks.0
+    run_no_failures words (mode_view asked.mode) (settings_view asked.settings) asked.consts asks.0
 
 pub returns-in-Ok-Execute-clause-ok : goal.returns-in-Ok-Execute-clause-ok
 returns-in-Ok-Execute-clause-ok g c =
     let words = c.args.words.now in
     let asked = c.in-Ok-Execute in
     let asks = subst (AsksFor words) asked.field-0-is asked.ensures.asks in
-    execution_made words (g.S.Source.left c.args.input.now) (schedule_view asked.schedule) (settings_view asked.settings) asked.consts c.make_execution.result asks
+    execution_made words (g.S.Source.left c.args.input.now) (mode_view asked.mode) (settings_view asked.settings) asked.consts c.make_execution.result asks
     c.make_execution.ensures.either c.make_execution.ensures.ok
 
 pub returns-in-Ok-Execute-clause-err : goal.returns-in-Ok-Execute-clause-err
@@ -38,7 +37,7 @@ returns-in-Ok-Execute-clause-err g c =
     let asked = c.in-Ok-Execute in
     let asks = subst (AsksFor words) asked.field-0-is asked.ensures.asks in
     IfErr-weaker c.make_execution.result _ _
-    (λ e h. execution_stopped words (g.S.Source.left c.args.input.now) _ _ (schedule_view asked.schedule) (settings_view asked.settings) asked.consts e.status asks h)
+    (λ e h. execution_stopped words (g.S.Source.left c.args.input.now) _ _ (mode_view asked.mode) (settings_view asked.settings) asked.consts e.status asks h)
     c.make_execution.ensures.err
 
 pub returns-in-Ok-Execute-clause-line : goal.returns-in-Ok-Execute-clause-line
@@ -48,14 +47,14 @@ returns-in-Ok-Execute-clause-line g c =
     let asked = c.in-Ok-Execute in
     let asks = subst (AsksFor words) asked.field-0-is asked.ensures.asks in
     spec_lines asked.consts left _ _ _ (RefusesSpec words left) c.make_execution.result
-    (λ e h. execution_line words left (schedule_view asked.schedule) (settings_view asked.settings) asked.consts e.status e.line asks.0 h)
+    (λ e h. execution_line words left (mode_view asked.mode) (settings_view asked.settings) asked.consts e.status e.line asks.0 h)
     c.make_execution.ensures.err c.make_execution.ensures.line
 
 pub returns-in-Ok-Execute-clause-unread : goal.returns-in-Ok-Execute-clause-unread
 returns-in-Ok-Execute-clause-unread g c nothing =
     let asked = c.in-Ok-Execute in
     let asks = subst (AsksFor c.args.words.now) asked.field-0-is asked.ensures.asks in
-    absurd (input_unread c.args.words.now (inl (schedule_view asked.schedule, settings_view asked.settings, asked.consts, asks.0)) nothing)
+    absurd (input_unread c.args.words.now (inl (mode_view asked.mode, settings_view asked.settings, asked.consts, asks.0)) nothing)
 
 pub returns-in-Ok-Check-clause-ok : goal.returns-in-Ok-Check-clause-ok
 returns-in-Ok-Check-clause-ok g c =

@@ -1,5 +1,5 @@
 use Rattle.std.proofs.Common.{ap, sym, subst, ◌∙◌}
-use Rattle.pgo_execute.specs.Schedules.{Turns, Rounds}
+use Rattle.pgo_execute.specs.Schedules.{Turns, Threads}
 use Rattle.pgo_syntax.specs.RecordView.{settings_view}
 use Rattle.pgo_words.specs.Asks.{Step}
 use Rattle.pgo_words.specs.View.{command_view}
@@ -12,14 +12,15 @@ pub returns-in-Step : goal.returns-in-Step
 returns-in-Step c words h =
     let consts = c.args.request.consts in
     let settings = settings_view c.args.request.settings in
-    execution_only words consts settings (Turns c.into_vec.result.items)
-    (subst (λ k. AsksOnly words (record_of k consts settings)) (ap command_view c.in-Step.is ∙ ap Step (sym c.into_vec.ensures)) h)
+    let only = subst (λ k. AsksOnly words (record_of k consts settings)) (ap command_view c.in-Step.is ∙ ap Step (sym c.into_vec.ensures)) h in
+    execution_only words consts settings (Turns c.into_vec.result.items) only.0 only
 
 pub returns-in-Run : goal.returns-in-Run
 returns-in-Run c words h =
     let consts = c.args.request.consts in
     let settings = settings_view c.args.request.settings in
-    execution_only words consts settings Rounds (subst (λ k. AsksOnly words (record_of k consts settings)) (ap command_view c.in-Run.is) h)
+    let only = subst (λ k. AsksOnly words (record_of k consts settings)) (ap command_view c.in-Run.is) h in
+    execution_only words consts settings Threads only.0 only
 
 pub returns-in-Expand : goal.returns-in-Expand
 returns-in-Expand c words h =

@@ -7,7 +7,7 @@ use Rattle.pgo_verdicts.specs.Judged.{Judged}
 use Rattle.pgo_verdicts.proofs.judge.judge.Goals as goal
 
 pub returns-in-Ok-clause-judged : goal.returns-in-Ok-clause-judged
-returns-in-Ok-clause-judged c =
+returns-in-Ok-clause-judged g c =
     let read = c.in_ok-module in
     let judged : Judged c.args.text.now c.in-Ok.verdict =
     record {
