@@ -1,0 +1,146 @@
+// Runs of two instances, whose order a gate says.
+use crate::answer::Answer;
+use crate::gates::{Delay, OrderedGate, WaitingGate};
+use pgo_threads::gate::OpenGate;
+use std::alloc::{AllocError, Global};
+use std::sync::Wait;
+use std::thread::Threads;
+
+/// Two instances that add to one global.
+const COUNTER: &str = "---- MODULE Counter ----
+EXTENDS Integers
+(*
+--mpcal Counter {
+  archetype A(ref v) { l: v := v + 1; }
+  variables x = 0;
+  process (P \\in {1, 2}) == instance A(ref x);
+}
+*)
+====
+";
+
+/// The same, without an end.
+const LOOP: &str = "---- MODULE Loop ----
+EXTENDS Integers
+(*
+--mpcal Loop {
+  archetype A(ref v) { l: v := v + 1; goto l; }
+  variables x = 0;
+  process (P \\in {1, 2}) == instance A(ref x);
+}
+*)
+====
+";
+
+/// The records where instance 1 is refused three times.
+const REFUSED: &str = "inst 0 1 done 1
+1 step 1
+inst 1 4 done 2
+1 held 0 x
+2 held 0 x
+3 held 0 x
+4 step 2
+end 2 0
+";
+
+/// Instance 0 makes its first turn when instance 1 has made one: both run at the same time.
+pub fn both_run<T: Threads + Wait + Sync>(rt: &T, alloc: Global) -> Result<bool, AllocError> {
+    let delays = [Delay {
+        instance: 0,
+        turn: 1,
+        until: 2,
+    }];
+    let gate = WaitingGate::new(&delays);
+    let answer = Answer::of(rt, alloc, &["run"], COUNTER, &gate)?;
+    Ok(answer.status == 0 && gate.last_turns().is_some())
+}
+
+/// Instance 1 makes three turns while instance 0 holds the global, and goes on when that has ended. A refused attempt is one turn, one with
+/// an entry six, and there is a call of the gate more.
+pub fn is_refused_three_times<T: Threads + Wait + Sync>(
+    rt: &T,
+    alloc: Global,
+) -> Result<bool, AllocError> {
+    let delays = [
+        Delay {
+            instance: 1,
+            turn: 1,
+            until: 2,
+        },
+        Delay {
+            instance: 0,
+            turn: 2,
+            until: 4,
+        },
+        Delay {
+            instance: 1,
+            turn: 4,
+            until: 7,
+        },
+    ];
+    let gate = WaitingGate::new(&delays);
+    let answer = Answer::of(rt, alloc, &["run"], COUNTER, &gate)?;
+    Ok(
+        answer.status == 0
+            && answer.out.as_str().ends_with(REFUSED)
+            && gate.last_turns() == Some((7, 10)),
+    )
+}
+
+/// Whether `run`, with turns in the order of a list, writes what `step` writes under that list. None: it doesn't; Some: what is written.
+fn same_as_step<T: Threads + Wait + Sync>(
+    rt: &T,
+    alloc: Global,
+    run: &[&str],
+    turns: &[u32],
+    step: &[&str],
+    text: &str,
+) -> Result<Option<String>, AllocError> {
+    let gate = OrderedGate::new(turns);
+    let on_threads = Answer::of(rt, alloc, run, text, &gate)?;
+    let by_turns = Answer::of(rt, alloc, step, text, &OpenGate)?;
+    let is_same = on_threads.status == by_turns.status
+        && on_threads.out.as_str() == by_turns.out.as_str();
+    if is_same && !gate.gave_up() {
+        Ok(Some(on_threads.out))
+    } else {
+        Ok(None)
+    }
+}
+
+/// One turn of instance 1 while instance 0 holds the global, in the order of a list of turns.
+pub fn one_is_refused<T: Threads + Wait + Sync>(rt: &T, alloc: Global) -> Result<bool, AllocError> {
+    let written = same_as_step(
+        rt,
+        alloc,
+        &["run"],
+        &[0, 1, 0, 0, 0, 0, 0, 1, 1, 1, 1, 1, 1],
+        &["step", "--turns", "0,1,0*5,1*6"],
+        COUNTER,
+    )?;
+    match written {
+        Some(text) => Ok(text.as_str().contains("1 held 0 x\n")),
+        None => Ok(false),
+    }
+}
+
+/// Attempts one after another in the order of a list of turns: none is refused, and the most attempts end both instances.
+pub fn none_is_refused<T: Threads + Wait + Sync>(
+    rt: &T,
+    alloc: Global,
+) -> Result<bool, AllocError> {
+    let written = same_as_step(
+        rt,
+        alloc,
+        &["run", "--attempts", "2"],
+        &[
+            0, 0, 0, 0, 0, 0, 1, 1, 1, 1, 1, 1, 1, 1, 1, 1, 1, 1, 0, 0, 0, 0, 0, 0,
+        ],
+        &["step", "--attempts", "2", "--turns", "0*6,1*6,1*6,0*6"],
+        LOOP,
+    )?;
+    match written {
+        Some(text) => Ok(!text.as_str().contains("held")),
+        None => Ok(false),
+    }
+}
