@@ -1,0 +1,3 @@
+pub mod ClientLists
+pub mod Clients
+pub mod Opened
