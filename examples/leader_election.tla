@@ -8,7 +8,7 @@
 \* Look at `act`: each of its branches sends at most one message, so that a section never needs two links. At its end each node
 \* asserts that no number is greater than the leader's.
 \*
-\*     ./pgo run 'Numbers=<<2, 4, 1, 3>>' BUFFER_SIZE=1 < examples/leader_election.tla
+\*     ./pgo run --attempts 100000 'Numbers=<<2, 4, 1, 3>>' BUFFER_SIZE=1 < examples/leader_election.tla
 
 ---- MODULE LeaderElection ----
 EXTENDS Integers, Sequences

@@ -1,9 +1,9 @@
 \* A server that gives one lock to one client after another. Messages go through mailboxes of bounded length.
 \*
-\*     ./pgo run NumClients=4 BUFFER_SIZE=3 < examples/lock_server.tla
+\*     ./pgo run --attempts 100000 NumClients=4 BUFFER_SIZE=3 < examples/lock_server.tla
 \*
-\* runs it in rounds: five entries, and then each instance makes its attempts without a further one; status 21. What stands
-\* above the line of MODULE is passed over.
+\* runs it, each instance in a thread of its own. In rounds of turns, as `step` can make them, it never ends: docs/EXAMPLES.md says
+\* why. What stands above the line of MODULE is passed over.
 
 ---- MODULE LockServer ----
 EXTENDS Naturals, Sequences, TLC

@@ -4,10 +4,10 @@
 \* NumClients: how many clients there are. BUFFER_SIZE: how many messages a mailbox holds, 1 or more.
 \*
 \* Look at the sections: each of them needs at most one mailbox. In lock_server.tla `handle` needs two, those of the server and of
-\* a client, and in rounds it is refused the second one again and again. Here a section that is refused holds nothing, and tries
-\* again at its next turn.
+\* a client, and in rounds of turns it is refused the second one again and again. Here a section that is refused holds nothing, and
+\* tries again.
 \*
-\*     ./pgo run NumClients=4 BUFFER_SIZE=3 < examples/lock_server_one_mailbox.tla
+\*     ./pgo run --attempts 100000 NumClients=4 BUFFER_SIZE=3 < examples/lock_server_one_mailbox.tla
 
 ---- MODULE LockServerOneMailbox ----
 EXTENDS Naturals, Sequences, TLC

@@ -4,12 +4,12 @@
 \* NumProposers, NumAcceptors: how many there are. BUFFER_SIZE: how many messages a mailbox holds; with too few a proposer that
 \* sends and an acceptor that answers can wait for one another.
 \*
-\* Look at the acceptors, which are servers: they never end, so no run ends with status 0. A run in rounds ends when each instance
-\* is at Done or has made its attempts, 10,000 of them where `--attempts` says nothing else. Look at `best`, too: a proposer
+\* Look at the acceptors, which are servers: they never end, so no run ends with status 0. A run ends when each instance is at
+\* Done or has made its attempts, 10,000 of them where `--attempts` says nothing else. Look at `best`, too: a proposer
 \* proposes the value that was accepted under the greatest ballot that it hears of, and its own only where it hears of none. Each
 \* section needs one mailbox: an acceptor takes a message in one and answers it in the next.
 \*
-\*     ./pgo run --attempts 300 NumProposers=2 NumAcceptors=3 BUFFER_SIZE=12 < examples/paxos.tla
+\*     ./pgo run --attempts 30000 NumProposers=2 NumAcceptors=3 BUFFER_SIZE=12 < examples/paxos.tla
 
 ---- MODULE Paxos ----
 EXTENDS Integers, Sequences, FiniteSets

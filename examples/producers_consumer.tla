@@ -7,7 +7,7 @@
 \* who writes it puts an item behind the others, and waits where it is full. The consumer asserts that the items of each producer
 \* come in their order, none twice and none left out.
 \*
-\*     ./pgo run NumProducers=3 NumItems=2 BUFFER_SIZE=2 < examples/producers_consumer.tla
+\*     ./pgo run --attempts 100000 NumProducers=3 NumItems=2 BUFFER_SIZE=2 < examples/producers_consumer.tla
 
 ---- MODULE ProducersConsumer ----
 EXTENDS Integers, Sequences

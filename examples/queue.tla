@@ -1,9 +1,9 @@
 \* A sender and a receiver, with a channel of bounded length between them. A mapping macro says what it is to read from the
 \* channel and to write to it, another one what it is to read how many messages are left in it.
 \*
-\*     ./pgo run CAPACITY=1 < examples/queue.tla
+\*     ./pgo run --attempts 100000 CAPACITY=1 < examples/queue.tla
 \*
-\* runs it in rounds. What stands above the line of MODULE is passed over.
+\* runs it, each of both in a thread of its own. What stands above the line of MODULE is passed over.
 
 ---- MODULE Queue ----
 EXTENDS Integers, Sequences

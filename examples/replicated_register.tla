@@ -8,7 +8,7 @@
 \* before it asks, and asserts that what it reads is no older, since two majorities have a replica in common. Answers to earlier
 \* requests are dropped by their round, and those that come late are taken at the end.
 \*
-\*     ./pgo run NumReplicas=3 NumRounds=2 BUFFER_SIZE=6 < examples/replicated_register.tla
+\*     ./pgo run --attempts 100000 NumReplicas=3 NumRounds=2 BUFFER_SIZE=6 < examples/replicated_register.tla
 
 ---- MODULE ReplicatedRegister ----
 EXTENDS Integers, Sequences

@@ -7,7 +7,7 @@
 \* came between would be lost. The token counts too, and the assert says that both agree: nobody comes between. `uses` is bound
 \* without a mapping macro; `next` is a value argument that is worked out from `self`.
 \*
-\*     ./pgo run NumNodes=3 NumRounds=2 BUFFER_SIZE=1 < examples/token_ring.tla
+\*     ./pgo run --attempts 100000 NumNodes=3 NumRounds=2 BUFFER_SIZE=1 < examples/token_ring.tla
 
 ---- MODULE TokenRing ----
 EXTENDS Integers, Sequences

@@ -7,7 +7,7 @@
 \* Look at the macro `send`, which is handed the mapped parameter `net` without its index; at the value argument `ready`, which
 \* differs from one participant to the other; and at the last assert: a participant commits exactly where nobody refuses.
 \*
-\*     ./pgo run NumParticipants=3 'Refusing={2}' BUFFER_SIZE=1 < examples/two_phase_commit.tla
+\*     ./pgo run --attempts 100000 NumParticipants=3 'Refusing={2}' BUFFER_SIZE=1 < examples/two_phase_commit.tla
 
 ---- MODULE TwoPhaseCommit ----
 EXTENDS Integers, Sequences

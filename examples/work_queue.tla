@@ -7,7 +7,7 @@
 \* worker's where it has given up enough. Which arm an attempt takes hangs on the seed; an attempt that waits is made again, with
 \* another choice. The assert says that each job was done by one worker, whoever gave it up before.
 \*
-\*     ./pgo run NumWorkers=2 NumJobs=3 NumGivenUp=1 CAPACITY=2 < examples/work_queue.tla
+\*     ./pgo run --attempts 100000 NumWorkers=2 NumJobs=3 NumGivenUp=1 CAPACITY=2 < examples/work_queue.tla
 
 ---- MODULE WorkQueue ----
 EXTENDS Integers, Sequences, FiniteSets

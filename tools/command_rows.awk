@@ -5,7 +5,8 @@
 # that it changes, and `row LINE NUMBER ..` for each other row; before a row with a command that comes first stand
 # `first NUMBER WORDS..` and, for each place that is changed in its output, `place NUMBER OLD NEW`. The row's input, and the output and
 # the error output that it wants, are the files NUMBER.in, NUMBER.out and NUMBER.err of the folder `to`; one that isn't there is empty.
-# The head of counters.commands tells the keys of a sheet.
+# What it says of a bundle whose order of turns isn't known is NUMBER.facts.
+# The heads of counters.commands and threads.commands tell the keys of a sheet.
 
 BEGIN {
   no_place = "no such place: "
@@ -63,7 +64,7 @@ function unescaped(text, at, plain, c) {
 # The command, its streams, the output that is wanted, and how many blanks stand in the place of the text.
 
 function begin_row() {
-  first = words = constants = lines = bytes = blanks = pieces = reads = room = error_writes = ""
+  first = words = constants = lines = bytes = facts = blanks = pieces = reads = room = error_writes = ""
   is_wordless = is_whole = 0
 }
 
@@ -74,8 +75,37 @@ function take_of_command(key, text) {
   else if (key == "no") { is_wordless = 1; return text == "words" }
   else if (key == "out" || key == "ends") { lines = lines text "\n"; if (key == "out") is_whole = 1 }
   else if (key == "silent") is_whole = 1
+  else if (is_of_bundle(key, text)) facts = facts key (text == "" ? "" : " " text) "\n"
+  else if (key == "rounds" && are_rounds(text)) words = words " " rounds(text)
+  else if (key == "first_rounds" && are_rounds(text)) first = first " " rounds(text)
   else return take_number(key, text)
   return 1
+}
+
+# Whether a line says something of a bundle, for tools/command_rows.bundle.awk.
+function is_of_bundle(key, text, count, kind) {
+  count = "[0-9]+(\\.\\.[0-9]*)?"
+  kind = "(step|held|blocked|novalue|assert|full)"
+  if (key == "bundle") return text == ""
+  if (key == "instances") return text ~ ("^" count "$")
+  if (key == "entries") return text ~ ("^" count "( of ([0-9]+|\\*)( at [A-Za-z0-9_]+)?)?$")
+  if (key == "records") return text ~ ("^" count " of ([0-9]+|\\*)( " kind "(\\|" kind ")*)?$")
+  if (key == "end") return text ~ /^[a-z|]+ of ([0-9]+|\*)$/
+  if (key == "last") return text ~ / = ./
+  if (key == "order") return text ~ /^[0-9]+ [0-9]+ [A-Za-z0-9_]+(, [0-9]+ [A-Za-z0-9_]+)*$/
+  return key == "where" && text ~ /^[0-9]+$/
+}
+
+# `N of K`: the turns of N rounds of K instances.
+
+function are_rounds(text) {
+  return text ~ /^[1-9][0-9]* of [1-9][0-9]*$/
+}
+
+function rounds(text, number, round, i) {
+  split(text, number, " of ")
+  for (i = 0; i < number[2]; i++) round = round "," i
+  return substr(repeated(round, number[1] + 0), 2)
 }
 
 function take_number(key, text) {
@@ -208,6 +238,7 @@ function print_row(wanted, text, blank, status, how, i) {
   write(row ".in", text)
   write(row ".err", blank > 0 ? substr(wanted, blank + 1) "\n" : "")
   write(row ".out", lines)
+  write(row ".facts", facts)
   if (first != "") print "first " row first
   for (i = 1; first != "" && i <= places; i++) print "place " row " " quoted(old[i]) " " quoted(new[i])
   if (words == "" && !is_wordless) words = " step --turns 0"
