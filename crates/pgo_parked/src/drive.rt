@@ -12,6 +12,7 @@ use pgo_resource::sections::Sections;
 use pgo_section::worker::{Turn, Worker};
 use pgo_syntax::records::NoteKind;
 use pgo_threads::gate::Gate;
+use pgo_threads::pauses::Pauses;
 use std::alloc::{AllocError, Global};
 use std::sync::Wait;
 
@@ -76,6 +77,7 @@ fn make_turns<R: Wait, S: Sections, B: Board, G: Gate>(
         changes: 0,
         blocked: false,
     };
+    let mut pauses = Pauses::new();
     for turn in 0..u64::MAX {
         gate.at(worker.number(), turn + 1);
         attempt = attempt.before_turn(rt, parking, worker.is_resting());
@@ -85,6 +87,7 @@ fn make_turns<R: Wait, S: Sections, B: Board, G: Gate>(
             Turn::NoMemory => return Err(AllocError),
             _ => {}
         }
+        pauses.after_turn(made, worker.is_resting());
         attempt = attempt.after_turn(rt, parking, made, worker.is_resting());
     }
     worker.stop(sections, board);

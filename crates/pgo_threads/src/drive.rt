@@ -7,13 +7,14 @@ ghost use Rattle.pgo_section.specs.Turns.{Met, Same};
 ghost use Rattle.pgo_threads.specs.Drives.{IsUnused, HasRun, ToldAsRecorded};
 
 use crate::gate::Gate;
+use crate::pauses::Pauses;
 use pgo_resource::board::Board;
 use pgo_resource::sections::Sections;
 use pgo_section::worker::{Turn, Worker};
 use std::alloc::{AllocError, Global};
 
 /// Makes the turns of a worker over its board until it has ended, and calls the gate before each turn, from 1 on, and once more when
-/// it has ended. The worker has no record before.
+/// it has ended. Behind an attempt that was refused or found no end it pauses a moment. The worker has no record before.
 ///
 /// After Ok it has ended and says how, and has dropped no attempt. Err comes where memory was wanting in a turn, or after 2^64 - 1
 /// turns, which is a limit of this project; the attempt under way is dropped then. After either nothing is held, worker and board
@@ -39,13 +40,16 @@ pub fn drive<S: Sections, B: Board, G: Gate>(
     ensures refused { ToldAsRecorded (B.shows board.old) worker.new (B.shows board.new) }
     ensures ended { OnOk result (HasRun (S.system sections.now) (S.tree sections.now) (S.walk sections.now) worker.old (B.shows board.old) worker.new (B.shows board.new)) }
 {
+    let mut pauses = Pauses::new();
     for turn in 0..u64::MAX {
         gate.at(worker.number(), turn + 1);
-        match worker.turn(alloc, sections, board) {
+        let made = worker.turn(alloc, sections, board);
+        match made {
             Turn::Idle { .. } => return Ok(()),
             Turn::NoMemory => return Err(AllocError),
             _ => {}
         }
+        pauses.after_turn(made, worker.is_resting());
     }
     worker.stop(sections, board);
     Err(AllocError)

@@ -4,3 +4,4 @@
 pub mod drive;
 pub mod gate;
 pub mod jobs;
+pub mod pauses;
