@@ -48,9 +48,8 @@ fn judged(alloc: Global, text: &[u8], consts: &Consts) -> Result<(Bound, PlusCal
     }
 }
 
-/// Runs, on one thread and under this schedule, the one specification that a text spells, with these constants, and gives the bundle of the
-/// run; else the first refusal of
-/// syntax, names, labels, binding and the limits of its expansion. Or there was no memory.
+/// Runs, on one thread and under this schedule, the one specification that a text spells, with these constants, and gives the bundle of
+/// the run; else the first refusal of syntax, names, labels, binding and the limits of its expansion. Or there was no memory.
 ///
 /// The status is 20 where some instance's last record is a note without a retry (no value, or a failed assertion); else 23 where
 /// some instance's last record is that the journal is full; else 0 where every instance is at Done; else 21.
