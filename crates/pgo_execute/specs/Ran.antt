@@ -18,6 +18,7 @@ use Rattle.pgo_bound.specs.BoundOf.{bound_of}
 use Rattle.pgo_bound.specs.Declares.{Declares}
 use Rattle.pgo_bound.specs.Sound.{Sound}
 use Rattle.pgo_meaning.specs.System.{system_of}
+use Rattle.pgo_systems.specs.Failures.{DownsReached}
 use Rattle.pgo_core.specs.Cores.{EachEnds}
 use Rattle.pgo_core.specs.Rounds.{AreRounds}
 use Rattle.pgo_translate.specs.Agrees.{Agrees, IsNext}
@@ -74,6 +75,8 @@ module _ (s : Spec) (consts : List (Name × Data)) where
     -- over all instances no failing pre-commit is answered twice, and a full journal has as many entries as the refusal says; and
     -- where the run went on until each instance had ended, each refusal has its cause among the recorded attempts
     pub joint : JointAccounts (rules_of system settings) all f
+    -- each pre-commit that was refused is of a resource that its instance is bound to
+    pub downs : DownsReached system f
     -- where the run went on until each instance had ended, each has
     pub ended : all ≡ true → EachEnds system settings f
     -- the status is that of the records and the last state: 0 exactly where every instance is at Done

@@ -1,5 +1,5 @@
 // What is true of a run on threads.
-ghost use Rattle.std.specs.Prelude.{◌≡◌, ◌≤◌, ◌<◌, ℕ, true, List, [], length};
+ghost use Rattle.std.specs.Prelude.{◌≤◌, ◌<◌, ℕ, true, List, length};
 ghost use Rattle.pgo_base.specs.Data.{Data};
 ghost use Rattle.pgo_base.specs.Lookup.{Name};
 ghost use Rattle.pgo_model.specs.Bundle.{Bundle};
@@ -18,12 +18,14 @@ ghost use Rattle.pgo_translate.specs.ModuleOf.{constants_with, module_of};
 ghost use Rattle.pgo_accept.specs.Answers.{NothingRefuses};
 ghost use Rattle.pgo_log_text.specs.IsBundle.{AreCanonical};
 ghost use Rattle.pgo_accounts.specs.ClosedTexts.{RunIsClosed, left_of};
+ghost use Rattle.pgo_written_runs.specs.Failures.{DownsShort};
 ghost use Rattle.pgo_execute.specs.Ran.{RanBy};
 
 use pgo_accounts::{closed_boards_are_runs, made_entries_are_runs, texts_keep_states};
 use pgo_agrees::{modules_agree, texts_are_accepted};
 use pgo_log_text::bundle_reader::one_bundle;
 use pgo_run_values::spellable_values_are_read_back;
+use pgo_systems::pre_commits_are_of_bound_resources;
 use pgo_written::modules_are_read_back;
 use pgo_written_runs::{read_values_are_canonical, runs_are_read_back};
 
@@ -31,12 +33,13 @@ use pgo_written_runs::{read_values_are_canonical, runs_are_read_back};
 /// has ended over its board and the boards are closed (`RunIsClosed` of pgo_accounts), whatever the schedule was, the bundle of what is left,
 /// with the status of its records and its last state, is that of a run on threads that went on until each instance had ended (`RanBy`).
 ///
-/// Its premises besides are those of a run on one thread: the constants are read back from their canonical texts, no pre-commit is set to
-/// fail, the counts of the settings are below 2^32, the module's text is no longer than a text may have tokens, and the start is a declared one.
+/// Its premises besides are those of a run on one thread: the constants are read back from their canonical texts, the counts of the settings and
+/// the numbers of the pre-commits that are set to fail are below 2^32, the module's text is no longer than a text may have tokens, and the start
+/// is a declared one.
 ///
 /// Source: this project's choice.
 pub fn closed_boards_ran()
-    ensures { (text : List ℕ) (s : Spec) (consts : List (Name × Data)) (settings : Settings) (entries : List (Entry Effect)) (notes : List Note) (ws : ℕ → Worker) (bs : ℕ → View Effect) (told : ℕ → Told) → SpellsSpec text s → NothingRefuses s consts → AreCanonical consts → length (Text (module_of s)) ≤ 4294967295 → settings.steps < 4294967296 → settings.attempts < 4294967296 → settings.down ≡ [] → Declares (bound_of s consts) (bound_of s consts).start → RunIsClosed s consts settings entries notes ws bs told → RanBy s consts true true settings (left_of s consts settings entries notes ws) (status_of (system_of (bound_of s consts)) settings (left_of s consts settings entries notes ws)) (Bundle (module_of s) (constants_with s consts) (system_of (bound_of s consts)) settings (left_of s consts settings entries notes ws) (status_of (system_of (bound_of s consts)) settings (left_of s consts settings entries notes ws))) }
+    ensures { (text : List ℕ) (s : Spec) (consts : List (Name × Data)) (settings : Settings) (entries : List (Entry Effect)) (notes : List Note) (ws : ℕ → Worker) (bs : ℕ → View Effect) (told : ℕ → Told) → SpellsSpec text s → NothingRefuses s consts → AreCanonical consts → length (Text (module_of s)) ≤ 4294967295 → settings.steps < 4294967296 → settings.attempts < 4294967296 → DownsShort settings → Declares (bound_of s consts) (bound_of s consts).start → RunIsClosed s consts settings entries notes ws bs told → RanBy s consts true true settings (left_of s consts settings entries notes ws) (status_of (system_of (bound_of s consts)) settings (left_of s consts settings entries notes ws)) (Bundle (module_of s) (constants_with s consts) (system_of (bound_of s consts)) settings (left_of s consts settings entries notes ws) (status_of (system_of (bound_of s consts)) settings (left_of s consts settings entries notes ws))) }
 {
     read_values_are_canonical();
     spellable_values_are_read_back();
@@ -46,6 +49,7 @@ pub fn closed_boards_ran()
     modules_are_read_back();
     made_entries_are_runs();
     closed_boards_are_runs();
+    pre_commits_are_of_bound_resources();
     runs_are_read_back();
     one_bundle();
 }

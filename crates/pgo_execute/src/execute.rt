@@ -1,5 +1,5 @@
 // A specification's text, run.
-ghost use Rattle.std.specs.Prelude.{◌≡◌, [], Err, IfOk, IfErr};
+ghost use Rattle.std.specs.Prelude.{Err, IfOk, IfErr};
 ghost use Rattle.pgo_accept.specs.Answers.{GivesExpansion};
 ghost use Rattle.pgo_execute.specs.Accepts.{IsJudged};
 ghost use Rattle.pgo_execute.specs.Executes.{Executes};
@@ -56,7 +56,7 @@ fn judged(alloc: Global, text: &[u8], consts: &Consts) -> Result<(Bound, PlusCal
 ///
 /// Its condition is that texts spell the constants' values: integers have 64 bits, strings have newlines, tabs and bytes 32 to 126
 /// alone, model values are identifiers of at most 512 bytes, sets and functions have at most 65,536 members, and they are at most
-/// 1,024 deep. And no pre-commit is set to fail, since the contents are plain values, whose pre-commits don't.
+/// 1,024 deep.
 ///
 /// Source: Modular PlusCal; the core, its schedules and the form of bundles are this project's choice.
 pub fn execute(
@@ -67,7 +67,6 @@ pub fn execute(
     schedule: &Schedule,
 ) -> Result<Executed, Rejection>
     requires constants { AreCanonical consts.now }
-    requires no_failures { (settings_view settings.now).down ≡ [] }
     ensures ok { IfOk result (λ r. Executes text.now consts.now (settings_view settings.now) (schedule_view schedule.now) r.status r.text) }
     ensures refused { IfErr result (λ e. GivesExpansion text.now consts.now (Err e)) }
 {
@@ -102,7 +101,6 @@ pub fn execute_on_threads<T: Threads + Wait + Sync, G: Gate + Sync>(
     gate: &G,
 ) -> Result<Executed, Rejection>
     requires constants { AreCanonical consts.now }
-    requires no_failures { (settings_view settings.now).down ≡ [] }
     ensures ok { IfOk result (λ r. Executes text.now consts.now (settings_view settings.now) Threads r.status r.text) }
     ensures refused { IfErr result (λ e. GivesExpansion text.now consts.now (Err e)) }
 {

@@ -1,5 +1,5 @@
 // A bound specification, run.
-ghost use Rattle.std.specs.Prelude.{◌≡◌, ◌<◌, [], IfOk};
+ghost use Rattle.std.specs.Prelude.{◌≡◌, ◌<◌, [], ℕ, true, IfOk};
 ghost use Rattle.pgo_accept.specs.Answers.{NothingRefuses};
 ghost use Rattle.pgo_accesses.specs.Programs.{tree_of};
 ghost use Rattle.pgo_bound.specs.Sound.{Sound};
@@ -14,10 +14,12 @@ ghost use Rattle.pgo_execute.specs.Schedules.{schedule_view};
 ghost use Rattle.pgo_lower.specs.Agree.{AreLowered};
 ghost use Rattle.pgo_meaning.specs.LabelSections.{AreUnlabelled};
 ghost use Rattle.pgo_meaning.specs.System.{system_of};
+ghost use Rattle.pgo_model.specs.Core.{is_listed};
 ghost use Rattle.pgo_pluscal.specs.PlusCalOf.{pluscal_of};
 ghost use Rattle.pgo_log_text.specs.IsBundle.{AreCanonical};
 ghost use Rattle.pgo_section.specs.Programs.{RunsSystem};
 ghost use Rattle.pgo_syntax.specs.RecordView.{settings_view};
+ghost use Rattle.pgo_written_runs.specs.Failures.{DownsShort};
 
 use crate::constants::declared_constants;
 use crate::execute::Executed;
@@ -31,6 +33,8 @@ use pgo_base::results::both;
 use pgo_core::instances::Core;
 use pgo_definitions::sections::evaluated_for_sections;
 use pgo_journal::finished::Finished;
+use pgo_links::link::Link;
+use pgo_links::linked::linked;
 use pgo_log_text::bundle_reader::one_bundle;
 use pgo_log_write::status::run_status;
 use pgo_log_write::write::write_bundle;
@@ -45,7 +49,8 @@ use pgo_starts::content::Content;
 use pgo_starts::contents::contents;
 use pgo_starts::own::all_own_at_start;
 use pgo_syntax::bound::Bound;
-use pgo_syntax::records::Settings;
+use pgo_syntax::records::{Down, Settings};
+use pgo_systems::pre_commits_are_of_bound_resources;
 use pgo_translate::translate::translate;
 use pgo_written::modules_are_read_back;
 use pgo_written_runs::{read_values_are_canonical, runs_are_read_back};
@@ -85,11 +90,10 @@ fn opened<'a>(
     alloc: Global,
     bound: &'a Bound,
     settings: &Settings,
-) -> Result<Core<Runnable<'a>, Content>, AllocError>
+) -> Result<Core<Runnable<'a>, Link<Content>>, AllocError>
     requires macros { AreUnlabelled bound.now.spec.macros }
     requires names { AreDifferent (variables_of bound.now.spec) }
     requires sound { Sound bound.now }
-    requires no_failures { (settings_view settings.now).down ≡ [] }
     requires runs { RunsSystem (system_of bound.now) (tree_of bound.now) (settings_view settings.now) }
     ensures safe { IfOk result Safe }
     ensures stands { IfOk result (StandsAt []) }
@@ -99,8 +103,9 @@ fn opened<'a>(
 {
     programs_run();
     let sections = sections(alloc, bound)?;
-    let (owns, cells) = both(all_own_at_start(alloc, bound), contents(alloc, bound))?;
-    Core::open(alloc, sections, bound, owns, cells, settings)
+    let (owns, contents) = both(all_own_at_start(alloc, bound), contents(alloc, bound))?;
+    let links = linked(alloc, contents)?;
+    Core::open(alloc, sections, bound, owns, links, settings)
 }
 
 /// Runs what a specification is bound to under the schedule, and stops it.
@@ -113,7 +118,6 @@ fn finished_under(
     requires macros { AreUnlabelled bound.now.spec.macros }
     requires names { AreDifferent (variables_of bound.now.spec) }
     requires sound { Sound bound.now }
-    requires no_failures { (settings_view settings.now).down ≡ [] }
     requires fits { CoreFits (system_of bound.now) (tree_of bound.now) (settings_view settings.now) }
     ensures { IfOk result (Leaves (system_of bound.now) (settings_view settings.now) (schedule_view schedule.now)) }
 {
@@ -127,13 +131,24 @@ fn count_is_short(count: u32)
     ensures { count < 4294967296 }
 {}
 
-/// The counts of settings are below 2^32.
+/// The numbers of these pre-commits are below 2^32.
+fn numbers_are_short(down: &Down)
+    ensures { (r o : ℕ) → is_listed down.now r o ≡ true → o < 4294967296 }
+{
+    for pair in down.as_slice() {
+        count_is_short(pair.1);
+    }
+}
+
+/// The counts of settings, and the numbers of the pre-commits that are set to fail, are below 2^32.
 pub fn counts_are_short(settings: &Settings)
     ensures steps { (settings_view settings.now).steps < 4294967296 }
     ensures attempts { (settings_view settings.now).attempts < 4294967296 }
+    ensures failures { DownsShort (settings_view settings.now) }
 {
     count_is_short(settings.steps);
     count_is_short(settings.attempts);
+    numbers_are_short(&settings.down);
 }
 
 /// Runs a bound specification, whose expansion this is.
@@ -147,7 +162,6 @@ pub fn expanded_run(
 ) -> Result<Executed, AllocError>
     requires accepts { Accepts bound.now consts.now }
     requires constants { AreCanonical consts.now }
-    requires no_failures { (settings_view settings.now).down ≡ [] }
     requires passes { NothingRefuses bound.now.spec consts.now }
     requires expanded { expanded.now ≡ pluscal_of bound.now.spec }
     ensures { IfOk result (λ r. Gives bound.now.spec consts.now (settings_view settings.now) (schedule_view schedule.now) r.status r.text) }
@@ -160,6 +174,7 @@ pub fn expanded_run(
     texts_keep_states();
     texts_run_as_written();
     workers_follow_machines();
+    pre_commits_are_of_bound_resources();
     modules_agree();
     modules_are_read_back();
     runs_are_read_back();

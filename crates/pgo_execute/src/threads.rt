@@ -1,5 +1,5 @@
 // A bound specification, run on threads.
-ghost use Rattle.std.specs.Prelude.{◌≡◌, [], IfOk};
+ghost use Rattle.std.specs.Prelude.{◌≡◌, IfOk};
 ghost use Rattle.pgo_accept.specs.Answers.{NothingRefuses};
 ghost use Rattle.pgo_accesses.specs.Programs.{tree_of};
 ghost use Rattle.pgo_bound.specs.Sound.{Sound};
@@ -25,6 +25,7 @@ use pgo_agrees::{premises_hold, texts_are_accepted};
 use pgo_base::consts::Consts;
 use pgo_base::results::both;
 use pgo_journal::finished::Finished;
+use pgo_links::linked::linked;
 use pgo_log_write::status::run_status;
 use pgo_log_write::write::write_bundle;
 use pgo_pluscal::pluscal::PlusCal;
@@ -62,10 +63,11 @@ fn finished_on_threads<T: Threads + Wait + Sync, G: Gate + Sync>(
     programs_run();
     let sections = sections(alloc, bound)?;
     let (owns, contents) = both(all_own_at_start(alloc, bound), contents(alloc, bound))?;
+    let links = linked(alloc, contents)?;
     if settings.park {
-        return run_parked(rt, alloc, &sections, bound, owns, contents, settings, gate);
+        return run_parked(rt, alloc, &sections, bound, owns, links, settings, gate);
     }
-    run_all(rt, alloc, &sections, bound, owns, contents, settings, gate)
+    run_all(rt, alloc, &sections, bound, owns, links, settings, gate)
 }
 
 /// Runs a bound specification, whose expansion this is, each instance in a thread of its own.
@@ -80,7 +82,6 @@ pub fn expanded_on_threads<T: Threads + Wait + Sync, G: Gate + Sync>(
 ) -> Result<Executed, AllocError>
     requires accepts { Accepts bound.now consts.now }
     requires constants { AreCanonical consts.now }
-    requires no_failures { (settings_view settings.now).down ≡ [] }
     requires passes { NothingRefuses bound.now.spec consts.now }
     requires expanded { expanded.now ≡ pluscal_of bound.now.spec }
     ensures { IfOk result (λ r. Gives bound.now.spec consts.now (settings_view settings.now) Threads r.status r.text) }

@@ -56,10 +56,3 @@ pub run_constants : ((text : List ℕ) (v : Data) → IsValueText text v → IsC
 run_constants read words (Turns ts) settings consts a = constants_are_canonical read a.parts.rest consts a.parts.consts_are.each
 run_constants read words Rounds settings consts a = absurd a
 run_constants read words Threads settings consts a = constants_are_canonical read a.parts.rest consts a.parts.consts_are.each
-
--- and its settings set no pre-commit to fail
-pub run_no_failures : (words : List (List ℕ)) (schedule : Schedule) (settings : Settings) (consts : List (Name × Data)) → AsksExecution words schedule settings consts
-    → settings.down ≡ []
-run_no_failures words (Turns ts) settings consts a = a.settings_are.none_down
-run_no_failures words Rounds settings consts a = absurd a
-run_no_failures words Threads settings consts a = a.settings_are.none_down

@@ -1,5 +1,5 @@
 // The commands `step` and `run`: a specification is run.
-ghost use Rattle.std.specs.Prelude.{◌≡◌, ◌≤◌, ◌⊎◌, [], length, Err, IfOk, IfErr, IfSome, OnOk};
+ghost use Rattle.std.specs.Prelude.{◌≡◌, ◌≤◌, ◌⊎◌, length, Err, IfOk, IfErr, IfSome, OnOk};
 ghost use Rattle.pgo_accept.specs.Answers.{GivesExpansion};
 ghost use Rattle.pgo_accept.specs.Refusals.{RefusedWith};
 ghost use Rattle.pgo_execute.specs.Executes.{Executes};
@@ -28,7 +28,7 @@ use std::sync::Wait;
 use std::thread::Threads;
 
 /// Makes the bundle of a run of this kind, with these constants and settings, of the specification that the input spells. Texts
-/// spell the constants' values, and no pre-commit is set to fail.
+/// spell the constants' values.
 pub fn make_execution<T: Threads + Wait + Sync, S: Source, G: Gate + Sync>(
     rt: &T,
     alloc: Global,
@@ -39,7 +39,6 @@ pub fn make_execution<T: Threads + Wait + Sync, S: Source, G: Gate + Sync>(
     gate: &G,
 ) -> Result<Output, Ended>
     requires constants { AreCanonical consts.now }
-    requires no_failures { (settings_view settings.now).down ≡ [] }
     ensures ok { IfOk result (λ m. IfSome (S.left input.old) (λ text. (length text ≤ most_bytes) × MakesRun (mode_view mode.now) (settings_view settings.now) text consts.now m)) }
     ensures either { IfOk result (λ m. IsRunEnd m.status) }
     ensures err { IfErr result (λ e. StopsSpecInput consts.now (S.left input.old) (S.faults input.old) (S.faults input.new) e.status) }
@@ -66,7 +65,6 @@ fn execute_text<T: Threads + Wait + Sync, G: Gate + Sync>(
     gate: &G,
 ) -> Result<Output, Ended>
     requires constants { AreCanonical consts.now }
-    requires no_failures { (settings_view settings.now).down ≡ [] }
     ensures ok { IfOk result (MakesRun (mode_view mode.now) (settings_view settings.now) text.now consts.now) }
     ensures either { IfOk result (λ m. IsRunEnd m.status) }
     ensures err { IfErr result (λ e. StopsSpec text.now consts.now e.status) }
@@ -93,7 +91,6 @@ fn run_text<T: Threads + Wait + Sync, G: Gate + Sync>(
     gate: &G,
 ) -> Result<Executed, Rejection>
     requires constants { AreCanonical consts.now }
-    requires no_failures { (settings_view settings.now).down ≡ [] }
     ensures ok { IfOk result (λ r. Executes text.now consts.now (settings_view settings.now) (mode_view mode.now) r.status r.text) }
     ensures refused { IfErr result (λ e. GivesExpansion text.now consts.now (Err e)) }
 {

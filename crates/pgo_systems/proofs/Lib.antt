@@ -12,6 +12,7 @@ pub mod Untouched
 pub mod Unbound
 pub mod Fitted
 pub mod Run
+pub mod Refused
 pub mod Starts
 pub mod Targets
 pub mod Owned

@@ -3,3 +3,4 @@ pub mod Literals
 pub mod Premises
 pub mod Gotos
 pub mod StatementLiterals
+pub mod Failures

@@ -1,15 +1,15 @@
 // Bound specifications as systems: what their sections give are values, and the core machine's law holds of them.
 #![tactic(auto)]
 
-ghost use Rattle.std.specs.Prelude.{◌≡◌, ◌≤◌, false, ℕ, List, length, Some};
+ghost use Rattle.std.specs.Prelude.{◌≡◌, ◌≤◌, false, true, ℕ, List, length, Some};
 ghost use Rattle.pgo_base.specs.Data.{Data};
 ghost use Rattle.pgo_base.specs.Lookup.{Name, Vars};
 ghost use Rattle.pgo_base.specs.Tree.{Tree};
 ghost use Rattle.pgo_model.specs.Accounts.{Accounts, EntriesMade, Fits, JointAccounts, StepsAreSections, at};
 ghost use Rattle.pgo_model.specs.Core.{Core, Reaches, Settings, rules_of};
 ghost use Rattle.pgo_model.specs.Entries.{AllLead};
-ghost use Rattle.pgo_model.specs.Log.{StateAt};
-ghost use Rattle.pgo_model.specs.Machine.{finished_of, nth};
+ghost use Rattle.pgo_model.specs.Log.{Effect, StateAt};
+ghost use Rattle.pgo_model.specs.Machine.{Finished, finished_of, nth};
 ghost use Rattle.pgo_model.specs.Outcome.{Next};
 ghost use Rattle.pgo_model.specs.State.{AllValues};
 ghost use Rattle.pgo_model.specs.System.{Resource, Words};
@@ -30,6 +30,7 @@ ghost use Rattle.pgo_meaning.specs.Ends.{KeepsElements};
 ghost use Rattle.pgo_meaning.specs.Sect.{Sect};
 ghost use Rattle.pgo_meaning.specs.System.{system_of};
 ghost use Rattle.pgo_systems.specs.Counted.{AllCounted, ContextCounted, IsCounted, ScopeCounted};
+ghost use Rattle.pgo_systems.specs.Failures.{DownsReached};
 ghost use Rattle.pgo_systems.specs.Gotos.{GotosKnown};
 ghost use Rattle.pgo_systems.specs.Literals.{CodeFits, LiteralsFit, StartFits};
 ghost use Rattle.pgo_systems.specs.Premises.{AllAtLabels, EndsAtLabels, IsCountedState, IsGoodState, KeepsStates, LiteralsFitIn, OwnsApart};
@@ -134,5 +135,20 @@ pub fn bound_accounts()
     ensures joint { (b : Bound) (s : Settings) (turns : List ℕ) → KeepsStates b → JointAccounts (rules_of (system_of b) s) false (finished_of (Core (system_of b) s turns)) }
 {
     values_are_given();
+    system_fits();
+}
+
+/// A refused pre-commit is of a resource that its instance is bound to (`DownsReached`), for the system of a bound specification that meets
+/// `KeepsStates` and every settings, whichever pre-commits are set to fail:
+///
+/// - `machine`: in what the core machine leaves, with every list of turns.
+/// - `contended`: in what any run leaves whose states are good and in which each refusal has its cause, as the records of a run on threads say
+///   (`contended` of `JointAccounts`): the attempt's section reads or writes the resource on a state of the run.
+///
+/// Source: this project's choice.
+pub fn pre_commits_are_of_bound_resources()
+    ensures machine { (b : Bound) (settings : Settings) (turns : List ℕ) → KeepsStates b → DownsReached (system_of b) (finished_of (Core (system_of b) settings turns)) }
+    ensures contended { (b : Bound) (settings : Settings) (f : Finished Effect) → KeepsStates b → JointAccounts (rules_of (system_of b) settings) true f → ((n : ℕ) → n ≤ length f.entries → IsGoodState b (at (rules_of (system_of b) settings) f n)) → DownsReached (system_of b) f }
+{
     system_fits();
 }

@@ -13,7 +13,7 @@ use Rattle.pgo_value_text.proofs.WordBytes.{name_words}
 use Rattle.pgo_words.specs.Cuts.{Lacks}
 use Rattle.pgo_words.specs.Constants.{IsConstant, AreConstants, has_name, names_differ, ReadsConstant, ConstantsOnly, ReadsRest}
 use Rattle.pgo_words.specs.Parts.{texts}
-use Rattle.pgo_words.proofs.TurnLists.{same_cut, not_lacks}
+use Rattle.pgo_words.proofs.CutLaws.{same_cut, not_lacks}
 
 -- ---- one word
 

@@ -1,6 +1,9 @@
+pub mod CutLaws
 pub mod TurnLists
 pub mod ItemReads
 pub mod ListReads
+pub mod FailureLists
+pub mod FailureReads
 pub mod ConstantWords
 pub mod OptionSteps
 pub mod OptionRows

@@ -13,10 +13,13 @@ use Rattle.pgo_model.specs.ValueText.{all_word_bytes, has_letter, is_identifier,
 use Rattle.pgo_value_text.specs.IsValueText.{is_name}
 use Rattle.pgo_words.specs.Asks.{HasParts}
 use Rattle.pgo_words.specs.Constants.{AreConstants, IsConstant}
+use Rattle.pgo_words.specs.Failures.{Failure, FailureList, FailuresOr, pair}
+use Rattle.pgo_words.specs.Failures as failures
 use Rattle.pgo_words.specs.Options.{is_one_of, find_bytes}
 use Rattle.pgo_words.specs.Parts.{HasOptions, Pairs, are_plain, is_plain}
 use Rattle.pgo_words.specs.Settings.{NumberOr, SettingsOf, run_options, step_options}
 use Rattle.pgo_words.specs.Turns.{Item, TurnList, last, more, once, times}
+use Rattle.pgo_words.proofs.CutLaws.{wide}
 use Rattle.pgo_words.proofs.OptionCuts.{joined}
 use Rattle.pgo_words.proofs.OptionParts.{values_by_name}
 
@@ -42,9 +45,6 @@ digits_plain (d ∷ ds) h = plain_first d ds (λ e. let k = h.0 in let f = ap di
 pub decimal_plain : (n : ℕ) → n < 2 ^ 64 → is_plain (decimal n) ≡ true
 decimal_plain n h = digits_plain (decimal n) (decimal_is_IsNumeral n h).0.1
 
-wide : (k : ℕ) → k < 2 ^ 32 → k < 2 ^ 64
-wide k h = omega arith
-
 item_plain : (bs ts : List ℕ) → Item bs ts → is_plain bs ≡ true
 item_plain bs ts (once {k} h) = decimal_plain k (wide k h)
 item_plain bs ts (times {k} {n} h some) = plain_front (decimal k) (42 ∷ decimal n) (decimal_plain k (wide k h)) refl
@@ -52,6 +52,15 @@ item_plain bs ts (times {k} {n} h some) = plain_front (decimal k) (42 ∷ decima
 list_plain : (bs ts : List ℕ) → TurnList bs ts → is_plain bs ≡ true
 list_plain bs ts (last i) = item_plain bs ts i
 list_plain bs ts (more {bs = front} {ts = us} {cs = cs} i l) = plain_front front (44 ∷ cs) (item_plain front us i) refl
+
+-- ---- lists of pre-commits that fail
+
+failure_plain : (bs : List ℕ) (p : ℕ × ℕ) → Failure bs p → is_plain bs ≡ true
+failure_plain bs p (pair {r} {n} h k) = plain_front (decimal r) (58 ∷ decimal n) (decimal_plain r (wide r h)) refl
+
+failures_plain : (bs : List ℕ) (ps : List (ℕ × ℕ)) → FailureList bs ps → is_plain bs ≡ true
+failures_plain bs ps (failures.last {bs = front} {p = p} f) = failure_plain front p f
+failures_plain bs ps (failures.more {bs = front} {cs = cs} {p = p} f l) = plain_front front (44 ∷ cs) (failure_plain front p f) refl
 
 -- ---- constants
 
@@ -85,6 +94,9 @@ either : (a b : Bool) → (a || b) ≡ true → (a ≡ true) ⊎ (b ≡ true)
 either true b e = inl refl
 either false b e = inr e
 
+fail_plain : (o : Option (List ℕ)) (v : List ℕ) (ps : List (ℕ × ℕ)) → o ≡ Some v → FailuresOr o ps → is_plain v ≡ true
+fail_plain o v ps e h = failures_plain v ps (subst (λ q. FailuresOr q ps) e h)
+
 module _ (options : Pairs) (s : Settings) (set : SettingsOf options s) where
   run_value : (n v : List ℕ) → is_one_of n run_options ≡ true → find_bytes n options ≡ Some v → is_plain v ≡ true
   run_value n v among e = elim (either (same_bytes n (codes "--seed")) _ among) [
@@ -93,7 +105,10 @@ module _ (options : Pairs) (s : Settings) (set : SettingsOf options s) where
       | inl a ↦ number_plain 10000 100001 s.attempts _ v (omega arith) (ap (λ m. find_bytes m options) (sym (same_bytes-is n _ a)) ∙ e) set.attempts
       | inr later ↦ elim (either (same_bytes n (codes "--steps")) _ later) [
         | inl a ↦ number_plain 10000 100001 s.steps _ v (omega arith) (ap (λ m. find_bytes m options) (sym (same_bytes-is n _ a)) ∙ e) set.steps
-        | inr none ↦ absurd (true≢false (sym none))
+        | inr fail ↦ elim (either (same_bytes n (codes "--fail")) _ fail) [
+          | inl a ↦ fail_plain _ v s.down (ap (λ m. find_bytes m options) (sym (same_bytes-is n _ a)) ∙ e) set.down
+          | inr none ↦ absurd (true≢false (sym none))
+        ]
       ]
     ]
   ]

@@ -8,6 +8,7 @@ use Rattle.pgo_model.specs.Core.{Settings}
 use Rattle.pgo_model.specs.ValueText.{same_bytes}
 use Rattle.pgo_words.specs.Asks.{Command, Compile, Expand, Step, Run, Check, Load, Request, HasParts, AsksStep, AsksRun, AsksBy, Asks}
 use Rattle.pgo_words.specs.Constants.{Constants}
+use Rattle.pgo_words.specs.Failures.{FailuresOr}
 use Rattle.pgo_words.specs.Items.{SpelledOnly}
 use Rattle.pgo_words.specs.Options.{find_bytes, MayPark}
 use Rattle.pgo_words.specs.Parts.{HasOptions, HasValues, Pairs, ReadsOptions, now_of, texts}
@@ -40,7 +41,7 @@ values_give os o s v g = record {
   seed = subst (λ x. NumberOr 0 (2 ^ 64) x s.seed) (sym v.seed) g.seed;
   attempts = subst (λ x. NumberOr 10000 100001 x s.attempts) (sym v.attempts) g.attempts;
   steps = subst (λ x. NumberOr 10000 100001 x s.steps) (sym v.steps) g.steps;
-  none_down = g.none_down;
+  down = subst (λ x. FailuresOr x s.down) (sym v.fail) g.down;
 }
 
 options_give : (os : Pairs) (o : Options) (s : Settings) → HasValues os o → ValuesGive o s → SettingsOf os s
@@ -48,7 +49,7 @@ options_give os o s v g = record {
   seed = subst (λ x. NumberOr 0 (2 ^ 64) x s.seed) v.seed g.seed;
   attempts = subst (λ x. NumberOr 10000 100001 x s.attempts) v.attempts g.attempts;
   steps = subst (λ x. NumberOr 10000 100001 x s.steps) v.steps g.steps;
-  none_down = g.none_down;
+  down = subst (λ x. FailuresOr x s.down) v.fail g.down;
 }
 
 module _ (is_step : Bool) (behind : List (Bor (List ℕ))) (o : Options) (read : ReadsOptions is_step behind (Some o)) where

@@ -21,7 +21,7 @@ with_options a (o ∷ os) = with_options (with_rule a (value_option o.0 o.1)) os
 
 -- the options of `run`, none of which must be there
 abbrev pub optional : List (Bool × Text)
-optional = (false, codes "seed") ∷ ((false, codes "attempts") ∷ ((false, codes "steps") ∷ []))
+optional = (false, codes "seed") ∷ ((false, codes "attempts") ∷ ((false, codes "steps") ∷ ((false, codes "fail") ∷ [])))
 
 -- the options of `step`, or of `run`, without their dashes, and whether each must be there
 abbrev pub options_of : (is_step : Bool) → List (Bool × Text)

@@ -1,11 +1,13 @@
 pub mod Constants
 pub mod Turns
+pub mod Failures
 pub mod Options
 pub mod Settings
 pub mod Asks
 pub mod View
 pub mod Cuts
 pub mod Items
+pub mod FailureItems
 pub mod Commands
 pub mod Parts
 pub mod Park

@@ -70,6 +70,7 @@ pub record HasValues (options : Pairs) (o : Options) : Type 0 where
   pub seed : now_of o.seed ≡ find_bytes (codes "--seed") options
   pub attempts : now_of o.attempts ≡ find_bytes (codes "--attempts") options
   pub steps : now_of o.steps ≡ find_bytes (codes "--steps") options
+  pub fail : now_of o.fail ≡ find_bytes (codes "--fail") options
 
 abbrev pub ReadsOptions : Bool → List (Bor (List ℕ)) → Option Options → Type 0
 ReadsOptions is_step words None = (options : Pairs) (rest : List (List ℕ)) → HasOptions is_step (texts words) options rest → ⊥

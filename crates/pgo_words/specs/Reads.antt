@@ -1,5 +1,5 @@
 -- That what is read is the one thing that the words ask for.
-use Rattle.std.specs.Prelude.{◌≡◌, ◌≤◌, ◌^◌, ℕ, Bool, false, List, [], ◌∷◌, Option, Some, None, codes, decimal}
+use Rattle.std.specs.Prelude.{◌≡◌, ◌≤◌, ◌^◌, ℕ, Bool, false, List, ◌∷◌, Option, Some, None, codes, decimal}
 use Rattle.pgo_base.specs.Data.{Data}
 use Rattle.pgo_base.specs.Lookup.{Name}
 use Rattle.pgo_model.specs.Core.{Settings}
@@ -8,6 +8,7 @@ use Rattle.pgo_syntax.specs.declared.records.Settings as settings
 use Rattle.pgo_model.specs.ValueText.{is_one_of}
 use Rattle.pgo_words.specs.Asks.{Command, Compile, Expand, Step, Run, Check, Load, Request, HasParts, Asks, AsksOnly}
 use Rattle.pgo_words.specs.Constants.{Constants}
+use Rattle.pgo_words.specs.Failures.{FailuresOr}
 use Rattle.pgo_words.specs.Parts.{Pairs, now_of, texts}
 use Rattle.pgo_words.specs.Settings.{NumberOr, SettingsOf, run_options}
 use Rattle.pgo_words.specs.declared.commands.CommandName.{CommandName}
@@ -29,7 +30,7 @@ pub record ValuesGive (o : Options) (s : Settings) : Type 0 where
   pub seed : NumberOr 0 (2 ^ 64) (now_of o.seed) s.seed
   pub attempts : NumberOr 10000 100001 (now_of o.attempts) s.attempts
   pub steps : NumberOr 10000 100001 (now_of o.steps) s.steps
-  pub none_down : s.down ≡ []
+  pub down : FailuresOr (now_of o.fail) s.down
 
 -- these settings and no others
 abbrev pub SettingsOnly : Options → Option Settings → Type 0

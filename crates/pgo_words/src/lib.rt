@@ -2,7 +2,7 @@
 //
 // - `request`: what they ask for.
 // - `read`: what words ask for, or that they ask for nothing that there is.
-// - `commands`, `options`, `park`, `settings`, `turns`, `constants`: the parts of the words.
+// - `commands`, `options`, `park`, `settings`, `failures`, `turns`, `constants`: the parts of the words.
 // - `numbers`, `cuts`: the parts of one word.
 #![tactic(auto)]
 
@@ -10,6 +10,7 @@ mod commands;
 mod constants;
 mod cuts;
 pub mod errors;
+mod failures;
 mod numbers;
 mod options;
 mod park;

@@ -22,6 +22,8 @@ pub struct Options<'a> {
     pub attempts: Option<&'a str>,
     /// The value of `--steps`.
     pub steps: Option<&'a str>,
+    /// The value of `--fail`.
+    pub fail: Option<&'a str>,
     /// The words behind the options.
     pub rest: &'a [&'a str],
 }
@@ -123,7 +125,8 @@ fn command<'a>(alloc: Global, is_step: bool) -> Result<Command<'a>, AllocError>
     start(alloc, is_step)?
         .arg(value_option(alloc, "seed"))?
         .arg(value_option(alloc, "attempts"))?
-        .arg(value_option(alloc, "steps"))
+        .arg(value_option(alloc, "steps"))?
+        .arg(value_option(alloc, "fail"))
 }
 
 /// The options of `step`, `--turns` among them, or of `run`, and the words behind them, none of which begins with `-`; none where
@@ -144,6 +147,7 @@ pub fn read_options<'a>(
             seed: matches.get_str("seed"),
             attempts: matches.get_str("attempts"),
             steps: matches.get_str("steps"),
+            fail: matches.get_str("fail"),
             rest: &words[end..],
         })),
         Err(error) => match error.kind() {

@@ -27,10 +27,12 @@ use std::alloc::{AllocError, Global};
 /// as the next word, at most once each and in any order, then its constants, `NAME=value` with an identifier of at most 512 bytes
 /// and the text of a value, each name once. `compile` and `expand` have constants, `step` and `run` options and constants; `check`
 /// has neither, and `load` a number from 1 to 32 alone. `step` and `run` have `--seed` (below 2^64, 0 where it isn't given),
-/// `--attempts` and `--steps` (at most 100,000 each, 10,000 where they aren't given); `run` has `--park` besides, which has no
-/// value, and `step` has `--turns`, which must be given: one item or more, separated by commas, each `k` or `k*n`, n turns of k,
-/// where k is below 2^32 and n is at least 1, at most 1,000,000 turns in all. Numbers are decimal digits without sign or leading
-/// zeros.
+/// `--attempts` and `--steps` (at most 100,000 each, 10,000 where they aren't given), and `--fail`: one item or more, separated by
+/// commas, each `resource:number`, both below 2^32. It sets the pre-commit of that number, from 1, at the resource of that number
+/// to fail; no pre-commit fails where it isn't given. Such a pair is never met where the number is 0 or there is no such resource,
+/// and is no usage error. `run` has `--park` besides, which has no value, and `step` has `--turns`, which must be given: one item or
+/// more, separated by commas, each `k` or `k*n`, n turns of k, where k is below 2^32 and n is at least 1, at most 1,000,000 turns in
+/// all. Numbers are decimal digits without sign or leading zeros.
 ///
 /// `Usage` comes exactly where the words ask for nothing of these. Source: this project's choice.
 pub fn read_words(alloc: Global, words: &[Word]) -> Result<Request, WordStop>
@@ -171,7 +173,7 @@ fn read_both(
     ensures reads { IfOk result (λ o. BothOnly options.now (option_map both_view o)) }
     ensures parks { IfOk result (λ o. IfSome o (λ p. p.0.park ≡ park)) }
 {
-    let Some(settings) = read_settings(alloc, options, park) else {
+    let Some(settings) = read_settings(alloc, options, park)? else {
         return Ok(None);
     };
     match read_constants(alloc, options.rest)? {

@@ -1,14 +1,16 @@
 // The settings of a run that its options give.
-ghost use Rattle.std.specs.Prelude.{◌≡◌, ◌<◌, ◌^◌, false, option_map, ℕ, Some, decimal, IfSome};
+ghost use Rattle.std.specs.Prelude.{◌≡◌, ◌<◌, ◌^◌, false, option_map, ℕ, Some, decimal, IfOk, IfSome};
 ghost use Rattle.pgo_syntax.specs.RecordView.{settings_view};
+ghost use Rattle.pgo_words.specs.FailureItems.{FailuresOnly};
 ghost use Rattle.pgo_words.specs.Parts.{now_of};
 ghost use Rattle.pgo_words.specs.Reads.{NumberOnly, SettingsOnly};
 ghost use Rattle.pgo_words.specs.Settings as spec;
 
+use crate::failures::failures_of;
 use crate::numbers::{long_number, number};
 use crate::options::Options;
 use pgo_syntax::records::{Down, Settings};
-use std::alloc::Global;
+use std::alloc::{AllocError, Global};
 
 /// The most attempts, and the most steps.
 const MOST: u32 = 100_000;
@@ -29,8 +31,25 @@ pub fn default_settings(alloc: Global) -> Settings
     }
 }
 
-/// The settings that the options give, where blocked instances wait or not; none where a value is no number, or one too large.
-pub fn read_settings(alloc: Global, options: &Options, park: bool) -> Option<Settings>
+/// The settings that the options give, where blocked instances wait or not; none where a value is no number, or one too large, or no
+/// list of pre-commits.
+pub fn read_settings(
+    alloc: Global,
+    options: &Options,
+    park: bool,
+) -> Result<Option<Settings>, AllocError>
+    ensures only { IfOk result (λ o. SettingsOnly options.now (option_map settings_view o)) }
+    ensures parks { IfOk result (λ o. IfSome o (λ s. s.park ≡ park)) }
+{
+    match failures_of(alloc, options.fail)? {
+        Some(down) => Ok(settings_with(options, down, park)),
+        None => Ok(None),
+    }
+}
+
+/// The settings with the pre-commits that the options set to fail; none where a value is no number, or one too large.
+fn settings_with(options: &Options, down: Down, park: bool) -> Option<Settings>
+    requires { FailuresOnly (now_of options.now.fail) (Some down) }
     ensures only { SettingsOnly options.now (option_map settings_view result) }
     ensures parks { IfSome result (λ s. s.park ≡ park) }
 {
@@ -41,7 +60,7 @@ pub fn read_settings(alloc: Global, options: &Options, park: bool) -> Option<Set
         seed,
         attempts,
         steps,
-        down: Down::new(alloc),
+        down,
         park,
     })
 }

@@ -9,7 +9,7 @@ use Rattle.pgo_base.specs.Lookup.{Name, Vars}
 use Rattle.pgo_base.specs.Size.{depth}
 use Rattle.pgo_model.specs.Accounts.{Accounts, EntriesMade, EntryMade, JointAccounts, Told, journal}
 use Rattle.pgo_model.specs.Choice.{Seeded, words_of}
-use Rattle.pgo_model.specs.Core.{Reaches, Settings, are_at_done, has_full, has_stopped, is_listed, last_ends_from, rules_of, status_of}
+use Rattle.pgo_model.specs.Core.{Reaches, Settings, are_at_done, has_full, has_stopped, last_ends_from, rules_of, status_of}
 use Rattle.pgo_model.specs.BundleParts.{is_read_name, is_run_status}
 use Rattle.pgo_model.specs.Log as log
 use Rattle.pgo_model.specs.Log.{Change, Component, Effect, changes_between, components_of, own_components, resource_components}
@@ -32,6 +32,7 @@ use Rattle.pgo_meaning.specs.System.{member_of, resource_of, system_of}
 use Rattle.pgo_meaning.proofs.SystemStates.{states_same}
 use Rattle.pgo_module_spells.specs.Spells.{SpellsModule}
 use Rattle.pgo_module_spells.specs.Written.{IsWritten}
+use Rattle.pgo_systems.specs.Failures.{DownsReached}
 use Rattle.pgo_systems.specs.Premises.{IsGoodState, KeepsStates}
 use Rattle.pgo_systems.proofs.States.{identifier_there}
 use Rattle.pgo_systems.proofs.Parts.{change_from}
@@ -46,6 +47,7 @@ use Rattle.pgo_accounts.proofs.Entries.{label_at}
 use Rattle.pgo_log_text.specs.IsBundle.{AreCanonical, IsCanonicalIndex, IsCanonicalValue}
 use Rattle.pgo_log_text.specs.WrittenRun.{IsWrittenChange, IsWrittenEntry, IsWrittenRecord, IsWrittenResource, IsWrittenRun}
 use Rattle.pgo_run_values.specs.Spellable.{AllSpellable, IsSpellable}
+use Rattle.pgo_written_runs.specs.Failures.{DownsShort}
 use Rattle.pgo_written_runs.proofs.Components.{own_few, own_from, owned_from, resource_from, resources_many}
 use Rattle.pgo_written_runs.proofs.Constants.{constants_canonical, constants_named}
 use Rattle.pgo_written_runs.proofs.Names.{global_name, label_name, own_name, place_name, variables_same}
@@ -149,7 +151,7 @@ module _ (s : Spec) (consts : List (Name × Data)) (accepted : IsAccepted s cons
       let h = keeps.sound.numbered.few_instances in
       omega (arith, a, c, d, e, f, g, h)
 
-  module _ (settings : Settings) (run : Bool) (f : Finished Effect) (steps : settings.steps < 2 ^ 32) (attempts : settings.attempts < 2 ^ 32) (downs : settings.down ≡ []) where
+  module _ (settings : Settings) (run : Bool) (f : Finished Effect) (steps : settings.steps < 2 ^ 32) (attempts : settings.attempts < 2 ^ 32) (downs : DownsShort settings) where
     abbrev R : Rules Vars Effect
     R = rules_of y settings
 
@@ -159,9 +161,12 @@ module _ (s : Spec) (consts : List (Name × Data)) (accepted : IsAccepted s cons
     abbrev at : ℕ → Vars
     at n = state_at R y.start entries n
 
-    module _ (made : EntriesMade R f) (good : (n : ℕ) → n ≤ length entries → IsGoodState b (at n)) (values : (n : ℕ) → n ≤ length entries → AllSpellable (at n)) (accounts : (k : ℕ) → Accounts R (Reaches y) run f k) (joint : JointAccounts R run f) where
+    module _ (made : EntriesMade R f) (good : (n : ℕ) → n ≤ length entries → IsGoodState b (at n)) (values : (n : ℕ) → n ≤ length entries → AllSpellable (at n)) (accounts : (k : ℕ) → Accounts R (Reaches y) run f k) (joint : JointAccounts R run f) (reached : DownsReached y f) where
       few_members : length y.members ≤ 64
       few_members = let g = length-map b.instances member_of in let h = keeps.sound.numbered.few_instances in omega (arith, g, h)
+
+      few_resources : length y.resources ≤ 1024
+      few_resources = let g = length-map b.resources resource_of in let h = keeps.sound.numbered.few_resources in omega (arith, g, h)
 
       module _ (p : ℕ) (e : Entry Effect) (h : nth entries p ≡ Some e) where
         low : p ≤ length entries
@@ -223,20 +228,23 @@ module _ (s : Spec) (consts : List (Name × Data)) (accepted : IsAccepted s cons
       resource_there : (r : ℕ) (q : Resource) → nth y.resources r ≡ Some q → IsWrittenResource y.resources r
       resource_there r q at_r = let d = resource_written q (among_nth q y.resources r at_r) in record { resource = q; found = at_r; variable = d.0; index = d.1 }
 
-      record_written : (k i : ℕ) (x : Record) → Told R (Reaches y) run f k i x → IsWrittenRecord y.resources x
-      record_written k i (Step n) t =
+      record_written : (k i : ℕ) (x : Record) → nth (f.records k) i ≡ Some x → Told R (Reaches y) run f k i x → IsWrittenRecord y.resources x
+      record_written k i (Step n) at_i t =
           let q = nth_below entries t.0 t.1 t.3 in
           let same = t.2 in
           let room = joint.room in
           omega (arith, q, same, room, steps)
-      record_written k i (Noted kind p) t = let q = t.2.0 in let room = joint.room in omega (arith, q, room, steps)
-      record_written k i (Held r h) t = (let n = t.1 in omega (arith, n, few_members), go t.2)
+      record_written k i (Noted kind p) at_i t = let q = t.2.0 in let room = joint.room in omega (arith, q, room, steps)
+      record_written k i (Held r h) at_i t = (let n = t.1 in omega (arith, n, few_members), go t.2)
         where
           go : (Reaches y k r × Reaches y h r) ⊎ ((r ≡ journal) × (run ≡ true)) → (r ≡ journal) ⊎ IsWrittenResource y.resources r
           go (inl q) = inr (resource_there r q.0.1 q.0.3)
           go (inr q) = inl q.0
-      record_written k i (Down r o) t = absurd (let z : false ≡ true = ap (λ ds. is_listed ds r o) (sym downs) ∙ t in grind (arith, z))
-      record_written k i (Full n) t = let same : n ≡ settings.steps = t in omega (arith, same, steps)
+      record_written k i (Down r o) at_i t =
+          let q = reached k i r o at_i in
+          let n = nth_below y.resources r q.1 q.3 in
+          (downs r o t, (λ e. omega (arith, n, few_resources, e)), resource_there r q.1 q.3)
+      record_written k i (Full n) at_i t = let same : n ≡ settings.steps = t in omega (arith, same, steps)
 
       pub run_written : (status : ℕ) → AreCanonical consts → SpellsModule (Text (module_of s)) (module_of s) → IsTrue (is_run_status status) → IsWrittenRun (module_of s) (constants_with s consts) y f status
       run_written status given spells is_status =
@@ -264,6 +272,6 @@ module _ (s : Spec) (consts : List (Name × Data)) (accepted : IsAccepted s cons
             instance_count = omega (arith, few_members);
             members = λ k m at_k. member_canonical m (among_nth m y.members k at_k);
             record_count = λ k. (let n = (accounts k).bounded in omega (arith, n, attempts));
-            records = λ k i x q. record_written k i x ((accounts k).told i x q);
+            records = λ k i x q. record_written k i x q ((accounts k).told i x q);
             status_is = is_status;
           }

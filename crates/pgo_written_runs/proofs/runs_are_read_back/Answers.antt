@@ -10,26 +10,26 @@ use Rattle.pgo_written_runs.proofs.TextCounts.{archetypes_short}
 use Rattle.pgo_written_runs.proofs.runs_are_read_back.Goals as goal
 
 pub returns-clause-made : goal.returns-clause-made
-returns-clause-made c text s consts settings run f status spells passes given short steps attempts downs is_status made accounts joint =
+returns-clause-made c text s consts settings run f status spells passes given short steps attempts downs is_status made accounts joint reached =
     let b = bound_of s consts in
     let accepted = c.texts_are_accepted.ensures.accepted text s consts spells passes.names passes.labels passes.binding in
     let spelled = c.read_values_are_canonical.ensures.spellable consts given in
     let counted = c.spellable_values_are_read_back.ensures.all_counted consts spelled in
     let keeps = c.texts_keep_states.ensures.kept text s consts spells passes counted in
     run_written s consts accepted (c.modules_are_written.ensures text s consts spells passes) c.spellable_values_are_read_back.ensures.texts keeps short (archetypes_short text s spells) (c.run_values_are_spellable.ensures.start text s consts spells passes spelled) settings run f steps attempts downs
-    made (c.made_entries_are_runs.ensures.good b settings f keeps made) (λ n le. c.run_values_are_spellable.ensures.made text s consts settings f n spells passes spelled made le) accounts joint
+    made (c.made_entries_are_runs.ensures.good b settings f keeps made) (λ n le. c.run_values_are_spellable.ensures.made text s consts settings f n spells passes spelled made le) accounts joint reached
     status given (c.modules_are_read_back.ensures text s consts spells passes short).spells is_status
 
 pub returns-clause-read_made : goal.returns-clause-read_made
-returns-clause-read_made c text s consts settings run f status spells passes given short steps attempts downs is_status made accounts joint =
-    written_run_is_read (module_of s) (constants_with s consts) (system_of (bound_of s consts)) settings f status (returns-clause-made c text s consts settings run f status spells passes given short steps attempts downs is_status made accounts joint)
+returns-clause-read_made c text s consts settings run f status spells passes given short steps attempts downs is_status made accounts joint reached =
+    written_run_is_read (module_of s) (constants_with s consts) (system_of (bound_of s consts)) settings f status (returns-clause-made c text s consts settings run f status spells passes given short steps attempts downs is_status made accounts joint reached)
 
 pub returns-clause-run : goal.returns-clause-run
 returns-clause-run c text s consts settings turns status spells passes given short steps attempts downs is_status =
     let b = bound_of s consts in
     let counted = c.spellable_values_are_read_back.ensures.all_counted consts (c.read_values_are_canonical.ensures.spellable consts given) in
     let keeps = c.texts_keep_states.ensures.kept text s consts spells passes counted in
-    returns-clause-made c text s consts settings false (finished_of (Core (system_of b) settings turns)) status spells passes given short steps attempts downs is_status (c.bound_accounts.ensures.entries b settings turns keeps) (c.bound_accounts.ensures.accounts b settings turns keeps) (c.bound_accounts.ensures.joint b settings turns keeps)
+    returns-clause-made c text s consts settings false (finished_of (Core (system_of b) settings turns)) status spells passes given short steps attempts downs is_status (c.bound_accounts.ensures.entries b settings turns keeps) (c.bound_accounts.ensures.accounts b settings turns keeps) (c.bound_accounts.ensures.joint b settings turns keeps) (c.pre_commits_are_of_bound_resources.ensures.machine b settings turns keeps)
 
 pub returns-clause-read : goal.returns-clause-read
 returns-clause-read c text s consts settings turns status spells passes given short steps attempts downs is_status =

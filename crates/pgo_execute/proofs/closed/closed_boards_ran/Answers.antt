@@ -27,7 +27,8 @@ returns c text s consts settings entries notes ws bs told spells passes given sh
     let accounts : (k : ℕ) → Accounts (rules_of y settings) (Reaches y) true f k = λ k. law.accounts text s consts settings entries notes ws bs told spells passes counted run k in
     let joint = law.joint text s consts settings entries notes ws bs told spells passes counted run in
     let is_run = c.made_entries_are_runs.ensures.run s consts (module_of s) settings f accepted keeps agrees made in
-    let is_read = c.runs_are_read_back.ensures.read_made text s consts settings true f status spells passes given short steps attempts downs (c.runs_are_read_back.ensures.status y settings f) made accounts joint in
+    let reached = c.pre_commits_are_of_bound_resources.ensures.contended b settings f keeps joint (c.made_entries_are_runs.ensures.good b settings f keeps made) in
+    let is_read = c.runs_are_read_back.ensures.read_made text s consts settings true f status spells passes given short steps attempts downs (c.runs_are_read_back.ensures.status y settings f) made accounts joint reached in
     record {
       sound = c.texts_keep_states.ensures.sound text s consts spells passes counted;
       declared = declared;
@@ -41,6 +42,7 @@ returns c text s consts settings entries notes ws bs told spells passes given sh
       read_run = run_read (module_of s) (constants_with s consts) (ids_of y) b.start f.entries is_run;
       accounts = accounts;
       joint = joint;
+      downs = reached;
       ended = λ _. law.ended text s consts settings entries notes ws bs told spells passes counted run;
       status_is = refl;
       fine = law.fine text s consts settings entries notes ws bs told spells passes counted run;

@@ -75,7 +75,7 @@ returns c =
     let short = subst (λ (m : Module). length (Text m) ≤ 4294967295) made c.in_ok-text.ensures.short in
     let is_status = subst (λ (n : ℕ). IsTrue (is_run_status n)) (sym status) (c.runs_are_read_back.ensures.status (system_of (bound_of s consts)) settings own) in
     let bundle = bundle_of s consts b _ _ settings left.turns c.run_status-status.result c.in_ok-text.text a.bound_is made c.in_ok-constants.ensures (c.in_ok-text.ensures.text settings finished left.is) in
-    let read = c.runs_are_read_back.ensures.read a.text s consts settings left.turns c.run_status-status.result a.spells n c.requires.constants short c.counts_are_short.ensures.steps c.counts_are_short.ensures.attempts c.requires.no_failures is_status in
+    let read = c.runs_are_read_back.ensures.read a.text s consts settings left.turns c.run_status-status.result a.spells n c.requires.constants short c.counts_are_short.ensures.steps c.counts_are_short.ensures.attempts c.counts_are_short.ensures.failures is_status in
     let is_read = subst (λ (w : List ℕ). IsReadBundle w (module_of s) (constants_with s consts) (log_of (system_of (bound_of s consts)) own.entries)) (sym bundle) read in
     let joint = law.joint a.text s consts settings left.turns a.spells n counted in
     let schedule = schedule_view c.args.schedule.now in
@@ -97,6 +97,7 @@ returns c =
         room = joint.room;
         contended = λ e. subst (λ (b : Bound). Contended (rules_of (system_of b) settings) (finished_of (Core (system_of b) settings left.turns))) a.bound_is (left.contended e);
       };
+      downs = c.pre_commits_are_of_bound_resources.ensures.machine (bound_of s consts) settings left.turns (c.texts_keep_states.ensures.kept a.text s consts a.spells n counted);
       ended = λ e. subst (λ (b : Bound). EachEnds (system_of b) settings (finished_of (Core (system_of b) settings left.turns))) a.bound_is (left.ended e);
       status_is = status;
       fine = subst (λ (m : ℕ). (m ≡ 0) ↔ AllDone s consts (last_state (rules_of (system_of (bound_of s consts)) settings) (Core (system_of (bound_of s consts)) settings left.turns))) (sym status) (c.statuses_are_fine.ensures.fine a.text s consts settings left.turns a.spells n counted);

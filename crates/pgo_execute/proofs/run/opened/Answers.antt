@@ -1,10 +1,14 @@
-use Rattle.std.proofs.Common.{ap, sym, subst}
+use Rattle.std.proofs.Common.{IfOk, inl, ap, sym, subst}
 use Rattle.std.proofs.lemmas.Result.{IfOk-weaker}
 use Rattle.pgo_core.specs.Cores.{CoreFits}
 use Rattle.pgo_execute.proofs.Opened.{both_ok, fits_program}
+use Rattle.pgo_links.proofs.Linking.{links_fit, links_numbered}
+use Rattle.pgo_starts.specs.ContentView.{content_shown}
+use Rattle.pgo_workers.specs.Worlds.{layout_of}
 use Rattle.pgo_execute.proofs.run.opened.Goals as goal
 use Rattle.pgo_meaning.specs.System.{system_of}
 use Rattle.pgo_places.specs.Trees.{tree_in}
+use Rattle.pgo_resource.specs.PlainRows.{FitsStart}
 use Rattle.pgo_syntax.specs.RecordView.{settings_view}
 
 pub returns-clause-safe : goal.returns-clause-safe
@@ -23,3 +27,11 @@ returns-clause-fits c =
     (λ core h f. subst (λ x. CoreFits (system_of x.program.bound.now) (tree_in x.program) (settings_view core.settings)) (sym h.0)
     (subst (λ t. CoreFits (system_of p.bound.now) (tree_in p) t) (sym h.1) (fits f)))
     (both_ok c.open.result _ _ c.open.ensures.sections c.open.ensures.settings)
+
+pub open-requires-clause-fit : goal.open-requires-clause-fit
+open-requires-clause-fit c =
+    links_fit content_shown (layout_of (system_of c.args.bound.now)) _ c.in_ok-links.links.items c.in_ok-links.ensures.linked
+    (subst (λ r. IfOk r (λ v. FitsStart content_shown (layout_of (system_of c.args.bound.now)) v.items)) c.in_ok-owns.ensures.second c.contents.ensures.fit)
+
+pub open-requires-clause-numbers : goal.open-requires-clause-numbers
+open-requires-clause-numbers c r l h = inl (links_numbered content_shown _ c.in_ok-links.links.items c.in_ok-links.ensures.linked r l h)

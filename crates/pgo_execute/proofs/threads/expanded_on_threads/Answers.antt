@@ -72,7 +72,7 @@ returns g c =
     c.in_ok-text.ensures.text settings f is
     ∙ (λ i. Bundle (made i) (c.in_ok-constants.ensures i) (system_of (a.bound_is i)) settings (left (system_of (a.bound_is i)) (tree_of (a.bound_is i)) settings es ns l.workers) (status i)) in
     let closed = subst (λ (b : Bound). IsClosedRun (system_of b) (tree_of b) settings es ns l.workers l.boards l.told) a.bound_is l.closed in
-    let ran = c.closed_boards_ran.ensures a.text s consts settings es ns l.workers l.boards l.told a.spells n c.requires.constants short c.counts_are_short.ensures.steps c.counts_are_short.ensures.attempts c.requires.no_failures
+    let ran = c.closed_boards_ran.ensures a.text s consts settings es ns l.workers l.boards l.told a.spells n c.requires.constants short c.counts_are_short.ensures.steps c.counts_are_short.ensures.attempts c.counts_are_short.ensures.failures
     (subst (λ (b : Bound). Declares b b.start) a.bound_is a.declared) closed in
     record {
       left = own;

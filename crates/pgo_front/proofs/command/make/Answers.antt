@@ -4,7 +4,7 @@ use Rattle.pgo_syntax.specs.RecordView.{settings_view}
 use Rattle.pgo_front.specs.Answers.{RefusesSpec}
 use Rattle.pgo_front.specs.Makes.{AsksFor, mode_view}
 use Rattle.pgo_front.proofs.Asking.{input_unread}
-use Rattle.pgo_front.proofs.ConstantValues.{run_constants, run_no_failures}
+use Rattle.pgo_front.proofs.ConstantValues.{run_constants}
 use Rattle.pgo_front.proofs.Loading.{load_lines, load_made, load_refuses, load_stopped}
 use Rattle.pgo_front.proofs.Making.{execution_made, execution_stopped, execution_line, spec_lines, check_made, check_stopped, check_lines, check_refuses, translation_made, translation_stopped, translation_line}
 use Rattle.pgo_front.proofs.command.make.Goals as goal
@@ -15,13 +15,6 @@ make_execution-requires-clause-constants g c κs within =
     let asked = c.in-Ok-Execute in
     let asks = subst (AsksFor words) asked.field-0-is asked.ensures.asks in
     run_constants c.read_values_are_canonical.ensures.value words (mode_view asked.mode) (settings_view asked.settings) asked.consts asks.0
-
-pub make_execution-requires-clause-no_failures : goal.make_execution-requires-clause-no_failures
-make_execution-requires-clause-no_failures g c κs within =
-    let words = c.args.words.now in
-    let asked = c.in-Ok-Execute in
-    let asks = subst (AsksFor words) asked.field-0-is asked.ensures.asks in
-    run_no_failures words (mode_view asked.mode) (settings_view asked.settings) asked.consts asks.0
 
 pub returns-in-Ok-Execute-clause-ok : goal.returns-in-Ok-Execute-clause-ok
 returns-in-Ok-Execute-clause-ok g c =

@@ -33,6 +33,7 @@ returns-in-Ok c =
         seed = c.get_str-in-Ok.ensures ∙ value (codes "seed");
         attempts = c.get_str-in-Ok-2.ensures ∙ value (codes "attempts");
         steps = c.get_str-in-Ok-3.ensures ∙ value (codes "steps");
+        fail = c.get_str-in-Ok-4.ensures ∙ value (codes "fail");
       },
     )
 

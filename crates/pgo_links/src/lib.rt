@@ -1,0 +1,5 @@
+// Contents whose pre-commits may fail.
+#![tactic(auto)]
+
+pub mod link;
+pub mod linked;

@@ -1,0 +1,11 @@
+use Rattle.std.proofs.Common.{length}
+use denote.Text.{Utf8}
+use denote.Shadow.{shadow}
+use Rattle.pgo_words.specs.FailureItems.{ReadsPairs}
+use Rattle.pgo_words.proofs.failures.read_failures.Given as goal
+
+abbrev pub invariant-loop-first : goal.invariant-loop-first
+invariant-loop-first l = shadow (Utf8 l.rest) × ReadsPairs l.fn.text l.pairs.items l.rest
+
+abbrev pub decreases-loop-first : goal.decreases-loop-first
+decreases-loop-first l = length l.rest
