@@ -6,12 +6,14 @@ use std::sync::atomic::{AtomicBool, AtomicU64, AtomicUsize, Ordering};
 /// How often a gate looks before it gives up and lets the turn pass.
 const MOST_LOOKS: u64 = 1_000_000_000;
 
-/// Before this turn an instance waits until the other one has come to a turn of its own.
+/// Before this turn an instance waits until the other one has come to a turn of its own, and then looks so often whether it comes to a
+/// further one.
 #[derive(Clone, Copy)]
 pub struct Delay {
     pub instance: u32,
     pub turn: u64,
     pub until: u64,
+    pub looks: u64,
 }
 
 /// A gate at which turns wait for those of the other instance.
@@ -22,6 +24,7 @@ pub struct WaitingGate<'delays> {
     first: AtomicU64,
     second: AtomicU64,
     gave_up: AtomicBool,
+    went_on: AtomicBool,
 }
 
 impl<'delays> WaitingGate<'delays> {
@@ -32,7 +35,13 @@ impl<'delays> WaitingGate<'delays> {
             first: AtomicU64::new(0),
             second: AtomicU64::new(0),
             gave_up: AtomicBool::new(false),
+            went_on: AtomicBool::new(false),
         }
+    }
+
+    /// Whether, while it was looked at, an instance came to a turn behind the one that was waited for.
+    pub fn went_on(&self) -> bool {
+        self.went_on.load(Ordering::SeqCst)
     }
 
     /// The turns to which both instances came, where no wait was given up.
@@ -56,6 +65,17 @@ impl<'delays> WaitingGate<'delays> {
         }
         self.gave_up.store(true, Ordering::SeqCst);
     }
+
+    /// Looks so often whether an instance comes to a turn behind this one.
+    fn look_at(&self, instance: &AtomicU64, turn: u64, looks: u64) {
+        for _ in 0..looks {
+            if instance.load(Ordering::SeqCst) > turn {
+                self.went_on.store(true, Ordering::SeqCst);
+                return;
+            }
+            spin_loop();
+        }
+    }
 }
 
 impl Gate for WaitingGate<'_> {
@@ -69,6 +89,7 @@ impl Gate for WaitingGate<'_> {
         for delay in self.delays {
             if delay.instance == instance && delay.turn == turn {
                 self.wait_for(other, delay.until);
+                self.look_at(other, delay.until, delay.looks);
             }
         }
     }

@@ -5,7 +5,10 @@ mod answer;
 mod gates;
 mod rows;
 
-use crate::rows::{both_run, is_refused_three_times, none_is_refused, one_is_refused};
+use crate::rows::{
+    blocked_goes_on, blocked_parks, both_run, is_refused_three_times, none_is_refused,
+    one_is_refused,
+};
 use std::io;
 
 fn main(rt: HostRuntime) -> io::Result<()> {
@@ -16,5 +19,10 @@ fn main(rt: HostRuntime) -> io::Result<()> {
         "one is refused three times: {}",
         is_refused_three_times(&rt, alloc)?
     )?;
-    println!(rt; "none is refused: {}", none_is_refused(&rt, alloc)?)
+    println!(rt; "none is refused: {}", none_is_refused(&rt, alloc)?)?;
+    println!(rt; "a blocked one parks: {}", blocked_parks(&rt, alloc)?)?;
+    println!(rt;
+        "without --park it goes on: {}",
+        blocked_goes_on(&rt, alloc)?
+    )
 }

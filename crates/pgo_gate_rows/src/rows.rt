@@ -32,6 +32,21 @@ EXTENDS Integers
 ====
 ";
 
+/// One that adds to a global, and one that waits until it is 1.
+const WAIT: &str = "---- MODULE Wait ----
+EXTENDS Integers
+(*
+--mpcal Wait {
+  archetype A(ref v) { l: v := v + 1; }
+  archetype B(ref v) { l: await v = 1; }
+  variables x = 0;
+  process (P = 1) == instance A(ref x);
+  process (Q = 2) == instance B(ref x);
+}
+*)
+====
+";
+
 /// The records where instance 1 is refused three times.
 const REFUSED: &str = "inst 0 1 done 1
 1 step 1
@@ -50,6 +65,7 @@ pub fn both_run<T: Threads + Wait + Sync>(rt: &T, alloc: Global) -> Result<bool,
         instance: 0,
         turn: 1,
         until: 2,
+        looks: 0,
     }];
     let gate = WaitingGate::new(&delays);
     let answer = Answer::of(rt, alloc, &["run"], COUNTER, &gate)?;
@@ -68,16 +84,19 @@ pub fn is_refused_three_times<T: Threads + Wait + Sync>(
             instance: 1,
             turn: 1,
             until: 2,
+            looks: 0,
         },
         Delay {
             instance: 0,
             turn: 2,
             until: 4,
+            looks: 0,
         },
         Delay {
             instance: 1,
             turn: 4,
             until: 7,
+            looks: 0,
         },
     ];
     let gate = WaitingGate::new(&delays);
@@ -145,4 +164,44 @@ pub fn none_is_refused<T: Threads + Wait + Sync>(
         Some(text) => Ok(!text.as_str().contains("held")),
         None => Ok(false),
     }
+}
+
+/// Instance 0 makes its first turn when instance 1, whose first attempt is blocked, has come to a turn of its own, and so many looks later.
+/// That attempt is four turns: it takes the global, finds that it isn't 1, notes that and gives the global back. Whether instance 1 came to a
+/// further turn in these looks; none where a turn was waited for too long, or the run ended otherwise than a run of these two may.
+fn goes_on<T: Threads + Wait + Sync>(
+    rt: &T,
+    alloc: Global,
+    run: &[&str],
+    until: u64,
+    looks: u64,
+) -> Result<Option<bool>, AllocError> {
+    let delays = [Delay {
+        instance: 0,
+        turn: 1,
+        until,
+        looks,
+    }];
+    let gate = WaitingGate::new(&delays);
+    let answer = Answer::of(rt, alloc, run, WAIT, &gate)?;
+    let has_run = answer.status == 0 || answer.status == 21;
+    let is_blocked = answer.out.as_str().contains("1 note blocked 0\n");
+    if has_run && is_blocked && gate.last_turns().is_some() {
+        Ok(Some(gate.went_on()))
+    } else {
+        Ok(None)
+    }
+}
+
+/// With `--park` a blocked instance comes to no fifth turn before the other one has made one.
+pub fn blocked_parks<T: Threads + Wait + Sync>(rt: &T, alloc: Global) -> Result<bool, AllocError> {
+    Ok(goes_on(rt, alloc, &["run", "--park"], 4, 10_000_000)? == Some(false))
+}
+
+/// Without it, it does.
+pub fn blocked_goes_on<T: Threads + Wait + Sync>(
+    rt: &T,
+    alloc: Global,
+) -> Result<bool, AllocError> {
+    Ok(goes_on(rt, alloc, &["run"], 5, 0)?.is_some())
 }
