@@ -2,9 +2,10 @@
 #
 # Arguments: the sheets, by their names within `folder`, where the files that they include stand too. It prints a script for the
 # shell: `sheet NAME` for each sheet, `wrong LINE TEXT` for a line with no key, `lost LINE TEXT` for a row whose text has not the place
-# that it changes, and `row LINE NUMBER ..` for each other row; before a row with a command that comes first stand
-# `first NUMBER WORDS..` and, for each place that is changed in its output, `place NUMBER OLD NEW`. The row's input, and the output and
-# the error output that it wants, are the files NUMBER.in, NUMBER.out and NUMBER.err of the folder `to`; one that isn't there is empty.
+# that it changes, or not the prefixes that it names, and `row LINE NUMBER ..` for each other row, one for each of its prefixes; before
+# a row with a command that comes first stand `first NUMBER WORDS..` and, for each place that is changed in its output,
+# `place NUMBER OLD NEW`. The row's input, and the output and the error output that it wants, are the files NUMBER.in, NUMBER.out and
+# NUMBER.err of the folder `to`; one that isn't there is empty.
 # What it says of a bundle whose order of turns isn't known is NUMBER.facts.
 # The heads of counters.commands and threads.commands tell the keys of a sheet.
 
@@ -64,7 +65,7 @@ function unescaped(text, at, plain, c) {
 # The command, its streams, the output that is wanted, and how many blanks stand in the place of the text.
 
 function begin_row() {
-  first = words = constants = lines = bytes = facts = blanks = pieces = reads = room = error_writes = ""
+  first = words = constants = lines = bytes = facts = blanks = prefixes = pieces = reads = room = error_writes = ""
   is_wordless = is_whole = 0
 }
 
@@ -76,6 +77,7 @@ function take_of_command(key, text) {
   else if (key == "out" || key == "ends") { lines = lines text "\n"; if (key == "out") is_whole = 1 }
   else if (key == "silent") is_whole = 1
   else if (is_of_bundle(key, text)) facts = facts key (text == "" ? "" : " " text) "\n"
+  else if (key == "prefixes" && text ~ /^[0-9]+\.\.[0-9]+$/) prefixes = text
   else if (key == "rounds" && are_rounds(text)) words = words " " rounds(text)
   else if (key == "first_rounds" && are_rounds(text)) first = first " " rounds(text)
   else return take_number(key, text)
@@ -85,7 +87,7 @@ function take_of_command(key, text) {
 # Whether a line says something of a bundle, for tools/command_rows.bundle.awk.
 function is_of_bundle(key, text, count, kind) {
   count = "[0-9]+(\\.\\.[0-9]*)?"
-  kind = "(step|held|blocked|novalue|assert|full)"
+  kind = "(step|held|down|blocked|novalue|assert|full)"
   if (key == "bundle") return text == ""
   if (key == "instances") return text ~ ("^" count "$")
   if (key == "entries") return text ~ ("^" count "( of ([0-9]+|\\*)( at [A-Za-z0-9_]+)?)?$")
@@ -223,15 +225,26 @@ function with_places(text, i, at) {
 
 # The end of a row: STATUS, or STATUS LINE.
 function end_row(wanted, text) {
-  row++
   text = first == "" ? with_places(changed()) : changed()
   if (index(text, no_place) == 1) print "lost " number " " quoted(text)
+  else if (prefixes != "") print_prefixes(wanted, text)
   else print_row(wanted, text)
   begin_changes()
   begin_row()
 }
 
+# A row for each prefix of the text, with its length in the place of a # of what is wanted.
+function print_prefixes(wanted, text, length_of, at) {
+  split(prefixes, length_of, /\.\./)
+  if (first != "" || length_of[1] + 0 > length_of[2] + 0 || length_of[2] + 0 > length(text)) {
+    print "lost " number " " quoted("no such prefixes: " prefixes)
+    return
+  }
+  for (at = length_of[1] + 0; at <= length_of[2] + 0; at++) print_row(replaced(wanted, "#", at), substr(text, 1, at))
+}
+
 function print_row(wanted, text, blank, status, how, i) {
+  row++
   blank = index(wanted, " ")
   status = blank > 0 ? substr(wanted, 1, blank - 1) : wanted
   how = is_whole ? "whole" : lines != "" ? length(lines) : "any"
