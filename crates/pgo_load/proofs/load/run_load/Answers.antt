@@ -7,12 +7,12 @@ use Rattle.pgo_load.specs.Load.{load_consts, load_settings, load_text}
 use Rattle.pgo_load.proofs.Constants.{constants_canonical}
 use Rattle.pgo_load.proofs.load.run_load.Goals as goal
 
-pub execute-requires-clause-constants : goal.execute-requires-clause-constants
-execute-requires-clause-constants c =
+pub execute-requires : goal.execute-requires
+execute-requires c =
     let size = c.args.size in
     let short : size < 2 ^ 32 = omega arith in
     let same = subst (λ r. IfOk r (λ k. k ≡ load_consts size)) c.in-Ok.ensures.second c.consts_of.ensures in
-    subst AreCanonical (sym same) (constants_canonical size short c.canonical_text_is_value_text.ensures)
+    record { constants = subst AreCanonical (sym same) (constants_canonical size short c.canonical_text_is_value_text.ensures) }
 
 pub returns-in-Ok-clause-ok : goal.returns-in-Ok-clause-ok
 returns-in-Ok-clause-ok c =
