@@ -17,7 +17,7 @@ use Rattle.pgo_sections.specs.Macros.{exec_block, block_read, block_write}
 use Rattle.pgo_sections.specs.Exec.{exec_arm_with}
 use Rattle.pgo_sections.specs.Macros.{no_reads, no_writes}
 use Rattle.pgo_sections.specs.Section.{run_of}
-use Rattle.pgo_sections.specs.SectionRun.{ChoiceMade, SectionRun, begun, chosen, picked_number, printed, Out, Go, Jump, Yielded, Stop, with_value, if_true, picked, go_on}
+use Rattle.pgo_sections.specs.SectionRun.{ChoiceMade, SectionRun, begun, choice_among, chosen, picked_number, printed, Out, Go, Jump, Yielded, Stop, with_value, if_true, picked, go_on}
 
 -- the same end with other choices
 abbrev pub with_out : List ChoiceMade → Out → Out
@@ -47,7 +47,7 @@ chosen_one : (ms : List Data) (d : Words) (f : Data → SectionRun → Out) (run
 chosen_one [] d f run h cs e = (cs, e, refl)
 chosen_one (m ∷ ms) d f run h cs e =
     let n = length (m ∷ ms) in let i = picked_number d run n in
-    let r = h (get_or (m ∷ ms) i m) (chosen n i run) (record { count = n; taken = i } ∷ cs) (ap suc e) in
+    let r = h (get_or (m ∷ ms) i m) (chosen n i run) (choice_among n i ∷ cs) (ap suc e) in
     (r.0, r.1, ap (λ l. f (get_or (m ∷ ms) (pick (d l) n) m) (chosen n (pick (d l) n) (with_choices cs run))) e ∙ r.2)
 
 sequel : (o o' : Out) (f : SectionRun → Out) → Alike o o' → ((run : SectionRun) → Turns f run) → Alike (go_on o f) (go_on o' f)
@@ -78,7 +78,7 @@ mutual
       decided (truth_of (value_of k t env run.changes)) (λ r. exec_block k a env d r) (λ r. exec_block k b env d r) (read_unmapped k t run) (runs_on a k env d (read_unmapped k t run)) (runs_on b k env d (read_unmapped k t run)) cs e
   runs_on (Either arms) k env d run cs e =
       let n = count arms in let i = picked_number d run n in
-      let r = arm_runs_on arms i k env d (chosen n i run) (record { count = n; taken = i } ∷ cs) (ap suc e) in
+      let r = arm_runs_on arms i k env d (chosen n i run) (choice_among n i ∷ cs) (ap suc e) in
       (r.0, r.1, ap (λ l. exec_arm_with no_reads no_writes k arms (pick (d l) n) env d (chosen n (pick (d l) n) (with_choices cs run))) e ∙ r.2)
   runs_on (Seq a b) k env d run cs e =
       sequel (exec_block k a env d run) (exec_block k a env d (with_choices cs run)) (λ r. exec_block k b env d r) (runs_on a k env d run cs e) (λ r. runs_on b k env d r)

@@ -12,3 +12,4 @@ pub mod SystemStates
 pub mod LabelSections
 pub mod Macros
 pub mod Ends
+pub mod Enabled

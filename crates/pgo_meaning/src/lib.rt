@@ -2,13 +2,13 @@
 // system that runs.
 #![tactic(auto)]
 
-ghost use Rattle.std.specs.Prelude.{◌≡◌, ◌↔◌, ℕ, true, List, map, Option, Some, None};
+ghost use Rattle.std.specs.Prelude.{◌≡◌, ◌↔◌, ℕ, true, false, List, map, Option, Some, None};
 ghost use Rattle.std.specs.List.{AllByRecursion};
 ghost use Rattle.pgo_base.specs.Data.{Data, string};
 ghost use Rattle.pgo_base.specs.Lookup.{Name, Names, Vars, find};
 ghost use Rattle.pgo_base.specs.declared.module.Defined.{Defined};
 ghost use Rattle.pgo_model.specs.Machine.{nth};
-ghost use Rattle.pgo_model.specs.Outcome.{Next};
+ghost use Rattle.pgo_model.specs.Outcome.{Blocked, Many, Outcome, Next, Stuck};
 ghost use Rattle.pgo_model.specs.State.{AllValues};
 ghost use Rattle.pgo_model.specs.System.{Words};
 ghost use Rattle.pgo_model.specs.SystemFits.{AreOfResources};
@@ -30,6 +30,8 @@ ghost use Rattle.pgo_sections.specs.Exec.{Gives, if_gives, touching};
 ghost use Rattle.pgo_sections.specs.BoundValues.{bindable, value_under};
 ghost use Rattle.pgo_sections.specs.Macros.{IsMapped, exec, after_read, after_write};
 ghost use Rattle.pgo_sections.specs.SectionRun.{ChoiceMade, SectionRun};
+ghost use Rattle.pgo_tries.specs.Attempts.{is_blocked};
+ghost use Rattle.pgo_meaning.specs.Enabled.{SectTry, IsQuiet, FirstEnds, TooMany, is_many};
 ghost use Rattle.pgo_meaning.specs.Ends.{KeepsElements};
 ghost use Rattle.pgo_meaning.specs.Expansions.{trees_of};
 ghost use Rattle.pgo_meaning.specs.LabelSections.{AreUnlabelled, NoneIsDone};
@@ -132,4 +134,20 @@ pub fn sections_touch()
 pub fn system_states()
     ensures same { (b : Bound) (s : Vars) → Sound b → GlobalsBound b → IsSystemState (system_of b) s ↔ IsStateOnDomains b s }
     ensures bound { (s : Spec) (consts : List (Name × Data)) → RefsDeclared s → GlobalsBound (bound_of s consts) }
+{}
+
+/// An attempt tries the choices of its section one after another: it says which sections have a step.
+///
+/// - `blocked`: with any words it is Blocked exactly where each leaf of the section is Blocked and there are at most 65,536 of them.
+/// - `no_step`: then the section is Blocked with all words, and no step is allowed from there.
+/// - `found`: where it is neither Blocked nor Many it ends as the first leaf that isn't Blocked does, in the order in which choice d
+///   goes round from the arm that word d picks.
+/// - `many`: where it is Many, the first 65,536 leaves are Blocked, and there are more.
+///
+/// Source: this project's choice.
+pub fn attempts_tell()
+    ensures blocked { (b : Bound) (k : ℕ) (s : Vars) (w : Words) → ((SectTry b k s w).end ≡ Stuck Blocked) ↔ IsQuiet b k s }
+    ensures no_step { (b : Bound) (k : ℕ) (s : Vars) (w : Words) → (SectTry b k s w).end ≡ Stuck Blocked → ((v : Words) → (Sect b k s v).end ≡ Stuck Blocked) × ((t : Vars) → Allows b k s t → ⊥) }
+    ensures found { (b : Bound) (k : ℕ) (s : Vars) (w : Words) (o : Outcome Vars) → (SectTry b k s w).end ≡ o → is_blocked o ≡ false → is_many o ≡ false → FirstEnds b k s w o }
+    ensures many { (b : Bound) (k : ℕ) (s : Vars) (w : Words) → (SectTry b k s w).end ≡ Stuck Many → TooMany b k s w }
 {}

@@ -3,7 +3,7 @@ use Rattle.std.specs.Prelude.{ℕ, suc, nat_eq, if◌then◌else◌, List, [], �
 use Rattle.pgo_base.specs.Data.{Data}
 use Rattle.pgo_base.specs.Lookup.{Name, Vars}
 use Rattle.pgo_model.specs.ValueText.{value_text}
-use Rattle.pgo_model.specs.Outcome.{Kind, Blocked, NoValue, AssertFails}
+use Rattle.pgo_model.specs.Outcome.{Kind, Blocked, NoValue, AssertFails, Many}
 use Rattle.pgo_model.specs.System.{System, Member, Resource}
 use Rattle.pgo_model.specs.Machine.{Entry, Record, Step, Noted, Held, Down, Full, Finished, nth}
 use Rattle.pgo_model.specs.Accounts.{journal}
@@ -42,10 +42,19 @@ abbrev pub entries_lines : ℕ → List (Entry Effect) → List Line
 entries_lines n [] = []
 entries_lines n (e ∷ es) = entry_lines n e ++ entries_lines (suc n) es
 
+-- the kind of a note; where it found too many leaves, the number of those that it tried (`most_leaves`)
 abbrev pub kind_text : Kind → List ℕ
 kind_text Blocked = codes "blocked"
 kind_text NoValue = codes "novalue"
 kind_text AssertFails = codes "assert"
+kind_text Many = codes "65536"
+
+-- the word before that
+abbrev pub note_word : Kind → List ℕ
+note_word Blocked = codes "note"
+note_word NoValue = codes "note"
+note_word AssertFails = codes "note"
+note_word Many = codes "many"
 
 abbrev pub resource_text : Option Resource → List ℕ
 resource_text None = []
@@ -57,7 +66,7 @@ refused_text rs r = if nat_eq r journal then codes "$log" else resource_text (nt
 
 abbrev pub record_fields : List Resource → Record → List (List ℕ)
 record_fields rs (Step n) = codes "step" ∷ decimal n ∷ []
-record_fields rs (Noted kind p) = codes "note" ∷ kind_text kind ∷ decimal p ∷ []
+record_fields rs (Noted kind p) = note_word kind ∷ kind_text kind ∷ decimal p ∷ []
 record_fields rs (Held r h) = codes "held" ∷ decimal h ∷ refused_text rs r ∷ []
 record_fields rs (Down r o) = codes "down" ∷ decimal o ∷ refused_text rs r ∷ []
 record_fields rs (Full n) = codes "full" ∷ decimal n ∷ []

@@ -3,7 +3,7 @@ use Rattle.std.specs.Prelude.{◌≡◌, ℕ, suc, Bool, true, false, ◌||◌, 
 use Rattle.pgo_base.specs.Data.{Data, string}
 use Rattle.pgo_base.specs.Lookup.{Name, Vars, same_name}
 use Rattle.pgo_model.specs.Operators.{same_data}
-use Rattle.pgo_model.specs.Outcome.{Blocked, NoValue, AssertFails, Section}
+use Rattle.pgo_model.specs.Outcome.{Blocked, NoValue, AssertFails, Many, Section}
 use Rattle.pgo_model.specs.System.{System, Member, Resource, Touched}
 use Rattle.pgo_model.specs.Variables.{place_of}
 use Rattle.pgo_model.specs.Options.{on}
@@ -85,6 +85,7 @@ end_by (Step n ∷ []) = None
 end_by (Noted Blocked p ∷ []) = None
 end_by (Noted NoValue p ∷ []) = Some Stopped
 end_by (Noted AssertFails p ∷ []) = Some Stopped
+end_by (Noted Many p ∷ []) = None
 end_by (Held r h ∷ []) = None
 end_by (Down r o ∷ []) = None
 end_by (Full n ∷ []) = Some JournalFull

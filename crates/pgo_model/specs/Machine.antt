@@ -3,7 +3,7 @@
 use Rattle.std.specs.Prelude.{ℕ, zero, suc, Bool, true, false, if◌then◌else◌, nat_eq, nat_lt, List, [], ◌∷◌, ◌++◌, length, Option, Some, None}
 use Rattle.pgo_base.specs.Data.{Data}
 pub use Rattle.pgo_base.specs.Lookup.{nth}
-use Rattle.pgo_model.specs.Outcome.{Kind, Blocked, NoValue, AssertFails, Outcome, Next, Stuck, Nowhere, Section}
+use Rattle.pgo_model.specs.Outcome.{Kind, Blocked, NoValue, AssertFails, Many, Outcome, Next, Stuck, Nowhere, Section}
 
 -- what the machine stands on: S are the states, D what an entry records; resources and instances are numbers
 pub record Rules (S D : Type 0) : Type 0 where
@@ -102,6 +102,7 @@ last_ends (Step n ∷ []) = false
 last_ends (Noted Blocked p ∷ []) = false
 last_ends (Noted NoValue p ∷ []) = true
 last_ends (Noted AssertFails p ∷ []) = true
+last_ends (Noted Many p ∷ []) = false
 last_ends (Held r h ∷ []) = false
 last_ends (Down r o ∷ []) = false
 last_ends (Full n ∷ []) = true

@@ -1,7 +1,7 @@
 -- What a further record does to the accounts of a machine.
 use Rattle.std.proofs.Common.{◌≡◌, ◌≤◌, ◌<◌, ℕ, zero, suc, ◌+◌, Bool, true, false, List, [], ◌∷◌, ◌++◌, length, Some, refl, sym, ap, ◌∙◌, subst, arith, ◌⊎◌, inl, inr, length-append}
 use Rattle.std.specs.Prelude.{if◌then◌else◌, nat_eq}
-use Rattle.pgo_model.specs.Outcome.{Kind, Blocked, NoValue, AssertFails, Next}
+use Rattle.pgo_model.specs.Outcome.{Kind, Blocked, NoValue, AssertFails, Many, Next}
 use Rattle.pgo_model.specs.Machine.{Rules, Entry, Note, Record, Step, Noted, Held, Down, Full, Worker, Machine, last_ends, nth, put, state_at, finished_of, with_record, opened, stopped}
 use Rattle.pgo_model.specs.Accounts.{at, ComesAfter, outcome, Told, Accounts, JointAccounts, StepsAreSections}
 use Rattle.pgo_model.specs.MachineLists.{nth_left, nth_last, nth_below, nth_end, state_below}
@@ -21,6 +21,7 @@ skip (Step n) z l = refl
 skip (Noted Blocked p) z l = refl
 skip (Noted NoValue p) z l = refl
 skip (Noted AssertFails p) z l = refl
+skip (Noted Many p) z l = refl
 skip (Held r h) z l = refl
 skip (Down r o) z l = refl
 skip (Full n) z l = refl

@@ -1,9 +1,13 @@
--- How a section ends.
-use Rattle.std.specs.Prelude.{List}
+-- How a section ends. `Many`: so many of its leaves as are tried are Blocked, and there are more.
+use Rattle.std.specs.Prelude.{ℕ, List}
 use Rattle.pgo_base.specs.Data.{Data}
 
 pub data Kind : Type 0 where
-  Blocked NoValue AssertFails : Kind
+  Blocked NoValue AssertFails Many : Kind
+
+-- how many leaves an attempt tries at most
+abbrev pub most_leaves : ℕ
+most_leaves = 65536
 
 -- `Nowhere`: the instance is at no label of its process
 pub data Outcome (S : Type 0) : Type 0 where

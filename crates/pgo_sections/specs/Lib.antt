@@ -20,3 +20,5 @@ pub mod SectionsAgree
 pub mod Closed
 pub mod PlainTest
 pub mod Domains
+pub mod ChoiceTrees
+pub mod Kinds

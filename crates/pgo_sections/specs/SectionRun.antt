@@ -1,15 +1,11 @@
 -- What goes along a section, and how code ends.
-use Rattle.std.specs.Prelude.{ℕ, Bool, true, false, List, [], ◌∷◌, ◌++◌, length, get_or, Option, Some, None}
+use Rattle.std.specs.Prelude.{ℕ, zero, suc, Bool, true, false, List, [], ◌∷◌, ◌++◌, length, get_or, Option, Some, None}
 use Rattle.pgo_base.specs.Data.{Data}
 use Rattle.pgo_base.specs.Lookup.{Name, Vars}
 use Rattle.pgo_model.specs.Choice.{pick}
 use Rattle.pgo_model.specs.Outcome.{Kind, Blocked, NoValue}
 use Rattle.pgo_model.specs.System.{Words, Touched}
-
--- a choice that was made: of how many, and the number of the one that was taken
-pub record ChoiceMade : Type 0 where
-  pub count : ℕ
-  pub taken : ℕ
+pub use Rattle.pgo_tries.specs.Chosen.{ChoiceMade}
 
 -- each variable that changed with its value, at the identifier where it is the instance's own, the newest first; the reads and
 -- writes of resources, in order; the choices that were made, the newest first; and what was printed
@@ -41,8 +37,13 @@ words_used run = length run.choices
 abbrev pub picked_number : Words → SectionRun → ℕ → ℕ
 picked_number d run n = pick (d (words_used run)) n
 
+-- what has no arm counts as a choice of one
+abbrev pub choice_among : ℕ → ℕ → ChoiceMade
+choice_among zero i = record { count = 1; taken = 0 }
+choice_among (suc n) i = record { count = suc n; taken = i }
+
 abbrev pub chosen : ℕ → ℕ → SectionRun → SectionRun
-chosen n i run = record run { choices = record { count = n; taken = i } ∷ run.choices }
+chosen n i run = record run { choices = choice_among n i ∷ run.choices }
 
 -- ---- how code ends: each way with what went before
 pub data Out : Type 0 where

@@ -2,13 +2,14 @@
 use Rattle.std.proofs.Common.{◌≡◌, ℕ, zero, suc, List, [], ◌∷◌, length, map, get_or, refl, ◌∙◌, arith}
 use Rattle.pgo_model.specs.Core.{end_by}
 use Rattle.pgo_model.specs.Machine.{Record, Step, Noted, Held, Down, Full}
-use Rattle.pgo_model.specs.Outcome.{Blocked, NoValue, AssertFails}
+use Rattle.pgo_model.specs.Outcome.{Blocked, NoValue, AssertFails, Many}
 
 pub end_by_last : (x z : Record) (l : List Record) → end_by (x ∷ (z ∷ l)) ≡ end_by (z ∷ l)
 end_by_last (Step n) z l = refl
 end_by_last (Noted Blocked p) z l = refl
 end_by_last (Noted NoValue p) z l = refl
 end_by_last (Noted AssertFails p) z l = refl
+end_by_last (Noted Many p) z l = refl
 end_by_last (Held r h) z l = refl
 end_by_last (Down r o) z l = refl
 end_by_last (Full n) z l = refl

@@ -11,7 +11,7 @@ use Rattle.pgo_syntax.specs.declared.records.Record as records
 use Rattle.pgo_syntax.specs.declared.records.End.{End}
 use Rattle.pgo_syntax.specs.declared.records.End.TheVariants as ends
 use Rattle.pgo_syntax.specs.declared.records.Settings as settings
-use Rattle.pgo_model.specs.Outcome.{Kind, Blocked, NoValue, AssertFails}
+use Rattle.pgo_model.specs.Outcome.{Kind, Blocked, NoValue, AssertFails, Many}
 use Rattle.pgo_model.specs.Machine.{Note, Record, Step, Noted, Held, Down, Full}
 use Rattle.pgo_model.specs.Core as core
 use Rattle.pgo_model.specs.Core.{Settings}
@@ -20,6 +20,7 @@ abbrev pub kind_view : kinds.NoteKind → Kind
 kind_view kind.Blocked = Blocked
 kind_view kind.NoValue = NoValue
 kind_view kind.AssertFails = AssertFails
+kind_view kind.Many = Many
 
 abbrev pub note_view : notes.Note → Note
 note_view n = record { instance = n.instance; attempt = n.attempt; kind = kind_view n.kind; position = n.position }
@@ -28,6 +29,7 @@ abbrev pub refusal_view : refusals.Refusal → Record
 refusal_view (refusal.Held r h) = Held r h
 refusal_view (refusal.Down r o) = Down r o
 refusal_view (refusal.Full n) = Full n
+refusal_view (refusal.Many leaves n) = Noted Many n
 
 abbrev pub result_view : results.AttemptResult → Record
 result_view (result.Step n) = Step n

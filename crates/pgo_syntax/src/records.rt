@@ -14,6 +14,8 @@ pub enum NoteKind {
     Blocked,
     NoValue,
     AssertFails,
+    /// so many of its choices as are tried are blocked, and there are more
+    Many,
 }
 
 /// An attempt that found no end, with the number of entries before it.
@@ -37,6 +39,8 @@ pub enum Refusal {
     Down { resource: u32, op: u32 },
     /// the journal has so many entries, and room for no more
     Full { entries: u32 },
+    /// so many of its choices were blocked, with so many entries before its note, and there are more
+    Many { leaves: u32, position: u32 },
 }
 
 /// What became of an attempt: entry n (from 1), a note with n entries before it, or a refusal.
@@ -76,7 +80,7 @@ impl AttemptResult {
     {
         match self {
             AttemptResult::Noted {
-                kind: NoteKind::Blocked,
+                kind: NoteKind::Blocked | NoteKind::Many,
                 ..
             } => None,
             AttemptResult::Noted { .. } => Some(End::Stopped),
