@@ -9,7 +9,7 @@ use Rattle.pgo_model.specs.Log.{Effect}
 use Rattle.pgo_model.specs.Machine.{Finished, Record, Step, Noted, Held, Down, Full, last_ends, nth, state_at}
 use Rattle.pgo_model.specs.Names.{same_name-self}
 use Rattle.pgo_model.specs.Options.{on}
-use Rattle.pgo_model.specs.Outcome.{Blocked, NoValue, AssertFails}
+use Rattle.pgo_model.specs.Outcome.{Blocked, NoValue, AssertFails, Many}
 use Rattle.pgo_model.specs.System.{Member, System}
 use Rattle.pgo_model.specs.Variables.{place_of}
 use Rattle.pgo_model.specs.Written.{done}
@@ -21,6 +21,7 @@ goes_past (Step n) z l = (refl, refl)
 goes_past (Noted Blocked p) z l = (refl, refl)
 goes_past (Noted NoValue p) z l = (refl, refl)
 goes_past (Noted AssertFails p) z l = (refl, refl)
+goes_past (Noted Many p) z l = (refl, refl)
 goes_past (Held r h) z l = (refl, refl)
 goes_past (Down r o) z l = (refl, refl)
 goes_past (Full n) z l = (refl, refl)
@@ -30,6 +31,7 @@ one_ends (Step n) e = refl
 one_ends (Noted Blocked p) e = refl
 one_ends (Noted NoValue p) e = absurd (grind (arith, e))
 one_ends (Noted AssertFails p) e = absurd (grind (arith, e))
+one_ends (Noted Many p) e = refl
 one_ends (Held r h) e = refl
 one_ends (Down r o) e = refl
 one_ends (Full n) e = absurd (grind (arith, e))

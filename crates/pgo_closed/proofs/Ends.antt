@@ -4,7 +4,7 @@ use Rattle.std.specs.Prelude.{if◌then◌else◌}
 use Rattle.pgo_model.specs.Core.{End, end_by, end_or_spent}
 use Rattle.pgo_model.specs.Core as core
 use Rattle.pgo_model.specs.Machine.{Record, Step, Noted, Held, Down, Full, last_ends}
-use Rattle.pgo_model.specs.Outcome.{Blocked, NoValue, AssertFails}
+use Rattle.pgo_model.specs.Outcome.{Blocked, NoValue, AssertFails, Many}
 
 -- a last record that ends an instance shows an end
 shows_end : (xs : List Record) → last_ends xs ≡ true → (e : End) × (end_by xs ≡ Some e)
@@ -13,6 +13,7 @@ shows_end (Step n ∷ []) h = absurd (grind (arith, h))
 shows_end (Noted Blocked p ∷ []) h = absurd (grind (arith, h))
 shows_end (Noted NoValue p ∷ []) h = (core.Stopped, refl)
 shows_end (Noted AssertFails p ∷ []) h = (core.Stopped, refl)
+shows_end (Noted Many p ∷ []) h = absurd (grind (arith, h))
 shows_end (Held r o ∷ []) h = absurd (grind (arith, h))
 shows_end (Down r o ∷ []) h = absurd (grind (arith, h))
 shows_end (Full n ∷ []) h = (core.JournalFull, refl)
@@ -20,6 +21,7 @@ shows_end (Step n ∷ (y ∷ xs)) h = shows_end (y ∷ xs) h
 shows_end (Noted Blocked p ∷ (y ∷ xs)) h = shows_end (y ∷ xs) h
 shows_end (Noted NoValue p ∷ (y ∷ xs)) h = shows_end (y ∷ xs) h
 shows_end (Noted AssertFails p ∷ (y ∷ xs)) h = shows_end (y ∷ xs) h
+shows_end (Noted Many p ∷ (y ∷ xs)) h = shows_end (y ∷ xs) h
 shows_end (Held r o ∷ (y ∷ xs)) h = shows_end (y ∷ xs) h
 shows_end (Down r o ∷ (y ∷ xs)) h = shows_end (y ∷ xs) h
 shows_end (Full n ∷ (y ∷ xs)) h = shows_end (y ∷ xs) h

@@ -30,6 +30,7 @@ refused_by (Some (refusals.Held q j)) k cs r h is e = go (nat_eq j k) is
     go true is = absurd (grind (arith, is))
     go false is = let a : q ≡ r = grind (arith, e) in let b : j ≡ h = grind (arith, e) in (λ i. among (sym a i) (taken_of (taken_by (sym b i) cs))) ∙ is
 refused_by (Some (refusals.Down q o)) k cs r h is e = absurd (grind (arith, e))
+refused_by (Some (refusals.Many leaves at)) k cs r h is e = absurd (grind (arith, e))
 refused_by (Some (refusals.Full n)) k cs r h is e = absurd (grind (arith, e))
 
 module _ {R : Type 0} {g : Ghosts R} where

@@ -246,4 +246,5 @@ module _ {R : Type 0} {g : Ghosts R} (a : ExclusiveBoard R g) where
                 far : nat_eq h a.current ≡ false → h ≡ a.current → ⊥
                 far z w = grind (arith, z, w)
         go (Some (refusals.Down q o)) e = refl
+        go (Some (refusals.Many leaves at)) e = refl
         go (Some (refusals.Full n)) e = refl

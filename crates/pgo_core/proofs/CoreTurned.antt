@@ -8,7 +8,7 @@ use Rattle.pgo_model.specs.Core as core
 use Rattle.pgo_model.specs.Log.{Effect}
 use Rattle.pgo_model.specs.Machine.{Rules, Machine, Record, Step, Noted, Held, Down, Full, nth, last_ends, last_state, step, opened, after_turns}
 use Rattle.pgo_model.specs.MachineAccounts.{equal_or}
-use Rattle.pgo_model.specs.Outcome.{Blocked, NoValue, AssertFails}
+use Rattle.pgo_model.specs.Outcome.{Blocked, NoValue, AssertFails, Many}
 use Rattle.pgo_model.specs.System.{System}
 use Rattle.pgo_model.specs.Written.{pc, done}
 use Rattle.pgo_syntax.specs.RecordView.{kind_view, result_view, settings_view, refusal_view}
@@ -83,6 +83,7 @@ spec_of turns.NoMemory = spec.Idle
 told_refused : (x : Refusal) → law.record_of (refusal_turn x) ≡ refusal_view x ∷ []
 told_refused (refusals.Held r h) = refl
 told_refused (refusals.Down r o) = refl
+told_refused (refusals.Many leaves at) = refl
 told_refused (refusals.Full n) = refl
 
 told_is : (t : Turn) → law.record_of (spec_of t) ≡ told t
@@ -102,6 +103,7 @@ ends_so (Step n ∷ []) e = refl
 ends_so (Noted Blocked p ∷ []) e = refl
 ends_so (Noted NoValue p ∷ []) e = absurd (grind (arith, e))
 ends_so (Noted AssertFails p ∷ []) e = absurd (grind (arith, e))
+ends_so (Noted Many p ∷ []) e = refl
 ends_so (Held r h ∷ []) e = refl
 ends_so (Down r o ∷ []) e = refl
 ends_so (Full n ∷ []) e = absurd (grind (arith, e))
@@ -109,6 +111,7 @@ ends_so (Step n ∷ (y ∷ xs)) e = ends_so (y ∷ xs) e
 ends_so (Noted Blocked p ∷ (y ∷ xs)) e = ends_so (y ∷ xs) e
 ends_so (Noted NoValue p ∷ (y ∷ xs)) e = ends_so (y ∷ xs) e
 ends_so (Noted AssertFails p ∷ (y ∷ xs)) e = ends_so (y ∷ xs) e
+ends_so (Noted Many p ∷ (y ∷ xs)) e = ends_so (y ∷ xs) e
 ends_so (Held r h ∷ (y ∷ xs)) e = ends_so (y ∷ xs) e
 ends_so (Down r o ∷ (y ∷ xs)) e = ends_so (y ∷ xs) e
 ends_so (Full n ∷ (y ∷ xs)) e = ends_so (y ∷ xs) e
@@ -119,6 +122,7 @@ ends_too (Step n ∷ []) x e = absurd (grind (arith, e))
 ends_too (Noted Blocked p ∷ []) x e = absurd (grind (arith, e))
 ends_too (Noted NoValue p ∷ []) x e = refl
 ends_too (Noted AssertFails p ∷ []) x e = refl
+ends_too (Noted Many p ∷ []) x e = absurd (grind (arith, e))
 ends_too (Held r h ∷ []) x e = absurd (grind (arith, e))
 ends_too (Down r o ∷ []) x e = absurd (grind (arith, e))
 ends_too (Full n ∷ []) x e = refl
@@ -126,6 +130,7 @@ ends_too (Step n ∷ (y ∷ xs)) x e = ends_too (y ∷ xs) x e
 ends_too (Noted Blocked p ∷ (y ∷ xs)) x e = ends_too (y ∷ xs) x e
 ends_too (Noted NoValue p ∷ (y ∷ xs)) x e = ends_too (y ∷ xs) x e
 ends_too (Noted AssertFails p ∷ (y ∷ xs)) x e = ends_too (y ∷ xs) x e
+ends_too (Noted Many p ∷ (y ∷ xs)) x e = ends_too (y ∷ xs) x e
 ends_too (Held r h ∷ (y ∷ xs)) x e = ends_too (y ∷ xs) x e
 ends_too (Down r o ∷ (y ∷ xs)) x e = ends_too (y ∷ xs) x e
 ends_too (Full n ∷ (y ∷ xs)) x e = ends_too (y ∷ xs) x e

@@ -42,6 +42,7 @@ abbrev pub last_of : Option Refusal → Option view.Refusal
 last_of None = None
 last_of (Some (refusals.Held r h)) = Some (view.IsHeld r h)
 last_of (Some (refusals.Down r o)) = None
+last_of (Some (refusals.Many leaves at)) = None
 last_of (Some (refusals.Full n)) = Some (view.IsFull n)
 
 -- where it was refused by a holder, that is another instance, and holds it
@@ -49,6 +50,7 @@ abbrev pub is_refused : Option Refusal → ℕ → List Claim → Bool
 is_refused None k cs = true
 is_refused (Some (refusals.Held r h)) k cs = if nat_eq h k then false else among r (taken_of (taken_by h cs))
 is_refused (Some (refusals.Down r o)) k cs = true
+is_refused (Some (refusals.Many leaves at)) k cs = true
 is_refused (Some (refusals.Full n)) k cs = true
 
 -- what instance j sees of these claims, contents and journal

@@ -6,7 +6,7 @@ use Rattle.pgo_base.specs.Data.{Data}
 use Rattle.pgo_base.specs.Lookup.{Name, Vars}
 use Rattle.pgo_model.specs.Log.{Owner, OfResource, OfInstance, Unowned, Component, Change, Effect}
 use Rattle.pgo_model.specs.Machine.{Entry, Note}
-use Rattle.pgo_model.specs.Outcome.{Kind, Blocked, NoValue, AssertFails}
+use Rattle.pgo_model.specs.Outcome.{Kind, Blocked, NoValue, AssertFails, Many}
 use Rattle.pgo_journal.specs.Journal.{JournalView}
 
 abbrev owner_number : Owner → ℕ × ℕ
@@ -47,16 +47,19 @@ abbrev kind_number : Kind → ℕ
 kind_number Blocked = 0
 kind_number NoValue = 1
 kind_number AssertFails = 2
+kind_number Many = 3
 
 abbrev kind_from : ℕ → Kind
 kind_from zero = Blocked
 kind_from (suc zero) = NoValue
-kind_from (suc (suc n)) = AssertFails
+kind_from (suc (suc zero)) = AssertFails
+kind_from (suc (suc (suc n))) = Many
 
 pub kind_back : (k : Kind) → kind_from (kind_number k) ≡ k
 kind_back Blocked = refl
 kind_back NoValue = refl
 kind_back AssertFails = refl
+kind_back Many = refl
 
 abbrev pub coded_kind : Coded Kind
 coded_kind = code_by ℕ coded_ℕ kind_number kind_from kind_back

@@ -6,7 +6,7 @@ use Rattle.pgo_base.specs.Data.{Data}
 use Rattle.pgo_base.specs.Lookup.{Name}
 use Rattle.pgo_model.specs.ValueText.{is_word_byte, all_word_bytes}
 use Rattle.pgo_model.specs.ModuleText.{line, flatten}
-use Rattle.pgo_model.specs.Outcome.{Kind, Blocked, NoValue, AssertFails}
+use Rattle.pgo_model.specs.Outcome.{Kind, Blocked, NoValue, AssertFails, Many}
 use Rattle.pgo_model.specs.Bundle.{fields, indexed_text}
 use Rattle.pgo_model.specs.BundleParts.{is_read_name}
 use Rattle.pgo_value_text.proofs.Steps.{if_some, cond_false, bind_then, then_at, some_pair}
@@ -38,6 +38,7 @@ word_text StepWord = codes "step "
 word_text (NoteWord Blocked) = codes "note blocked "
 word_text (NoteWord NoValue) = codes "note novalue "
 word_text (NoteWord AssertFails) = codes "note assert "
+word_text (NoteWord Many) = codes "many 65536 "
 word_text FullWord = codes "full "
 
 abbrev said_by : NumberWord → ℕ → AttemptLine
@@ -53,13 +54,15 @@ word_some bs u r e =
     (λ _ e. if_some (begins (codes "note blocked ") bs) _ _ (u, r) G e (λ _ e. (NoteWord Blocked, expected (codes "note blocked ") bs u r e))
     (λ _ e. if_some (begins (codes "note novalue ") bs) _ _ (u, r) G e (λ _ e. (NoteWord NoValue, expected (codes "note novalue ") bs u r e))
     (λ _ e. if_some (begins (codes "note assert ") bs) _ _ (u, r) G e (λ _ e. (NoteWord AssertFails, expected (codes "note assert ") bs u r e))
-    (λ _ e. (FullWord, expected (codes "full ") bs u r e)))))
+    (λ _ e. if_some (begins (codes "many 65536 ") bs) _ _ (u, r) G e (λ _ e. (NoteWord Many, expected (codes "many 65536 ") bs u r e))
+    (λ _ e. (FullWord, expected (codes "full ") bs u r e))))))
 
 word_said : (w : NumberWord) (n : ℕ) (r : List ℕ) → word_text w ++ (decimal n ++ 10 ∷ r) ≡ fields (attempt_fields (said_by w n)) ++ 10 ∷ r
 word_said StepWord n r = sym (append_assoc (codes "step ") (decimal n) (10 ∷ r))
 word_said (NoteWord Blocked) n r = sym (append_assoc (codes "note blocked ") (decimal n) (10 ∷ r))
 word_said (NoteWord NoValue) n r = sym (append_assoc (codes "note novalue ") (decimal n) (10 ∷ r))
 word_said (NoteWord AssertFails) n r = sym (append_assoc (codes "note assert ") (decimal n) (10 ∷ r))
+word_said (NoteWord Many) n r = sym (append_assoc (codes "many 65536 ") (decimal n) (10 ∷ r))
 word_said FullWord n r = sym (append_assoc (codes "full ") (decimal n) (10 ∷ r))
 
 said_valid : (w : NumberWord) (n : ℕ) → n < 2 ^ 32 → IsAttemptLine (said_by w n)
@@ -181,6 +184,7 @@ form_finds (StepLine n) r h = ap attempt_form (sym (word_said StepWord n r)) ∙
 form_finds (NoteLine Blocked n) r h = ap attempt_form (sym (word_said (NoteWord Blocked) n r)) ∙ then_at _ _ _ n r (last_number_finds n r h) refl
 form_finds (NoteLine NoValue n) r h = ap attempt_form (sym (word_said (NoteWord NoValue) n r)) ∙ then_at _ _ _ n r (last_number_finds n r h) refl
 form_finds (NoteLine AssertFails n) r h = ap attempt_form (sym (word_said (NoteWord AssertFails) n r)) ∙ then_at _ _ _ n r (last_number_finds n r h) refl
+form_finds (NoteLine Many n) r h = ap attempt_form (sym (word_said (NoteWord Many) n r)) ∙ then_at _ _ _ n r (last_number_finds n r h) refl
 form_finds (FullLine n) r h = ap attempt_form (sym (word_said FullWord n r)) ∙ then_at _ _ _ n r (last_number_finds n r h) refl
 form_finds (HeldLogLine k) r h = ap attempt_form (sym (log_nest (codes "held ") (decimal k) r)) ∙ then_at _ _ _ k (codes "$log\n" ++ r) (number_field_finds k (codes "$log\n" ++ r) h) refl
 form_finds (HeldLine k x o) r h =

@@ -10,7 +10,7 @@ use Rattle.pgo_model.specs.Core.{End}
 use Rattle.pgo_model.specs.Log.{Unowned, Change, Effect, Log}
 use Rattle.pgo_model.specs.Module.{Module}
 use Rattle.pgo_model.specs.ModuleText.{Line, line, flatten}
-use Rattle.pgo_model.specs.Bundle.{fields, indexed_text, kind_text, end_text, value_line, entries_lines}
+use Rattle.pgo_model.specs.Bundle.{fields, indexed_text, kind_text, note_word, end_text, value_line, entries_lines}
 use Rattle.pgo_model.specs.BundleParts.{count_limit, is_read_name, is_run_status}
 use Rattle.pgo_value_text.specs.IsValueText.{IsValueText}
 use Rattle.pgo_module_spells.specs.Spells.{SpellsModule}
@@ -76,7 +76,7 @@ pub data AttemptLine : Type 0 where
 
 abbrev pub attempt_fields : AttemptLine → List (List ℕ)
 attempt_fields (StepLine n) = codes "step" ∷ decimal n ∷ []
-attempt_fields (NoteLine kind p) = codes "note" ∷ kind_text kind ∷ decimal p ∷ []
+attempt_fields (NoteLine kind p) = note_word kind ∷ kind_text kind ∷ decimal p ∷ []
 attempt_fields (HeldLine h x i) = codes "held" ∷ decimal h ∷ indexed_text x i ∷ []
 attempt_fields (HeldLogLine h) = codes "held" ∷ decimal h ∷ codes "$log" ∷ []
 attempt_fields (DownLine o x i) = codes "down" ∷ decimal o ∷ indexed_text x i ∷ []

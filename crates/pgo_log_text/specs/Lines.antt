@@ -182,6 +182,7 @@ number_word bs =
     else if begins (codes "note blocked ") bs then expect (codes "note blocked ") bs
     else if begins (codes "note novalue ") bs then expect (codes "note novalue ") bs
     else if begins (codes "note assert ") bs then expect (codes "note assert ") bs
+    else if begins (codes "many 65536 ") bs then expect (codes "many 65536 ") bs
     else expect (codes "full ") bs
 
 unfoldable pub number_form : Parser (Unit {0})

@@ -26,10 +26,13 @@ fn number_word(cursor: &mut Cursor<'_>) -> Result<(), LineStop>
     if cursor.begins(b"note assert ") {
         return cursor.expect(b"note assert ");
     }
+    if cursor.begins(b"many 65536 ") {
+        return cursor.expect(b"many 65536 ");
+    }
     cursor.expect(b"full ")
 }
 
-/// `step n`, `note blocked n`, `note novalue n`, `note assert n` or `full n`.
+/// `step n`, `note blocked n`, `note novalue n`, `note assert n`, `many 65536 n` or `full n`.
 #[tactic(auto, unfolding(crate::specs::Lines::number_form))]
 fn number_form(cursor: &mut Cursor<'_>) -> Result<(), LineStop>
     ensures { Reads (spec.number_form cursor.old) result cursor.new }

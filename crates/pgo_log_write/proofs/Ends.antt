@@ -3,7 +3,7 @@ use Rattle.std.proofs.Common.{◌≡◌, Bool, true, false, List, [], ◌∷◌,
 use Rattle.std.specs.Prelude.{option_map, if◌then◌else◌}
 use Rattle.pgo_model.specs.Core as core
 use Rattle.pgo_model.specs.Machine.{Record, Step, Noted, Held, Down, Full}
-use Rattle.pgo_model.specs.Outcome.{Blocked, NoValue, AssertFails}
+use Rattle.pgo_model.specs.Outcome.{Blocked, NoValue, AssertFails, Many}
 use Rattle.pgo_syntax.proofs.Ends.{end_by_last}
 use Rattle.pgo_log_write.specs.IsFinished.{ended}
 use Rattle.pgo_log_write.specs.Status.{is_done}
@@ -19,6 +19,7 @@ one_shown (Step n) = refl
 one_shown (Noted Blocked p) = refl
 one_shown (Noted NoValue p) = refl
 one_shown (Noted AssertFails p) = refl
+one_shown (Noted Many p) = refl
 one_shown (Held r h) = refl
 one_shown (Down r o) = refl
 one_shown (Full n) = refl

@@ -9,10 +9,10 @@ ghost use Rattle.pgo_log_write.specs.Lines.{account_rows, accounts_rows};
 
 use crate::line::Field::{Number, Word};
 use crate::line::push_line;
-use crate::words::{end_word, kind_word, refused, written};
+use crate::words::{end_word, kind_word, note_word, refused, written};
 use pgo_journal::finished::Account;
 use pgo_syntax::bound::{Instance, Resource};
-use pgo_syntax::records::{AttemptResult, Record, Refusal};
+use pgo_syntax::records::{AttemptResult, NoteKind, Record, Refusal};
 use std::alloc::{AllocError, Global};
 
 /// Adds the line of a refusal of attempt number a.
@@ -54,6 +54,18 @@ fn push_refusal(
         Refusal::Full { entries } => {
             push_line(bytes, &[Number(a), Word(b"full"), Number(entries as u64)])
         }
+        Refusal::Many { position, .. } => {
+            let kind = NoteKind::Many;
+            push_line(
+                bytes,
+                &[
+                    Number(a),
+                    Word(note_word(kind)),
+                    Word(kind_word(kind)),
+                    Number(position as u64),
+                ],
+            )
+        }
     }
 }
 
@@ -78,7 +90,7 @@ fn push_result(
                 bytes,
                 &[
                     Number(a),
-                    Word(b"note"),
+                    Word(note_word(kind)),
                     Word(kind_word(kind)),
                     Number(n as u64),
                 ],

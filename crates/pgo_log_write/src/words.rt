@@ -2,7 +2,7 @@
 ghost use Rattle.std.specs.Prelude.{◌≡◌, ◌++◌, codes, map, option_map, IfOk};
 ghost use Rattle.pgo_base.specs.View.{data_of};
 ghost use Rattle.pgo_meaning.specs.System.{resource_of};
-ghost use Rattle.pgo_model.specs.Bundle.{end_text, indexed_text, kind_text, refused_text};
+ghost use Rattle.pgo_model.specs.Bundle.{end_text, indexed_text, kind_text, note_word, refused_text};
 ghost use Rattle.pgo_model.specs.ValueText.{value_text};
 ghost use Rattle.pgo_syntax.specs.RecordView.{kind_view};
 ghost use Rattle.pgo_log_write.specs.Lines.{end_view};
@@ -62,7 +62,17 @@ pub fn refused(alloc: Global, resources: &[Resource], number: u32) -> Result<Tex
     }
 }
 
-/// The word of a note.
+/// The word before the kind of a note.
+pub fn note_word(kind: NoteKind) -> &'static [u8]
+    ensures { result.now ≡ note_word (kind_view kind) }
+{
+    match kind {
+        NoteKind::Blocked | NoteKind::NoValue | NoteKind::AssertFails => b"note",
+        NoteKind::Many => b"many",
+    }
+}
+
+/// The kind of a note; where it found too many leaves, the number of those that it tried.
 pub fn kind_word(kind: NoteKind) -> &'static [u8]
     ensures { result.now ≡ kind_text (kind_view kind) }
 {
@@ -70,6 +80,7 @@ pub fn kind_word(kind: NoteKind) -> &'static [u8]
         NoteKind::Blocked => b"blocked",
         NoteKind::NoValue => b"novalue",
         NoteKind::AssertFails => b"assert",
+        NoteKind::Many => b"65536",
     }
 }
 

@@ -3,7 +3,7 @@ use Rattle.std.proofs.Common.{◌≡◌, ℕ, Option, List, [], ◌∷◌, lengt
 use Rattle.std.proofs.lemmas.List.{length-replicate}
 use Rattle.pgo_base.specs.Data.{Data}
 use Rattle.pgo_base.specs.declared.module.Defined.{Defined}
-use Rattle.pgo_model.specs.Outcome.{Kind, Blocked, NoValue, AssertFails}
+use Rattle.pgo_model.specs.Outcome.{Kind, Blocked, NoValue, AssertFails, Many}
 use Rattle.pgo_syntax.specs.declared.bound.Mapping.{Mapping}
 use Rattle.pgo_sections.specs.Exec.{MacroEnd, Gives, Stops}
 use Rattle.pgo_sections.specs.SectionRun.{ChoiceMade}
@@ -13,7 +13,7 @@ use Rattle.pgo_resource.specs.Answers.{Read, Written}
 use Rattle.pgo_resource.specs.Picked.{words_of, used_of}
 use Rattle.pgo_resource.specs.declared.picks.Picks.{Picks}
 use Rattle.pgo_cells.specs.CellView.{cell_view}
-use Rattle.pgo_mailbox.specs.Alike.{Call, Reads, Writes, PreCommits, Commits, Aborts, Answer, Gave, Done, Stopped, IsDown, stop_of, Made, AllMade, SameWords, Alike}
+use Rattle.pgo_mailbox.specs.Alike.{Call, Reads, Writes, PreCommits, Commits, Aborts, Answer, Gave, Done, Stopped, IsDown, StopsBy, Made, AllMade, SameWords, Alike}
 use Rattle.pgo_mailbox.specs.BoxView.{box_view}
 
 -- ---- two ends of one run
@@ -43,17 +43,19 @@ turned : {A : Type 0} (u w : ℕ) (e g : List ChoiceMade → MacroEnd A) → Met
 turned u w e g m = record { left = m.right; right = m.left; left_many = m.right_many; right_many = m.left_many; same = sym m.same }
 
 -- ---- what a stop says
-read_stop : (k : Kind) (s t : Shown) (p q : Picks) → (m : Mapping) (ds : List Defined) (id : Data) (at : Option Data) → Read m ds id at s t p q (Err (stop_of k))
+read_stop : (k : Kind) (s t : Shown) (p q : Picks) → (m : Mapping) (ds : List Defined) (id : Data) (at : Option Data) → StopsBy k (λ e. Read m ds id at s t p q (Err e))
     → (t ≡ s) × (words_of q ≡ words_of p) × Ends (read_of m ds id at (words_of p) s.current) (used_of p) (used_of q) (λ cs. Stops k cs)
 read_stop Blocked s t p q m ds id at h = h
 read_stop NoValue s t p q m ds id at h = h
 read_stop AssertFails s t p q m ds id at h = h
+read_stop Many s t p q m ds id at h = absurd h
 
-write_stop : (k : Kind) (s t : Shown) (p q : Picks) → (m : Mapping) (ds : List Defined) (id : Data) (at : Option Data) (x : Data) → Written m ds id at x s t p q (Err (stop_of k))
+write_stop : (k : Kind) (s t : Shown) (p q : Picks) → (m : Mapping) (ds : List Defined) (id : Data) (at : Option Data) (x : Data) → StopsBy k (λ e. Written m ds id at x s t p q (Err e))
     → (t ≡ s) × (words_of q ≡ words_of p) × Ends (write_of m ds id at x (words_of p) s.current) (used_of p) (used_of q) (λ cs. Stops k cs)
 write_stop Blocked s t p q m ds id at x h = h
 write_stop NoValue s t p q m ds id at x h = h
 write_stop AssertFails s t p q m ds id at x h = h
+write_stop Many s t p q m ds id at x h = absurd h
 
 -- ---- one call
 module _ (m : Mapping) (ds : List Defined) (id : Data) (at : Option Data) (s t t' : Shown) (p p' q q' : Picks) (w : SameWords p q) where

@@ -7,7 +7,7 @@ use Rattle.pgo_base.specs.declared.module.Defined.{Defined}
 use Rattle.pgo_base.specs.declared.value.Value.{Value}
 use Rattle.pgo_cells.specs.CellView.{cell_view}
 use Rattle.pgo_cells.specs.declared.cell.Cell.{Cell}
-use Rattle.pgo_model.specs.Outcome.{Kind, Blocked, NoValue, AssertFails}
+use Rattle.pgo_model.specs.Outcome.{Kind, Blocked, NoValue, AssertFails, Many}
 use Rattle.pgo_syntax.specs.declared.bound.Mapping.{Mapping}
 use Rattle.pgo_workers.specs.View.{Shown, raised}
 use Rattle.pgo_workers.specs.Worker.{counted}
@@ -33,19 +33,21 @@ pub data Answer : Type 0 where
   Stopped : (kind : Kind) → Answer
   IsDown : (operation : ℕ) → Answer
 
-abbrev pub stop_of : Kind → OpStop
-stop_of Blocked = stops.Blocked
-stop_of NoValue = stops.NoValue
-stop_of AssertFails = stops.AssertFails
+-- a stop of this kind has this; none is of kind Many
+abbrev pub StopsBy : Kind → (OpStop → Type 0) → Type 0
+StopsBy Blocked P = P stops.Blocked
+StopsBy NoValue P = P stops.NoValue
+StopsBy AssertFails P = P stops.AssertFails
+StopsBy Many P = ⊥
 
 -- a call on a content that shows s, with the words of p, is answered so, and it shows t then, with the words of q
 abbrev pub Made : Call → (s t : Shown) → (p q : Picks) → Answer → Type 0
 Made (Reads m ds id at) s t p q (Gave x) = (v : Value) × (data_of v ≡ x) × Read m ds id at s t p q (Ok v)
-Made (Reads m ds id at) s t p q (Stopped kind) = Read m ds id at s t p q (Err (stop_of kind))
+Made (Reads m ds id at) s t p q (Stopped kind) = StopsBy kind (λ e. Read m ds id at s t p q (Err e))
 Made (Reads m ds id at) s t p q Done = ⊥
 Made (Reads m ds id at) s t p q (IsDown n) = ⊥
 Made (Writes m ds id at x) s t p q Done = Written m ds id at x s t p q (Ok tt)
-Made (Writes m ds id at x) s t p q (Stopped kind) = Written m ds id at x s t p q (Err (stop_of kind))
+Made (Writes m ds id at x) s t p q (Stopped kind) = StopsBy kind (λ e. Written m ds id at x s t p q (Err e))
 Made (Writes m ds id at x) s t p q (Gave y) = ⊥
 Made (Writes m ds id at x) s t p q (IsDown n) = ⊥
 Made (PreCommits down) s t p q Done = (t ≡ counted s) × (fails down s.number (raised s.count) ≡ false) × (q ≡ p)

@@ -60,11 +60,13 @@ module _ {S D : Type 0} (W : World S D) where
   RefusedTake r (refusals.Held q h) b c = (q ≡ r) × TakeHeld W r h b c
   RefusedTake r (refusals.Down q o) b c = ⊥
   RefusedTake r (refusals.Full n) b c = ⊥
+  RefusedTake r (refusals.Many leaves n) b c = ⊥
 
   abbrev pub JournalRefuses : Refusal → View D → View D → Type 0
   JournalRefuses (refusals.Held q h) b c = (q ≡ journal) × JournalHeld W h b c
   JournalRefuses (refusals.Down q o) b c = ⊥
   JournalRefuses (refusals.Full n) b c = JournalFull W n b c
+  JournalRefuses (refusals.Many leaves n) b c = ⊥
 
   -- the entry comes back
   abbrev pub RefusedCommit : Entry → NotCommitted → View D → View D → Type 0
@@ -74,6 +76,7 @@ module _ {S D : Type 0} (W : World S D) where
   HolderRefuses (refusals.Held q h) b c = (q ≡ journal) × JournalHeld W h b c
   HolderRefuses (refusals.Down q o) b c = ⊥
   HolderRefuses (refusals.Full n) b c = ⊥
+  HolderRefuses (refusals.Many leaves n) b c = ⊥
 
   abbrev pub RefusedNote : Note → NotNoted → View D → View D → Type 0
   RefusedNote n x b c = (x.note ≡ n) × HolderRefuses x.refusal b c

@@ -4,7 +4,7 @@ use Rattle.std.specs.Prelude.{if◌then◌else◌, nat_eq, option_map}
 use Rattle.pgo_base.specs.Lookup.{find}
 use Rattle.pgo_model.specs.Core as core
 use Rattle.pgo_model.specs.Machine.{Record, last_ends, Step, Noted, Held, Down, Full}
-use Rattle.pgo_model.specs.Outcome.{Blocked, NoValue, AssertFails}
+use Rattle.pgo_model.specs.Outcome.{Blocked, NoValue, AssertFails, Many}
 use Rattle.pgo_model.specs.System.{System}
 use Rattle.pgo_model.specs.Written.{pc, done}
 use Rattle.pgo_syntax.proofs.Ends.{end_by_last}
@@ -31,6 +31,7 @@ goes_past (Step n) z l = refl
 goes_past (Noted Blocked p) z l = refl
 goes_past (Noted NoValue p) z l = refl
 goes_past (Noted AssertFails p) z l = refl
+goes_past (Noted Many p) z l = refl
 goes_past (Held r h) z l = refl
 goes_past (Down r o) z l = refl
 goes_past (Full n) z l = refl
@@ -40,6 +41,7 @@ no_last (Step n) e = refl
 no_last (Noted Blocked p) e = refl
 no_last (Noted NoValue p) e = absurd (grind (arith, e))
 no_last (Noted AssertFails p) e = absurd (grind (arith, e))
+no_last (Noted Many p) e = refl
 no_last (Held r h) e = refl
 no_last (Down r o) e = refl
 no_last (Full n) e = absurd (grind (arith, e))

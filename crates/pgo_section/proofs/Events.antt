@@ -75,12 +75,14 @@ TurnsTo y tree walk w b v c t = spec.Turned (world y) (program_at y tree w) (see
 pub refused_held : (W : World Vars Effect) (r : ℕ) (x : Refusal) (b d : View Effect) → RefusedTake W r x b d → d.held ≡ b.held
 refused_held W r (refusals.Held q h) b d t = t.1.held
 refused_held W r (refusals.Down q o) b d t = absurd t
+refused_held W r (refusals.Many leaves n) b d t = absurd t
 refused_held W r (refusals.Full n) b d t = absurd t
 
 -- what a refused entry leaves held
 pub journal_held : (W : World Vars Effect) (x : Refusal) (b d : View Effect) → JournalRefuses W x b d → d.held ≡ b.held
 journal_held W (refusals.Held q h) b d t = t.1.held
 journal_held W (refusals.Down q o) b d t = absurd t
+journal_held W (refusals.Many leaves n) b d t = absurd t
 journal_held W (refusals.Full n) b d t = t.held
 
 pub same_length : {A B : Type 0} (f : A → B) (l : List A) → length (map f l) ≡ length l
@@ -158,6 +160,7 @@ module _ {C : Type 0} (y : System) (tree : Trees) (walk : C → Walk) (w : Worke
   was_refused b d c v r (refusals.Held q h) t new take board worker =
       THeld goes_on r h t.0 t.1 (rest_is ∙ t.2) new d take.1 board (worker ∙ ap (λ q. finished (machine.Held q h) (see walk w)) take.0) (ap (λ q. spec.Refused (IsHeld q h)) take.0)
   was_refused b d c v r (refusals.Down q o) t new take board worker = absurd take
+  was_refused b d c v r (refusals.Many leaves n) t new take board worker = absurd take
   was_refused b d c v r (refusals.Full n) t new take board worker = absurd take
 
   pub operated : (b c : View Effect) (v : spec.Worker) (r : ℕ) → Tells (walk p) (events.Access r) → (h : Hold) → hold_at b.held r ≡ Some h → (old new : Shown) → h.content ≡ old → (q : C) → LeadsOn (walk p) (walk q) old.current new.current
@@ -208,6 +211,7 @@ module _ {C : Type 0} (y : System) (tree : Trees) (walk : C → Walk) (w : Worke
     not_committed v (refusals.Held r h) x board worker =
         TJournal goes_on (Goes next is.prints) (rest_is ∙ is.ends) (λ o ps q. none) h d x.1 board (worker ∙ ap (λ r. finished (machine.Held r h) (see walk w)) x.0) (ap (λ r. spec.Refused (IsHeld r h)) x.0)
     not_committed v (refusals.Down r o) x board worker = absurd x
+    not_committed v (refusals.Many leaves n) x board worker = absurd x
     not_committed v (refusals.Full n) x board worker = TFull goes_on next is.prints (rest_is ∙ is.ends) none n d x board worker refl
 
     -- the board's condition
@@ -247,6 +251,7 @@ module _ {C : Type 0} (y : System) (tree : Trees) (walk : C → Walk) (w : Worke
         })
         (λ i. record d { held = j.held i }) (worker ∙ ap (λ r. finished (machine.Held r h) (see walk w)) x.0) (ap (λ r. spec.Refused (IsHeld r h)) x.0)
     not_noted v (refusals.Down r o) x worker = absurd x
+    not_noted v (refusals.Many leaves n) x worker = absurd x
     not_noted v (refusals.Full i) x worker = absurd x
 
     -- the board's condition

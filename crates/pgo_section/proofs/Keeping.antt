@@ -158,6 +158,7 @@ module _ {C : Type 0} (y : System) (tree : Trees) (walk : C → Walk) where
   is_last w v b c (turns.Refused (refusals.Held r q)) runs h = refused_last (world y) (program_at y tree w) (Reaches y) (IsGood y) runs (see walk w) b (see walk v) c _ (IsHeld r q) h refl
   is_last w v b c (turns.Refused (refusals.Full n)) runs h = refused_last (world y) (program_at y tree w) (Reaches y) (IsGood y) runs (see walk w) b (see walk v) c _ (IsFull n) h refl
   is_last w v b c (turns.Refused (refusals.Down r o)) runs h = tt
+  is_last w v b c (turns.Refused (refusals.Many leaves n)) runs h = tt
   is_last w v b c turns.Went runs h = tt
   is_last w v b c (turns.Committed n) runs h = tt
   is_last w v b c (turns.Noted kind n) runs h = tt

@@ -1,6 +1,7 @@
 -- What a worker in memory is to contracts.
 use Rattle.std.specs.Prelude.{ℕ, Bool, true, false, nat_eq, if◌then◌else◌, length, map, Option, Some, None, option_map}
 use Rattle.pgo_base.specs.Lookup.{Vars, find}
+use Rattle.pgo_model.specs.Outcome as outcome
 use Rattle.pgo_model.specs.Core as core
 use Rattle.pgo_model.specs.Log.{Effect}
 use Rattle.pgo_model.specs.System.{System}
@@ -44,6 +45,7 @@ abbrev pub refusal_turn : Refusal → spec.Turn
 refusal_turn (refusals.Held r h) = spec.Refused (view.IsHeld r h)
 refusal_turn (refusals.Down r o) = spec.IsDown r o
 refusal_turn (refusals.Full n) = spec.Refused (view.IsFull n)
+refusal_turn (refusals.Many leaves n) = spec.HasNoted outcome.Many n
 
 -- how an instance without an attempt has ended; none where it makes another
 abbrev pub end_at_rest : {C : Type 0} → Worker C → Option End

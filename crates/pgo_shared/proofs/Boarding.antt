@@ -306,6 +306,7 @@ module _ {C : Type 0} (M : C → Shown) where
   pub journal_refused : (x : refusal.Refusal) (n : ℕ) (v w : SeatView) (cs : List C) (l : Option Refusal) → v.me.number ≡ n → length v.holds ≡ length cs → CommitRefused x v w → JournalRefuses (world v) x (seen M n v cs l) (seen M n w cs (last_of (Some x)))
   journal_refused (refusals.Held q h) n v w cs l number many_ p = (p.0, subst (λ z. JournalHeld (world v) h (seen M n v cs l) z) (λ i. seen M n (sym p.1.2 i) cs (Some (IsHeld (sym p.0 i) h))) (journal_held_shown M n v cs l number many_ h p.1.1))
   journal_refused (refusals.Down q o) n v w cs l number many_ p = absurd p
+  journal_refused (refusals.Many leaves at) n v w cs l number many_ p = absurd p
   journal_refused (refusals.Full k) n v w cs l number many_ p =
       subst (λ (k : ℕ). JournalFull (world v) k (seen M n v cs l) (seen M n w cs (Some (IsFull k)))) (sym p.number)
       (subst (λ z. JournalFull (world v) v.terms.steps (seen M n v cs l) (seen M n z cs (Some (IsFull v.terms.steps)))) (sym p.view) (full_shown M n v cs l number many_ p.entries p.notes p.found p.full))
@@ -313,6 +314,7 @@ module _ {C : Type 0} (M : C → Shown) where
   pub holder_refused : (x : refusal.Refusal) (n : ℕ) (v w : SeatView) (cs : List C) (l : Option Refusal) → v.me.number ≡ n → length v.holds ≡ length cs → NoteRefused x v w → HolderRefuses (world v) x (seen M n v cs l) (seen M n w cs (last_of (Some x)))
   holder_refused (refusals.Held q h) n v w cs l number many_ p = (p.0, subst (λ z. JournalHeld (world v) h (seen M n v cs l) z) (λ i. seen M n (sym p.1.2 i) cs (Some (IsHeld (sym p.0 i) h))) (journal_held_shown M n v cs l number many_ h p.1.1))
   holder_refused (refusals.Down q o) n v w cs l number many_ p = absurd p
+  holder_refused (refusals.Many leaves at) n v w cs l number many_ p = absurd p
   holder_refused (refusals.Full k) n v w cs l number many_ p = absurd p
 
 -- the steps at the journal's word
@@ -322,11 +324,13 @@ two_steps i k v w opened released number e = subst (λ (k : ℕ). TwoSteps i k v
 pub commit_steps : (x : refusal.Refusal) (k : ℕ) (v w : SeatView) → v.me.number ≡ k → CommitRefused x v w → RefusalSteps (many v) k x v.word_steps w.word_steps
 commit_steps (refusals.Held q h) k v w number p = (p.1.0, ap (λ (z : SeatView). z.word_steps) p.1.2)
 commit_steps (refusals.Down q o) k v w number p = absurd p
+commit_steps (refusals.Many leaves at) k v w number p = absurd p
 commit_steps (refusals.Full n) k v w number p = two_steps (many v) k v w p.opened p.released number (ap (λ (z : SeatView). z.word_steps) p.view)
 
 pub note_steps : (x : refusal.Refusal) (k : ℕ) (v w : SeatView) → v.me.number ≡ k → NoteRefused x v w → RefusalSteps (many v) k x v.word_steps w.word_steps
 note_steps (refusals.Held q h) k v w number p = (p.1.0, ap (λ (z : SeatView). z.word_steps) p.1.2)
 note_steps (refusals.Down q o) k v w number p = absurd p
+note_steps (refusals.Many leaves at) k v w number p = absurd p
 note_steps (refusals.Full n) k v w number p = absurd p
 
 pub rows_empty : {C : Type 0} (M : C → Shown) (hs : List Holding) (cs : List C) → length hs ≡ length cs → rows M hs cs ≡ [] → length hs ≡ 0

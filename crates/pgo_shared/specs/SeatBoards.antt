@@ -24,6 +24,7 @@ abbrev pub last_of : Option Refusal → Option view.Refusal
 last_of None = None
 last_of (Some (refusals.Held r h)) = Some (view.IsHeld r h)
 last_of (Some (refusals.Down r o)) = None
+last_of (Some (refusals.Many leaves at)) = None
 last_of (Some (refusals.Full n)) = Some (view.IsFull n)
 
 module _ {R : Type 0} {g : Ghosts R} where

@@ -133,6 +133,7 @@ ByBoard k r (Err x) found left = (h : ℕ) × (x ≡ refusals.Held r h) × (foun
 abbrev pub RefusalSteps : ℕ → ℕ → Refusal → List WordStep → List WordStep → Type 0
 RefusalSteps i k (refusals.Held q h) before after = OneStep i (h + 1) (h + 1) before after
 RefusalSteps i k (refusals.Down q o) before after = ⊥
+RefusalSteps i k (refusals.Many leaves at) before after = ⊥
 RefusalSteps i k (refusals.Full n) before after = TwoSteps i k before after
 
 -- the seat may write this entry
@@ -142,9 +143,11 @@ MayWrite v e = (e.instance ≡ v.me.number) × ((world v).is_of e.instance e.cha
 abbrev pub CommitRefused : Refusal → SeatView → SeatView → Type 0
 CommitRefused (refusals.Held q h) v w = (q ≡ journal) × JournalRefused v h w
 CommitRefused (refusals.Down q o) v w = ⊥
+CommitRefused (refusals.Many leaves at) v w = ⊥
 CommitRefused (refusals.Full n) v w = WasFull v n w
 
 abbrev pub NoteRefused : Refusal → SeatView → SeatView → Type 0
 NoteRefused (refusals.Held q h) v w = (q ≡ journal) × JournalRefused v h w
 NoteRefused (refusals.Down q o) v w = ⊥
+NoteRefused (refusals.Many leaves at) v w = ⊥
 NoteRefused (refusals.Full n) v w = ⊥

@@ -149,16 +149,19 @@ module _ {S : Type 0} (W : World S Effect) where
   pub not_taken : (r : ℕ) (x : Refusal) (b c : View Effect) (k s n : ℕ) (hs : List ℕ) → RefusedTake W r x b c → Knows b k s n hs → Knows c k s n hs
   not_taken r (refusals.Held q h) b c k s n hs t w = grew b c k s n hs t.1.same t.1.grows t.1.held w
   not_taken r (refusals.Down q o) b c k s n hs t w = elim t [ ]
+  not_taken r (refusals.Many leaves at) b c k s n hs t w = elim t [ ]
   not_taken r (refusals.Full m) b c k s n hs t w = elim t [ ]
 
   pub not_committed : (x : Refusal) (b c : View Effect) (k s n : ℕ) (hs : List ℕ) → JournalRefuses W x b c → Knows b k s n hs → Knows c k s n hs
   not_committed (refusals.Held q h) b c k s n hs t w = grew b c k s n hs t.1.same t.1.grows t.1.held w
   not_committed (refusals.Down q o) b c k s n hs t w = elim t [ ]
+  not_committed (refusals.Many leaves at) b c k s n hs t w = elim t [ ]
   not_committed (refusals.Full m) b c k s n hs t w = grew b c k s n hs t.same t.grows t.held w
 
   pub not_noted : (x : Refusal) (b c : View Effect) (k s n : ℕ) (hs : List ℕ) → HolderRefuses W x b c → Knows b k s n hs → Knows c k s n hs
   not_noted (refusals.Held q h) b c k s n hs t w = grew b c k s n hs t.1.same t.1.grows t.1.held w
   not_noted (refusals.Down q o) b c k s n hs t w = elim t [ ]
+  not_noted (refusals.Many leaves at) b c k s n hs t w = elim t [ ]
   not_noted (refusals.Full m) b c k s n hs t w = elim t [ ]
 
   -- an entry that changes r alone was added, and its content has that value as its base

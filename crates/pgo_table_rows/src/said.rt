@@ -22,6 +22,7 @@ fn refused(alloc: Global, refusal: Refusal) -> Result<String, AllocError> {
         Refusal::Held { resource, holder } => format!(in alloc; "held {resource} {holder}"),
         Refusal::Down { resource, op } => format!(in alloc; "down {resource} {op}"),
         Refusal::Full { entries } => format!(in alloc; "full {entries}"),
+        Refusal::Many { leaves, position } => format!(in alloc; "many {leaves} {position}"),
     }
 }
 

@@ -5,7 +5,7 @@ use Rattle.pgo_base.specs.Lookup.{find}
 use Rattle.pgo_model.specs.Core.{End, end_by, end_or_spent, is_place, Reaches}
 use Rattle.pgo_model.specs.Log.{Effect}
 use Rattle.pgo_model.specs.Machine.{Record, Step, Noted, Held, Down, Full, last_ends}
-use Rattle.pgo_model.specs.Outcome.{Blocked, NoValue, AssertFails}
+use Rattle.pgo_model.specs.Outcome.{Blocked, NoValue, AssertFails, Many}
 use Rattle.pgo_model.specs.System.{System}
 use Rattle.pgo_model.specs.Written.{pc, done}
 use Rattle.pgo_syntax.specs.RecordView.{kind_view, result_view, settings_view, ended}
@@ -49,6 +49,7 @@ ends_so (Step n ∷ []) e = refl
 ends_so (Noted Blocked p ∷ []) e = refl
 ends_so (Noted NoValue p ∷ []) e = absurd (grind (arith, e))
 ends_so (Noted AssertFails p ∷ []) e = absurd (grind (arith, e))
+ends_so (Noted Many p ∷ []) e = refl
 ends_so (Held r h ∷ []) e = refl
 ends_so (Down r o ∷ []) e = refl
 ends_so (Full n ∷ []) e = absurd (grind (arith, e))
@@ -56,6 +57,7 @@ ends_so (Step n ∷ (y ∷ xs)) e = ends_so (y ∷ xs) e
 ends_so (Noted Blocked p ∷ (y ∷ xs)) e = ends_so (y ∷ xs) e
 ends_so (Noted NoValue p ∷ (y ∷ xs)) e = ends_so (y ∷ xs) e
 ends_so (Noted AssertFails p ∷ (y ∷ xs)) e = ends_so (y ∷ xs) e
+ends_so (Noted Many p ∷ (y ∷ xs)) e = ends_so (y ∷ xs) e
 ends_so (Held r h ∷ (y ∷ xs)) e = ends_so (y ∷ xs) e
 ends_so (Down r o ∷ (y ∷ xs)) e = ends_so (y ∷ xs) e
 ends_so (Full n ∷ (y ∷ xs)) e = ends_so (y ∷ xs) e
@@ -66,6 +68,7 @@ ends_too (Step n ∷ []) x e = absurd (grind (arith, e))
 ends_too (Noted Blocked p ∷ []) x e = absurd (grind (arith, e))
 ends_too (Noted NoValue p ∷ []) x e = refl
 ends_too (Noted AssertFails p ∷ []) x e = refl
+ends_too (Noted Many p ∷ []) x e = absurd (grind (arith, e))
 ends_too (Held r h ∷ []) x e = absurd (grind (arith, e))
 ends_too (Down r o ∷ []) x e = absurd (grind (arith, e))
 ends_too (Full n ∷ []) x e = refl
@@ -73,6 +76,7 @@ ends_too (Step n ∷ (y ∷ xs)) x e = ends_too (y ∷ xs) x e
 ends_too (Noted Blocked p ∷ (y ∷ xs)) x e = ends_too (y ∷ xs) x e
 ends_too (Noted NoValue p ∷ (y ∷ xs)) x e = ends_too (y ∷ xs) x e
 ends_too (Noted AssertFails p ∷ (y ∷ xs)) x e = ends_too (y ∷ xs) x e
+ends_too (Noted Many p ∷ (y ∷ xs)) x e = ends_too (y ∷ xs) x e
 ends_too (Held r h ∷ (y ∷ xs)) x e = ends_too (y ∷ xs) x e
 ends_too (Down r o ∷ (y ∷ xs)) x e = ends_too (y ∷ xs) x e
 ends_too (Full n ∷ (y ∷ xs)) x e = ends_too (y ∷ xs) x e

@@ -8,6 +8,7 @@ fn kind_word(kind: NoteKind) -> &'static str {
         NoteKind::Blocked => "blocked",
         NoteKind::NoValue => "no value",
         NoteKind::AssertFails => "assert",
+        NoteKind::Many => "many",
     }
 }
 
@@ -27,6 +28,7 @@ fn refused(alloc: Global, refusal: Refusal) -> Result<String, AllocError> {
         Refusal::Held { resource, holder } => format!(in alloc; "held {resource} {holder}"),
         Refusal::Down { resource, op } => format!(in alloc; "down {resource} {op}"),
         Refusal::Full { entries } => format!(in alloc; "full {entries}"),
+        Refusal::Many { leaves, position } => format!(in alloc; "many {leaves} {position}"),
     }
 }
 
