@@ -18,7 +18,7 @@ use Rattle.pgo_sections.specs.Domains.{Uses, AllUse}
 use Rattle.pgo_sections.specs.Exec.{MacroEnd, Gives, Stops, count}
 use Rattle.pgo_sections.specs.FreeNames.{free_names}
 use Rattle.pgo_workers.specs.Walk as walks
-use Rattle.pgo_workers.specs.Walk.{Walk, Stop, Touch, Goes, Sticks, Within}
+use Rattle.pgo_workers.specs.Walk.{Walk, Stop, Touch, Goes, Sticks, StraightWithin}
 use Rattle.pgo_accesses.specs.Accesses.{Attempt, Progress, own_next, ended, with_value, if_true, value_of, with_whole, reads_then, evaluating, with_member, putting, printing, using_word, becoming, can_stand, accessing, behind_read, behind_write, read_here, write_here, left_by_read, left_by_write, reading, writing, accesses, accesses_of_arm, no_value, is_empty, all_shallow}
 
 module _ (a : Attempt) (P : ℕ → Type 0) (Q : walks.Own → Type 0) (keeps : (l : Name) (ch : Vars) → Q (own_next l ch a.own)) where
@@ -31,7 +31,7 @@ module _ (a : Attempt) (P : ℕ → Type 0) (Q : walks.Own → Type 0) (keeps : 
   PlaceInReach (Own y) = Unit {0}
 
   abbrev In : Walk → Type 0
-  In w = Within P Q w
+  In w = StraightWithin P Q w
 
   valued : {A : Type 0} (o : Option A) (f : A → Walk) → ((v : A) → In (f v)) → In (with_value o f)
   valued None f h = tt

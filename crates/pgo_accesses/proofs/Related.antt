@@ -15,7 +15,7 @@ use Rattle.pgo_sections.specs.Context.{Context, part_at, value_now}
 use Rattle.pgo_sections.specs.SectionRun.{ChoiceMade}
 use Rattle.pgo_sections.proofs.Domains.{same_of}
 use Rattle.pgo_workers.specs.Walk as walks
-use Rattle.pgo_workers.specs.Walk.{Walk, Touch, Ahead, visits, append_assoc, among_append, not_either}
+use Rattle.pgo_workers.specs.Walk.{Walk, Touch, Ahead, visits, visits_from, append_assoc, among_append, not_either}
 use Rattle.pgo_accesses.specs.Accesses.{Attempt, Progress, is_too_deep, marked, becoming, without}
 use Rattle.pgo_accesses.proofs.Parts.{with_at, lookup_here, lookup_other, replaced_low, replaced_length, replaced_keys, at_low, le_of}
 
@@ -23,7 +23,7 @@ use Rattle.pgo_accesses.proofs.Parts.{with_at, lookup_here, lookup_other, replac
 
 pub accessed : (w0 : Walk) (f0 g : ℕ → Data) (ns : List ℕ) (r : ℕ) (leave : Data → Data) (rest : Data → Walk) → Ahead w0 f0 ns (Touch r leave rest) g → Ahead w0 f0 (ns ++ (r ∷ [])) (rest (g r)) (put r (leave (g r)) g)
 accessed w0 f0 g ns r leave rest a = record {
-  trace = a.trace ∙ sym (append_assoc ns (r ∷ []) (visits (rest (g r)) (put r (leave (g r)) g)));
+  trace = a.trace ∙ sym (append_assoc ns (r ∷ []) (visits_from f0 (rest (g r)) (put r (leave (g r)) g)));
   ends = a.ends;
   leaves = a.leaves;
   fresh = λ i n. let d = not_either (among i ns) (among i (r ∷ [])) (sym (among_append i ns (r ∷ [])) ∙ n) in go i (nat_eq i r) d.1 ∙ a.fresh i d.0;

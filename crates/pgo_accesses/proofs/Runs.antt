@@ -17,7 +17,7 @@ use Rattle.pgo_accesses.proofs.GoodStates.{map_length}
 use Rattle.pgo_accesses.proofs.Leads.{instance_there, code_there}
 use Rattle.pgo_accesses.proofs.Patches.{next_of}
 use Rattle.pgo_accesses.proofs.Programs.{trace_is, stuck_is, done_is}
-use Rattle.pgo_accesses.proofs.Within.{within_reach, reaches_resource}
+use Rattle.pgo_accesses.proofs.Within.{within_reach, reaches_resource, settles}
 
 pub runs : (b : Bound) (settings : Settings) → Runnable b → Runs (world_at b) (program_of b settings) (Reaches (system_of b)) (IsRunState b)
 runs b settings R =
@@ -31,6 +31,7 @@ runs b settings R =
           let code = code_there b R s good k i.0 i.1 not_done in
           stuck_is b R s good.state (words_of (Seeded settings.seed k a)) k i.0 code.0 kind i.1 code.1 e;
       within = λ k a o names. within_reach b R (words_of (Seeded settings.seed k a)) k o names;
+      settles = λ k a o names. settles b R (words_of (Seeded settings.seed k a)) k o names;
       reaches = λ k r h. reaches_resource b k r h;
       done = λ k s good. done_is b R s good.state (words_of (Seeded settings.seed k 0)) k;
       next = λ k a s o ps good below not_done e. next_of b R s good.state (words_of (Seeded settings.seed k a)) k o ps e;

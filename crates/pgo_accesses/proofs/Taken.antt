@@ -5,7 +5,7 @@ use Rattle.pgo_base.specs.Data.{Data}
 use Rattle.pgo_model.specs.Machine.{among, put}
 use Rattle.pgo_model.specs.MachineAccounts.{equal_or}
 use Rattle.pgo_workers.specs.Walk as walks
-use Rattle.pgo_workers.specs.Walk.{Walk, Stop, Touch, Goes, Leaves, Within, visits, ending, final, taken_after}
+use Rattle.pgo_workers.specs.Walk.{Walk, Stop, Touch, Again, Goes, Leaves, Within, visits, visits_from, ending, final, taken_after, ending_from, final_from}
 use Rattle.pgo_workers.specs.View.{Hold, EachHold, Once, resources_of}
 use Rattle.pgo_workers.specs.Worker.{changes_of}
 use Rattle.pgo_workers.specs.Sentences.{changes_at}
@@ -136,24 +136,36 @@ taken_to q (r ∷ rs) taken m = go (nat_eq q r) refl m (among r taken) refl (λ 
 -- ---- walks
 
 -- what is not accessed stays
-pub untouched : (w : Walk) (f : ℕ → Data) (r : ℕ) → among r (visits w f) ≡ false → final w f r ≡ f r
-untouched (Stop e) f r n = refl
-untouched (Touch q leave rest) f r n = go (nat_eq r q) refl n (λ n. untouched (rest (f q)) (put q (leave (f q)) f) r n)
+untouched_from : (s : ℕ → Data) (w : Walk) (f : ℕ → Data) (r : ℕ) → among r (visits_from s w f) ≡ false → f r ≡ s r → final_from s w f r ≡ s r
+untouched_from s (Stop e) f r n same = same
+untouched_from s (Again w) f r n same = untouched_from s w s r n refl
+untouched_from s (Touch q leave rest) f r n same = go (nat_eq r q) refl n (λ n e. untouched_from s (rest (f q)) (put q (leave (f q)) f) r n e)
   where
-    go : (b : Bool) → nat_eq r q ≡ b → (if b then true else among r (visits (rest (f q)) (put q (leave (f q)) f))) ≡ false
-        → (among r (visits (rest (f q)) (put q (leave (f q)) f)) ≡ false → final (rest (f q)) (put q (leave (f q)) f) r ≡ put q (leave (f q)) f r)
-        → final (rest (f q)) (put q (leave (f q)) f) r ≡ f r
+    go : (b : Bool) → nat_eq r q ≡ b → (if b then true else among r (visits_from s (rest (f q)) (put q (leave (f q)) f))) ≡ false
+        → (among r (visits_from s (rest (f q)) (put q (leave (f q)) f)) ≡ false → put q (leave (f q)) f r ≡ s r → final_from s (rest (f q)) (put q (leave (f q)) f) r ≡ s r)
+        → final_from s (rest (f q)) (put q (leave (f q)) f) r ≡ s r
     go true e n ih = absurd (grind (arith, n))
-    go false e n ih = ih n ∙ ap (λ b. if b then leave (f q) else f r) e
+    go false e n ih = ih n (ap (λ b. if b then leave (f q) else f r) e ∙ same)
 
-pub visits_in : (P : ℕ → Type 0) (Q : walks.Own → Type 0) (w : Walk) (f : ℕ → Data) → Within P Q w → (r : ℕ) → among r (visits w f) ≡ true → P r
-visits_in P Q (Stop e) f h r m = absurd (grind (arith, m))
-visits_in P Q (Touch q leave rest) f h r m = go (nat_eq r q) refl m (λ m. visits_in P Q (rest (f q)) (put q (leave (f q)) f) (h.1 (f q)) r m)
+pub untouched : (w : Walk) (f : ℕ → Data) (r : ℕ) → among r (visits w f) ≡ false → final w f r ≡ f r
+untouched w f r n = untouched_from f w f r n refl
+
+visited_in : (P : ℕ → Type 0) (Q : walks.Own → Type 0) (s : ℕ → Data) (w : Walk) (f : ℕ → Data) → Within P Q w → (r : ℕ) → among r (visits_from s w f) ≡ true → P r
+visited_in P Q s (Stop e) f h r m = absurd (grind (arith, m))
+visited_in P Q s (Again w) f h r m = visited_in P Q s w s h r m
+visited_in P Q s (Touch q leave rest) f h r m = go (nat_eq r q) refl m (λ m. visited_in P Q s (rest (f q)) (put q (leave (f q)) f) (h.1 (f q)) r m)
   where
-    go : (b : Bool) → nat_eq r q ≡ b → (if b then true else among r (visits (rest (f q)) (put q (leave (f q)) f))) ≡ true → (among r (visits (rest (f q)) (put q (leave (f q)) f)) ≡ true → P r) → P r
+    go : (b : Bool) → nat_eq r q ≡ b → (if b then true else among r (visits_from s (rest (f q)) (put q (leave (f q)) f))) ≡ true → (among r (visits_from s (rest (f q)) (put q (leave (f q)) f)) ≡ true → P r) → P r
     go true e m ih = subst P (sym ((equal_or r q true e).0 refl)) h.0
     go false e m ih = ih m
 
+pub visits_in : (P : ℕ → Type 0) (Q : walks.Own → Type 0) (w : Walk) (f : ℕ → Data) → Within P Q w → (r : ℕ) → among r (visits w f) ≡ true → P r
+visits_in P Q w f h r m = visited_in P Q f w f h r m
+
+ended_in : (P : ℕ → Type 0) (Q : walks.Own → Type 0) (s : ℕ → Data) (w : Walk) (f : ℕ → Data) (o : walks.Own) (ps : List Data) → Within P Q w → ending_from s w f ≡ Goes o ps → Q o
+ended_in P Q s (Stop e) f o ps h is = subst (Leaves Q) is h
+ended_in P Q s (Again w) f o ps h is = ended_in P Q s w s o ps h is
+ended_in P Q s (Touch q leave rest) f o ps h is = ended_in P Q s (rest (f q)) (put q (leave (f q)) f) o ps (h.1 (f q)) is
+
 pub ends_in : (P : ℕ → Type 0) (Q : walks.Own → Type 0) (w : Walk) (f : ℕ → Data) (o : walks.Own) (ps : List Data) → Within P Q w → ending w f ≡ Goes o ps → Q o
-ends_in P Q (Stop e) f o ps h is = subst (Leaves Q) is h
-ends_in P Q (Touch q leave rest) f o ps h is = ends_in P Q (rest (f q)) (put q (leave (f q)) f) o ps (h.1 (f q)) is
+ends_in P Q w f o ps h is = ended_in P Q f w f o ps h is

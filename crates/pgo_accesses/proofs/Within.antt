@@ -18,7 +18,7 @@ use Rattle.pgo_model.specs.Names.{is_among}
 use Rattle.pgo_sections.specs.Code.{Place, Whole, Own, Code}
 use Rattle.pgo_workers.specs.Sentences.{IsOwn}
 use Rattle.pgo_workers.specs.Walk as walks
-use Rattle.pgo_workers.specs.Walk.{Walk, Within}
+use Rattle.pgo_workers.specs.Walk.{Walk, Within, StraightWithin, straight_within, straight_back, goes_back}
 use Rattle.pgo_accesses.specs.Accesses.{accesses_of, own_next, no_value}
 use Rattle.pgo_accesses.specs.Programs.{attempt_of, tree_with, world_at}
 use Rattle.pgo_accesses.specs.Runnable.{Runnable}
@@ -38,11 +38,11 @@ names_kept : (l : Name) (ch : Vars) (o : walks.Own) → map (λ p. p.0) (own_nex
 names_kept l ch [] = refl
 names_kept l ch (p ∷ o) = ap (λ ns. p.0 ∷ ns) (names_kept l ch o)
 
-pub within_reach : (b : Bound) (R : Runnable b) (d : Words) (k : ℕ) (o : walks.Own) → IsOwn (world_at b) k o → Within (Reaches (system_of b) k) (IsOwn (world_at b) k) (tree_with b d k o)
-within_reach b R d k o own = go (nth b.instances k) refl
+straight_reach : (b : Bound) (R : Runnable b) (d : Words) (k : ℕ) (o : walks.Own) → IsOwn (world_at b) k o → StraightWithin (Reaches (system_of b) k) (IsOwn (world_at b) k) (tree_with b d k o)
+straight_reach b R d k o own = go (nth b.instances k) refl
   where
     In : Walk → Type 0
-    In w = Within (Reaches (system_of b) k) (IsOwn (world_at b) k) w
+    In w = StraightWithin (Reaches (system_of b) k) (IsOwn (world_at b) k) w
 
     reach : (i : Instance) → nth b.instances k ≡ Some i → (g : Name) → is_among g (globals_in i.bindings) ≡ true → (j : Option Data) (r : ℕ) → number_among (system_of b).resources (g, j) ≡ Some r → Reaches (system_of b) k r
     reach i at_k g is j r n =
@@ -72,3 +72,10 @@ within_reach b R d k o own = go (nth b.instances k) refl
     go : (q : Option Instance) → nth b.instances k ≡ q → In (on no_value q (λ i. on no_value (code_at b i (find (Rattle.pgo_model.specs.Written.pc) o)) (λ c. accesses_of (attempt_of b i o d) c)))
     go None e = tt
     go (Some i) e = code i e (code_at b i (find (Rattle.pgo_model.specs.Written.pc) o)) refl
+
+pub within_reach : (b : Bound) (R : Runnable b) (d : Words) (k : ℕ) (o : walks.Own) → IsOwn (world_at b) k o → Within (Reaches (system_of b) k) (IsOwn (world_at b) k) (tree_with b d k o)
+within_reach b R d k o own = straight_within (Reaches (system_of b) k) (IsOwn (world_at b) k) (tree_with b d k o) (straight_reach b R d k o own)
+
+-- an attempt begins at an access or an end
+pub settles : (b : Bound) (R : Runnable b) (d : Words) (k : ℕ) (o : walks.Own) → IsOwn (world_at b) k o → goes_back (tree_with b d k o) ≡ false
+settles b R d k o own = straight_back (Reaches (system_of b) k) (IsOwn (world_at b) k) (tree_with b d k o) (straight_reach b R d k o own)

@@ -17,7 +17,7 @@ use Rattle.pgo_workers.specs.Grown.{Renews, opened_meets, on_log}
 use Rattle.pgo_core.specs.AllViews.{AllOf, AllNotesOf}
 use Rattle.pgo_core.proofs.Journals.{others_of, other_notes_of}
 use Rattle.pgo_core.proofs.StepLeaves.{step_rises, turns_rise, step_nobody}
-use Rattle.pgo_core.proofs.TurnMade.{Numbered, TellsMore, Made, made}
+use Rattle.pgo_core.proofs.TurnMade.{Numbered, Settled, TellsMore, Made, made}
 use Rattle.pgo_core.proofs.ToldKept.{Keeps, same_or, nth_append, keeps_next}
 
 all_of : {D : Type 0} (k : ℕ) (l : List (Entry D)) (i : ℕ) (e : Entry D) → AllOf k l → nth l i ≡ Some e → e.instance ≡ k
@@ -72,6 +72,7 @@ module _ {S D : Type 0} (W : World S D) (P : Program S D) (Reaches : ℕ → ℕ
     pub steps : (j : ℕ) → (bs j).steps ≡ P.steps
     pub numbers : (j : ℕ) → EachHold Numbered (bs j).held
     pub whole : (j : ℕ) → (ws j).dropped ≡ false
+    pub place : (j : ℕ) → Settled (ws j).phase
     pub room : length m.entries ≤ P.steps
     pub good : (p : ℕ) → p ≤ length m.entries → Good (state W m.entries p)
     pub entries_of : (p : ℕ) (e : Entry D) → nth m.entries p ≡ Some e → e.instance < P.instances
@@ -87,8 +88,8 @@ module _ {S D : Type 0} (W : World S D) (P : Program S D) (Reaches : ℕ → ℕ
     good_now : Good (last_state (R W P Reaches Good runs) m)
     good_now = stage.good (length m.entries) (omega arith)
 
-    turn : Made W P Reaches Good runs differs m k (stage.ws k) (stage.bs k) (stage.core.stands k there) (stage.core.meets k there) good_now there (stage.ts k) (stage.told k) (subst (λ l. length l ≤ P.steps) (sym (stage.entries k)) stage.room) holders (stage.numbers k) small
-    turn = made W P Reaches Good runs differs m k (stage.ws k) (stage.bs k) (stage.core.stands k there) (stage.core.meets k there) good_now there (stage.ts k) (stage.told k) (subst (λ l. length l ≤ P.steps) (sym (stage.entries k)) stage.room) holders (stage.numbers k) small
+    turn : Made W P Reaches Good runs differs m k (stage.ws k) (stage.bs k) (stage.core.stands k there) (stage.core.meets k there) good_now there (stage.ts k) (stage.told k) (subst (λ l. length l ≤ P.steps) (sym (stage.entries k)) stage.room) holders (stage.numbers k) (stage.place k) small
+    turn = made W P Reaches Good runs differs m k (stage.ws k) (stage.bs k) (stage.core.stands k there) (stage.core.meets k there) good_now there (stage.ts k) (stage.told k) (subst (λ l. length l ≤ P.steps) (sym (stage.entries k)) stage.room) holders (stage.numbers k) (stage.place k) small
 
     stands_next : Stands W P Reaches Good runs next k turn.v turn.c
     stands_next = stepped W P Reaches Good runs differs m k (stage.ws k) (stage.bs k) (stage.core.stands k there) (stage.core.meets k there) good_now there turn.v turn.c turn.answer turn.turn turn.alone
@@ -195,6 +196,13 @@ module _ {S D : Type 0} (W : World S D) (P : Program S D) (Reaches : ℕ → ℕ
         go (inl e) = ap (λ j. (vs j).dropped) e ∙ ap (λ (w : Worker). w.dropped) (put_here k turn.v stage.ws) ∙ turn.whole ∙ stage.whole k
         go (inr n) = ap (λ (w : Worker). w.dropped) (put_else k j turn.v stage.ws n) ∙ stage.whole j
 
+    place_then : (j : ℕ) → Settled (vs j).phase
+    place_then j = go (same_or j k)
+      where
+        go : (j ≡ k) ⊎ (j ≡ k → ⊥) → Settled (vs j).phase
+        go (inl e) = subst (λ j. Settled (vs j).phase) (sym e) (subst (λ (w : Worker). Settled w.phase) (sym (put_here k turn.v stage.ws)) turn.place)
+        go (inr n) = subst (λ (w : Worker). Settled w.phase) (sym (put_else k j turn.v stage.ws n)) (stage.place j)
+
     pub stage_next : Stage next
     stage_next = record {
       ws = vs;
@@ -209,6 +217,7 @@ module _ {S D : Type 0} (W : World S D) (P : Program S D) (Reaches : ℕ → ℕ
       steps = each_board (λ j c. c.steps ≡ P.steps) (turn.steps ∙ stage.steps k) (λ j n. stage.steps j);
       numbers = each_board (λ j c. EachHold Numbered c.held) turn.numbers (λ j n. stage.numbers j);
       whole = whole_then;
+      place = place_then;
       room = next_room;
       good = good_then;
       entries_of = entries_then;
@@ -255,6 +264,7 @@ module _ {S D : Type 0} (W : World S D) (P : Program S D) (Reaches : ℕ → ℕ
     steps = λ j. refl;
     numbers = λ j. tt;
     whole = λ j. refl;
+    place = λ j. tt;
     room = omega arith;
     good = λ p l. at p;
     entries_of = λ p e h. absurd (grind (arith, h));

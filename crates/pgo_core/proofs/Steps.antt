@@ -6,7 +6,8 @@ use Rattle.pgo_model.specs.Outcome.{Next}
 use Rattle.pgo_model.specs.Machine.{Record, Step, Noted, Held, Down, Full, Machine, among, step, takes, tells, taking, pre_committing, committing, gives}
 use Rattle.pgo_model.specs.MachineAccounts.{equal_or, append_none}
 use Rattle.pgo_workers.specs.View.{Shown, Hold, View, World, IsHeld, IsFull, EachHold, resources_of, hold_at, with_content, aborted, committed, without}
-use Rattle.pgo_workers.specs.Worker.{Program, Worker, Turn, Went, Committed, HasNoted, Refused, IsDown, Idle, Turned, TIdle, TGave, TTook, THeld, TOperated, TReadied, TDown, TCommitted, TFull, TNoted, TJournal, counted}
+use Rattle.pgo_workers.specs.Walk.{Walk, goes_back}
+use Rattle.pgo_workers.specs.Worker.{Program, Worker, Turn, Went, Committed, HasNoted, Refused, IsDown, Idle, Turned, TIdle, TGave, TTook, THeld, TOperated, TReadied, TDown, TCommitted, TFull, TNoted, TJournal, counted, put_back}
 use Rattle.pgo_workers.specs.Sentences.{Meets, Runs}
 use Rattle.pgo_workers.specs.Holds as holds
 use Rattle.pgo_workers.specs.CoreSteps.{R, Stands, step_idle, step_gives, step_take, step_operate, step_pre_commit, step_commit, step_note}
@@ -194,6 +195,13 @@ module _ {S D : Type 0} (W : World S D) (P : Program S D) (Reaches : ℕ → ℕ
   aborted_numbers : (hs : List Hold) → EachHold Numbered hs → EachHold Numbered (aborted hs)
   aborted_numbers hs e = holds.each_aborted Numbered Numbered hs (λ h n. n) e
 
+  back_numbers : (x : Walk) (hs : List Hold) → EachHold Numbered hs → EachHold Numbered (put_back x hs)
+  back_numbers x hs n = go (goes_back x)
+    where
+      go : (b : Bool) → EachHold Numbered (if b then aborted hs else hs)
+      go true = aborted_numbers hs n
+      go false = n
+
   held_next : t.moved ≡ false → EachHold Numbered c.held
   held_next still = go v answer x
     where
@@ -211,7 +219,8 @@ module _ {S D : Type 0} (W : World S D) (P : Program S D) (Reaches : ℕ → ℕ
       go v answer (TTook on r leave rest next' new tk worker answer') =
           absurd (longer (resources_of b.held) r (sym (holds.resources_append b.held _) ∙ ap resources_of (sym tk.held) ∙ same))
       go v answer (THeld on r h leave rest next' new d take board' worker answer') = to (aborted d.held) (ap (λ (c : View D). c.held) board') (aborted_numbers d.held (subst (EachHold Numbered) (sym take.held) held_numbers))
-      go v answer (TOperated on r leave rest next' h held board' worker answer') = to _ (ap (λ (c : View D). c.held) board') (with_number r (record h.content { current = leave h.content.current }) h held refl)
+      go v answer (TOperated on r leave rest next' h held board' worker answer') =
+          to _ (ap (λ (c : View D). c.held) board') (back_numbers (rest h.content.current) (with_content r (record h.content { current = leave h.content.current }) b.held) (with_number r (record h.content { current = leave h.content.current }) h held refl))
       go v answer (TReadied on o ps next' r at h held up board' worker answer') = to _ (ap (λ (c : View D). c.held) board') (with_number r (counted h.content) h held refl)
       go v answer (TDown on o ps next' r at h held down board' worker answer') = to _ (ap (λ (c : View D). c.held) board') (aborted_numbers (with_content r (counted h.content) b.held) (with_number r (counted h.content) h held refl))
       go v answer (TCommitted on o ps next' at n d commits board' worker answer') =

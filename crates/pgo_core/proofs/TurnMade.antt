@@ -6,11 +6,12 @@ use Rattle.pgo_base.specs.Data.{Data}
 use Rattle.pgo_model.specs.Outcome.{Kind}
 use Rattle.pgo_model.specs.Machine.{Entry, Note, Step, Noted, Held, Down, Full, Machine, among, nth, last_state, step, pre_committing}
 use Rattle.pgo_model.specs.MachineAccounts.{equal_or, append_none}
-use Rattle.pgo_workers.specs.Walk.{Walk, Stop, Touch, Goes, Sticks, Own, Agrees}
+use Rattle.pgo_workers.specs.Walk.{Walk, Stop, Touch, Again, Goes, Sticks, Own, Agrees, settled, goes_back, settled_stays}
 use Rattle.pgo_workers.specs.View.{Shown, raised, Hold, Refusal, IsHeld, IsFull, Taking, Told, View, World, EachHold, Grows, StandsAt, untold, answers, refuses, hold_at, without, with_content, aborted, committed, renewed, values_of, passing, own_seen, positioned}
-use Rattle.pgo_workers.specs.Worker.{Program, Worker, Phase, Resting, Walking, Giving, Turn, Went, Committed, HasNoted, Refused, IsDown, Idle, Turned, TIdle, TGave, TTook, THeld, TOperated, TReadied, TDown, TCommitted, TFull, TNoted, is_giving, with_held, counted, finished, walks_on, fails_at, entry, note, has_ended, rest_of, readied_of, Goes_on}
+use Rattle.pgo_workers.specs.Worker.{Program, Worker, Phase, Resting, Walking, Giving, Turn, Went, Committed, HasNoted, Refused, IsDown, Idle, Turned, TIdle, TGave, TTook, THeld, TOperated, TReadied, TDown, TCommitted, TFull, TNoted, is_giving, with_held, counted, finished, walks_on, put_back, attempt, fails_at, entry, note, has_ended, rest_of, readied_of, Goes_on}
 use Rattle.pgo_workers.specs.Telling.{passes}
 use Rattle.pgo_workers.specs.Sentences.{EachTaking, Place, Meets, Sound, Runs}
+use Rattle.pgo_workers.specs.Kept.{own_is}
 use Rattle.pgo_workers.specs.Closed.{Has}
 use Rattle.pgo_workers.specs.Holds as holds
 use Rattle.pgo_workers.specs.CoreSteps.{R, Stands, step_pre_commit}
@@ -24,6 +25,31 @@ some_hold a b e = grind arith
 -- a content says that it is the resource's
 abbrev pub Numbered : Hold → Type 0
 Numbered h = h.content.number ≡ Some h.resource
+
+-- the place is an access or an end
+abbrev pub Settled : Phase → Type 0
+Settled Resting = Unit {0}
+Settled (Walking x j) = goes_back x ≡ false
+Settled Giving = Unit {0}
+
+settled_finished : (b : Bool) → Settled (if b then Resting else Giving)
+settled_finished true = tt
+settled_finished false = tt
+
+-- where contents are put back
+back_numbers : (x : Walk) (hs : List Hold) → EachHold Numbered hs → EachHold Numbered (put_back x hs)
+back_numbers x hs n = go (goes_back x)
+  where
+    go : (b : Bool) → EachHold Numbered (if b then aborted hs else hs)
+    go true = holds.each_aborted Numbered Numbered hs (λ h n. n) n
+    go false = n
+
+back_stamps : (x : Walk) (hs : List Hold) → stamps (put_back x hs) ≡ stamps hs
+back_stamps x hs = go (goes_back x)
+  where
+    go : (b : Bool) → stamps (if b then aborted hs else hs) ≡ stamps hs
+    go true = stamps_aborted hs
+    go false = refl
 
 -- r was taken
 abbrev pub GrantedIn : List Taking → ℕ → Type 0
@@ -55,7 +81,7 @@ module _ {S D : Type 0} (W : World S D) (P : Program S D) (Reaches : ℕ → ℕ
     pub held : (x : ℕ × ℕ) → Has (stamps c.held) x → Has (stamps b.held) x ⊎ ((x.1 ≡ m.counts x.0) × GrantedIn takes_more x.0)
 
   module _ (m : Machine D) (k : ℕ) (w : Worker) (b : View D) (s : Stands W P Reaches Good runs m k w b) (meets : Meets W P Reaches Good w b) (good : Good (last_state (R W P Reaches Good runs) m)) (there : nat_lt k P.instances ≡ true)
-      (u : Told) (told : b.told ≡ Some u) (roomy : length b.entries ≤ P.steps) (holders : (r h : ℕ) → m.holder r ≡ Some h → nat_lt h P.instances ≡ true) (numbered : EachHold Numbered b.held)
+      (u : Told) (told : b.told ≡ Some u) (roomy : length b.entries ≤ P.steps) (holders : (r h : ℕ) → m.holder r ≡ Some h → nat_lt h P.instances ≡ true) (numbered : EachHold Numbered b.held) (settles : Settled w.phase)
       (small : (r : ℕ) → (step (R W P Reaches Good runs) m k).counts r ≤ 18446744073709551615) where
     pub record Made : Type 0 where
       pub v : Worker
@@ -75,6 +101,7 @@ module _ {S D : Type 0} (W : World S D) (P : Program S D) (Reaches : ℕ → ℕ
       pub instance : c.instance ≡ b.instance
       pub numbers : EachHold Numbered c.held
       pub whole : v.dropped ≡ w.dropped
+      pub place : Settled v.phase
       pub after : Told
       pub told_is : c.told ≡ Some after
       pub telling : TellsMore m k b c u after
@@ -118,6 +145,7 @@ module _ {S D : Type 0} (W : World S D) (P : Program S D) (Reaches : ℕ → ℕ
       instance = refl;
       numbers = numbered;
       whole = refl;
+      place = settles;
       after = u;
       told_is = told;
       telling = nothing_told b refl;
@@ -151,6 +179,7 @@ module _ {S D : Type 0} (W : World S D) (P : Program S D) (Reaches : ℕ → ℕ
       instance = refl;
       numbers = each_without Numbered r b.held numbered;
       whole = refl;
+      place = settled_finished (Rattle.pgo_model.specs.Machine.is_empty rs);
       after = passes (Some h) u;
       told_is = refl;
       telling = record {
@@ -220,6 +249,7 @@ module _ {S D : Type 0} (W : World S D) (P : Program S D) (Reaches : ℕ → ℕ
       instance = refl;
       numbers = holds.each_append Numbered b.held (h ∷ []) numbered (refl, tt);
       whole = refl;
+      place = refl;
       after = answers y u;
       told_is = refl;
       telling = record {
@@ -289,6 +319,7 @@ module _ {S D : Type 0} (W : World S D) (P : Program S D) (Reaches : ℕ → ℕ
       instance = refl;
       numbers = holds.each_aborted Numbered Numbered b.held (λ h n. n) numbered;
       whole = refl;
+      place = settled_finished (Rattle.pgo_model.specs.Machine.is_empty w.taken);
       after = answers y (refuses (IsHeld r h) u);
       told_is = refl;
       telling = record {
@@ -327,8 +358,8 @@ module _ {S D : Type 0} (W : World S D) (P : Program S D) (Reaches : ℕ → ℕ
 
     operated : (on : Goes_on W P w) (r : ℕ) (leave : Data → Data) (rest : Data → Walk) → rest_of W P w w.phase ≡ Touch r leave rest → (h : Hold) → hold_at b.held r ≡ Some h → Made
     operated on r leave rest is h at = record {
-      v = walks_on (rest h.content.current) 0 w;
-      c = with_held (with_content r (record h.content { current = leave h.content.current }) b.held) b;
+      v = walks_on (settled next) 0 w;
+      c = with_held (put_back next hs) b;
       answer = Went;
       turn = TOperated on r leave rest is h at refl refl refl;
       alone = tt;
@@ -342,12 +373,22 @@ module _ {S D : Type 0} (W : World S D) (P : Program S D) (Reaches : ℕ → ℕ
       room = roomy;
       steps = refl;
       instance = refl;
-      numbers = with_one r h (record h.content { current = leave h.content.current }) at refl;
+      numbers = back_numbers next hs (with_one r h new at refl);
       whole = refl;
+      place = settled_stays next;
       after = u;
       told_is = told;
-      telling = nothing_told (with_held (with_content r (record h.content { current = leave h.content.current }) b.held) b) (stamps_with r (record h.content { current = leave h.content.current }) b.held);
+      telling = nothing_told (with_held (put_back next hs) b) (back_stamps next hs ∙ stamps_with r new b.held);
     }
+      where
+        new : Shown
+        new = record h.content { current = leave h.content.current }
+
+        hs : List Hold
+        hs = with_content r new b.held
+
+        next : Walk
+        next = rest h.content.current
 
     counts_up : (r : ℕ) (x : Bool) → (pre_committing m k r x).counts r ≡ suc (m.counts r)
     counts_up r true = put_here r (suc (m.counts r)) m.counts
@@ -388,6 +429,7 @@ module _ {S D : Type 0} (W : World S D) (P : Program S D) (Reaches : ℕ → ℕ
       instance = refl;
       numbers = with_one r h (counted h.content) at refl;
       whole = refl;
+      place = refl;
       after = u;
       told_is = told;
       telling = nothing_told (with_held (with_content r (counted h.content) b.held) b) (stamps_with r (counted h.content) b.held);
@@ -410,6 +452,7 @@ module _ {S D : Type 0} (W : World S D) (P : Program S D) (Reaches : ℕ → ℕ
       instance = refl;
       numbers = holds.each_aborted Numbered Numbered (with_content r (counted h.content) b.held) (λ h n. n) (with_one r h (counted h.content) at refl);
       whole = refl;
+      place = settled_finished (Rattle.pgo_model.specs.Machine.is_empty w.taken);
       after = u;
       told_is = told;
       telling = nothing_told (with_held (aborted (with_content r (counted h.content) b.held)) b) (stamps_aborted (with_content r (counted h.content) b.held) ∙ stamps_with r (counted h.content) b.held);
@@ -442,6 +485,7 @@ module _ {S D : Type 0} (W : World S D) (P : Program S D) (Reaches : ℕ → ℕ
       instance = refl;
       numbers = holds.each_aborted Numbered Numbered b.held (λ h n. n) numbered;
       whole = refl;
+      place = settled_finished (Rattle.pgo_model.specs.Machine.is_empty w.taken);
       after = refuses (IsFull b.steps) u;
       told_is = refl;
       telling = record {
@@ -503,6 +547,7 @@ module _ {S D : Type 0} (W : World S D) (P : Program S D) (Reaches : ℕ → ℕ
       instance = refl;
       numbers = holds.each_committed Numbered Numbered (W.changes e.change) b.held (λ h n. n) numbered;
       whole = refl;
+      place = settled_finished (Rattle.pgo_model.specs.Machine.is_empty w.taken);
       after = u;
       told_is = told;
       telling = nothing_told (with_held (committed d.held) d) (stamps_committed (W.changes e.change) b.held);
@@ -552,6 +597,7 @@ module _ {S D : Type 0} (W : World S D) (P : Program S D) (Reaches : ℕ → ℕ
       instance = refl;
       numbers = holds.each_aborted Numbered Numbered b.held (λ h n. n) numbered;
       whole = refl;
+      place = settled_finished (Rattle.pgo_model.specs.Machine.is_empty w.taken);
       after = u;
       told_is = told;
       telling = nothing_told d (stamps_aborted b.held);
@@ -590,6 +636,12 @@ module _ {S D : Type 0} (W : World S D) (P : Program S D) (Reaches : ℕ → ℕ
         by_rest on (Touch r leave rest) is = by_taken on r leave rest is (among r w.taken) refl
         by_rest on (Stop (Goes o ps)) is = by_next on o ps is (nth w.taken (readied_of W P w.phase)) refl
         by_rest on (Stop (Sticks kind)) is = noted on kind is
+        by_rest on (Again x) is = absurd (let z : true ≡ false = sym (ap goes_back is) ∙ at_place w.phase settles in grind (arith, z))
+          where
+            at_place : (p : Phase) → Settled p → goes_back (rest_of W P w p) ≡ false
+            at_place Resting h = runs.settles w.number (attempt w) w.own (own_is W P Reaches Good runs w b meets)
+            at_place (Walking y j) h = h
+            at_place Giving h = runs.settles w.number (attempt w) w.own (own_is W P Reaches Good runs w b meets)
 
         to_give : (p : Phase) → is_giving p ≡ true → Place W P Reaches Good w b p → w.taken ≡ [] → ⊥
         to_give Resting g q = absurd (grind (arith, g))

@@ -60,6 +60,13 @@ impl<S: Sections + Drop> Sections for NoPlaces<S> {
         self.sections.operate(alloc, place, content)
     }
 
+    fn settle(&self, alloc: Global, place: &mut S::Place) -> Result<bool, AllocError> {
+        if self.hidden {
+            return Err(AllocError);
+        }
+        self.sections.settle(alloc, place)
+    }
+
     fn end(&self, alloc: Global, place: S::Place) -> Result<(State, Values), AllocError> {
         if self.hidden {
             return Err(AllocError);

@@ -26,7 +26,7 @@ use Rattle.pgo_sections.specs.Code.{Code}
 use Rattle.pgo_workers.specs.Sentences.{OthersAt, ReachedAfter, Shows, Ends, changes_at}
 use Rattle.pgo_workers.specs.View.{Hold, Taking, EachHold, IsSteady, resources_of, values_of, nows_of}
 use Rattle.pgo_workers.specs.Walk as walks
-use Rattle.pgo_workers.specs.Walk.{Walk, Stop, Goes, Sticks, At, Agrees, Along, visits, ending, final, taken_after}
+use Rattle.pgo_workers.specs.Walk.{Walk, Stop, Goes, Sticks, At, Agrees, Along, visits, visits_from, ending, ending_from, final, taken_after}
 use Rattle.pgo_workers.specs.Worker.{changes_of}
 use Rattle.pgo_workers.specs.Worlds as worlds
 use Rattle.pgo_workers.specs.Worlds.{Layout, layout_of, effect_of, own_in}
@@ -118,14 +118,14 @@ module _ (b : Bound) (R : Runnable b) (s : Vars) (good : IsSystemState (system_o
   -- ---- what is held
 
   module _ (held nows : List At) (accesses : List ℕ) (rest : Walk) (h : Agrees held g) (along : Along w held accesses rest nows) where
-    pub held_front : (now : ℕ → Data) × (numbers_of (system_of b).resources (Sect b k s d).trace ≡ accesses ++ visits rest now) × Agrees nows now
+    pub held_front : (now : ℕ → Data) × (numbers_of (system_of b).resources (Sect b k s d).trace ≡ accesses ++ visits_from g rest now) × Agrees nows now
     held_front = let q = along g h in (q.0, trace_is b R s good d k ∙ q.1.trace, q.2)
 
     pub held_sticks : (kind : Kind) (i : Instance) → rest ≡ Stop (Sticks kind) → nth b.instances k ≡ Some i → IsAtLabel i s → core.is_at_done (system_of b) k s ≡ false → (Sect b k s d).end ≡ Stuck kind
     held_sticks kind i e at_k label not_done =
         let q = along g h in
         let c = code_there i at_k label not_done in
-        stuck_is b R s good d k i c.0 kind at_k c.1 (q.1.ends ∙ ap (λ r. ending r q.0) e)
+        stuck_is b R s good d k i c.0 kind at_k c.1 (q.1.ends ∙ ap (λ r. ending_from g r q.0) e)
 
   pub held_leads : (held : List Hold) (accesses : List ℕ) (o : walks.Own) (ps : List Data) → EachHold IsSteady held → Agrees (values_of held) g → Along w (values_of held) accesses (Stop (Goes o ps)) (nows_of held)
       → taken_after accesses [] ≡ resources_of held → (Sect b k s d).end ≡ Next ((world_at b).patched s (effect_of L k (own_in L s k) o (changes_of held) ps)) ps

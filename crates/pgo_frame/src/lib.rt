@@ -15,7 +15,7 @@ ghost use Rattle.pgo_bound.specs.State.{IsState};
 ghost use Rattle.pgo_meaning.specs.Sect.{Sect};
 ghost use Rattle.pgo_workers.specs.Sentences.{OthersAt, ReachedAfter, Shows, Ends, changes_at};
 ghost use Rattle.pgo_workers.specs.View.{Hold, Taking, EachHold, IsSteady, resources_of, values_of, nows_of};
-ghost use Rattle.pgo_workers.specs.Walk.{Own, Walk, Stop, Goes, Sticks, At, Agrees, Along, visits, ending, final, taken_after};
+ghost use Rattle.pgo_workers.specs.Walk.{Own, Walk, Stop, Goes, Sticks, At, Agrees, Along, visits, visits_from, ending, final, taken_after};
 ghost use Rattle.pgo_workers.specs.Worker.{changes_of};
 ghost use Rattle.pgo_accesses.specs.Programs.{program_of, world_at};
 ghost use Rattle.pgo_accesses.specs.Runnable.{Runnable};
@@ -68,7 +68,7 @@ pub fn programs_are_sections()
 /// components, and the values with which the held resources were taken.
 ///
 /// - `front`: where an attempt stands behind some accesses (`Along`), the section makes these first, and then those of what stands
-///   there.
+///   there, where contents that are put back are as the state has them.
 /// - `stuck`: where it stands at a note, the section ends so, of an instance that is at a label.
 /// - `next`: where it stands at its end, the section leads to the state behind the entry that the worker commits, which is made of
 ///   what it holds, and prints the same.
@@ -78,7 +78,7 @@ pub fn programs_are_sections()
 ///
 /// Source: this project's choice.
 pub fn attempts_are_sections()
-    ensures front { (b : Bound) (settings : Settings) (k a : ℕ) (own : Own) (held nows : List At) (accesses : List ℕ) (rest : Walk) (s : Vars) → Runnable b → HasHeld b k own held s → Along ((program_of b settings).tree k a own) held accesses rest nows → (now : ℕ → Data) × (((program_of b settings).sect k a s).trace ≡ accesses ++ visits rest now) × Agrees nows now }
+    ensures front { (b : Bound) (settings : Settings) (k a : ℕ) (own : Own) (held nows : List At) (accesses : List ℕ) (rest : Walk) (s : Vars) → Runnable b → HasHeld b k own held s → Along ((program_of b settings).tree k a own) held accesses rest nows → (now : ℕ → Data) × (((program_of b settings).sect k a s).trace ≡ accesses ++ visits_from ((world_at b).value s) rest now) × Agrees nows now }
     ensures stuck { (b : Bound) (settings : Settings) (k a : ℕ) (own : Own) (held nows : List At) (accesses : List ℕ) (s : Vars) (i : Instance) (kind : Kind) → Runnable b → HasHeld b k own held s → Along ((program_of b settings).tree k a own) held accesses (Stop (Sticks kind)) nows → nth b.instances k ≡ Some i → IsAtLabel i s → (program_of b settings).at_done k s ≡ false → ((program_of b settings).sect k a s).end ≡ Stuck kind }
     ensures next { (b : Bound) (settings : Settings) (k a : ℕ) (own after : Own) (held : List Hold) (accesses : List ℕ) (s : Vars) (ps : List Data) → Runnable b → HasHeld b k own (values_of held) s → EachHold IsSteady held → Along ((program_of b settings).tree k a own) (values_of held) accesses (Stop (Goes after ps)) (nows_of held) → taken_after accesses [] ≡ resources_of held → ((program_of b settings).sect k a s).end ≡ Next ((world_at b).patched s ((program_of b settings).effect k own after (changes_of held) ps)) ps }
     ensures reached { (b : Bound) (settings : Settings) (k a : ℕ) (own : Own) (taking : Taking) (s : Vars) → Runnable b → HasHeld b k own taking.held s → Shows ((program_of b settings).tree k a own) taking → (others : List ℕ) × OthersAt taking others × ReachedAfter taking.resource others ((program_of b settings).sect k a s).trace }

@@ -4,7 +4,6 @@ use Rattle.std.proofs.Common.{◌≡◌, ◌≤◌, ◌<◌, ◌↔◌, ℕ, zer
 use Rattle.std.specs.Prelude.{if◌then◌else◌}
 use Rattle.pgo_base.specs.Data.{Data}
 use Rattle.pgo_base.specs.Lookup.{Vars}
-use Rattle.pgo_model.specs.Core.{is_at_done}
 use Rattle.pgo_model.specs.Choice.{word_at}
 use Rattle.pgo_model.specs.Machine.{nth}
 use Rattle.pgo_model.specs.Options.{on}
@@ -30,7 +29,6 @@ use Rattle.pgo_tries.specs.Chosen.{Chosen, Ended, Chooses, Leaf, follow, leaves,
 use Rattle.pgo_tries.specs.Counts.{count, as_many}
 use Rattle.pgo_tries.specs.Outcomes.{Result, Found, AllBlocked, Many, AreBlocked, tried_on, first_of, tried_leaves, more_leaves, first_found}
 use Rattle.pgo_tries.specs.Sections.{along, tries, Follows, tries_tree, tries_blocked, blocked_tries, none_enabled}
-use Rattle.pgo_meaning.specs.System.{system_of}
 use Rattle.pgo_meaning.specs.Sect.{Sect, Allows, context_of, code_at, nothing}
 
 abbrev pub no_points : Tried Touched Vars
@@ -57,13 +55,9 @@ SectTree b k s =
 abbrev pub Leaves : Bound → ℕ → Vars → List (Outcome Vars)
 Leaves b k s = map (λ l. l.1) (leaves (SectTree b k s))
 
--- no instance that isn't at Done can make a step: it has few leaves, and each is Blocked
+-- instance k has no step there: it has few leaves, and each is Blocked
 abbrev pub IsQuiet : Bound → ℕ → Vars → Type 0
 IsQuiet b k s = AreBlocked is_blocked (leaves (SectTree b k s)) × (count (SectTree b k s) ≤ most_leaves)
-
--- no instance has a step, and some instance isn't at Done
-abbrev pub Quiet : Bound → Vars → Type 0
-Quiet b s = ((k : ℕ) × (k < length b.instances) × (is_at_done (system_of b) k s ≡ false)) × ((k : ℕ) → k < length b.instances → is_at_done (system_of b) k s ≡ false → IsQuiet b k s)
 
 -- Of the leaves in the order of the words, this is the first that isn't Blocked, it is among those that are tried, and it ends so.
 pub record FirstEnds (b : Bound) (k : ℕ) (s : Vars) (w : Words) (o : Outcome Vars) : Type 0 where

@@ -13,3 +13,4 @@ pub mod LabelSections
 pub mod Macros
 pub mod Ends
 pub mod Enabled
+pub mod Quiet

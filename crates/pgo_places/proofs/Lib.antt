@@ -13,6 +13,7 @@ mod PlaceLaws
 mod Puts
 mod Readiness
 mod LabelSections
+mod Settles
 pub mod Standing
 pub mod Starts
 mod Updates

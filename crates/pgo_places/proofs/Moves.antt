@@ -2,7 +2,7 @@
 use Rattle.std.proofs.Common.{◌≡◌, ◌<◌, ◌+◌, ◌-◌, ℕ, zero, suc, Bool, true, false, List, [], ◌∷◌, None, refl, ap, sym, ◌∙◌, drop, arith}
 use Rattle.std.specs.Prelude.{if◌then◌else◌, nat_lt}
 use Rattle.pgo_base.specs.Data.{Data}
-use Rattle.pgo_workers.specs.Walk.{Walk, Stop, Touch}
+use Rattle.pgo_workers.specs.Walk.{Walk, Stop, Touch, Again}
 use Rattle.pgo_resource.specs.Nexts.{LeadsOn, Tells}
 use Rattle.pgo_resource.specs.declared.sections.NextEvent.TheVariants as events
 use Rattle.pgo_accesses.specs.Accesses.{Attempt, no_value}
@@ -17,10 +17,12 @@ use Rattle.pgo_places.specs.Stands.{Fixed, Stand, limited, resume}
 abbrev leave_of : Walk → Data → Data
 leave_of (Stop e) v = v
 leave_of (Touch r leave rest) v = leave v
+leave_of (Again w) v = v
 
 abbrev rest_of : Walk → Data → Walk
 rest_of (Stop e) v = Stop e
 rest_of (Touch r leave rest) v = rest v
+rest_of (Again w) v = Again w
 
 -- an access leads on, also where it is limited
 pub leads_on : (m : ℕ) (w v : Walk) (r : ℕ) (leave : Data → Data) (rest : Data → Walk) (old new : Data) → w ≡ Touch r leave rest → new ≡ leave old → v ≡ rest old → LeadsOn (limited m w) (limited m v) old new

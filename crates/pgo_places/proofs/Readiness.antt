@@ -6,7 +6,7 @@ use Rattle.pgo_base.specs.Lookup.{Name}
 use Rattle.pgo_model.specs.Options.{on}
 use Rattle.pgo_sections.specs.BoundValues.{value_under}
 use Rattle.pgo_sections.specs.Context.{index_value}
-use Rattle.pgo_workers.specs.Walk.{Walk, Stop, Touch, Goes}
+use Rattle.pgo_workers.specs.Walk.{Walk, Stop, Touch, Again, Goes}
 use Rattle.pgo_resource.specs.Nexts.{IsTouch, StopsWith, Tells}
 use Rattle.pgo_resource.specs.declared.sections.NextEvent.{NextEvent}
 use Rattle.pgo_resource.specs.declared.sections.NextEvent.TheVariants as events
@@ -27,10 +27,12 @@ use Rattle.pgo_places.proofs.Standing.{read_stands, mapped_read, mapped_write}
 abbrev is_touch : Walk → Bool
 is_touch (Stop e) = false
 is_touch (Touch r leave rest) = true
+is_touch (Again w) = false
 
 abbrev resource_of : Walk → ℕ
 resource_of (Stop e) = 0
 resource_of (Touch r leave rest) = r
+resource_of (Again w) = 0
 
 -- a touch is no end
 no_end : (r : ℕ) (w v : Walk) → IsTouchOf r w → w ≡ v → is_touch v ≡ false → ⊥

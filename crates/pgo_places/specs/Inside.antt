@@ -16,7 +16,7 @@ use Rattle.pgo_sections.specs.Exec.{MacroEnd, Gives, Stops}
 use Rattle.pgo_bound.specs.State.{id_of}
 use Rattle.pgo_meaning.specs.System.{system_of}
 use Rattle.pgo_workers.specs.Sentences.{IsOwn}
-use Rattle.pgo_workers.specs.Walk.{Own, Walk, Stop, Touch, Sticks, Within}
+use Rattle.pgo_workers.specs.Walk.{Own, Walk, Stop, Touch, Again, Sticks, Within, StraightWithin, straight_within}
 use Rattle.pgo_workers.specs.Worlds.{layout_of, world_of}
 use Rattle.pgo_accesses.specs.Accesses.{Attempt, Progress, no_value, with_value, if_true, with_member, is_empty, all_shallow, can_stand, behind_read, behind_write, left_by_read, left_by_write, printing, using_word, read_here, write_here, becoming}
 use Rattle.pgo_code.specs.declared.program.Program.{Program}
@@ -32,7 +32,7 @@ names_put y v (p ∷ o) = ap (λ l. p.0 ∷ l) (names_put y v o)
 module _ (a : Attempt) (k : Fixed) (names : List Name) where
   -- the own components that it leaves have these names
   abbrev Keeps : Walk → Type 0
-  Keeps w = Within (λ r. Unit {0}) (λ o. map (λ p. p.0) o ≡ names) w
+  Keeps w = StraightWithin (λ r. Unit {0}) (λ o. map (λ p. p.0) o ≡ names) w
 
   abbrev Named : Stand → Type 0
   Named s = map (λ p. p.0) s.own ≡ names
@@ -138,12 +138,13 @@ module _ (a : Attempt) (k : Fixed) (names : List Name) where
       (λ j. keeps_writing (with_words s.words a) c j (value_under w s.env) s.progress (λ q. resume a k n is (going q (onward s))) (λ q. resume_keeps n is (going q (onward s)) h))
   resume_keeps (suc n) (Fail ∷ is) s h = tt
 
-limited_within : (m : ℕ) (names : List Name) (w : Walk) → Within (λ r. Unit {0}) (λ o. map (λ p. p.0) o ≡ names) w → Within (λ r. r < m) (λ o. map (λ p. p.0) o ≡ names) (limited m w)
+pub limited_within : (m : ℕ) (names : List Name) (w : Walk) → StraightWithin (λ r. Unit {0}) (λ o. map (λ p. p.0) o ≡ names) w → StraightWithin (λ r. r < m) (λ o. map (λ p. p.0) o ≡ names) (limited m w)
 limited_within m names (Stop e) h = h
+limited_within m names (Again w) h = absurd h
 limited_within m names (Touch r leave rest) h = go (nat_lt r m) refl (λ v. limited_within m names (rest v) (h.1 v))
   where
-    go : (b : Bool) → nat_lt r m ≡ b → ((v : Data) → Within (λ r. r < m) (λ o. map (λ p. p.0) o ≡ names) (limited m (rest v)))
-        → Within (λ r. r < m) (λ o. map (λ p. p.0) o ≡ names) (if b then Touch r leave (λ v. limited m (rest v)) else no_value)
+    go : (b : Bool) → nat_lt r m ≡ b → ((v : Data) → StraightWithin (λ r. r < m) (λ o. map (λ p. p.0) o ≡ names) (limited m (rest v)))
+        → StraightWithin (λ r. r < m) (λ o. map (λ p. p.0) o ≡ names) (if b then Touch r leave (λ v. limited m (rest v)) else no_value)
     go true e g = (grind (arith, e), g)
     go false e g = tt
 
@@ -152,10 +153,11 @@ pub tree_inside : (p : Program) (seed k a : ℕ) (o : Own) → IsOwn (world_of (
     → Within (λ r. r < length (layout_of (system_of p.bound.now)).resources) (IsOwn (world_of (layout_of (system_of p.bound.now))) k) (tree_in p seed k a o)
 tree_inside p seed k a o h =
     let names = (world_of (layout_of (system_of p.bound.now))).names k in
-    limited_within (length (system_of p.bound.now).resources) names _
+    let W = world_of (layout_of (system_of p.bound.now)) in
+    straight_within (λ r. r < length (layout_of (system_of p.bound.now)).resources) (IsOwn W k) (tree_in p seed k a o) (limited_within (length (system_of p.bound.now).resources) names _
     (outer names (nth p.codes.items k) _ (λ c. outer names (nth p.bound.now.instances k) _ (λ i. outer names (steps_named (find pc o) c) _ (λ xs.
-    resume_keeps (attempt_with p.bound.now (id_of i)) (fixed_of c) names (suc (length xs)) xs (start_of c o (words_of (Seeded seed k a))) h))))
+    resume_keeps (attempt_with p.bound.now (id_of i)) (fixed_of c) names (suc (length xs)) xs (start_of c o (words_of (Seeded seed k a))) h)))))
   where
-    outer : {A : Type 0} (names : List Name) (x : Option A) (f : A → Walk) → ((v : A) → Within (λ r. Unit {0}) (λ o. map (λ p. p.0) o ≡ names) (f v)) → Within (λ r. Unit {0}) (λ o. map (λ p. p.0) o ≡ names) (on no_value x f)
+    outer : {A : Type 0} (names : List Name) (x : Option A) (f : A → Walk) → ((v : A) → StraightWithin (λ r. Unit {0}) (λ o. map (λ p. p.0) o ≡ names) (f v)) → StraightWithin (λ r. Unit {0}) (λ o. map (λ p. p.0) o ≡ names) (on no_value x f)
     outer names None f g = tt
     outer names (Some v) f g = g v

@@ -14,7 +14,7 @@ use Rattle.pgo_model.specs.Val.{val}
 use Rattle.pgo_model.specs.Written.{pc}
 use Rattle.pgo_sections.specs.BoundValues.{bindable, value_under}
 use Rattle.pgo_sections.specs.Context.{index_value}
-use Rattle.pgo_workers.specs.Walk.{Own, Walk, Stop, Touch, Goes, Sticks}
+use Rattle.pgo_workers.specs.Walk.{Own, Walk, Stop, Touch, Again, Goes, Sticks}
 use Rattle.pgo_accesses.specs.Accesses.{Attempt, Progress, printing, using_word, becoming, no_value, with_value, if_true, with_member, is_empty, all_shallow}
 use Rattle.pgo_code.specs.Steps.{Unmapped, Evaluation, Target, Resource, Own as OwnTarget, Step, Bind, Pick, Unbind, Assign, Set, Await, Assert, Print, Branch, Choose, Jump, End, Read, Write, Fail, reading, writing, unbound}
 
@@ -151,4 +151,5 @@ resume a k (suc n) (Fail ∷ is) s = no_value
 -- an access of a resource that there isn't counts as none
 abbrev pub limited : ℕ → Walk → Walk
 limited m (Stop e) = Stop e
+limited m (Again w) = Again (limited m w)
 limited m (Touch r leave rest) = if nat_lt r m then Touch r leave (λ v. limited m (rest v)) else no_value

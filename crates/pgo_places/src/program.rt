@@ -253,6 +253,11 @@ impl<'a> Sections for Runnable<'a> {
         operated(alloc, &self.program, place, content)
     }
 
+    /// No choices are tried but the first.
+    fn settle(&self, alloc: Global, place: &mut Box<Place>) -> Result<bool, AllocError> {
+        Ok(false)
+    }
+
     fn end(&self, alloc: Global, place: Box<Place>) -> Result<(State, Values), AllocError> {
         end_of(alloc, &self.program, Box::into_inner(place))
     }

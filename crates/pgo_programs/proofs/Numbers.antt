@@ -16,7 +16,7 @@ use Rattle.pgo_sections.specs.Code.{Place, Whole, Own, Code, Empty, Skip, Let, P
 use Rattle.pgo_sections.specs.Domains.{Uses, AllUse}
 use Rattle.pgo_model.specs.System.{Words}
 use Rattle.pgo_workers.specs.Walk as walks
-use Rattle.pgo_workers.specs.Walk.{Walk, Stop, Touch, Within}
+use Rattle.pgo_workers.specs.Walk.{Walk, Stop, Touch, Again, StraightWithin}
 use Rattle.pgo_accesses.specs.Accesses.{accesses_of, begun, no_value}
 use Rattle.pgo_accesses.specs.Programs.{attempt_of}
 use Rattle.pgo_accesses.proofs.Reached.{InReach, PlaceInReach, within}
@@ -73,7 +73,7 @@ abbrev Anything : walks.Own → Type 0
 Anything o = Unit {0}
 
 -- what a section accesses
-section_below : (b : Bound) → IsNumbered b → (i : Instance) (own : walks.Own) (d : Words) (c : Code) → Within (λ r. r < count_of b) Anything (accesses_of (attempt_of b i own d) c)
+section_below : (b : Bound) → IsNumbered b → (i : Instance) (own : walks.Own) (d : Words) (c : Code) → StraightWithin (λ r. r < count_of b) Anything (accesses_of (attempt_of b i own d) c)
 section_below b n i own d c =
     let a = attempt_of b i own d in
     let reach : (g : Name) → InReach a (λ r. r < count_of b) Anything (λ l ch. tt) g = λ g j r e. number_below b n (g, j) r e in
@@ -86,8 +86,9 @@ section_below b n i own d c =
     place (Own x) = tt
 
 -- nothing is left out
-limited_same : (m : ℕ) (w : Walk) → Within (λ r. r < m) Anything w → limited m w ≡ w
+limited_same : (m : ℕ) (w : Walk) → StraightWithin (λ r. r < m) Anything w → limited m w ≡ w
 limited_same m (Stop e) h = refl
+limited_same m (Again w) h = absurd h
 limited_same m (Touch r leave rest) h = go (nat_lt r m) refl (λ v. limited_same m (rest v) (h.1 v))
   where
     go : (t : Bool) → nat_lt r m ≡ t → ((v : Data) → limited m (rest v) ≡ rest v) → (if t then Touch r leave (λ v. limited m (rest v)) else no_value) ≡ Touch r leave rest

@@ -43,6 +43,7 @@ runs_over W P Reaches Good Fewer is r = record {
   trace = λ k a s good. r.trace k a s (is s good);
   stuck = λ k a s kind good. r.stuck k a s kind (is s good);
   within = r.within;
+  settles = r.settles;
   reaches = r.reaches;
   done = λ k s good. r.done k s (is s good);
   next = λ k a s o ps good. r.next k a s o ps (is s good);

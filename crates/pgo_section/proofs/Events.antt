@@ -17,7 +17,7 @@ use Rattle.pgo_resource.specs.Answers.{RefusedTake, JournalRefuses, HolderRefuse
 use Rattle.pgo_resource.specs.Nexts.{Tells, LeadsOn, StopsWith}
 use Rattle.pgo_resource.specs.declared.sections.NextEvent.TheVariants as events
 use Rattle.pgo_workers.specs.Sentences.{Under, Place, Sound, IsOwn}
-use Rattle.pgo_workers.specs.Walk.{At, Own, Walk, Stop, Goes, Sticks, Within}
+use Rattle.pgo_workers.specs.Walk.{At, Own, Walk, Stop, Goes, Sticks, Within, settled, goes_back}
 use Rattle.pgo_workers.specs.View.{Shown, Hold, View, World, EachHold, IsSteady, Takes, Commits, Notes, JournalHeld, IsHeld, MayCommit, MayNote, Once, hold_at, resources_of, renewed, with_content, aborted, committed, raised, notes_of}
 use Rattle.pgo_workers.specs.Worker as spec
 use Rattle.pgo_workers.specs.Worker.{Walking, Goes_on, TTook, THeld, TOperated, TReadied, TDown, TCommitted, TFull, TNoted, TJournal, is_giving, is_resting, rest_of, readied_of, fails_at, finished, with_held, counted, attempt}
@@ -164,12 +164,15 @@ module _ {C : Type 0} (y : System) (tree : Trees) (walk : C → Walk) (w : Worke
   was_refused b d c v r (refusals.Full n) t new take board worker = absurd take
 
   pub operated : (b c : View Effect) (v : spec.Worker) (r : ℕ) → Tells (walk p) (events.Access r) → (h : Hold) → hold_at b.held r ≡ Some h → (old new : Shown) → h.content ≡ old → (q : C) → LeadsOn (walk p) (walk q) old.current new.current
-      → new ≡ record old { current = new.current } → c ≡ with_held (with_content r new b.held) b → v ≡ record (see walk (placed w p)) { phase = phase_at walk w.giving (Some q) 0 } → TurnsTo y tree walk (placed w p) b v c spec.Went
-  operated b c v r t h at old new is q leads keeps board worker =
+      → new ≡ record old { current = new.current } → (d : View Effect) → d ≡ with_held (with_content r new b.held) b → (q' : C) → walk q' ≡ settled (walk q) → (back : Bool) → back ≡ goes_back (walk q) → c ≡ with_held (if back then aborted d.held else d.held) d
+      → v ≡ record (see walk (placed w p)) { phase = phase_at walk w.giving (Some q') 0 } → TurnsTo y tree walk (placed w p) b v c spec.Went
+  operated b c v r t h at old new is q leads keeps d content q' settles back backs board worker =
       let on = leads r t.0 t.1 t.2 in
       let made : new ≡ record h.content { current = t.0 h.content.current } = keeps ∙ (λ i. record (sym is i) { current = (on.0 ∙ ap (λ (s : Shown). t.0 s.current) (sym is)) i }) in
-      TOperated goes_on r t.0 t.1 (rest_is ∙ t.2) h at (board ∙ ap (λ n. with_held (with_content r n b.held) b) made)
-      (worker ∙ (λ i. record (see walk (placed w p)) { phase = ((λ j. phase_at walk (going j) (Some q) 0) ∙ ap (λ x. Walking x 0) (on.1 ∙ ap (λ (s : Shown). t.1 s.current) (sym is))) i })) refl
+      let next : walk q ≡ t.1 h.content.current = on.1 ∙ ap (λ (s : Shown). t.1 s.current) (sym is) in
+      TOperated goes_on r t.0 t.1 (rest_is ∙ t.2) h at
+      (board ∙ (λ i. let d' = (content ∙ ap (λ n. with_held (with_content r n b.held) b) made) i in with_held (if (backs ∙ ap goes_back next) i then aborted d'.held else d'.held) d'))
+      (worker ∙ (λ i. record (see walk (placed w p)) { phase = ((λ j. phase_at walk (going j) (Some q') 0) ∙ ap (λ x. Walking x 0) (settles ∙ ap settled next)) i })) refl
 
   -- an access that wanted memory
   pub unfinished : (b c : View Effect) (r : ℕ) (h : Hold) → hold_at b.held r ≡ Some h → (old new : Shown) → h.content ≡ old → new ≡ record old { current = new.current } → c ≡ with_held (with_content r new b.held) b

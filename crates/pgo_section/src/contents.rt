@@ -1,5 +1,5 @@
 // What is done to the contents of all held resources.
-ghost use Rattle.std.specs.Prelude.{◌≡◌};
+ghost use Rattle.std.specs.Prelude.{◌≡◌, if◌then◌else◌};
 ghost use Rattle.pgo_workers.specs.View.{Once, resources_of, aborted, committed};
 ghost use Rattle.pgo_workers.specs.Worker.{with_held};
 
@@ -16,6 +16,19 @@ pub fn abort_all<B: Board>(taken: &Vec<u32>, board: &mut B)
 {
     for index in 0..taken.len() {
         board.content(taken[index]).abort();
+    }
+}
+
+/// Puts back what was written, if so it is told. It takes no memory.
+pub fn put_back<B: Board>(back: bool, taken: &Vec<u32>, board: &mut B)
+    requires held { taken.now.items ≡ resources_of (B.shows board.old).held }
+    requires once { Once taken.now.items }
+    ensures system { B.layout board.new ≡ B.layout board.old }
+    ensures stays { B.stays board.old board.new }
+    ensures shows { B.shows board.new ≡ with_held (if back then aborted (B.shows board.old).held else (B.shows board.old).held) (B.shows board.old) }
+{
+    if back {
+        abort_all(taken, board);
     }
 }
 

@@ -10,7 +10,7 @@ use Rattle.pgo_model.specs.Machine.{Entry, Note, Record, Step, Noted, Held, Down
 use Rattle.pgo_model.specs.MachineLists.{nth_left, nth_below}
 use Rattle.pgo_model.specs.MachineAccounts.{equal_or, append_none}
 use Rattle.pgo_model.specs.Accounts.{journal, Accounts, Contended, JointAccounts, Told as MachineTold, IsAmong, ReachedBefore, ReachedJournal}
-use Rattle.pgo_workers.specs.Walk.{Own, Walk, Stop, Touch, At, Agrees, Within, visits, ending}
+use Rattle.pgo_workers.specs.Walk.{Own, Walk, Stop, Touch, Again, At, Agrees, Within, visits, visits_from, ending}
 use Rattle.pgo_workers.specs.View.{Refusal, IsHeld, IsFull, Taking, Told, World, places, state}
 use Rattle.pgo_workers.specs.Worker.{Program, rules_of}
 use Rattle.pgo_workers.specs.Sentences.{refusals, downs, Sub, SNone, SHere, SOver, flat, last_of, granted, Shows, EachTaking, Ends, held_last, Closes, Tells, AccountsOfOne, Past, History, Runs, IsOwn}
@@ -210,10 +210,14 @@ neither i j e f = grind (arith, e, f)
 not_below : (k n : ℕ) → k < n → nat_lt k n ≡ false → ⊥
 not_below k n l e = let t : nat_lt k n ≡ true = lt-ltb k n l in let y : true ≡ false = sym t ∙ e in grind (arith, y)
 
+within_from : (Q : ℕ → Type 0) (T : Own → Type 0) (w : Walk) (s f : ℕ → Data) (n r : ℕ) → Within Q T w → nth (visits_from s w f) n ≡ Some r → Q r
+within_from Q T (Stop e) s f n r w h = absurd (grind (arith, h))
+within_from Q T (Touch q leave rest) s f zero r w h = subst Q (same_Some q r h) w.0
+within_from Q T (Touch q leave rest) s f (suc n) r w h = within_from Q T (rest (f q)) s (put q (leave (f q)) f) n r (w.1 (f q)) h
+within_from Q T (Again v) s f n r w h = within_from Q T v s s n r w h
+
 within_at : (Q : ℕ → Type 0) (T : Own → Type 0) (w : Walk) (f : ℕ → Data) (n r : ℕ) → Within Q T w → nth (visits w f) n ≡ Some r → Q r
-within_at Q T (Stop e) f n r w h = absurd (grind (arith, h))
-within_at Q T (Touch q leave rest) f zero r w h = subst Q (same_Some q r h) w.0
-within_at Q T (Touch q leave rest) f (suc n) r w h = within_at Q T (rest (f q)) (put q (leave (f q)) f) n r (w.1 (f q)) h
+within_at Q T w f n r h e = within_from Q T w f f n r h e
 
 reached_among : (y : Record) (r : ℕ) (trace : List ℕ) → ReachedBefore y r trace → IsAmong r trace
 reached_among (Step n) r trace h = h

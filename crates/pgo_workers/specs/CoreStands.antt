@@ -7,14 +7,15 @@ use Rattle.pgo_model.specs.Machine.{Entry, Note, Record, Step, Noted, Held, Down
 use Rattle.pgo_model.specs.Machine as machine
 use Rattle.pgo_model.specs.MachineAccounts.{equal_or}
 use Rattle.pgo_model.specs.MachineLists.{state_next, nth_below}
-use Rattle.pgo_workers.specs.Walk.{Own, Stop, Goes, Sticks, Touch, Walk, Along, taken_after, among_append}
-use Rattle.pgo_workers.specs.View.{Shown, raised, Hold, View, World, EachHold, Once, StandsAt, hold_at, without, resources_of, values_of, nows_of, with_content, aborted, committed, renewed, changed, Takes, TakeHeld, Commits, Notes, JournalFull, Gives, positioned}
-use Rattle.pgo_workers.specs.Worker.{Program, Phase, Resting, Walking, Giving, Worker, Turn, Turned, TIdle, TGave, TTook, THeld, TOperated, TReadied, TDown, TCommitted, TFull, TNoted, TJournal, with_held, finished, walks_on, attempt, rest_of, readied_of, Goes_on, is_giving, changes_of, counted, fails_at, entry, note}
+use Rattle.pgo_workers.specs.Walk.{Own, Stop, Goes, Sticks, Touch, Again, Walk, Along, settled, taken_after, among_append}
+use Rattle.pgo_workers.specs.View.{Shown, raised, Hold, View, World, EachHold, IsSteady, Once, StandsAt, hold_at, without, resources_of, values_of, nows_of, with_content, aborted, committed, renewed, changed, Takes, TakeHeld, Commits, Notes, JournalFull, Gives, positioned}
+use Rattle.pgo_workers.specs.Worker.{Program, Phase, Resting, Walking, Giving, Worker, Turn, Turned, TIdle, TGave, TTook, THeld, TOperated, TReadied, TDown, TCommitted, TFull, TNoted, TJournal, with_held, finished, walks_on, attempt, rest_of, readied_of, Goes_on, is_giving, changes_of, counted, fails_at, entry, note, put_back}
 use Rattle.pgo_workers.specs.Sentences.{Under, Meets, Sound, Runs, IsOwn}
 use Rattle.pgo_workers.specs.Kept.{under, left_is, stop_touch, under_took_at, under_operated_at, under_readied_at}
 use Rattle.pgo_workers.specs.Turns.{next_there, gives_first, without_first}
 use Rattle.pgo_workers.specs.Grown.{opened}
 use Rattle.pgo_workers.specs.Holds as holds
+use Rattle.pgo_workers.specs.Backs.{under_back_at}
 use Rattle.pgo_workers.specs.CoreSteps.{R, Stands, DoneAt, Position, place, step_idle, step_gives, step_take, step_operate, step_pre_commit, step_commit, step_note}
 
 pub put_here : {A : Type 0} (k : ℕ) (x : A) (f : ℕ → A) → put k x f k ≡ x
@@ -320,6 +321,32 @@ module _ {S D : Type 0} (W : World S D) (P : Program S D) (Reaches : ℕ → ℕ
             go (inl e) = e
             go (inr e) = absurd (stop_touch (Goes e.0 e.1) r leave rest (sym e.2 ∙ is))
 
+    -- contents are put back
+    back_stands : (n : Machine D) (c : View D) (x : Walk) → EachHold IsSteady c.held → St n (walks_on x 0 w) c → St n (walks_on (settled x) 0 w) (with_held (put_back x c.held) c)
+    back_stands n c (Stop e) steady t = t
+    back_stands n c (Touch r leave rest) steady t = t
+    back_stands n c (Again x) steady t =
+        let u = under_back_at W P Reaches Good runs w c (Again x) steady t.done.0 in
+        record {
+          number = t.number;
+          entries = t.entries;
+          notes = t.notes;
+          records = t.records;
+          held = t.held;
+          giving = t.giving;
+          done = (u.0, t.done.1 ∙ ap (λ l. (length l + length w.taken) + 0) (sym u.1), t.done.2);
+          values = holds.each_aborted (λ h. W.value (last_state (R W P Reaches Good runs) n) h.resource ≡ h.value) (λ h. W.value (last_state (R W P Reaches Good runs) n) h.resource ≡ h.value) c.held (λ h e. e) t.values;
+          own = t.own;
+          counts = holds.each_aborted (λ h. n.counts h.resource ≡ h.content.count) (λ h. n.counts h.resource ≡ h.content.count) c.held (λ h e. e) t.counts;
+          mine = t.mine;
+          theirs = t.theirs;
+        }
+
+    steady_with : (r : ℕ) (c : Shown) (h : Hold) → hold_at b.held r ≡ Some h → c.base ≡ h.content.base → EachHold IsSteady (with_content r c b.held)
+    steady_with r c h at same =
+        let steady = holds.each_map (Sound W P Reaches Good) IsSteady b.held (λ h s. s.0) meets.sound in
+        holds.each_with IsSteady r c b.held h at (same ∙ holds.hold_is IsSteady b.held r h at steady) steady
+
     -- the counts of the code are below their last value, and a content has a number unless nothing fails
     pub record Counting (h : Hold) : Type 0 where
       pub up : raised h.content.count ≡ suc h.content.count
@@ -433,7 +460,7 @@ module _ {S D : Type 0} (W : World S D) (P : Program S D) (Reaches : ℕ → ℕ
     stepped v c t (TGave r rs giving first gives worker answer) a = subst (λ v. St next v c) (sym worker) (gave_stands r rs giving first c gives a.0 a.1)
     stepped v c t (TTook on r leave rest next' new takes worker answer) a = subst (λ v. St next v c) (sym worker) (took_stands on r leave rest next' new c takes a.0 a.1 a.2 a.3 a.4)
     stepped v c t (THeld on r h leave rest next' new d take board worker answer) a = subst (λ v. St next v c) (sym worker) (subst (λ c. St next (finished (Held r h) w) c) (sym board) (held_stands on r h leave rest next' new d take a.0 a.1 a.2))
-    stepped v c t (TOperated on r leave rest next' h held board worker answer) a = subst (λ v. St next v c) (sym worker) (subst (λ c. St next (walks_on (rest h.content.current) 0 w) c) (sym board) (operated_stands on r leave rest next' h held))
+    stepped v c t (TOperated on r leave rest next' h held board worker answer) a = subst (λ v. St next v c) (sym worker) (subst (λ c. St next (walks_on (settled (rest h.content.current)) 0 w) c) (sym board) (back_stands next (with_held (with_content r (record h.content { current = leave h.content.current }) b.held) b) (rest h.content.current) (steady_with r (record h.content { current = leave h.content.current }) h held refl) (operated_stands on r leave rest next' h held)))
     stepped v c t (TReadied on o ps next' r at h held up board worker answer) a = subst (λ v. St next v c) (sym worker) (subst (λ c. St next (walks_on (Stop (Goes o ps)) (suc (readied_of W P w.phase)) w) c) (sym board) (readied_stands on o ps next' r at h held up a))
     stepped v c t (TDown on o ps next' r at h held down board worker answer) a = subst (λ v. St next v c) (sym worker) (subst (λ c. St next (finished (Down r (raised h.content.count)) w) c) (sym board) (down_stands on o ps next' r at h held down a))
     stepped v c t (TCommitted on o ps next' at n d commits board worker answer) a = subst (λ v. St next v c) (sym worker) (subst (λ c. St next (record (finished (Step n) w) { own = o }) c) (sym board) (committed_stands on o ps next' at n d commits a.0 a.1 a.2))

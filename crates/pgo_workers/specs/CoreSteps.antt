@@ -4,7 +4,7 @@ use Rattle.std.specs.Prelude.{if◌then◌else◌, nat_eq, nat_lt}
 use Rattle.pgo_base.specs.Data.{Data}
 use Rattle.pgo_model.specs.Outcome.{Kind, Outcome, Next}
 use Rattle.pgo_model.specs.Machine.{Rules, Machine, Event, Take, Operate, PreCommit, Commit, Noting, among, pre_commits, last_events, events, nth, put, last_ends, attempt_of, goes_on, taking, pre_committing, noting, gives, last_state, section, has_ended, committing, does, step}
-use Rattle.pgo_workers.specs.Walk.{Own, End, Goes, Sticks, Walk, Stop, Touch, Agrees, visits, ending, taken_after}
+use Rattle.pgo_workers.specs.Walk.{Own, End, Goes, Sticks, Walk, Stop, Touch, Again, Agrees, visits, visits_from, ending, ending_from, taken_after}
 use Rattle.pgo_workers.specs.View.{Hold, View, World, EachHold, resources_of, values_of}
 use Rattle.pgo_workers.specs.Worker.{Program, rules_of, Phase, Resting, Walking, Giving, Worker, attempt, rest_of, readied_of, Goes_on, is_giving}
 use Rattle.pgo_workers.specs.Worker as spec
@@ -187,10 +187,10 @@ module _ {S D : Type 0} (W : World S D) (P : Program S D) (Reaches : ℕ → ℕ
     trace_is = runs.trace k (attempt_of m k) (last_state R m) good ∙ (λ i. visits (P.tree (sym s.number i) (attempt_is i) (s.own i)) (W.value (last_state R m)))
 
     -- what comes after the accesses of a place
-    pub event_at : (p : Position) (i : ℕ) → (g : ℕ → Data) × (nth (events (section R m k).trace (section R m k).end []) (span p.under.accesses [] + i) ≡ nth (events (visits (rest_of W P w w.phase) g) (section R m k).end (taken_after p.under.accesses [])) i)
+    pub event_at : (p : Position) (i : ℕ) → (g : ℕ → Data) × (nth (events (section R m k).trace (section R m k).end []) (span p.under.accesses [] + i) ≡ nth (events (visits_from (W.value (last_state R m)) (rest_of W P w w.phase) g) (section R m k).end (taken_after p.under.accesses [])) i)
     event_at p i =
         let q = p.under.along (W.value (last_state R m)) (agrees b.held s.values) in
-        (q.0, ap (λ l. nth (events l (section R m k).end []) (span p.under.accesses [] + i)) (trace_is ∙ q.1.trace) ∙ events_front p.under.accesses (visits (rest_of W P w w.phase) q.0) [] (section R m k).end i)
+        (q.0, ap (λ l. nth (events l (section R m k).end []) (span p.under.accesses [] + i)) (trace_is ∙ q.1.trace) ∙ events_front p.under.accesses (visits_from (W.value (last_state R m)) (rest_of W P w w.phase) q.0) [] (section R m k).end i)
 
     number : k < P.instances
     number = subst (λ k. k < P.instances) s.number meets.number
@@ -201,7 +201,7 @@ module _ {S D : Type 0} (W : World S D) (P : Program S D) (Reaches : ℕ → ℕ
     end_is : (p : Position) (e : End) → rest_of W P w w.phase ≡ Stop e → ending (P.tree k (attempt_of m k) (W.own (last_state R m) k)) (W.value (last_state R m)) ≡ e
     end_is p e is =
         let q = p.under.along (W.value (last_state R m)) (agrees b.held s.values) in
-        (λ i. ending (P.tree (sym s.number i) (attempt_is i) (s.own i)) (W.value (last_state R m))) ∙ q.1.ends ∙ ap (λ x. ending x q.0) is
+        (λ i. ending (P.tree (sym s.number i) (attempt_is i) (s.own i)) (W.value (last_state R m))) ∙ q.1.ends ∙ ap (λ x. ending_from (W.value (last_state R m)) x q.0) is
 
     -- the next event, in each case
     not_ready : (p : Position) (r : ℕ) (leave : Data → Data) (rest : Data → Walk) → rest_of W P w w.phase ≡ Touch r leave rest → readied_of W P w.phase ≡ 0
@@ -216,9 +216,9 @@ module _ {S D : Type 0} (W : World S D) (P : Program S D) (Reaches : ℕ → ℕ
         let own : taken_after p.under.accesses [] ≡ w.taken = before_take W P Reaches Good runs w b (rest_of W P w w.phase) (readied_of W P w.phase) r leave rest is (ap (among r) (sym meets.taken) ∙ new) p.under ∙ sym meets.taken in
         let e = event_at p 0 in
         let n : (m.workers k).done ≡ span p.under.accesses [] + 0 = (let a = span_is p.under.accesses [] in let z = not_ready p r leave rest is in let d = p.done in let l = ap length own in omega (arith, a, z, d, l)) in
-        ap (nth (events (section R m k).trace (section R m k).end [])) n ∙ e.1 ∙ ap (λ x. nth (events (visits x e.0) (section R m k).end (taken_after p.under.accesses [])) 0) is
-        ∙ ap (λ b. nth (if b then Operate r ∷ events (visits (rest (e.0 r)) (put r (leave (e.0 r)) e.0)) (section R m k).end (taken_after p.under.accesses [])
-        else Take r ∷ (Operate r ∷ events (visits (rest (e.0 r)) (put r (leave (e.0 r)) e.0)) (section R m k).end (taken_after p.under.accesses [] ++ (r ∷ [])))) 0) (ap (among r) own ∙ new)
+        ap (nth (events (section R m k).trace (section R m k).end [])) n ∙ e.1 ∙ ap (λ x. nth (events (visits_from (W.value (last_state R m)) x e.0) (section R m k).end (taken_after p.under.accesses [])) 0) is
+        ∙ ap (λ b. nth (if b then Operate r ∷ events (visits_from (W.value (last_state R m)) (rest (e.0 r)) (put r (leave (e.0 r)) e.0)) (section R m k).end (taken_after p.under.accesses [])
+        else Take r ∷ (Operate r ∷ events (visits_from (W.value (last_state R m)) (rest (e.0 r)) (put r (leave (e.0 r)) e.0)) (section R m k).end (taken_after p.under.accesses [] ++ (r ∷ [])))) 0) (ap (among r) own ∙ new)
 
     operate_next : (p : Position) (r : ℕ) (leave : Data → Data) (rest : Data → Walk) → rest_of W P w w.phase ≡ Touch r leave rest → among r w.taken ≡ true → nth (events (section R m k).trace (section R m k).end []) (m.workers k).done ≡ Some (Operate r)
     operate_next p r leave rest is old = go p.under.holds
@@ -239,17 +239,17 @@ module _ {S D : Type 0} (W : World S D) (P : Program S D) (Reaches : ℕ → ℕ
         go (inl own) =
             let e = event_at p 0 in
             let n : (m.workers k).done ≡ span p.under.accesses [] + 0 = (let a = span_is p.under.accesses [] in let z = zero_ready in let d = p.done in let l = ap length (own ∙ sym meets.taken) in omega (arith, a, z, d, l)) in
-            ap (nth (events (section R m k).trace (section R m k).end [])) n ∙ e.1 ∙ ap (λ x. nth (events (visits x e.0) (section R m k).end (taken_after p.under.accesses [])) 0) is
-            ∙ ap (λ b. nth (if b then Operate r ∷ events (visits (rest (e.0 r)) (put r (leave (e.0 r)) e.0)) (section R m k).end (taken_after p.under.accesses [])
-            else Take r ∷ (Operate r ∷ events (visits (rest (e.0 r)) (put r (leave (e.0 r)) e.0)) (section R m k).end (taken_after p.under.accesses [] ++ (r ∷ [])))) 0) (ap (among r) (own ∙ sym meets.taken) ∙ old)
+            ap (nth (events (section R m k).trace (section R m k).end [])) n ∙ e.1 ∙ ap (λ x. nth (events (visits_from (W.value (last_state R m)) x e.0) (section R m k).end (taken_after p.under.accesses [])) 0) is
+            ∙ ap (λ b. nth (if b then Operate r ∷ events (visits_from (W.value (last_state R m)) (rest (e.0 r)) (put r (leave (e.0 r)) e.0)) (section R m k).end (taken_after p.under.accesses [])
+            else Take r ∷ (Operate r ∷ events (visits_from (W.value (last_state R m)) (rest (e.0 r)) (put r (leave (e.0 r)) e.0)) (section R m k).end (taken_after p.under.accesses [] ++ (r ∷ [])))) 0) (ap (among r) (own ∙ sym meets.taken) ∙ old)
         go (inr q) =
             let e = event_at p 1 in
             let r' : q.0 ≡ r = touch_same q.0 r q.1 leave q.2 rest (sym q.3 ∙ is) in
             let fresh : among r (taken_after p.under.accesses []) ≡ false = unseen p.under.accesses (ap (λ i. among i p.under.accesses) (sym r') ∙ q.5) in
             let n : (m.workers k).done ≡ span p.under.accesses [] + 1 = (let a = span_is p.under.accesses [] in let z = zero_ready in let d = p.done in let l = ap length (q.4 ∙ sym meets.taken) in let x = length-append (taken_after p.under.accesses []) (q.0 ∷ []) in omega (arith, a, z, d, l, x)) in
-            ap (nth (events (section R m k).trace (section R m k).end [])) n ∙ e.1 ∙ ap (λ x. nth (events (visits x e.0) (section R m k).end (taken_after p.under.accesses [])) 1) is
-            ∙ ap (λ b. nth (if b then Operate r ∷ events (visits (rest (e.0 r)) (put r (leave (e.0 r)) e.0)) (section R m k).end (taken_after p.under.accesses [])
-            else Take r ∷ (Operate r ∷ events (visits (rest (e.0 r)) (put r (leave (e.0 r)) e.0)) (section R m k).end (taken_after p.under.accesses [] ++ (r ∷ [])))) 1) fresh
+            ap (nth (events (section R m k).trace (section R m k).end [])) n ∙ e.1 ∙ ap (λ x. nth (events (visits_from (W.value (last_state R m)) x e.0) (section R m k).end (taken_after p.under.accesses [])) 1) is
+            ∙ ap (λ b. nth (if b then Operate r ∷ events (visits_from (W.value (last_state R m)) (rest (e.0 r)) (put r (leave (e.0 r)) e.0)) (section R m k).end (taken_after p.under.accesses [])
+            else Take r ∷ (Operate r ∷ events (visits_from (W.value (last_state R m)) (rest (e.0 r)) (put r (leave (e.0 r)) e.0)) (section R m k).end (taken_after p.under.accesses [] ++ (r ∷ [])))) 1) fresh
 
     -- behind the accesses of a section that has ended
     last_next : (p : Position) (e : End) → rest_of W P w w.phase ≡ Stop e → nth (events (section R m k).trace (section R m k).end []) (m.workers k).done ≡ nth (last_events (section R m k).end w.taken) (readied_of W P w.phase)
@@ -257,7 +257,7 @@ module _ {S D : Type 0} (W : World S D) (P : Program S D) (Reaches : ℕ → ℕ
         let own : taken_after p.under.accesses [] ≡ w.taken = all_taken W P Reaches Good runs w b (rest_of W P w w.phase) (readied_of W P w.phase) e is p.under ∙ sym meets.taken in
         let q = event_at p (readied_of W P w.phase) in
         let n : (m.workers k).done ≡ span p.under.accesses [] + readied_of W P w.phase = (let a = span_is p.under.accesses [] in let d = p.done in let l = ap length own in omega (arith, a, d, l)) in
-        ap (nth (events (section R m k).trace (section R m k).end [])) n ∙ q.1 ∙ ap (λ x. nth (events (visits x q.0) (section R m k).end (taken_after p.under.accesses [])) (readied_of W P w.phase)) is
+        ap (nth (events (section R m k).trace (section R m k).end [])) n ∙ q.1 ∙ ap (λ x. nth (events (visits_from (W.value (last_state R m)) x q.0) (section R m k).end (taken_after p.under.accesses [])) (readied_of W P w.phase)) is
         ∙ ap (λ l. nth (last_events (section R m k).end l) (readied_of W P w.phase)) own
 
     next_end : (p : Position) (o : Own) (ps : List Data) → rest_of W P w w.phase ≡ Stop (Goes o ps) → (t : S) × ((section R m k).end ≡ Next t ps)
@@ -280,6 +280,7 @@ module _ {S D : Type 0} (W : World S D) (P : Program S D) (Reaches : ℕ → ℕ
             ends : Walk → End
             ends (Stop e) = e
             ends (Touch r leave rest) = Sticks kind
+            ends (Again w) = Sticks kind
 
             goes : End → Bool
             goes (Goes o ps) = true

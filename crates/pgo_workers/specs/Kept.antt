@@ -6,7 +6,7 @@ use Rattle.pgo_base.specs.Data.{Data}
 use Rattle.pgo_model.specs.Machine.{Entry, Record, among, put, last_ends, nth}
 use Rattle.pgo_model.specs.MachineLists.{nth_below, nth_end}
 use Rattle.pgo_model.specs.MachineAccounts.{equal_or, append_none}
-use Rattle.pgo_workers.specs.Walk.{Own, End, Goes, Walk, Stop, Touch, At, Agrees, Along, Within, visits, ending, taken_after, among_append, append_assoc, along_start, along_takes, along_operates, agrees_first}
+use Rattle.pgo_workers.specs.Walk.{Own, End, Goes, Walk, Stop, Touch, Again, At, Agrees, Along, Within, visits, visits_from, ending, ending_from, taken_after, among_append, append_assoc, along_start, along_takes, along_operates, agrees_first}
 use Rattle.pgo_workers.specs.View.{Shown, Hold, Taking, Told, View, World, Others, OtherNotes, EachHold, Once, Same, Grows, hold_at, resources_of, values_of, nows_of, with_content, own_left, own_seen, Takes, untold, answers}
 use Rattle.pgo_workers.specs.Worker.{Program, Phase, is_resting, Resting, Walking, Giving, Worker, with_held, walks_on, attempt, rest_of, readied_of, Goes_on, is_giving, counted}
 use Rattle.pgo_workers.specs.Sentences.{refusals, downs, Sub, flat, OthersAt, Shows, Ends, AccountsOfOne, OwnThen, Past, History, Under, Taken, PassedBy, Place, TakenNow, Lists, Sound, Meets, Runs, IsOwn}
@@ -19,6 +19,7 @@ touch_same r q l m s t e = ap (λ w. touched w) e
     touched : Walk → ℕ
     touched (Stop e) = 0
     touched (Touch r l s) = r
+    touched (Again w) = 0
 
 pub stop_touch : (e : End) (r : ℕ) (l : Data → Data) (s : Data → Walk) → Stop e ≡ Touch r l s → ⊥
 stop_touch e r l s q = let x : true ≡ false = ap (λ w. is_stop w) q in grind (arith, x)
@@ -26,6 +27,7 @@ stop_touch e r l s q = let x : true ≡ false = ap (λ w. is_stop w) q in grind 
     is_stop : Walk → Bool
     is_stop (Stop e) = true
     is_stop (Touch r l s) = false
+    is_stop (Again w) = false
 
 along_at : (w : Walk) (p : List ℕ) (x : Walk) (a b c d : List At) → a ≡ b → c ≡ d → Along w a p x c → Along w b p x d
 along_at w p x a b c d e f h = subst (λ c. Along w b p x c) f (subst (λ a. Along w a p x c) e h)
@@ -294,18 +296,18 @@ module _ {S D : Type 0} (W : World S D) (P : Program S D) (Reaches : ℕ → ℕ
     others,
     λ f a.
         let q = u.along f (agrees f a) in
-        (u.accesses, visits (rest (q.0 r)) (put r (leave (q.0 r)) q.0), q.1.trace ∙ ap (λ w. u.accesses ++ visits w q.0) is ∙ ap (λ i. u.accesses ++ (i ∷ visits (rest (q.0 r)) (put r (leave (q.0 r)) q.0))) (sym named), before_take w b x j r leave rest is new u),
+        (u.accesses, visits_from f (rest (q.0 r)) (put r (leave (q.0 r)) q.0), q.1.trace ∙ ap (λ w. u.accesses ++ visits_from f w q.0) is ∙ ap (λ i. u.accesses ++ (i ∷ visits_from f (rest (q.0 r)) (put r (leave (q.0 r)) q.0))) (sym named), before_take w b x j r leave rest is new u),
   )
 
   -- where the code has ended, on all values that agree
   pub ends_so : (w : Worker) (b : View D) (j : ℕ) (o : Own) (ps : List Data) (x : Walk) → x ≡ Stop (Goes o ps) → UnderWay w b x j → Ends (P.tree w.number (attempt w) w.own) (values_of b.held)
-  ends_so w b j o ps x is u f a = let q = u.along f a in (o, ps, q.1.ends ∙ ap (λ w. ending w q.0) is)
+  ends_so w b j o ps x is u f a = let q = u.along f a in (o, ps, q.1.ends ∙ ap (λ w. ending_from f w q.0) is)
 
   -- what is held was accessed, on all values that agree
   pub reached : (w : Worker) (b : View D) (j : ℕ) (e : End) (x : Walk) (r : ℕ) → x ≡ Stop e → UnderWay w b x j → among r (resources_of b.held) ≡ true → (f : ℕ → Data) → Agrees (values_of b.held) f → among r (visits (P.tree w.number (attempt w) w.own) f) ≡ true
   reached w b j e x r is u there f a =
       let q = u.along f a in
-      ap (among r) (q.1.trace ∙ ap (λ w. u.accesses ++ visits w q.0) is ∙ nil_append u.accesses)
+      ap (among r) (q.1.trace ∙ ap (λ w. u.accesses ++ visits_from f w q.0) is ∙ nil_append u.accesses)
       ∙ holds.accessed r u.accesses [] (ap (among r) (all_taken w b x j e is u) ∙ there) (λ z. let y : true ≡ false = sym z in absurd (grind (arith, y)))
 
   -- the resource that is accessed next is one that the instance reaches

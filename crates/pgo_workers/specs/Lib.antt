@@ -8,6 +8,7 @@ pub mod Operations
 pub mod Holds
 pub mod OneAccounts
 pub mod Kept
+pub mod Backs
 pub mod Ends
 pub mod Turns
 pub mod Stops
@@ -17,3 +18,4 @@ pub mod CoreSteps
 pub mod CoreStands
 pub mod CoreTurns
 pub mod Telling
+pub mod Tried

@@ -6,7 +6,7 @@ pub use Rattle.pgo_base.specs.Lists.{joined as flat}
 use Rattle.pgo_model.specs.Outcome.{Kind, Next, Stuck}
 use Rattle.pgo_model.specs.Machine.{Entry, Note, Record, Step, Noted, Held, Down, Full, among, nth, last_ends}
 use Rattle.pgo_model.specs.Accounts.{ComesAfter, journal}
-use Rattle.pgo_workers.specs.Walk.{Own, Goes, Sticks, Walk, Stop, Touch, At, Agrees, Along, Within, visits, ending, final, taken_after}
+use Rattle.pgo_workers.specs.Walk.{Own, Goes, Sticks, Walk, Stop, Touch, At, Agrees, Along, Within, goes_back, visits, ending, final, taken_after}
 use Rattle.pgo_workers.specs.View.{Hold, Refusal, IsHeld, IsFull, Taking, Told, View, World, EachHold, IsSteady, MayNumber, Once, changed, places, Changed, resources_of, values_of, nows_of, passing, notes_of, state, own_seen}
 use Rattle.pgo_workers.specs.Worker.{Program, Change, changes_of, Phase, Resting, Walking, Giving, Worker, attempt}
 
@@ -207,6 +207,8 @@ module _ {S D : Type 0} (W : World S D) (P : Program S D) (Reaches : ℕ → ℕ
     pub trace : (k a : ℕ) (s : S) → Good s → (P.sect k a s).trace ≡ visits (P.tree k a (W.own s k)) (W.value s)
     pub stuck : (k a : ℕ) (s : S) (kind : Kind) → Good s → k < P.instances → P.at_done k s ≡ false → ending (P.tree k a (W.own s k)) (W.value s) ≡ Sticks kind → (P.sect k a s).end ≡ Stuck kind
     pub within : (k a : ℕ) (o : Own) → IsOwn W k o → Within (Reaches k) (IsOwn W k) (P.tree k a o)
+    -- an attempt begins at an access or an end
+    pub settles : (k a : ℕ) (o : Own) → IsOwn W k o → goes_back (P.tree k a o) ≡ false
     pub reaches : (k r : ℕ) → Reaches k r → W.is_resource r ≡ true
     pub done : (k : ℕ) (s : S) → Good s → P.at_done k s ≡ P.is_done k (W.own s k)
     -- a section that goes on leads to the state with the entry that the worker makes of it

@@ -7,13 +7,14 @@ use Rattle.pgo_model.specs.Outcome.{Kind, Next, Stuck}
 use Rattle.pgo_model.specs.Machine.{Entry, Note, Record, Step, Noted, Held, Down, Full, among, nth, is_empty}
 use Rattle.pgo_model.specs.MachineLists.{nth_last, nth_below, nth_end}
 use Rattle.pgo_model.specs.Accounts.{ComesAfter, journal}
-use Rattle.pgo_workers.specs.Walk.{Own, Goes, Sticks, Stop, Agrees, visits, ending, final, taken_after, append_assoc}
+use Rattle.pgo_workers.specs.Walk.{Own, Goes, Sticks, Stop, Agrees, visits, visits_from, ending, ending_from, final, final_from, settled, taken_after, append_assoc}
 use Rattle.pgo_workers.specs.View.{Shown, raised, Hold, Taking, Told, View, World, Others, OtherNotes, EachHold, IsSteady, Once, Same, hold_at, without, resources_of, values_of, nows_of, with_content, aborted, committed, renewed, changed, passing, notes_of, positioned, state, own_left, own_seen, Commits, Notes, Gives, StandsAt, untold}
 use Rattle.pgo_workers.specs.Worker.{Program, Phase, Resting, Walking, Giving, Worker, Turn, Turned, TIdle, TGave, TTook, THeld, TOperated, TReadied, TDown, TCommitted, TFull, TNoted, TJournal, changes_of, with_held, finished, walks_on, attempt, rest_of, readied_of, Goes_on, is_giving, counted, entry, note}
 use Rattle.pgo_workers.specs.Sentences.{refusals, downs, Sub, flat, Tells, AccountsOfOne, AllGood, OwnThen, History, Under, PassedBy, Place, TakenNow, Lists, Sound, Meets, Runs, changes_at}
 use Rattle.pgo_workers.specs.OneAccounts.{along_next, state_kept, own_then_grows, accounts_add, other_at, other_note_at, nth_either, no_notes_of, notes_of_append}
 use Rattle.pgo_workers.specs.Holds as holds
 use Rattle.pgo_workers.specs.Kept.{own_is, left_is, accounts_seen, under, running, all_taken, under_operated, under_readied, own_grows, own_then_seen, history_grows, history_ends, took, nil_append}
+use Rattle.pgo_workers.specs.Backs.{meets_back}
 use Rattle.pgo_workers.specs.Ends.{ends, changes_on, was_held, journal_held, was_full, was_down}
 
 eq_true : (a b : ℕ) → a ≡ b → nat_eq a b ≡ true
@@ -69,9 +70,9 @@ module _ {S D : Type 0} (W : World S D) (P : Program S D) (Reaches : ℕ → ℕ
       let own : W.own st w.number ≡ w.own = ap (W.own st) (sym m.instance) ∙ s.own ∙ sym m.own in
       let a = agrees b l (steady b.held m.sound) s in
       let q = u.along f a in
-      let end : ending w0 f ≡ Goes o ps = q.1.ends ∙ ap (λ x. ending x q.0) is in
-      let taken : taken_after (visits w0 f) [] ≡ resources_of b.held = ap (λ t. taken_after t []) (q.1.trace ∙ ap (λ x. u.accesses ++ visits x q.0) is ∙ nil_append u.accesses) ∙ all_taken W P Reaches Good runs w b (rest_of W P w w.phase) (readied_of W P w.phase) (Goes o ps) is u in
-      let last : Agrees (nows_of b.held) (final w0 f) = holds.agrees_along (nows_of b.held) (final w0 f) q.0 (λ r. q.1.leaves r ∙ ap (λ x. final x q.0 r) is) q.2 in
+      let end : ending w0 f ≡ Goes o ps = q.1.ends ∙ ap (λ x. ending_from f x q.0) is in
+      let taken : taken_after (visits w0 f) [] ≡ resources_of b.held = ap (λ t. taken_after t []) (q.1.trace ∙ ap (λ x. u.accesses ++ visits_from f x q.0) is ∙ nil_append u.accesses) ∙ all_taken W P Reaches Good runs w b (rest_of W P w w.phase) (readied_of W P w.phase) (Goes o ps) is u in
+      let last : Agrees (nows_of b.held) (final w0 f) = holds.agrees_along (nows_of b.held) (final w0 f) q.0 (λ r. q.1.leaves r ∙ ap (λ x. final_from f x q.0 r) is) q.2 in
       let cs : changes_at (taken_after (visits w0 f) []) f (final w0 f) ≡ changes_of b.held = ap (λ t. changes_at t f (final w0 f)) taken ∙ holds.changes_agree b.held f (final w0 f) (steady b.held m.sound) a last in
       runs.next w.number (attempt w) st o ps good m.number (runs.done w.number st good ∙ ap (P.is_done w.number) own ∙ u.not_done) (ap (λ o. ending (P.tree w.number (attempt w) o) f) own ∙ end)
       ∙ (λ i. Next (W.patched st (P.effect w.number (own i) o (changes_at (taken_after (visits (P.tree w.number (attempt w) (own i)) f) []) f (final (P.tree w.number (attempt w) (own i)) f)) ps)) ps)
@@ -86,7 +87,7 @@ module _ {S D : Type 0} (W : World S D) (P : Program S D) (Reaches : ℕ → ℕ
       let sound : EachHold IsSteady (aborted b.held) = holds.each_aborted (Sound W P Reaches Good) IsSteady b.held (λ h s. s.0) m.sound in
       let a : Agrees (values_of b.held) f = subst (λ vs. Agrees vs f) (holds.values_aborted b.held) (agrees (with_held (aborted b.held) b) l sound s) in
       let q = u.along f a in
-      runs.stuck w.number (attempt w) st kind good m.number (runs.done w.number st good ∙ ap (P.is_done w.number) own ∙ u.not_done) (ap (λ o. ending (P.tree w.number (attempt w) o) f) own ∙ q.1.ends ∙ ap (λ x. ending x q.0) is)
+      runs.stuck w.number (attempt w) st kind good m.number (runs.done w.number st good ∙ ap (P.is_done w.number) own ∙ u.not_done) (ap (λ o. ending (P.tree w.number (attempt w) o) f) own ∙ q.1.ends ∙ ap (λ x. ending_from f x q.0) is)
 
   pub was_committed : (w : Worker) (b d : View D) (on : Goes_on W P w) (o : Own) (ps : List Data) → rest_of W P w w.phase ≡ Stop (Goes o ps) → (n : ℕ) → Commits W (entry W P w b.held o ps) n b d
       → length d.entries ≤ d.steps → Meets W P Reaches Good w b → Meets W P Reaches Good (record (finished (Step n) w) { own = o }) (with_held (committed d.held) d)
@@ -346,8 +347,9 @@ module _ {S D : Type 0} (W : World S D) (P : Program S D) (Reaches : ℕ → ℕ
       let once : Once (resources_of b.held) = subst Once m.taken m.once in
       let new : Shown = record h.content { current = leave h.content.current } in
       let s : Sound W P Reaches Good h = holds.hold_is (Sound W P Reaches Good) b.held r h held m.sound in
-      subst (λ v. Meets W P Reaches Good v c) (sym worker) (subst (Meets W P Reaches Good (walks_on (rest h.content.current) 0 w)) (sym board)
-      (changes_on W P Reaches Good runs w b r h new (rest h.content.current) 0 on held s (under_operated W P Reaches Good runs w b (readied_of W P w.phase) r leave rest (rest_of W P w w.phase) h next held once (under W P Reaches Good runs w b m on)) m))
+      subst (λ v. Meets W P Reaches Good v c) (sym worker) (subst (Meets W P Reaches Good (walks_on (settled (rest h.content.current)) 0 w)) (sym board)
+      (meets_back W P Reaches Good runs w (with_held (with_content r new b.held) b) (rest h.content.current)
+      (changes_on W P Reaches Good runs w b r h new (rest h.content.current) 0 on held s (under_operated W P Reaches Good runs w b (readied_of W P w.phase) r leave rest (rest_of W P w w.phase) h next held once (under W P Reaches Good runs w b m on)) m)))
   kept listed w b v c t room after (TReadied on o ps next r at h held up board worker answer) m =
       let once : Once (resources_of b.held) = subst Once m.taken m.once in
       let s : Sound W P Reaches Good h = holds.hold_is (Sound W P Reaches Good) b.held r h held m.sound in

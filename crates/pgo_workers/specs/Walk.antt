@@ -15,23 +15,53 @@ pub data End : Type 0 where
   Goes : (own : Own) → (prints : List Data) → End
   Sticks : (kind : Kind) → End
 
-pub data Walk : Type 0 where
-  Stop : (e : End) → Walk
+-- a walk over the resources, with an end of E
+pub data Steps (E : Type 0) : Type 0 where
+  Stop : (e : E) → Steps E
   -- the content of r becomes `leave` of what it was, and `rest` of that is what follows
-  Touch : (r : ℕ) → (leave : Data → Data) → (rest : Data → Walk) → Walk
+  Touch : (r : ℕ) → (leave : Data → Data) → (rest : Data → Steps E) → Steps E
+  -- all contents are put back as they were at the start, and then w
+  Again : (w : Steps E) → Steps E
 
--- the accesses on these values, how it ends, and the values that it leaves
-abbrev pub visits : Walk → (ℕ → Data) → List ℕ
-visits (Stop e) f = []
-visits (Touch r leave rest) f = r ∷ visits (rest (f r)) (put r (leave (f r)) f)
+abbrev pub Walk : Type 0
+Walk = Steps End
 
-abbrev pub ending : Walk → (ℕ → Data) → End
-ending (Stop e) f = e
-ending (Touch r leave rest) f = ending (rest (f r)) (put r (leave (f r)) f)
+-- the accesses on these values, how it ends, and the values that it leaves, where s are the values at the start
+abbrev pub visits_from : {E : Type 0} → (s : ℕ → Data) → Steps E → (ℕ → Data) → List ℕ
+visits_from s (Stop e) f = []
+visits_from s (Touch r leave rest) f = r ∷ visits_from s (rest (f r)) (put r (leave (f r)) f)
+visits_from s (Again w) f = visits_from s w s
 
-abbrev pub final : Walk → (ℕ → Data) → ℕ → Data
-final (Stop e) f = f
-final (Touch r leave rest) f = final (rest (f r)) (put r (leave (f r)) f)
+abbrev pub ending_from : {E : Type 0} → (s : ℕ → Data) → Steps E → (ℕ → Data) → E
+ending_from s (Stop e) f = e
+ending_from s (Touch r leave rest) f = ending_from s (rest (f r)) (put r (leave (f r)) f)
+ending_from s (Again w) f = ending_from s w s
+
+abbrev pub final_from : {E : Type 0} → (s : ℕ → Data) → Steps E → (ℕ → Data) → ℕ → Data
+final_from s (Stop e) f = f
+final_from s (Touch r leave rest) f = final_from s (rest (f r)) (put r (leave (f r)) f)
+final_from s (Again w) f = final_from s w s
+
+-- of a walk from its start
+abbrev pub visits : {E : Type 0} → Steps E → (ℕ → Data) → List ℕ
+visits w f = visits_from f w f
+
+abbrev pub ending : {E : Type 0} → Steps E → (ℕ → Data) → E
+ending w f = ending_from f w f
+
+abbrev pub final : {E : Type 0} → Steps E → (ℕ → Data) → ℕ → Data
+final w f = final_from f w f
+
+-- behind all places where contents are put back, up to the next access or the end; and whether there is one
+abbrev pub settled : {E : Type 0} → Steps E → Steps E
+settled (Stop e) = Stop e
+settled (Touch r leave rest) = Touch r leave rest
+settled (Again w) = settled w
+
+abbrev pub goes_back : {E : Type 0} → Steps E → Bool
+goes_back (Stop e) = false
+goes_back (Touch r leave rest) = false
+goes_back (Again w) = true
 
 abbrev pub Leaves : (Own → Type 0) → End → Type 0
 Leaves Q (Goes own prints) = Q own
@@ -41,6 +71,13 @@ Leaves Q (Sticks kind) = Unit {0}
 abbrev pub Within : (ℕ → Type 0) → (Own → Type 0) → Walk → Type 0
 Within P Q (Stop e) = Leaves Q e
 Within P Q (Touch r leave rest) = P r × ((v : Data) → Within P Q (rest v))
+Within P Q (Again w) = Within P Q w
+
+-- as Within, and nothing is put back
+abbrev pub StraightWithin : (ℕ → Type 0) → (Own → Type 0) → Walk → Type 0
+StraightWithin P Q (Stop e) = Leaves Q e
+StraightWithin P Q (Touch r leave rest) = P r × ((v : Data) → StraightWithin P Q (rest v))
+StraightWithin P Q (Again w) = ⊥
 
 -- a resource with a value
 abbrev pub At : Type 0
@@ -61,9 +98,9 @@ taken_after (r ∷ rs) taken = if among r taken then taken_after rs taken else t
 
 -- behind the accesses p of w0 on f there stands w, on g
 pub record Ahead (w0 : Walk) (f : ℕ → Data) (p : List ℕ) (w : Walk) (g : ℕ → Data) : Type 0 where
-  pub trace : visits w0 f ≡ p ++ visits w g
-  pub ends : ending w0 f ≡ ending w g
-  pub leaves : (r : ℕ) → final w0 f r ≡ final w g r
+  pub trace : visits w0 f ≡ p ++ visits_from f w g
+  pub ends : ending w0 f ≡ ending_from f w g
+  pub leaves : (r : ℕ) → final w0 f r ≡ final_from f w g r
   pub fresh : (r : ℕ) → among r p ≡ false → g r ≡ f r
 
 -- on all values that agree with `bases`, there stands w behind p, and what is held is as `nows`
@@ -125,9 +162,9 @@ along_operates w0 bases nows p r x leave rest is along f h =
     let q = along f h in let g = q.0 in let a = q.1 in let e : g r ≡ x = is g q.2 in (
       put r (leave x) g,
       record {
-        trace = a.trace ∙ ap (λ y. p ++ (r ∷ visits (rest y) (put r (leave y) g))) e ∙ sym (append_assoc p (r ∷ []) (visits (rest x) (put r (leave x) g)));
-        ends = a.ends ∙ ap (λ y. ending (rest y) (put r (leave y) g)) e;
-        leaves = λ i. a.leaves i ∙ ap (λ y. final (rest y) (put r (leave y) g) i) e;
+        trace = a.trace ∙ ap (λ y. p ++ (r ∷ visits_from f (rest y) (put r (leave y) g))) e ∙ sym (append_assoc p (r ∷ []) (visits_from f (rest x) (put r (leave x) g)));
+        ends = a.ends ∙ ap (λ y. ending_from f (rest y) (put r (leave y) g)) e;
+        leaves = λ i. a.leaves i ∙ ap (λ y. final_from f (rest y) (put r (leave y) g) i) e;
         fresh = λ i n. let d = not_either (among i p) (among i (r ∷ [])) (sym (among_append i p (r ∷ [])) ∙ n) in go i g (nat_eq i r) d.1 ∙ a.fresh i d.0;
       },
       agrees_replaced r (leave x) nows g q.2,
@@ -136,3 +173,45 @@ along_operates w0 bases nows p r x leave rest is along f h =
     go : (i : ℕ) (g : ℕ → Data) (b : Bool) → (if b then true else false) ≡ false → (if b then leave x else g i) ≡ g i
     go i g true n = absurd (grind (arith, n))
     go i g false n = refl
+
+-- contents are put back
+pub along_again : (w0 w : Walk) (bases nows : List At) (p : List ℕ) → Along w0 bases p (Again w) nows → Along w0 bases p w bases
+along_again w0 w bases nows p along f h =
+    let a = (along f h).1 in (f, record { trace = a.trace; ends = a.ends; leaves = a.leaves; fresh = λ r e. refl }, h)
+
+abbrev pub behind : {A : Type 0} → Walk → (back stay : A) → A
+behind w back stay = if goes_back w then back else stay
+
+pub along_settled : (w0 w : Walk) (bases nows : List At) (p : List ℕ) → Along w0 bases p w nows → Along w0 bases p (settled w) (behind w bases nows)
+along_settled w0 (Stop e) bases nows p along = along
+along_settled w0 (Touch r leave rest) bases nows p along = along
+along_settled w0 (Again w) bases nows p along = go (goes_back w) (along_settled w0 w bases bases p (along_again w0 w bases nows p along))
+  where
+    go : (b : Bool) → Along w0 bases p (settled w) (if b then bases else bases) → Along w0 bases p (settled w) bases
+    go true h = h
+    go false h = h
+
+pub within_settled : (P : ℕ → Type 0) (Q : Own → Type 0) (w : Walk) → Within P Q w → Within P Q (settled w)
+within_settled P Q (Stop e) h = h
+within_settled P Q (Touch r leave rest) h = h
+within_settled P Q (Again w) h = within_settled P Q w h
+
+pub settled_stays : (w : Walk) → goes_back (settled w) ≡ false
+settled_stays (Stop e) = refl
+settled_stays (Touch r leave rest) = refl
+settled_stays (Again w) = settled_stays w
+
+pub straight_within : (P : ℕ → Type 0) (Q : Own → Type 0) (w : Walk) → StraightWithin P Q w → Within P Q w
+straight_within P Q (Stop e) h = h
+straight_within P Q (Touch r leave rest) h = (h.0, λ v. straight_within P Q (rest v) (h.1 v))
+straight_within P Q (Again w) h = absurd h
+
+pub straight_settled : (P : ℕ → Type 0) (Q : Own → Type 0) (w : Walk) → StraightWithin P Q w → settled w ≡ w
+straight_settled P Q (Stop e) h = refl
+straight_settled P Q (Touch r leave rest) h = refl
+straight_settled P Q (Again w) h = absurd h
+
+pub straight_back : (P : ℕ → Type 0) (Q : Own → Type 0) (w : Walk) → StraightWithin P Q w → goes_back w ≡ false
+straight_back P Q (Stop e) h = refl
+straight_back P Q (Touch r leave rest) h = refl
+straight_back P Q (Again w) h = absurd h

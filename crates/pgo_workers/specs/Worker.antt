@@ -4,7 +4,7 @@ use Rattle.pgo_base.specs.Data.{Data}
 use Rattle.pgo_model.specs.Outcome.{Kind, Section}
 use Rattle.pgo_model.specs.Machine.{Rules, Entry, Note, Record, Step, Noted, Held, Down, Full, among, nth, is_empty, last_ends}
 use Rattle.pgo_model.specs.Accounts.{journal}
-use Rattle.pgo_workers.specs.Walk.{Own, End, Goes, Sticks, Walk, Stop, Touch}
+use Rattle.pgo_workers.specs.Walk.{Own, End, Goes, Sticks, Walk, Stop, Touch, settled, behind}
 use Rattle.pgo_workers.specs.View.{Shown, raised, Hold, Refusal, IsHeld, IsFull, View, World, hold_at, with_content, aborted, committed, Takes, TakeHeld, Commits, Notes, JournalHeld, JournalFull, Gives}
 
 -- a held resource with its base and what it is now
@@ -74,6 +74,10 @@ counted c = record c { count = raised c.count }
 abbrev pub with_held : {D : Type 0} → List Hold → View D → View D
 with_held hs b = record b { held = hs }
 
+-- what is held where this follows
+abbrev pub put_back : Walk → List Hold → List Hold
+put_back w hs = behind w (aborted hs) hs
+
 -- the attempt is finished with this record; what is held is still to be given
 abbrev pub finished : Record → Worker → Worker
 finished x w = record w { records = w.records ++ (x ∷ []); phase = if is_empty w.taken then Resting else Giving }
@@ -141,8 +145,8 @@ module _ {S D : Type 0} (W : World S D) (P : Program S D) where
     THeld : (on : Goes_on w) → (r h : ℕ) → (leave : Data → Data) → (rest : Data → Walk) → (next : rest_of w w.phase ≡ Touch r leave rest) → (new : among r w.taken ≡ false)
         → (d : View D) → (take : TakeHeld W r h b d) → (board : c ≡ with_held (aborted d.held) d) → (worker : v ≡ finished (Held r h) w) → (answer : t ≡ Refused (IsHeld r h)) → Turned w b v c t
     TOperated : (on : Goes_on w) → (r : ℕ) → (leave : Data → Data) → (rest : Data → Walk) → (next : rest_of w w.phase ≡ Touch r leave rest)
-        → (h : Hold) → (held : hold_at b.held r ≡ Some h) → (board : c ≡ with_held (with_content r (record h.content { current = leave h.content.current }) b.held) b)
-        → (worker : v ≡ walks_on (rest h.content.current) 0 w) → (answer : t ≡ Went) → Turned w b v c t
+        → (h : Hold) → (held : hold_at b.held r ≡ Some h) → (board : c ≡ with_held (put_back (rest h.content.current) (with_content r (record h.content { current = leave h.content.current }) b.held)) b)
+        → (worker : v ≡ walks_on (settled (rest h.content.current)) 0 w) → (answer : t ≡ Went) → Turned w b v c t
     TReadied : (on : Goes_on w) → (o : Own) → (ps : List Data) → (next : rest_of w w.phase ≡ Stop (Goes o ps)) → (r : ℕ) → (at : nth w.taken (readied_of w.phase) ≡ Some r)
         → (h : Hold) → (held : hold_at b.held r ≡ Some h) → (up : fails_at h.content.number (raised h.content.count) ≡ false) → (board : c ≡ with_held (with_content r (counted h.content) b.held) b)
         → (worker : v ≡ walks_on (Stop (Goes o ps)) (suc (readied_of w.phase)) w) → (answer : t ≡ Went) → Turned w b v c t

@@ -8,9 +8,9 @@ use Rattle.pgo_meaning.specs.Sect.{Sect}
 use Rattle.pgo_meaning.specs.System.{system_of}
 use Rattle.pgo_workers.specs.Sentences.{OthersAt, ReachedAfter, Shows, Ends}
 use Rattle.pgo_workers.specs.View.{values_of, nows_of}
-use Rattle.pgo_workers.specs.Walk.{Stop, Goes, Sticks, Agrees, Along, visits}
+use Rattle.pgo_workers.specs.Walk.{Stop, Goes, Sticks, Agrees, Along, visits_from}
 use Rattle.pgo_workers.specs.Worker.{changes_of}
-use Rattle.pgo_workers.specs.Worlds.{layout_of, effect_of}
+use Rattle.pgo_workers.specs.Worlds.{layout_of, effect_of, value_in}
 use Rattle.pgo_accesses.specs.Programs.{tree_with, world_at}
 use Rattle.pgo_frame.proofs.Programs.{held_front, held_sticks, held_leads, held_reached, held_ends}
 use Rattle.pgo_frame.proofs.attempts_are_sections.Goals as goal
@@ -18,7 +18,7 @@ use Rattle.pgo_frame.proofs.attempts_are_sections.Goals as goal
 pub returns-clause-front : goal.returns-clause-front
 returns-clause-front c b settings k a own held nows accesses rest s R h along =
     let d = words_of (Seeded settings.seed k a) in
-    subst (λ o. Along (tree_with b d k o) held accesses rest nows → (now : ℕ → Data) × (numbers_of (system_of b).resources (Sect b k s d).trace ≡ accesses ++ visits rest now) × Agrees nows now)
+    subst (λ o. Along (tree_with b d k o) held accesses rest nows → (now : ℕ → Data) × (numbers_of (system_of b).resources (Sect b k s d).trace ≡ accesses ++ visits_from (value_in (layout_of (system_of b)) s) rest now) × Agrees nows now)
     h.has_own (λ along. held_front b R s h.state d k held nows accesses rest h.values along) along
 
 pub returns-clause-stuck : goal.returns-clause-stuck

@@ -10,7 +10,7 @@ ghost use Rattle.pgo_section.specs.Sight.{placed};
 ghost use Rattle.pgo_section.specs.Turns.{Met, Keeps, Wants, Ran};
 
 use super::{Turn, Worker};
-use crate::contents::abort_all;
+use crate::contents::{abort_all, put_back};
 use pgo_resource::board::Board;
 use pgo_resource::sections::Sections;
 use pgo_syntax::records::AttemptResult;
@@ -72,6 +72,8 @@ impl<P: Drop> Worker<P> {
         ensures turned { IfOk result (λ t. Ran (S.system sections.now) (S.tree sections.now) (S.walk sections.now) (placed self.old place) (B.shows board.old) self.new (B.shows board.new) t) }
     {
         sections.operate(alloc, &mut place, board.content(r))?;
+        let back = sections.settle(alloc, &mut place)?;
+        put_back(back, &self.taken, board);
         self.readied = 0;
         self.place = Some(place);
         Ok(Turn::Went)

@@ -1,4 +1,7 @@
-use Rattle.std.proofs.Common.{refl, sym}
+use Rattle.std.proofs.Common.{refl, sym, ap, ◌∙◌}
+use Rattle.pgo_model.specs.Log.{Effect}
+use Rattle.pgo_workers.specs.View.{View, resources_of}
+use Rattle.pgo_workers.specs.Holds as holds
 use Rattle.pgo_section.proofs.Boards.{some_is, is_held}
 use Rattle.pgo_section.proofs.Events.{operated, unfinished}
 use Rattle.pgo_section.proofs.Keeping.{any_err}
@@ -17,7 +20,14 @@ returns-clause-turned g c =
     let h = some_is _ there in
     let is = law.shown c.args.board.now c.args.r c.content.result.now h.0 c.content.ensures.value h.1 in
     operated y tree walk a p c.requires.going b _ _ c.args.r c.requires.next h.0 h.1 (M c.content.result.now) (M c.operate.new.content) is c.operate.new.place c.in_ok-operate.ensures.on c.in_ok-operate.ensures.content
-    (law.puts c.args.board.now c.args.r c.operate.new.content there) refl
+    _ (law.puts c.args.board.now c.args.r c.operate.new.content there) c.settle.new.place c.in_ok-back.ensures.walk c.in_ok-back.back c.in_ok-back.ensures.back c.put_back.ensures.shows refl
+
+pub put_back-requires-clause-held : goal.put_back-requires-clause-held
+put_back-requires-clause-held g c =
+    let a = c.args.self.now in let b = g.B.Board.shows c.args.board.now in let law = g.met.B.Board in let M = g.B.Content.Resource.shows in
+    let there = is_held b.held a.taken.items c.args.r (sym c.requires.met.meets.taken) c.requires.held in
+    c.requires.met.meets.taken ∙ sym (holds.resources_with c.args.r (M c.operate.new.content) b.held)
+    ∙ sym (ap (λ (d : View Effect). resources_of d.held) (law.puts c.args.board.now c.args.r c.operate.new.content there))
 
 pub returns-in_err-operate-clause-wants : goal.returns-in_err-operate-clause-wants
 returns-in_err-operate-clause-wants g c =
@@ -35,7 +45,27 @@ returns-in_err-operate-clause-wants g c =
     })
 
 pub returns-clause-stays : goal.returns-clause-stays
-returns-clause-stays g c = g.met.B.Board.stays_with c.args.board.now c.args.r c.operate.new.content (is_held (g.B.Board.shows c.args.board.now).held c.args.self.now.taken.items c.args.r (sym c.requires.met.meets.taken) c.requires.held)
+returns-clause-stays g c =
+    g.met.B.Board.stays_on c.args.board.now _ _ (g.met.B.Board.stays_with c.args.board.now c.args.r c.operate.new.content (is_held (g.B.Board.shows c.args.board.now).held c.args.self.now.taken.items c.args.r (sym c.requires.met.meets.taken) c.requires.held))
+    c.put_back.ensures.stays
 
 pub returns-in_err-operate-clause-stays : goal.returns-in_err-operate-clause-stays
 returns-in_err-operate-clause-stays g c = g.met.B.Board.stays_with c.args.board.now c.args.r c.operate.new.content (is_held (g.B.Board.shows c.args.board.now).held c.args.self.now.taken.items c.args.r (sym c.requires.met.meets.taken) c.requires.held)
+
+pub returns-in_err-back-clause-wants : goal.returns-in_err-back-clause-wants
+returns-in_err-back-clause-wants g c =
+    let a = c.args.self.now in let y = g.S.Sections.system c.args.sections.now in let tree = g.S.Sections.tree c.args.sections.now in let walk = g.S.Sections.walk c.args.sections.now in let b = g.B.Board.shows c.args.board.now in let p = c.args.place in let law = g.met.B.Board in let M = g.B.Content.Resource.shows in
+    let there = is_held b.held a.taken.items c.args.r (sym c.requires.met.meets.taken) c.requires.held in
+    let h = some_is _ there in
+    let is = law.shown c.args.board.now c.args.r c.content.result.now h.0 c.content.ensures.value h.1 in
+    any_err c.from_residual-in_err-back.result _ (record {
+      keeps = record { same = record { number = refl; settings = refl; records_room = refl; taken_room = refl }; out = refl };
+      records = refl;
+      own = refl;
+      taken = refl;
+      dropped = refl;
+      board = unfinished y tree walk a p c.requires.going b _ c.args.r h.0 h.1 (M c.content.result.now) (M c.operate.new.content) is c.operate.ensures.content (law.puts c.args.board.now c.args.r c.operate.new.content there);
+    })
+
+pub returns-in_err-back-clause-stays : goal.returns-in_err-back-clause-stays
+returns-in_err-back-clause-stays g c = g.met.B.Board.stays_with c.args.board.now c.args.r c.operate.new.content (is_held (g.B.Board.shows c.args.board.now).held c.args.self.now.taken.items c.args.r (sym c.requires.met.meets.taken) c.requires.held)
