@@ -9,7 +9,7 @@ ghost use Rattle.pgo_log_write.specs.Lines.{account_rows, accounts_rows};
 
 use crate::line::Field::{Number, Word};
 use crate::line::push_line;
-use crate::words::{end_word, kind_word, note_word, refused, written};
+use crate::words::{end_word, kind_word, refused, word_before_kind, written};
 use pgo_journal::finished::Account;
 use pgo_syntax::bound::{Instance, Resource};
 use pgo_syntax::records::{AttemptResult, NoteKind, Record, Refusal};
@@ -60,7 +60,7 @@ fn push_refusal(
                 bytes,
                 &[
                     Number(a),
-                    Word(note_word(kind)),
+                    Word(word_before_kind(kind)),
                     Word(kind_word(kind)),
                     Number(position as u64),
                 ],
@@ -90,7 +90,7 @@ fn push_result(
                 bytes,
                 &[
                     Number(a),
-                    Word(note_word(kind)),
+                    Word(word_before_kind(kind)),
                     Word(kind_word(kind)),
                     Number(n as u64),
                 ],

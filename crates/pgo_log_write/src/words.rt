@@ -63,7 +63,7 @@ pub fn refused(alloc: Global, resources: &[Resource], number: u32) -> Result<Tex
 }
 
 /// The word before the kind of a note.
-pub fn note_word(kind: NoteKind) -> &'static [u8]
+pub fn word_before_kind(kind: NoteKind) -> &'static [u8]
     ensures { result.now ≡ note_word (kind_view kind) }
 {
     match kind {
