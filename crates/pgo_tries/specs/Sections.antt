@@ -40,9 +40,10 @@ put_else d i u e h = let n : nat_eq e d ≡ false = (let x : e ≡ d → ⊥ = (
 
 along_agrees : (d : ℕ) (p : List ℕ) (w : Words) → Agree (along d p w) w d p
 along_agrees d [] w = λ e l. refl
-along_agrees d (i ∷ p) w =
-    (let n : nat_eq d d ≡ true = grind arith in ap (λ (b : Bool). if b then i else along (suc d) p w d) n,
-    agree_else (along (suc d) p w) (put d i (along (suc d) p w)) w (suc d) p (λ e l. put_else d i (along (suc d) p w) e l) (along_agrees (suc d) p w))
+along_agrees d (i ∷ p) w = (
+  let n : nat_eq d d ≡ true = grind arith in ap (λ (b : Bool). if b then i else along (suc d) p w d) n,
+  agree_else (along (suc d) p w) (put d i (along (suc d) p w)) w (suc d) p (λ e l. put_else d i (along (suc d) p w) e l) (along_agrees (suc d) p w),
+)
 
 module _ {E : Type 0} where
   follow_along : (u w : Words) (d : ℕ) (p : List ℕ) (t : Chosen E) → Agree u w d p → follow u d [] t ≡ follow w d p t
