@@ -6,12 +6,13 @@ use Rattle.pgo_base.specs.View.{data_of}
 use Rattle.pgo_base.specs.declared.value.Value.{Value}
 use Rattle.pgo_model.specs.Choice.{pick}
 use Rattle.pgo_model.specs.System.{Words}
+use Rattle.pgo_sections.specs.SectionRun.{ChoiceMade, choice_among}
 use Rattle.pgo_syntax.specs.Statement.{statements, labeled}
 use Rattle.pgo_syntax.specs.StatementSize.{height, statements_height, labeled_height}
 use Rattle.pgo_syntax.specs.StatementView.{statement, labeled_pair}
 use Rattle.pgo_syntax.specs.declared.statement.Labeled.{Labeled}
 use Rattle.pgo_syntax.specs.declared.statement.Stmt.{Stmt}
-use Rattle.pgo_macro_run.specs.Given.{Given, Now, Yields, choose, drawn}
+use Rattle.pgo_macro_run.specs.Given.{Given, Now, Yields, choose, next_pick, drawn}
 use Rattle.pgo_macro_run.specs.Runs.{run, arm, count}
 
 pub count_map : (ts : List Stmt) → count (statements (map statement ts)) ≡ length ts
@@ -43,10 +44,19 @@ map_length : (xs : List Value) → length (map data_of xs) ≡ length xs
 map_length [] = refl
 map_length (x ∷ xs) = ap suc (map_length xs)
 
-pub chosen_member : (d : Words) (ms : List Value) (i : ℕ) (x : Value) (n : Now) → i < length ms → x ≡ get_or ms i x → i ≡ pick (d n.used) (length ms)
-    → choose d (map data_of ms) n ≡ Yields (data_of x) (drawn n)
+pub chosen_member : (d : Words) (ms : List Value) (i : ℕ) (x : Value) (n : Now) → i < length ms → x ≡ get_or ms i x → i ≡ next_pick d n (length ms)
+    → choose d (map data_of ms) n ≡ Yields (data_of x) (drawn (length ms) i n)
 chosen_member d [] i x n h e f = absurd (omega arith)
 chosen_member d (m ∷ ms) i x n h e f =
-    ap (λ l. Yields (get_or (map data_of (m ∷ ms)) (pick (d n.used) l) (data_of m)) (drawn n)) (map_length (m ∷ ms))
-    ∙ ap (λ j. Yields (get_or (map data_of (m ∷ ms)) j (data_of m)) (drawn n)) (sym f)
-    ∙ ap (λ v. Yields v (drawn n)) (get_map (m ∷ ms) i x (data_of m) h e)
+    let many = length (m ∷ ms) in
+    ap (λ l. let j = next_pick d n l in Yields (get_or (map data_of (m ∷ ms)) j (data_of m)) (drawn l j n)) (map_length (m ∷ ms))
+    ∙ ap (λ j. Yields (get_or (map data_of (m ∷ ms)) j (data_of m)) (drawn many j n)) (sym f)
+    ∙ ap (λ v. Yields v (drawn many i n)) (get_map (m ∷ ms) i x (data_of m) h e)
+
+-- of some it is the number and how many there are
+pub counted : (many i : ℕ) → 0 < many → choice_among many i ≡ record { count = many; taken = i }
+counted zero i h = absurd (omega (arith, h))
+counted (suc many) i h = refl
+
+pub none_else : (w : ℕ) → pick w 1 ≡ 0
+none_else w = omega arith

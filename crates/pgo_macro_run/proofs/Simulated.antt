@@ -29,13 +29,13 @@ use Rattle.pgo_sections.specs.Exec.{exec_arm_with, read_unmapped, becoming}
 use Rattle.pgo_sections.specs.Exec as execs
 use Rattle.pgo_sections.specs.Macros.{no_reads, no_writes, exec_block}
 use Rattle.pgo_sections.specs.SectionRun as runs
-use Rattle.pgo_sections.specs.SectionRun.{SectionRun, Out, Go, Jump, Yielded, Stop, with_value, if_true, go_on, chosen}
+use Rattle.pgo_sections.specs.SectionRun.{ChoiceMade, choice_among, SectionRun, Out, Go, Jump, Yielded, Stop, with_value, if_true, go_on, chosen}
 use Rattle.pgo_meaning.specs.MacrosPlaced.{unmarked}
 use Rattle.pgo_meaning.specs.Parameters.{block_setting}
 use Rattle.pgo_meaning.specs.Statements as code
 use Rattle.pgo_meaning.specs.Statements.{Part, Index, Field, part_tree, alone, label_of}
 use Rattle.pgo_macro_run.specs.Given as given
-use Rattle.pgo_macro_run.specs.Given.{Given, Now, Answer, Goes, Yields, Fails, needs, decide, then_do, drawn, then_in, setting}
+use Rattle.pgo_macro_run.specs.Given.{Given, Now, Answer, Goes, Yields, Fails, needs, decide, then_do, next_pick, drawn, then_in, setting}
 use Rattle.pgo_macro_run.specs.Assigned as assigned
 use Rattle.pgo_macro_run.specs.Assigned.{first_mark, next_mark, path_trees, target}
 use Rattle.pgo_macro_run.specs.Runs as run_specs
@@ -43,15 +43,15 @@ use Rattle.pgo_macro_run.specs.Runs.{jumps}
 use Rattle.pgo_macro_run.proofs.Unhoisted.{evaluated_plain}
 
 -- ---- choices of what may be missing, one after another
-needs_then : {A B : Type 0} (o : Option A) (f : A → Option B) (u : ℕ) (h : B → Answer) → needs (option_and_then f o) u h ≡ needs o u (λ v. needs (f v) u h)
+needs_then : {A B : Type 0} (o : Option A) (f : A → Option B) (u : List ChoiceMade) (h : B → Answer) → needs (option_and_then f o) u h ≡ needs o u (λ v. needs (f v) u h)
 needs_then None f u h = refl
 needs_then (Some v) f u h = refl
 
-needs_map : {A B C : Type 0} (o : Option A) (f : A → B) (t : B → Option C) (u : ℕ) (h : C → Answer) → needs (option_and_then t (option_map f o)) u h ≡ needs o u (λ v. needs (t (f v)) u h)
+needs_map : {A B C : Type 0} (o : Option A) (f : A → B) (t : B → Option C) (u : List ChoiceMade) (h : C → Answer) → needs (option_and_then t (option_map f o)) u h ≡ needs o u (λ v. needs (t (f v)) u h)
 needs_map None f t u h = refl
 needs_map (Some v) f t u h = refl
 
-needs_two : {P A B C : Type 0} (o : Option P) (q : P → Option A) (f : P → A → B) (t : B → Option C) (u : ℕ) (h : C → Answer)
+needs_two : {P A B C : Type 0} (o : Option P) (q : P → Option A) (f : P → A → B) (t : B → Option C) (u : List ChoiceMade) (h : C → Answer)
     → needs (option_and_then t (option_and_then (λ p. option_map (f p) (q p)) o)) u h ≡ needs o u (λ p. needs (q p) u (λ v. needs (t (f p v)) u h))
 needs_two None q f t u h = refl
 needs_two (Some p) q f t u h = needs_map (q p) (f p) t u h
@@ -98,14 +98,14 @@ module _ (ds : List Defined) (id old : Data) (d : Words) where
   k = block_context (meanings ds [] None) id
 
   abbrev pub Agrees : SectionRun → Now → Type 0
-  Agrees run n = Holding old run.changes n.content × (length run.choices ≡ n.used)
+  Agrees run n = Holding old run.changes n.content × (run.choices ≡ n.choices)
 
   -- both end in one way
   abbrev pub Same : Out → Answer → Type 0
   Same (Go run) x = (n : Now) × (x ≡ Goes n) × Agrees run n
-  Same (Jump l run) x = x ≡ Fails NoValue (length run.choices)
+  Same (Jump l run) x = x ≡ Fails NoValue run.choices
   Same (Yielded v run) x = (n : Now) × (x ≡ Yields v n) × Agrees run n
-  Same (Stop kind run) x = x ≡ Fails kind (length run.choices)
+  Same (Stop kind run) x = x ≡ Fails kind run.choices
 
   abbrev exec : Code → Names → SectionRun → Out
   exec c env run = exec_block k c env d run
@@ -115,25 +115,25 @@ module _ (ds : List Defined) (id old : Data) (d : Words) where
   value_same (q ∷ []) c h e env = ap (λ z. contexts.value_of k e env (z ∷ [])) h.0 ∙ ap (given.value_of g e env) (sym h.1)
   value_same (q ∷ (p ∷ rest)) c h e env = ap (λ z. contexts.value_of k e env (z ∷ (p ∷ rest))) h.1 ∙ ap (given.value_of g e env) (sym h.2)
 
-  failed : (kind : Kind) (run : SectionRun) (n : Now) → Agrees run n → Fails kind n.used ≡ Fails kind (length run.choices)
+  failed : (kind : Kind) (run : SectionRun) (n : Now) → Agrees run n → Fails kind n.choices ≡ Fails kind run.choices
   failed kind run n ag = ap (Fails kind) (sym ag.1)
 
   gone : (run : SectionRun) (n : Now) → Agrees run n → Same (Go run) (Goes n)
   gone run n ag = (n, refl, ag)
 
   same_value : {A : Type 0} (o p : Option A) → o ≡ p → (run : SectionRun) (n : Now) → Agrees run n → (f : A → Out) (h : A → Answer)
-      → ((v : A) → Same (f v) (h v)) → Same (with_value o run f) (needs p n.used h)
-  same_value {A = A} o p e run n ag f h each = subst (λ q. Same (with_value o run f) (needs q n.used h)) e (go o)
+      → ((v : A) → Same (f v) (h v)) → Same (with_value o run f) (needs p n.choices h)
+  same_value {A = A} o p e run n ag f h each = subst (λ q. Same (with_value o run f) (needs q n.choices h)) e (go o)
     where
-      go : (q : Option A) → Same (with_value q run f) (needs q n.used h)
+      go : (q : Option A) → Same (with_value q run f) (needs q n.choices h)
       go None = failed NoValue run n ag
       go (Some v) = each v
 
   same_if : (o p : Option Bool) → o ≡ p → (run : SectionRun) (n : Now) → Agrees run n → (a b : Out) (x y : Answer)
-      → Same a x → Same b y → Same (if_true o run a b) (decide p n.used x y)
-  same_if o p e run n ag a b x y s t = subst (λ q. Same (if_true o run a b) (decide q n.used x y)) e (go o)
+      → Same a x → Same b y → Same (if_true o run a b) (decide p n.choices x y)
+  same_if o p e run n ag a b x y s t = subst (λ q. Same (if_true o run a b) (decide q n.choices x y)) e (go o)
     where
-      go : (q : Option Bool) → Same (if_true q run a b) (decide q n.used x y)
+      go : (q : Option Bool) → Same (if_true q run a b) (decide q n.choices x y)
       go None = failed NoValue run n ag
       go (Some true) = s
       go (Some false) = t
@@ -151,7 +151,7 @@ module _ (ds : List Defined) (id old : Data) (d : Words) where
   named_then x env (Yields v n) h = h ((x, Some v) ∷ env) n
   named_then x env (Fails kind u) h = Fails kind u
 
-  named_needs : {A : Type 0} (x : Name) (env : Names) (o : Option A) (u : ℕ) (f : A → Answer) (h : Names → Now → Answer)
+  named_needs : {A : Type 0} (x : Name) (env : Names) (o : Option A) (u : List ChoiceMade) (f : A → Answer) (h : Names → Now → Answer)
       → named_then x env (needs o u f) h ≡ needs o u (λ v. named_then x env (f v) h)
   named_needs x env None u f h = refl
   named_needs x env (Some v) u f h = refl
@@ -168,8 +168,8 @@ module _ (ds : List Defined) (id old : Data) (d : Words) where
   same_picked x env (m ∷ ms) run n ag f h each =
       let count = length (m ∷ ms) in
       let i = pick (d (length run.choices)) count in
-      subst (λ u. Same (f (get_or (m ∷ ms) i m) (chosen count i run)) (h ((x, Some (get_or (m ∷ ms) (pick (d u) count) m)) ∷ env) (drawn n))) ag.1
-      (each (get_or (m ∷ ms) i m) (chosen count i run) (drawn n) (ag.0, ap suc ag.1))
+      subst (λ cs. let j = pick (d (length cs)) count in Same (f (get_or (m ∷ ms) i m) (chosen count i run)) (h ((x, Some (get_or (m ∷ ms) j m)) ∷ env) (drawn count j n))) ag.1
+      (each (get_or (m ∷ ms) i m) (chosen count i run) (drawn count i n) (ag.0, ap (λ cs. choice_among count i ∷ cs) ag.1))
 
   -- an expression is evaluated as it stands
   plainly : (e : Tree) (j : ℕ) (f : Tree → ℕ → Code) (env : Names) (run : SectionRun) (x : Answer) → Same (exec (f e j) env run) x → Same (exec (evaluated [] e j f) env run) x
@@ -183,14 +183,14 @@ module _ (ds : List Defined) (id old : Data) (d : Words) where
   same_bind x (Equals e) c h each = λ env run n ag.
       plainly e 0 (λ e' j. Let (unmarked x) x e' c) env run _
       (subst (λ y. Same (exec (Let (unmarked x) x e c) env run) y)
-      (sym (named_needs x env (bindable (given.value_of g e env n.content)) n.used (λ v. Yields v n) h))
+      (sym (named_needs x env (bindable (given.value_of g e env n.content)) n.choices (λ v. Yields v n) h))
       (same_value _ _ (ap bindable (value_same run.changes n.content ag.0 e env)) (read_unmapped k e run) n ag
       (λ v. exec c ((x, Some v) ∷ env) (read_unmapped k e run)) (λ v. h ((x, Some v) ∷ env) n)
       (λ v. each ((x, Some v) ∷ env) (read_unmapped k e run) n ag)))
   same_bind x (In e) c h each = λ env run n ag.
       plainly e 0 (λ e' j. Pick (unmarked x) x e' c) env run _
       (subst (λ y. Same (exec (Pick (unmarked x) x e c) env run) y)
-      (sym (named_needs x env (option_and_then members_of (given.value_of g e env n.content)) n.used (λ ms. given.choose d ms n) h))
+      (sym (named_needs x env (option_and_then members_of (given.value_of g e env n.content)) n.choices (λ ms. given.choose d ms n) h))
       (same_value _ _ (ap (option_and_then members_of) (value_same run.changes n.content ag.0 e env)) (read_unmapped k e run) n ag
       (λ ms. runs.picked ms d (read_unmapped k e run) (λ v then'. exec c ((x, Some v) ∷ env) then'))
       (λ ms. named_then x env (given.choose d ms n) h)
@@ -212,7 +212,7 @@ module _ (ds : List Defined) (id old : Data) (d : Words) where
   set_then None f n = refl
   set_then (Some c) f n = refl
 
-  set_put : (o : Option Data) (n : Now) → setting (option_map (λ v. Some v) o) n ≡ needs o n.used (λ v. Goes (record n { content = Some v }))
+  set_put : (o : Option Data) (n : Now) → setting (option_map (λ v. Some v) o) n ≡ needs o n.choices (λ v. Goes (record n { content = Some v }))
   set_put None n = refl
   set_put (Some v) n = refl
 
@@ -239,18 +239,18 @@ module _ (ds : List Defined) (id old : Data) (d : Words) where
 
   same_steps : (path : List Step) (j : ℕ) (f : List Part → ℕ → Code) (h : Name × Names → Answer) (env : Names) (run : SectionRun) (n : Now) → Agrees run n
       → ((env' : Names) (run' : SectionRun) → Agrees run' n → Same (exec (f (parts_of path j) (behind path j)) env' run') (h (place (behind path j), env')))
-      → Same (exec (code.steps block_setting path j f) env run) (needs (assigned.indices value path (place j) env n.content) n.used h)
+      → Same (exec (code.steps block_setting path j f) env run) (needs (assigned.indices value path (place j) env n.content) n.choices h)
   unfolding parts_of behind
   same_steps [] j f h env run n ag each = each env run ag
   same_steps (step.Index e ∷ path) j f h env run n ag each =
       plainly e j (λ e' i. Let at_base (place i) e' (code.steps block_setting path (suc i) (λ parts. f (Index (place i) ∷ parts)))) env run _
       (subst (λ x. Same (exec (Let at_base (place j) e (code.steps block_setting path (suc j) (λ parts. f (Index (place j) ∷ parts)))) env run) x)
-      (sym (needs_then (bindable (given.value_of g e env n.content)) (λ v. assigned.indices value path (next_mark (place j)) ((place j, Some v) ∷ env) n.content) n.used h))
+      (sym (needs_then (bindable (given.value_of g e env n.content)) (λ v. assigned.indices value path (next_mark (place j)) ((place j, Some v) ∷ env) n.content) n.choices h))
       (same_value _ _ (ap bindable (value_same run.changes n.content ag.0 e env)) (read_unmapped k e run) n ag
       (λ v. exec (code.steps block_setting path (suc j) (λ parts. f (Index (place j) ∷ parts))) ((place j, Some v) ∷ env) (read_unmapped k e run))
-      (λ v. needs (assigned.indices value path (next_mark (place j)) ((place j, Some v) ∷ env) n.content) n.used h)
+      (λ v. needs (assigned.indices value path (next_mark (place j)) ((place j, Some v) ∷ env) n.content) n.choices h)
       (λ v. subst (λ m. Same (exec (code.steps block_setting path (suc j) (λ parts. f (Index (place j) ∷ parts))) ((place j, Some v) ∷ env) (read_unmapped k e run))
-      (needs (assigned.indices value path m ((place j, Some v) ∷ env) n.content) n.used h)) (sym (mark_next j))
+      (needs (assigned.indices value path m ((place j, Some v) ∷ env) n.content) n.choices h)) (sym (mark_next j))
       (same_steps path (suc j) (λ parts. f (Index (place j) ∷ parts)) h ((place j, Some v) ∷ env) (read_unmapped k e run) n ag each))))
   same_steps (step.Field x ∷ path) j f h env run n ag each = same_steps path j (λ parts. f (Field x ∷ parts)) h env run n ag each
 
@@ -284,7 +284,7 @@ module _ (ds : List Defined) (id old : Data) (d : Words) where
 
   same_operands : (as' : List Assignment) (j : ℕ) (then' : List Code) (h : Name × Names → Answer) (env : Names) (run : SectionRun) (n : Now) → Agrees run n
       → ((env' : Names) (run' : SectionRun) → Agrees run' n → (m : Name) → Same (exec (in_turn (then' ++ codes_of as' j)) env' run') (h (m, env')))
-      → Same (exec (code.assign_all block_setting as' j then') env run) (needs (assigned.all_operands value as' (place j) env n.content) n.used h)
+      → Same (exec (code.assign_all block_setting as' j then') env run) (needs (assigned.all_operands value as' (place j) env n.content) n.choices h)
   unfolding codes_of
   same_operands [] j then' h env run n ag each = subst (λ cs. Same (exec (in_turn cs) env run) (h (place j, env))) (append-nil then') (each env run ag (place j))
   same_operands (a ∷ as') j then' h env run n ag each =
@@ -292,18 +292,18 @@ module _ (ds : List Defined) (id old : Data) (d : Words) where
       let right : Names → Option Data = λ env'. bindable (value a.right env' n.content) in
       let rest : Name → Names → Option (Name × Names) = λ m env'. assigned.all_operands value as' m env' n.content in
       let f : List Part → ℕ → Code = λ path k1. evaluated [] a.right k1 (λ e k2. Let val_base (place k2) e (code.assign_all block_setting as' (suc k2) (then' ++ code.assigned block_setting x path (place k2) ∷ []))) in
-      let hh : Name × Names → Answer = λ p. needs (right p.1) n.used (λ v. needs (rest (next_mark p.0) ((p.0, Some v) ∷ p.1)) n.used h) in
+      let hh : Name × Names → Answer = λ p. needs (right p.1) n.choices (λ v. needs (rest (next_mark p.0) ((p.0, Some v) ∷ p.1)) n.choices h) in
       subst (λ y. Same (exec (code.steps block_setting a.left.path j f) env run) y)
-      (sym (needs_two (assigned.indices value a.left.path (place j) env n.content) (λ p. right p.1) (λ p v. (next_mark p.0, (p.0, Some v) ∷ p.1)) (λ p. rest p.0 p.1) n.used h))
+      (sym (needs_two (assigned.indices value a.left.path (place j) env n.content) (λ p. right p.1) (λ p v. (next_mark p.0, (p.0, Some v) ∷ p.1)) (λ p. rest p.0 p.1) n.choices h))
       (same_steps a.left.path j f hh env run n ag (λ env' run' ag'.
       let b = behind a.left.path j in
       let c = code.assigned block_setting x (parts_of a.left.path j) (place b) in
       plainly a.right b (λ e k2. Let val_base (place k2) e (code.assign_all block_setting as' (suc k2) (then' ++ code.assigned block_setting x (parts_of a.left.path j) (place k2) ∷ []))) env' run' _
       (same_value _ _ (ap bindable (value_same run'.changes n.content ag'.0 a.right env')) (read_unmapped k a.right run') n ag'
       (λ v. exec (code.assign_all block_setting as' (suc b) (then' ++ c ∷ [])) ((place b, Some v) ∷ env') (read_unmapped k a.right run'))
-      (λ v. needs (rest (next_mark (place b)) ((place b, Some v) ∷ env')) n.used h)
+      (λ v. needs (rest (next_mark (place b)) ((place b, Some v) ∷ env')) n.choices h)
       (λ v. subst (λ m. Same (exec (code.assign_all block_setting as' (suc b) (then' ++ c ∷ [])) ((place b, Some v) ∷ env') (read_unmapped k a.right run'))
-      (needs (rest m ((place b, Some v) ∷ env')) n.used h)) (sym (mark_next b))
+      (needs (rest m ((place b, Some v) ∷ env')) n.choices h)) (sym (mark_next b))
       (same_operands as' (suc b) (then' ++ c ∷ []) h ((place b, Some v) ∷ env') (read_unmapped k a.right run') n ag'
       (λ env2 run2 ag2 m2. subst (λ cs. Same (exec (in_turn cs) env2 run2) (h (m2, env2))) (sym (append_assoc then' (c ∷ []) (codes_of as' (suc b)))) (each env2 run2 ag2 m2)))))))
 
@@ -316,7 +316,7 @@ module _ (ds : List Defined) (id old : Data) (d : Words) where
       go (Some e) = same_set old_base e env run n ag
       go None =
           subst (λ y. Same (exec (code.assign_all block_setting as' 0 []) env run) y)
-          (sym (needs_map (assigned.all_operands value as' first_mark env n.content) (λ (p : Name × Names). p.1) (λ env'. assigned.set_all value as' first_mark env' n.content) n.used (λ c. Goes (record n { content = c }))))
+          (sym (needs_map (assigned.all_operands value as' first_mark env n.content) (λ (p : Name × Names). p.1) (λ env'. assigned.set_all value as' first_mark env' n.content) n.choices (λ c. Goes (record n { content = c }))))
           (same_operands as' 0 [] (λ p. setting (assigned.set_all value as' first_mark p.1 n.content) n) env run n ag (λ env' run' ag' m. same_sets as' 0 env' run' n ag'))
 
   -- ---- statements
@@ -326,13 +326,13 @@ module _ (ds : List Defined) (id old : Data) (d : Words) where
 
   module _ (l : Name) where
     labelled : (x : Option PlacedName) (c : Code) (env : Names) (run : SectionRun) (n : Now) (y : Answer) → Agrees run n → Same (exec c env run) y
-        → Same (exec (on c x (λ z. Goto (label_of [] z.name))) env run) (on y x (λ z. Fails NoValue n.used))
+        → Same (exec (on c x (λ z. Goto (label_of [] z.name))) env run) (on y x (λ z. Fails NoValue n.choices))
     labelled None c env run n y ag s = s
     labelled (Some z) c env run n y ag s = failed NoValue run n ag
 
     conditional : (e : Tree) (a b : Code) (env : Names) (run : SectionRun) (n : Now) (x y : Answer) → Agrees run n
         → ((run' : SectionRun) → Agrees run' n → Same (exec a env run') x) → ((run' : SectionRun) → Agrees run' n → Same (exec b env run') y)
-        → Same (exec (If e a b) env run) (decide (truth_of (given.value_of g e env n.content)) n.used x y)
+        → Same (exec (If e a b) env run) (decide (truth_of (given.value_of g e env n.content)) n.choices x y)
     conditional e a b env run n x y ag s t =
         same_if _ _ (ap truth_of (value_same run.changes n.content ag.0 e env)) (read_unmapped k e run) n ag
         (exec a env (read_unmapped k e run)) (exec b env (read_unmapped k e run)) x y (s (read_unmapped k e run) ag) (t (read_unmapped k e run) ag)
@@ -347,18 +347,18 @@ module _ (ds : List Defined) (id old : Data) (d : Words) where
           plainly e 0 (λ e' j. If e' (Seq (code.code block_setting l t) (Goto l)) codes.Empty) env run _
           (conditional e (Seq (code.code block_setting l t) (Goto l)) codes.Empty env run n (jumps (run_specs.run g t env n)) (Goes n) ag
           (λ run' ag'. same_then (exec (code.code block_setting l t) env run') (run_specs.run g t env n) (same_run t env run' n ag')
-          (λ now. exec (Goto l) env now) (λ m. Fails NoValue m.used) (λ now m ag2. failed NoValue now m ag2))
+          (λ now. exec (Goto l) env now) (λ m. Fails NoValue m.choices) (λ now m ag2. failed NoValue now m ag2))
           (λ run' ag'. gone run' n ag'))
       same_run (either_of p ts) env run n ag =
           let count = execs.count (code.arms block_setting l ts) in
           let i = pick (d (length run.choices)) count in
-          subst (λ w. Same (exec (codes.Either (code.arms block_setting l ts)) env run) (run_specs.arm g ts (pick (d n.used) w) env (drawn n))) (arms_counted l ts)
-          (subst (λ u. Same (exec (codes.Either (code.arms block_setting l ts)) env run) (run_specs.arm g ts (pick (d u) count) env (drawn n))) ag.1
-          (same_arm ts i env (chosen count i run) (drawn n) (ag.0, ap suc ag.1)))
+          subst (λ many. let j = next_pick d n many in Same (exec (codes.Either (code.arms block_setting l ts)) env run) (run_specs.arm g ts j env (drawn many j n))) (arms_counted l ts)
+          (subst (λ cs. let j = pick (d (length cs)) count in Same (exec (codes.Either (code.arms block_setting l ts)) env run) (run_specs.arm g ts j env (drawn count j n))) ag.1
+          (same_arm ts i env (chosen count i run) (drawn count i n) (ag.0, ap (λ cs. choice_among count i ∷ cs) ag.1)))
       same_run (await_that p e) env run n ag =
           plainly e 0 (λ e' j. Await e') env run _
           (same_if _ _ (ap truth_of (value_same run.changes n.content ag.0 e env)) (read_unmapped k e run) n ag
-          (Go (read_unmapped k e run)) (Stop Blocked (read_unmapped k e run)) (Goes n) (Fails Blocked n.used) (gone (read_unmapped k e run) n ag) (failed Blocked (read_unmapped k e run) n ag))
+          (Go (read_unmapped k e run)) (Stop Blocked (read_unmapped k e run)) (Goes n) (Fails Blocked n.choices) (gone (read_unmapped k e run) n ag) (failed Blocked (read_unmapped k e run) n ag))
       same_run (with_in p ws t) env run n ag = same_bind_all ws (code.code block_setting l t) (λ env' m. run_specs.run g t env' m) (λ env' run' m ag'. same_run t env' run' m ag') env run n ag
       same_run (print_out p e) env run n ag =
           plainly e 0 (λ e' j. Print e') env run _
@@ -367,7 +367,7 @@ module _ (ds : List Defined) (id old : Data) (d : Words) where
       same_run (assert_that p e) env run n ag =
           plainly e 0 (λ e' j. Assert e') env run _
           (same_if _ _ (ap truth_of (value_same run.changes n.content ag.0 e env)) (read_unmapped k e run) n ag
-          (Go (read_unmapped k e run)) (Stop AssertFails (read_unmapped k e run)) (Goes n) (Fails AssertFails n.used) (gone (read_unmapped k e run) n ag) (failed AssertFails (read_unmapped k e run) n ag))
+          (Go (read_unmapped k e run)) (Stop AssertFails (read_unmapped k e run)) (Goes n) (Fails AssertFails n.choices) (gone (read_unmapped k e run) n ag) (failed AssertFails (read_unmapped k e run) n ag))
       same_run (go_to p x) env run n ag = failed NoValue run n ag
       same_run (call_macro p m es) env run n ag = gone run n ag
       same_run (yield_as p e) env run n ag =

@@ -9,7 +9,7 @@ use Rattle.pgo_model.specs.Options.{on}
 use Rattle.pgo_syntax.specs.Statement.{Statement, GuardedStatements, no_guarded, more_guarded}
 use Rattle.pgo_syntax.specs.StatementSize.{height, guarded_height}
 use Rattle.pgo_model.specs.Outcome.{NoValue}
-use Rattle.pgo_resource.specs.Picked.{used_of}
+use Rattle.pgo_resource.specs.Picked.{choices_of}
 use Rattle.pgo_resource.specs.declared.picks.Picks.{Picks}
 use Rattle.pgo_resource.specs.declared.resource.OpStop.{OpStop}
 use Rattle.pgo_resource.specs.declared.resource.OpStop.TheVariants as stops
@@ -23,27 +23,27 @@ module _ (g : Given) (env : Names) (n : Now) where
   abbrev value : Tree → Option Data
   value e = value_of g e env n.content
 
-  pub taken_by : (bs : GuardedStatements) (x : Answer) → branches g bs x env n ≡ needs (chosen value bs) n.used (λ o. on x o (λ t. run g t env n))
+  pub taken_by : (bs : GuardedStatements) (x : Answer) → branches g bs x env n ≡ needs (chosen value bs) n.choices (λ o. on x o (λ t. run g t env n))
   taken_by no_guarded x = refl
   taken_by (more_guarded p e t bs) x = go (truth_of (value e)) (taken_by bs x)
     where
-      go : (o : Option Bool) → branches g bs x env n ≡ needs (chosen value bs) n.used (λ o'. on x o' (λ t'. run g t' env n))
-          → decide o n.used (run g t env n) (branches g bs x env n) ≡ needs (option_and_then (λ b. if b then Some (Some t) else chosen value bs) o) n.used (λ o'. on x o' (λ t'. run g t' env n))
+      go : (o : Option Bool) → branches g bs x env n ≡ needs (chosen value bs) n.choices (λ o'. on x o' (λ t'. run g t' env n))
+          → decide o n.choices (run g t env n) (branches g bs x env n) ≡ needs (option_and_then (λ b. if b then Some (Some t) else chosen value bs) o) n.choices (λ o'. on x o' (λ t'. run g t' env n))
       go None h = refl
       go (Some true) h = refl
       go (Some false) h = h
 
   -- a condition without a truth value
-  pub fails_taken : {R : Type 0} (view : R → Option Statement) (bs : GuardedStatements) (x : Answer) (e : OpStop) (p : Picks) → n.used ≡ used_of p
+  pub fails_taken : {R : Type 0} (view : R → Option Statement) (bs : GuardedStatements) (x : Answer) (e : OpStop) (p : Picks) → n.choices ≡ choices_of p
       → GivesSo view (chosen value bs) (Err e) → FailsSo (branches g bs x env n) e p
   fails_taken view bs x stops.Blocked p same h = absurd h
   fails_taken view bs x stops.AssertFails p same h = absurd h
   fails_taken view bs x stops.NoMemory p same h = tt
   fails_taken view bs x stops.NoValue p same h =
-      taken_by bs x ∙ ap (λ o. needs o n.used (λ o'. on x o' (λ t. run g t env n))) h ∙ ap (Fails NoValue) same
+      taken_by bs x ∙ ap (λ o. needs o n.choices (λ o'. on x o' (λ t. run g t env n))) h ∙ ap (Fails NoValue) same
 
   pub taken_is : (bs : GuardedStatements) (x : Answer) (o : Option Statement) → chosen value bs ≡ Some o → branches g bs x env n ≡ on x o (λ t. run g t env n)
-  taken_is bs x o h = taken_by bs x ∙ ap (λ o'. needs o' n.used (λ z. on x z (λ t. run g t env n))) h
+  taken_is bs x o h = taken_by bs x ∙ ap (λ o'. needs o' n.choices (λ z. on x z (λ t. run g t env n))) h
 
 -- the taken branch nests less deep
 pub low_branch : (value : Tree → Option Data) (bs : GuardedStatements) (t : Statement) → chosen value bs ≡ Some (Some t) → height t < suc (guarded_height bs)

@@ -9,8 +9,8 @@ use Rattle.pgo_sections.specs.Exec.{MacroEnd, Gives}
 use Rattle.pgo_sections.specs.SectionRun.{ChoiceMade}
 use Rattle.pgo_meaning.specs.Macros.{MacRead, MacWrite}
 use Rattle.pgo_workers.specs.Operations.{Ends}
-use Rattle.pgo_resource.specs.Answers.{StopsSo, Goes}
-use Rattle.pgo_resource.specs.Picked.{words_of, used_of}
+use Rattle.pgo_resource.specs.Answers.{StopsSo, SameWords}
+use Rattle.pgo_resource.specs.Picked.{words_of, choices_of}
 use Rattle.pgo_resource.specs.declared.picks.Picks.{Picks}
 use Rattle.pgo_resource.specs.declared.resource.OpStop.{OpStop}
 use Rattle.pgo_resource.specs.declared.resource.OpStop.TheVariants as stops
@@ -19,10 +19,10 @@ use Rattle.pgo_resource.specs.declared.resource.OpStop.TheVariants as stops
 abbrev pub read_view : Value × Option Value → Data × Option Data
 read_view r = (data_of r.0, option_map data_of r.1)
 
--- a run that ends as E says, by the words that are not used yet, is answered so
+-- a run that ends as f says behind the choices that are made, by the words that are not used yet, is answered so
 abbrev pub EndsSo : {R A : Type 0} → (R → A) → (List ChoiceMade → MacroEnd A) → Picks → Picks → Result R OpStop → Type 0
-EndsSo view f p q (Ok r) = Goes p q × Ends f (used_of p) (used_of q) (Gives (view r))
-EndsSo view f p q (Err x) = Goes p q × StopsSo x (λ e. Ends f (used_of p) (used_of q) e)
+EndsSo view f p q (Ok r) = SameWords p q × Ends f (choices_of p) (choices_of q) (Gives (view r))
+EndsSo view f p q (Err x) = SameWords p q × StopsSo x (λ e. Ends f (choices_of p) (choices_of q) e)
 
 -- a read of the content `old`
 abbrev pub ReadsSo : Mapping → List Defined → (id old : Data) → Picks → Picks → Result (Value × Option Value) OpStop → Type 0

@@ -10,7 +10,7 @@ use Rattle.pgo_base.specs.declared.value.Value.{Value}
 use Rattle.pgo_model.specs.ModuleView.{defined_view}
 use Rattle.pgo_model.specs.Outcome as outcome
 use Rattle.pgo_model.specs.System.{Words}
-use Rattle.pgo_resource.specs.Picked.{used_of}
+use Rattle.pgo_resource.specs.Picked.{choices_of}
 use Rattle.pgo_resource.specs.declared.picks.Picks.{Picks}
 use Rattle.pgo_resource.specs.declared.resource.OpStop.{OpStop}
 use Rattle.pgo_resource.specs.declared.resource.OpStop.TheVariants as stops
@@ -28,13 +28,13 @@ abbrev pub env_of : List NamedValue → Names
 env_of ns = onto (map named_view ns) []
 
 abbrev pub now_of : Option Value → Picks → Now
-now_of c p = record { content = option_map data_of c; used = used_of p }
+now_of c p = record { content = option_map data_of c; choices = choices_of p }
 
 -- a failure
 abbrev pub FailsSo : Answer → OpStop → Picks → Type 0
-FailsSo x stops.Blocked q = x ≡ Fails outcome.Blocked (used_of q)
-FailsSo x stops.NoValue q = x ≡ Fails outcome.NoValue (used_of q)
-FailsSo x stops.AssertFails q = x ≡ Fails outcome.AssertFails (used_of q)
+FailsSo x stops.Blocked q = x ≡ Fails outcome.Blocked (choices_of q)
+FailsSo x stops.NoValue q = x ≡ Fails outcome.NoValue (choices_of q)
+FailsSo x stops.AssertFails q = x ≡ Fails outcome.AssertFails (choices_of q)
 FailsSo x stops.NoMemory q = Unit {0}
 
 -- a value, and the block's content is c
@@ -56,17 +56,17 @@ EndedSo x c q (Err e) = FailsSo x e q
 -- the block yields a value, with the content where it was assigned; a block that goes on to its end gives none
 abbrev pub BlockSo : Answer → Picks → Result (Value × Option Value) OpStop → Type 0
 BlockSo x q (Ok r) = x ≡ Yields (data_of r.0) (now_of r.1 q)
-BlockSo x q (Err stops.Blocked) = x ≡ Fails outcome.Blocked (used_of q)
-BlockSo x q (Err stops.NoValue) = (x ≡ Fails outcome.NoValue (used_of q)) ⊎ ((n : Now) × (x ≡ Goes n) × (n.used ≡ used_of q))
-BlockSo x q (Err stops.AssertFails) = x ≡ Fails outcome.AssertFails (used_of q)
+BlockSo x q (Err stops.Blocked) = x ≡ Fails outcome.Blocked (choices_of q)
+BlockSo x q (Err stops.NoValue) = (x ≡ Fails outcome.NoValue (choices_of q)) ⊎ ((n : Now) × (x ≡ Goes n) × (n.choices ≡ choices_of q))
+BlockSo x q (Err stops.AssertFails) = x ≡ Fails outcome.AssertFails (choices_of q)
 BlockSo x q (Err stops.NoMemory) = Unit {0}
 
 -- names that are bound
 abbrev pub BoundSo : {U : Type 0} → Bound → Names → Option Value → Picks → Result U OpStop → Type 0
 BoundSo x env c q (Ok u) = x ≡ Binds env (now_of c q)
-BoundSo x env c q (Err stops.Blocked) = x ≡ Lacks outcome.Blocked (used_of q)
-BoundSo x env c q (Err stops.NoValue) = x ≡ Lacks outcome.NoValue (used_of q)
-BoundSo x env c q (Err stops.AssertFails) = x ≡ Lacks outcome.AssertFails (used_of q)
+BoundSo x env c q (Err stops.Blocked) = x ≡ Lacks outcome.Blocked (choices_of q)
+BoundSo x env c q (Err stops.NoValue) = x ≡ Lacks outcome.NoValue (choices_of q)
+BoundSo x env c q (Err stops.AssertFails) = x ≡ Lacks outcome.AssertFails (choices_of q)
 BoundSo x env c q (Err stops.NoMemory) = Unit {0}
 
 -- the second list is the first with more behind

@@ -30,8 +30,8 @@ use std::alloc::{AllocError, Global};
 
 /// Reads the content `old`: the value, and the new content where the block assigned it.
 ///
-/// Errors: `Blocked`, `NoValue` and `AssertFails` exactly where the block stops so; `NoMemory` at any time, and where no word
-/// of choice is left. The words of all choices that were made are used, after an error too.
+/// Errors: `Blocked`, `NoValue` and `AssertFails` exactly where the block stops so; `NoMemory` at any time. All choices that were
+/// made are added to `picks`, after an error too.
 ///
 /// Source: the Modular PlusCal paper.
 pub fn run_read(

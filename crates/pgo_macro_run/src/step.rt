@@ -4,20 +4,19 @@ ghost use Rattle.pgo_base.specs.ExprView.{tree};
 ghost use Rattle.pgo_base.specs.Lookup.{Names};
 ghost use Rattle.pgo_base.specs.View.{data_of};
 ghost use Rattle.pgo_base.specs.declared.value.Value.{Value};
-ghost use Rattle.pgo_model.specs.Choice.{pick};
 ghost use Rattle.pgo_model.specs.Operators.{truth_of};
 ghost use Rattle.pgo_model.specs.Outcome as outcome;
 ghost use Rattle.pgo_sections.specs.BoundValues.{bindable};
 ghost use Rattle.pgo_syntax.specs.Statement.{guarded, statements};
 ghost use Rattle.pgo_syntax.specs.StatementSize.{height, guarded_height, statements_height};
 ghost use Rattle.pgo_syntax.specs.StatementView.{statement, branch_parts};
-ghost use Rattle.pgo_resource.specs.Picked.{words_of, used_of};
+ghost use Rattle.pgo_resource.specs.Picked.{first_of, words_of, choices_of};
 ghost use Rattle.pgo_resource.specs.declared.picks.Picks.{Picks};
 ghost use Rattle.pgo_macro_run.specs.Answers.{GivesSo};
 ghost use Rattle.pgo_macro_run.specs.AroundView.{given_of, value_in, env_of, now_of, Begins};
 ghost use Rattle.pgo_macro_run.specs.Assigned.{assigned};
 ghost use Rattle.pgo_macro_run.specs.Chosen.{chosen};
-ghost use Rattle.pgo_macro_run.specs.Given.{Goes, Yields, Fails, needs, decide, drawn, setting, then_in, bind_all};
+ghost use Rattle.pgo_macro_run.specs.Given.{Goes, Yields, Fails, needs, decide, next_pick, drawn, setting, then_in, bind_all};
 ghost use Rattle.pgo_macro_run.specs.NextView.{NextSo};
 ghost use Rattle.pgo_macro_run.specs.Runs as runs;
 ghost use Rattle.pgo_macro_run.specs.declared.around.Around.{Around};
@@ -25,7 +24,7 @@ ghost use Rattle.pgo_macro_run.specs.declared.around.Around.{Around};
 use crate::around::Around;
 use crate::assign::assign;
 use crate::next::Next;
-use crate::values::{bind_all, bound, next_pick, truth};
+use crate::values::{bind_all, bound, next_pick, only_pick, truth};
 use pgo_base::bindings::NamedValue;
 use pgo_base::expr::{Expr, Sub};
 use pgo_base::value::Value;
@@ -98,7 +97,7 @@ fn while_do<'s>(
     e: &Sub,
     t: &'s Stmt,
 ) -> Result<Next<'s>, OpStop>
-    ensures { (p : Picks) → let n = now_of content.now p in let g = given_of around.now (words_of p) in NextSo (suc (height (statement t.now))) g (decide (truth_of (value_in around.now e.now (env_of names.now) n.content)) n.used (runs.jumps (runs.run g (statement t.now) (env_of names.now) n)) (Goes n)) (env_of names.now) n p result }
+    ensures { (p : Picks) → let n = now_of content.now p in let g = given_of around.now (words_of p) in NextSo (suc (height (statement t.now))) g (decide (truth_of (value_in around.now e.now (env_of names.now) n.content)) n.choices (runs.jumps (runs.run g (statement t.now) (env_of names.now) n)) (Goes n)) (env_of names.now) n p result }
 {
     if truth(alloc, around, names, content, e.get())? {
         return Ok(Next::Looped(t));
@@ -114,7 +113,7 @@ fn await_that<'s>(
     content: &Option<Value>,
     e: &Expr,
 ) -> Result<Next<'s>, OpStop>
-    ensures { (p : Picks) → let n = now_of content.now p in NextSo 1 (given_of around.now (words_of p)) (decide (truth_of (value_in around.now (tree e.now) (env_of names.now) n.content)) n.used (Goes n) (Fails outcome.Blocked n.used)) (env_of names.now) n p result }
+    ensures { (p : Picks) → let n = now_of content.now p in NextSo 1 (given_of around.now (words_of p)) (decide (truth_of (value_in around.now (tree e.now) (env_of names.now) n.content)) n.choices (Goes n) (Fails outcome.Blocked n.choices)) (env_of names.now) n p result }
 {
     if truth(alloc, around, names, content, e)? {
         return Ok(Next::Goes);
@@ -130,7 +129,7 @@ fn assert_that<'s>(
     content: &Option<Value>,
     e: &Expr,
 ) -> Result<Next<'s>, OpStop>
-    ensures { (p : Picks) → let n = now_of content.now p in NextSo 1 (given_of around.now (words_of p)) (decide (truth_of (value_in around.now (tree e.now) (env_of names.now) n.content)) n.used (Goes n) (Fails outcome.AssertFails n.used)) (env_of names.now) n p result }
+    ensures { (p : Picks) → let n = now_of content.now p in NextSo 1 (given_of around.now (words_of p)) (decide (truth_of (value_in around.now (tree e.now) (env_of names.now) n.content)) n.choices (Goes n) (Fails outcome.AssertFails n.choices)) (env_of names.now) n p result }
 {
     if truth(alloc, around, names, content, e)? {
         return Ok(Next::Goes);
@@ -146,7 +145,7 @@ fn print_out<'s>(
     content: &Option<Value>,
     e: &Expr,
 ) -> Result<Next<'s>, OpStop>
-    ensures { (p : Picks) → let n = now_of content.now p in NextSo 1 (given_of around.now (words_of p)) (needs (value_in around.now (tree e.now) (env_of names.now) n.content) n.used (λ v. Goes n)) (env_of names.now) n p result }
+    ensures { (p : Picks) → let n = now_of content.now p in NextSo 1 (given_of around.now (words_of p)) (needs (value_in around.now (tree e.now) (env_of names.now) n.content) n.choices (λ v. Goes n)) (env_of names.now) n p result }
 {
     let _value = around.value(alloc, names, content, e)?;
     Ok(Next::Goes)
@@ -160,7 +159,7 @@ fn yield_as<'s>(
     content: &Option<Value>,
     e: &Expr,
 ) -> Result<Next<'s>, OpStop>
-    ensures { (p : Picks) → let n = now_of content.now p in NextSo 1 (given_of around.now (words_of p)) (needs (bindable (value_in around.now (tree e.now) (env_of names.now) n.content)) n.used (λ v. Yields v n)) (env_of names.now) n p result }
+    ensures { (p : Picks) → let n = now_of content.now p in NextSo 1 (given_of around.now (words_of p)) (needs (bindable (value_in around.now (tree e.now) (env_of names.now) n.content)) n.choices (λ v. Yields v n)) (env_of names.now) n p result }
 {
     Ok(Next::Yields(bound(alloc, around, names, content, e)?))
 }
@@ -168,10 +167,11 @@ fn yield_as<'s>(
 /// An `either`: the statement that the next word picks.
 fn either<'s>(arms: &'s [Stmt], picks: &mut Picks) -> Result<Next<'s>, OpStop>
     ensures words { words_of picks.new ≡ words_of picks.old }
-    ensures next { (a : Around) (env : Names) (c : Option Value) → let g = given_of a (words_of picks.old) in let ts = statements (map statement arms.now) in NextSo (suc (statements_height ts)) g (runs.arm g ts (pick (words_of picks.old (used_of picks.old)) (runs.count ts)) env (drawn (now_of c picks.old))) env (now_of c picks.new) picks.new result }
+    ensures first { first_of picks.new ≡ first_of picks.old }
+    ensures next { (a : Around) (env : Names) (c : Option Value) → let g = given_of a (words_of picks.old) in let ts = statements (map statement arms.now) in NextSo (suc (statements_height ts)) g (let many = runs.count ts in let n = now_of c picks.old in let i = next_pick (words_of picks.old) n many in runs.arm g ts i env (drawn many i n)) env (now_of c picks.new) picks.new result }
 {
     if arms.is_empty() {
-        next_pick(picks, 1)?;
+        only_pick(picks)?;
         return Err(OpStop::NoValue);
     }
     let i = next_pick(picks, arms.len())?;
@@ -204,6 +204,7 @@ fn with_in<'s>(
     t: &'s Stmt,
 ) -> Result<Next<'s>, OpStop>
     ensures words { words_of picks.new ≡ words_of picks.old }
+    ensures first { first_of picks.new ≡ first_of picks.old }
     ensures begins { OnOk result (Begins names.old.items names.new.items) }
     ensures next { let g = given_of around.now (words_of picks.old) in NextSo (suc (height (statement t.now))) g (then_in (bind_all g list.now (env_of names.old.items) (now_of content.now picks.old)) (λ env m. runs.run g (statement t.now) env m)) (env_of names.new.items) (now_of content.now picks.new) picks.new result }
 {
@@ -221,6 +222,7 @@ pub fn step<'s>(
     s: &'s Stmt,
 ) -> Result<Next<'s>, OpStop>
     ensures words { words_of picks.new ≡ words_of picks.old }
+    ensures first { first_of picks.new ≡ first_of picks.old }
     ensures begins { OnOk result (Begins names.old.items names.new.items) }
     ensures next { let g = given_of around.now (words_of picks.old) in NextSo (height (statement s.now)) g (runs.run g (statement s.now) (env_of names.old.items) (now_of content.old picks.old)) (env_of names.new.items) (now_of content.new picks.new) picks.new result }
 {

@@ -1,6 +1,5 @@
 -- The clauses of a content decide what each call answers and leaves.
-use Rattle.std.proofs.Common.{◌≡◌, ℕ, Option, List, [], ◌∷◌, length, replicate, Err, refl, sym, ap, ◌∙◌, subst}
-use Rattle.std.proofs.lemmas.List.{length-replicate}
+use Rattle.std.proofs.Common.{◌≡◌, Option, List, [], ◌∷◌, Err, refl, sym, ap, ◌∙◌, subst}
 use Rattle.pgo_base.specs.Data.{Data}
 use Rattle.pgo_base.specs.declared.module.Defined.{Defined}
 use Rattle.pgo_model.specs.Outcome.{Kind, Blocked, NoValue, AssertFails, Many}
@@ -9,49 +8,33 @@ use Rattle.pgo_sections.specs.Exec.{MacroEnd, Gives, Stops}
 use Rattle.pgo_sections.specs.SectionRun.{ChoiceMade}
 use Rattle.pgo_workers.specs.Operations.{read_of, write_of, Ends}
 use Rattle.pgo_workers.specs.View.{Shown}
-use Rattle.pgo_resource.specs.Answers.{Read, Written}
-use Rattle.pgo_resource.specs.Picked.{words_of, used_of}
+use Rattle.pgo_resource.specs.Answers.{Read, Written, SameWords as Kept}
+use Rattle.pgo_resource.specs.Picked.{first_of, words_of, choices_of}
 use Rattle.pgo_resource.specs.declared.picks.Picks.{Picks}
 use Rattle.pgo_cells.specs.CellView.{cell_view}
 use Rattle.pgo_mailbox.specs.Alike.{Call, Reads, Writes, PreCommits, Commits, Aborts, Answer, Gave, Done, Stopped, IsDown, StopsBy, Made, AllMade, SameWords, Alike}
 use Rattle.pgo_mailbox.specs.BoxView.{box_view}
 
 -- ---- two ends of one run
-record Met {A : Type 0} (u w : ℕ) (e g : List ChoiceMade → MacroEnd A) : Type 0 where
-  left : List ChoiceMade
-  right : List ChoiceMade
-  left_many : length left ≡ u
-  right_many : length right ≡ w
-  same : e left ≡ g right
+gave_both : {A : Type 0} (a b : A) (u w : List ChoiceMade) → Gives a u ≡ Gives b w → (a ≡ b) × (u ≡ w)
+gave_both a b u w e = (cc, cc)
 
-meet : {A : Type 0} (f : List ChoiceMade → MacroEnd A) (n u w : ℕ) (e g : List ChoiceMade → MacroEnd A) → Ends f n u e → Ends f n w g → Met u w e g
-meet f n u w e g h k =
-    let cs = replicate n (record { count = 0; taken = 0 }) in let l = length-replicate {A = ChoiceMade} n (record { count = 0; taken = 0 }) in
-    let x = h cs l in let y = k cs l in
-    record { left = x.0; right = y.0; left_many = x.1; right_many = y.1; same = sym x.2 ∙ y.2 }
+stopped_both : {A : Type 0} (j k : Kind) (u w : List ChoiceMade) → Stops {A = A} j u ≡ Stops k w → (j ≡ k) × (u ≡ w)
+stopped_both j k u w e = (cc, cc)
 
-gave_both : {A : Type 0} (u w : ℕ) (a b : A) → Met u w (Gives a) (Gives b) → (a ≡ b) × (u ≡ w)
-gave_both u w a b m = let e = m.same in let c : m.left ≡ m.right = cc in (cc, sym m.left_many ∙ ap length c ∙ m.right_many)
-
-stopped_both : {A : Type 0} (u w : ℕ) (j k : Kind) → Met {A = A} u w (λ cs. Stops j cs) (λ cs. Stops k cs) → (j ≡ k) × (u ≡ w)
-stopped_both u w j k m = let e = m.same in let c : m.left ≡ m.right = cc in (cc, sym m.left_many ∙ ap length c ∙ m.right_many)
-
-not_both : {A : Type 0} (u w : ℕ) (a : A) (k : Kind) → Met u w (Gives a) (λ cs. Stops k cs) → ⊥
-not_both u w a k m = let e = m.same in absurd (cc)
-
-turned : {A : Type 0} (u w : ℕ) (e g : List ChoiceMade → MacroEnd A) → Met u w e g → Met w u g e
-turned u w e g m = record { left = m.right; right = m.left; left_many = m.right_many; right_many = m.left_many; same = sym m.same }
+not_both : {A : Type 0} (a : A) (k : Kind) (u w : List ChoiceMade) → Gives a u ≡ Stops k w → ⊥
+not_both a k u w e = absurd (cc)
 
 -- ---- what a stop says
 read_stop : (k : Kind) (s t : Shown) (p q : Picks) → (m : Mapping) (ds : List Defined) (id : Data) (at : Option Data) → StopsBy k (λ e. Read m ds id at s t p q (Err e))
-    → (t ≡ s) × (words_of q ≡ words_of p) × Ends (read_of m ds id at (words_of p) s.current) (used_of p) (used_of q) (λ cs. Stops k cs)
+    → (t ≡ s) × Kept p q × Ends (read_of m ds id at (words_of p) s.current) (choices_of p) (choices_of q) (λ cs. Stops k cs)
 read_stop Blocked s t p q m ds id at h = h
 read_stop NoValue s t p q m ds id at h = h
 read_stop AssertFails s t p q m ds id at h = h
 read_stop Many s t p q m ds id at h = absurd h
 
 write_stop : (k : Kind) (s t : Shown) (p q : Picks) → (m : Mapping) (ds : List Defined) (id : Data) (at : Option Data) (x : Data) → StopsBy k (λ e. Written m ds id at x s t p q (Err e))
-    → (t ≡ s) × (words_of q ≡ words_of p) × Ends (write_of m ds id at x (words_of p) s.current) (used_of p) (used_of q) (λ cs. Stops k cs)
+    → (t ≡ s) × Kept p q × Ends (write_of m ds id at x (words_of p) s.current) (choices_of p) (choices_of q) (λ cs. Stops k cs)
 write_stop Blocked s t p q m ds id at x h = h
 write_stop NoValue s t p q m ds id at x h = h
 write_stop AssertFails s t p q m ds id at x h = h
@@ -59,26 +42,26 @@ write_stop Many s t p q m ds id at x h = absurd h
 
 -- ---- one call
 module _ (m : Mapping) (ds : List Defined) (id : Data) (at : Option Data) (s t t' : Shown) (p p' q q' : Picks) (w : SameWords p q) where
-  reads_at : {e : List ChoiceMade → MacroEnd (Data × Data)} → Ends (read_of m ds id at (words_of q) s.current) (used_of q) (used_of q') e → Ends (read_of m ds id at (words_of p) s.current) (used_of p) (used_of q') e
-  reads_at {e = e} h =
-      subst (λ n. Ends (read_of m ds id at (words_of p) s.current) n (used_of q') e) (sym w.1)
-      (subst (λ d. Ends (read_of m ds id at d s.current) (used_of q) (used_of q') e) (sym w.0) h)
+  -- both begin alike
+  same_read : read_of m ds id at (words_of p) s.current (choices_of p) ≡ read_of m ds id at (words_of q) s.current (choices_of q)
+  same_read = λ i. read_of m ds id at (w.0 i) s.current (w.2 i)
+
+  kept : (choices_of p' ≡ choices_of q') → Kept p p' → Kept q q' → SameWords p' q'
+  kept e h k = (h.0 ∙ w.0 ∙ sym k.0, h.1 ∙ w.1 ∙ sym k.1, e)
 
   read_alike : (a b : Answer) → Made (Reads m ds id at) s t p p' a → Made (Reads m ds id at) s t' q q' b → (a ≡ b) × (t ≡ t') × SameWords p' q'
   read_alike (Gave x) (Gave y) h k =
-      let g = gave_both _ _ _ _ (meet _ _ _ _ _ _ h.2.2 (reads_at k.2.2)) in (
+      let g = gave_both _ _ _ _ (sym h.2.2 ∙ same_read ∙ k.2.2) in (
         ap Gave (sym h.1 ∙ ap (λ z. z.0) g.0 ∙ k.1),
         h.2.0 ∙ ap (λ z. record s { current = z.1 }) g.0 ∙ sym k.2.0,
-        (h.2.1 ∙ w.0 ∙ sym k.2.1, g.1),
+        kept g.1 h.2.1 k.2.1,
       )
-  read_alike (Gave x) (Stopped j) h k =
-      let r = read_stop j s t' q q' m ds id at k in absurd (not_both _ _ _ _ (meet _ _ _ _ _ _ h.2.2 (reads_at r.2)))
-  read_alike (Stopped i) (Gave y) h k =
-      let r = read_stop i s t p p' m ds id at h in absurd (not_both _ _ _ _ (turned _ _ _ _ (meet _ _ _ _ _ _ r.2 (reads_at k.2.2))))
+  read_alike (Gave x) (Stopped j) h k = let r = read_stop j s t' q q' m ds id at k in absurd (not_both _ _ _ _ (sym h.2.2 ∙ same_read ∙ r.2))
+  read_alike (Stopped i) (Gave y) h k = let r = read_stop i s t p p' m ds id at h in absurd (not_both _ _ _ _ (sym k.2.2 ∙ sym same_read ∙ r.2))
   read_alike (Stopped i) (Stopped j) h k =
       let r = read_stop i s t p p' m ds id at h in let z = read_stop j s t' q q' m ds id at k in
-      let g = stopped_both _ _ _ _ (meet _ _ _ _ _ _ r.2 (reads_at z.2)) in
-      (ap Stopped g.0, r.0 ∙ sym z.0, (r.1 ∙ w.0 ∙ sym z.1, g.1))
+      let g = stopped_both {A = Data × Data} _ _ _ _ (sym r.2 ∙ same_read ∙ z.2) in
+      (ap Stopped g.0, r.0 ∙ sym z.0, kept g.1 r.1 z.1)
   read_alike Done b h k = absurd h
   read_alike (IsDown n) b h k = absurd h
   read_alike (Gave x) Done h k = absurd k
@@ -87,23 +70,19 @@ module _ (m : Mapping) (ds : List Defined) (id : Data) (at : Option Data) (s t t
   read_alike (Stopped i) (IsDown n) h k = absurd k
 
   module _ (x : Data) where
-    writes_at : {e : List ChoiceMade → MacroEnd Data} → Ends (write_of m ds id at x (words_of q) s.current) (used_of q) (used_of q') e → Ends (write_of m ds id at x (words_of p) s.current) (used_of p) (used_of q') e
-    writes_at {e = e} h =
-        subst (λ n. Ends (write_of m ds id at x (words_of p) s.current) n (used_of q') e) (sym w.1)
-        (subst (λ d. Ends (write_of m ds id at x d s.current) (used_of q) (used_of q') e) (sym w.0) h)
+    same_write : write_of m ds id at x (words_of p) s.current (choices_of p) ≡ write_of m ds id at x (words_of q) s.current (choices_of q)
+    same_write = λ i. write_of m ds id at x (w.0 i) s.current (w.2 i)
 
     write_alike : (a b : Answer) → Made (Writes m ds id at x) s t p p' a → Made (Writes m ds id at x) s t' q q' b → (a ≡ b) × (t ≡ t') × SameWords p' q'
     write_alike Done Done h k =
-        let g = gave_both _ _ _ _ (meet _ _ _ _ _ _ h.2 (writes_at k.2)) in
-        (refl, h.0 ∙ ap (λ z. record s { current = z }) g.0 ∙ sym k.0, (h.1 ∙ w.0 ∙ sym k.1, g.1))
-    write_alike Done (Stopped j) h k =
-        let r = write_stop j s t' q q' m ds id at x k in absurd (not_both _ _ _ _ (meet _ _ _ _ _ _ h.2 (writes_at r.2)))
-    write_alike (Stopped i) Done h k =
-        let r = write_stop i s t p p' m ds id at x h in absurd (not_both _ _ _ _ (turned _ _ _ _ (meet _ _ _ _ _ _ r.2 (writes_at k.2))))
+        let g = gave_both _ _ _ _ (sym h.2 ∙ same_write ∙ k.2) in
+        (refl, h.0 ∙ ap (λ z. record s { current = z }) g.0 ∙ sym k.0, kept g.1 h.1 k.1)
+    write_alike Done (Stopped j) h k = let r = write_stop j s t' q q' m ds id at x k in absurd (not_both _ _ _ _ (sym h.2 ∙ same_write ∙ r.2))
+    write_alike (Stopped i) Done h k = let r = write_stop i s t p p' m ds id at x h in absurd (not_both _ _ _ _ (sym k.2 ∙ sym same_write ∙ r.2))
     write_alike (Stopped i) (Stopped j) h k =
         let r = write_stop i s t p p' m ds id at x h in let z = write_stop j s t' q q' m ds id at x k in
-        let g = stopped_both _ _ _ _ (meet _ _ _ _ _ _ r.2 (writes_at z.2)) in
-        (ap Stopped g.0, r.0 ∙ sym z.0, (r.1 ∙ w.0 ∙ sym z.1, g.1))
+        let g = stopped_both {A = Data} _ _ _ _ (sym r.2 ∙ same_write ∙ z.2) in
+        (ap Stopped g.0, r.0 ∙ sym z.0, kept g.1 r.1 z.1)
     write_alike (Gave y) b h k = absurd h
     write_alike (IsDown n) b h k = absurd h
     write_alike Done (Gave y) h k = absurd k
@@ -112,7 +91,7 @@ module _ (m : Mapping) (ds : List Defined) (id : Data) (at : Option Data) (s t t
     write_alike (Stopped i) (IsDown n) h k = absurd k
 
 same_words : (p p' q q' : Picks) → SameWords p q → p' ≡ p → q' ≡ q → SameWords p' q'
-same_words p p' q q' w e f = (ap words_of e ∙ w.0 ∙ sym (ap words_of f), ap used_of e ∙ w.1 ∙ sym (ap used_of f))
+same_words p p' q q' w e f = (ap words_of e ∙ w.0 ∙ sym (ap words_of f), ap first_of e ∙ w.1 ∙ sym (ap first_of f), ap choices_of e ∙ w.2 ∙ sym (ap choices_of f))
 
 plain_alike : (c : Call) (s t t' : Shown) (p p' q q' : Picks) → SameWords p q → (a b : Answer) → Made c s t p p' a → Made c s t' q q' b → (a ≡ b) × (t ≡ t') × SameWords p' q'
 plain_alike (Reads m ds id at) s t t' p p' q q' w a b h k = read_alike m ds id at s t t' p p' q q' w a b h k

@@ -24,7 +24,7 @@ use Rattle.pgo_syntax.specs.declared.macros.MappingMacro.{MappingMacro}
 use Rattle.pgo_workers.specs.Operations.{read_of, write_of, read_put, write_put, Ends}
 use Rattle.pgo_workers.specs.View.{Shown}
 use Rattle.pgo_resource.specs.Answers.{Read, Written}
-use Rattle.pgo_resource.specs.Picked.{words_of, used_of}
+use Rattle.pgo_resource.specs.Picked.{words_of, choices_of}
 use Rattle.pgo_resource.specs.declared.picks.Picks.{Picks}
 use Rattle.pgo_resource.specs.declared.resource.OpStop.{OpStop}
 use Rattle.pgo_resource.specs.declared.resource.OpStop.TheVariants as stops
@@ -51,25 +51,26 @@ same_shown o n count e = λ i. record { base = sequence_data (e i); current = se
 
 -- ---- a read
 module _ (m : MappingMacro) (r : IsRead m.read) (ds : List Defined) (id : Data) (p : Picks) where
-  first_ends : (v : Data) (vs : List Data) → Fits (v ∷ vs) → Ends (read_of (Macro m) ds id None (words_of p) (sequence_data (v ∷ vs))) (used_of p) (used_of p) (Gives (v, sequence_data vs))
+  first_ends : (v : Data) (vs : List Data) → Fits (v ∷ vs) → Ends (read_of (Macro m) ds id None (words_of p) (sequence_data (v ∷ vs))) (choices_of p) (choices_of p) (Gives (v, sequence_data vs))
   first_ends v vs f =
       let s = sequence_data (v ∷ vs) in
-      let e = read_yields (map defined_view ds) id s (words_of p) (labeled m.read) [] (used_of p) v (record { content = Some (sequence_data vs); used = used_of p }) (first_yields (map defined_view ds) id (words_of p) (used_of p) m.read r v vs f) in
-      λ cs l. let q = e cs l in (q.0, q.1, ap (read_put None s) q.2)
+      ap (read_put None s)
+      (read_yields (map defined_view ds) id s (words_of p) (labeled m.read) [] p v (record { content = Some (sequence_data vs); choices = choices_of p })
+      (first_yields (map defined_view ds) id (words_of p) (choices_of p) m.read r v vs f))
 
-  empty_ends : Ends (read_of (Macro m) ds id None (words_of p) (sequence_data [])) (used_of p) (used_of p) (λ cs. Stops Blocked cs)
+  empty_ends : Ends (read_of (Macro m) ds id None (words_of p) (sequence_data [])) (choices_of p) (choices_of p) (λ cs. Stops Blocked cs)
   empty_ends =
       let s = sequence_data [] in
-      let e = read_so (map defined_view ds) id s (words_of p) (labeled m.read) [] (used_of p) p p refl refl (Err stops.Blocked) (empty_blocks (map defined_view ds) id (words_of p) (used_of p) m.read r) in
-      λ cs l. let q = e.1 cs l in (q.0, q.1, ap (read_put None s) q.2)
+      ap (read_put None s)
+      (read_so (map defined_view ds) id s (words_of p) (labeled m.read) [] p p (refl, refl) (Err stops.Blocked) (empty_blocks (map defined_view ds) id (words_of p) (choices_of p) m.read r)).1
 
 pub first_read : (m : Mapping) (at : Option Data) → takes_first m at ≡ true → (o n : Messages) (v : Value) → n.0 ≡ o.0 → o.1 ≡ data_of v ∷ n.1 → Fits o.1 → (count : ℕ) → ReceivedBy m at (shown_by o count) (shown_by n count) (Ok (Some v))
 first_read Identity at h o n v b e f count = absurd (cc)
 first_read (Macro m) (Some i) h o n v b e f count = absurd (cc)
 first_read (Macro m) None h o n v b e f count = λ ds id p. (
   same_shown o n count b,
-  refl,
-  subst (λ xs. Ends (read_of (Macro m) ds id None (words_of p) (sequence_data xs)) (used_of p) (used_of p) (Gives (data_of v, sequence_data n.1))) (sym e)
+  (refl, refl),
+  subst (λ xs. Ends (read_of (Macro m) ds id None (words_of p) (sequence_data xs)) (choices_of p) (choices_of p) (Gives (data_of v, sequence_data n.1))) (sym e)
       (first_ends m (read_is m.read h) ds id p (data_of v) n.1 (subst Fits e f)),
 )
 
@@ -78,30 +79,32 @@ no_first Identity at h o n e s count = absurd (cc)
 no_first (Macro m) (Some i) h o n e s count = absurd (cc)
 no_first (Macro m) None h o n e s count = λ ds id p. (
   ap (λ q. shown_by q count) s,
-  refl,
-  subst (λ xs. Ends (read_of (Macro m) ds id None (words_of p) (sequence_data xs)) (used_of p) (used_of p) (λ cs. Stops Blocked cs)) (sym e)
+  (refl, refl),
+  subst (λ xs. Ends (read_of (Macro m) ds id None (words_of p) (sequence_data xs)) (choices_of p) (choices_of p) (λ cs. Stops Blocked cs)) (sym e)
       (empty_ends m (read_is m.read h) ds id p),
 )
 
 pub no_memory_read : (m : Mapping) (at : Option Data) (o n : Messages) → n ≡ o → (count : ℕ) → ReceivedBy m at (shown_by o count) (shown_by n count) (Err stops.NoMemory)
-no_memory_read m at o n s count = λ ds id p. (ap (λ q. shown_by q count) s, refl, tt)
+no_memory_read m at o n s count = λ ds id p. (ap (λ q. shown_by q count) s, (refl, refl), tt)
 
 -- ---- a write
 module _ (m : MappingMacro) (ds : List Defined) (id x : Data) (c : Name) (w : IsWrite c m.write) (z : ℤ)
     (limit : Val (map defined_view ds) (name c) ((self_name, Some id) ∷ []) [] None ≡ Some (integer z)) (p : Picks) (xs : List Data) where
   append_ends : int_lt (pos (length xs)) z ≡ true → Fits (xs ++ x ∷ [])
-      → Ends (write_of (Macro m) ds id None x (words_of p) (sequence_data xs)) (used_of p) (used_of p) (Gives (sequence_data (xs ++ x ∷ [])))
+      → Ends (write_of (Macro m) ds id None x (words_of p) (sequence_data xs)) (choices_of p) (choices_of p) (Gives (sequence_data (xs ++ x ∷ [])))
   append_ends h f =
       let s = sequence_data xs in
-      let e = write_yields (map defined_view ds) id s (words_of p) (labeled m.write) ((value_name, Some x) ∷ []) (used_of p) (sequence_data (xs ++ x ∷ [])) (record { content = None; used = used_of p }) (appends (map defined_view ds) id (words_of p) (used_of p) c m.write w xs x z limit h f) in
-      λ cs l. let q = e cs l in (q.0, q.1, ap (write_put None s) q.2)
+      ap (write_put None s)
+      (write_yields (map defined_view ds) id s (words_of p) (labeled m.write) ((value_name, Some x) ∷ []) p (sequence_data (xs ++ x ∷ [])) (record { content = None; choices = choices_of p })
+      (appends (map defined_view ds) id (words_of p) (choices_of p) c m.write w xs x z limit h f))
 
   full_ends : int_lt (pos (length xs)) z ≡ false
-      → Ends (write_of (Macro m) ds id None x (words_of p) (sequence_data xs)) (used_of p) (used_of p) (λ cs. Stops Blocked cs)
+      → Ends (write_of (Macro m) ds id None x (words_of p) (sequence_data xs)) (choices_of p) (choices_of p) (λ cs. Stops Blocked cs)
   full_ends h =
       let s = sequence_data xs in
-      let e = write_so (map defined_view ds) id s (words_of p) (labeled m.write) ((value_name, Some x) ∷ []) (used_of p) p p refl refl (Err stops.Blocked) (full_blocks (map defined_view ds) id (words_of p) (used_of p) c m.write w xs x z limit h) in
-      λ cs l. let q = e.1 cs l in (q.0, q.1, ap (write_put None s) q.2)
+      ap (write_put None s)
+      (write_so (map defined_view ds) id s (words_of p) (labeled m.write) ((value_name, Some x) ∷ []) p p (refl, refl) (Err stops.Blocked)
+      (full_blocks (map defined_view ds) id (words_of p) (choices_of p) c m.write w xs x z limit h)).1
 
 -- where the capacity is an integer
 module _ (m : MappingMacro) (ds : List Defined) (id x : Data) (t : Tree) (l : Limited m.write t) (z : ℤ)
@@ -113,14 +116,14 @@ module _ (m : MappingMacro) (ds : List Defined) (id x : Data) (t : Tree) (l : Li
   sent_macro (Ok false) h count = ap (λ q. shown_by q count) h
   sent_macro (Ok true) h count = λ p. (
     same_shown o n count (ap (λ q. q.0) h.1),
-    refl,
-    subst (λ xs. Ends (write_of (Macro m) ds id None x (words_of p) (sequence_data o.1)) (used_of p) (used_of p) (Gives (sequence_data xs))) (sym (ap (λ q. q.1) h.1))
+    (refl, refl),
+    subst (λ xs. Ends (write_of (Macro m) ds id None x (words_of p) (sequence_data o.1)) (choices_of p) (choices_of p) (Gives (sequence_data xs))) (sym (ap (λ q. q.1) h.1))
         (append_ends m ds id x l.c l.writes z named_limit p o.1 h.0 (subst Fits (ap (λ q. q.1) h.1) h.2)),
   )
-  sent_macro (Err stops.Blocked) h count = λ p. (ap (λ q. shown_by q count) h.1, refl, full_ends m ds id x l.c l.writes z named_limit p o.1 h.0)
+  sent_macro (Err stops.Blocked) h count = λ p. (ap (λ q. shown_by q count) h.1, (refl, refl), full_ends m ds id x l.c l.writes z named_limit p o.1 h.0)
   sent_macro (Err stops.NoValue) h count = absurd h
   sent_macro (Err stops.AssertFails) h count = absurd h
-  sent_macro (Err stops.NoMemory) h count = λ p. (ap (λ q. shown_by q count) h, refl, tt)
+  sent_macro (Err stops.NoMemory) h count = λ p. (ap (λ q. shown_by q count) h, (refl, refl), tt)
 
 pub sent : (m : Mapping) (ds : List Defined) (id : Data) (at : Option Data) (x : Data) (t : Tree) → whole_limit m at ≡ Some t → (z : ℤ)
     → Val (map defined_view ds) t ((self_name, Some id) ∷ []) [] None ≡ Some (integer z) → (o n : Messages) (r : Result Bool OpStop) → SentWithin z x o n r → (count : ℕ) → SentBy m ds id at x (shown_by o count) (shown_by n count) r
@@ -129,7 +132,7 @@ sent (Macro m) ds id (Some i) x t h z limit o n r s count = absurd (cc)
 sent (Macro m) ds id None x t h z limit o n r s count = sent_macro m ds id x t (write_is m.write t h) z limit o n r s count
 
 pub no_memory_sent : (m : Mapping) (ds : List Defined) (id : Data) (at : Option Data) (x : Data) (o n : Messages) → n ≡ o → (count : ℕ) → SentBy m ds id at x (shown_by o count) (shown_by n count) (Err stops.NoMemory)
-no_memory_sent m ds id at x o n s count = λ p. (ap (λ q. shown_by q count) s, refl, tt)
+no_memory_sent m ds id at x o n s count = λ p. (ap (λ q. shown_by q count) s, (refl, refl), tt)
 
 -- ---- a read or a write of what is now as a value, by a cell
 module _ (m : Mapping) (ds : List Defined) (id : Data) (at : Option Data) (p q : Picks) (o c : Shown) (same : c.current ≡ o.current) where
@@ -138,28 +141,28 @@ module _ (m : Mapping) (ds : List Defined) (id : Data) (at : Option Data) (p q :
   cell_read d n v h e = (
     e ∙ ap (λ x. record o { current = x }) (sym (ap (λ z. z.current) e)),
     h.1,
-    subst (λ x. Ends (read_of m ds id at (words_of p) o.current) (used_of p) (used_of q) (Gives (data_of v, x))) (sym (ap (λ z. z.current) e))
-        (subst (λ x. Ends (read_of m ds id at (words_of p) x) (used_of p) (used_of q) (Gives (data_of v, d.current))) same h.2),
+    subst (λ x. Ends (read_of m ds id at (words_of p) o.current) (choices_of p) (choices_of q) (Gives (data_of v, x))) (sym (ap (λ z. z.current) e))
+        (subst (λ x. Ends (read_of m ds id at (words_of p) x) (choices_of p) (choices_of q) (Gives (data_of v, d.current))) same h.2),
   )
 
   pub cell_stops : (d n : Shown) (e : OpStop) → Read m ds id at c d p q (Err e) → n ≡ o → Read m ds id at o n p q (Err e)
-  cell_stops d n stops.Blocked h s = (s, h.1, subst (λ x. Ends (read_of m ds id at (words_of p) x) (used_of p) (used_of q) (λ cs. Stops Blocked cs)) same h.2)
-  cell_stops d n stops.NoValue h s = (s, h.1, subst (λ x. Ends (read_of m ds id at (words_of p) x) (used_of p) (used_of q) (λ cs. Stops NoValue cs)) same h.2)
-  cell_stops d n stops.AssertFails h s = (s, h.1, subst (λ x. Ends (read_of m ds id at (words_of p) x) (used_of p) (used_of q) (λ cs. Stops AssertFails cs)) same h.2)
+  cell_stops d n stops.Blocked h s = (s, h.1, subst (λ x. Ends (read_of m ds id at (words_of p) x) (choices_of p) (choices_of q) (λ cs. Stops Blocked cs)) same h.2)
+  cell_stops d n stops.NoValue h s = (s, h.1, subst (λ x. Ends (read_of m ds id at (words_of p) x) (choices_of p) (choices_of q) (λ cs. Stops NoValue cs)) same h.2)
+  cell_stops d n stops.AssertFails h s = (s, h.1, subst (λ x. Ends (read_of m ds id at (words_of p) x) (choices_of p) (choices_of q) (λ cs. Stops AssertFails cs)) same h.2)
   cell_stops d n stops.NoMemory h s = (s, h.1, tt)
 
   pub cell_writes : (x : Data) (d n : Shown) → Written m ds id at x c d p q (Ok tt) → n ≡ record o { current = d.current } → Written m ds id at x o n p q (Ok tt)
   cell_writes x d n h e = (
     e ∙ ap (λ y. record o { current = y }) (sym (ap (λ z. z.current) e)),
     h.1,
-    subst (λ y. Ends (write_of m ds id at x (words_of p) o.current) (used_of p) (used_of q) (Gives y)) (sym (ap (λ z. z.current) e))
-        (subst (λ y. Ends (write_of m ds id at x (words_of p) y) (used_of p) (used_of q) (Gives d.current)) same h.2),
+    subst (λ y. Ends (write_of m ds id at x (words_of p) o.current) (choices_of p) (choices_of q) (Gives y)) (sym (ap (λ z. z.current) e))
+        (subst (λ y. Ends (write_of m ds id at x (words_of p) y) (choices_of p) (choices_of q) (Gives d.current)) same h.2),
   )
 
   pub cell_write_stops : (x : Data) (d n : Shown) (e : OpStop) → Written m ds id at x c d p q (Err e) → n ≡ o → Written m ds id at x o n p q (Err e)
-  cell_write_stops x d n stops.Blocked h s = (s, h.1, subst (λ y. Ends (write_of m ds id at x (words_of p) y) (used_of p) (used_of q) (λ cs. Stops Blocked cs)) same h.2)
-  cell_write_stops x d n stops.NoValue h s = (s, h.1, subst (λ y. Ends (write_of m ds id at x (words_of p) y) (used_of p) (used_of q) (λ cs. Stops NoValue cs)) same h.2)
-  cell_write_stops x d n stops.AssertFails h s = (s, h.1, subst (λ y. Ends (write_of m ds id at x (words_of p) y) (used_of p) (used_of q) (λ cs. Stops AssertFails cs)) same h.2)
+  cell_write_stops x d n stops.Blocked h s = (s, h.1, subst (λ y. Ends (write_of m ds id at x (words_of p) y) (choices_of p) (choices_of q) (λ cs. Stops Blocked cs)) same h.2)
+  cell_write_stops x d n stops.NoValue h s = (s, h.1, subst (λ y. Ends (write_of m ds id at x (words_of p) y) (choices_of p) (choices_of q) (λ cs. Stops NoValue cs)) same h.2)
+  cell_write_stops x d n stops.AssertFails h s = (s, h.1, subst (λ y. Ends (write_of m ds id at x (words_of p) y) (choices_of p) (choices_of q) (λ cs. Stops AssertFails cs)) same h.2)
   cell_write_stops x d n stops.NoMemory h s = (s, h.1, tt)
 
 -- ---- views

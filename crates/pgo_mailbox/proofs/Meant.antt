@@ -14,6 +14,7 @@ use Rattle.pgo_model.specs.Val as vals
 use Rattle.pgo_model.specs.Val.{Val, Scope, val, or_else, call_def, value_of_call, seen}
 use Rattle.pgo_model.specs.Written.{content_name, value_name, self_name}
 use Rattle.pgo_sections.specs.BoundValues.{bindable}
+use Rattle.pgo_sections.specs.SectionRun.{ChoiceMade}
 use Rattle.pgo_syntax.specs.Statement.{Statement, labeled, await_that, with_in, yield_as}
 use Rattle.pgo_syntax.specs.declared.binding.Origin.TheVariants.{Equals}
 use Rattle.pgo_syntax.specs.declared.name.PlacedName.{PlacedName}
@@ -46,12 +47,12 @@ limit_value ds c x old id h k =
     ap (λ b. f (if b then Some (Some x) else if same_name c content_name then Some (Some old) else rest)) (flipped value_name c k)
     ∙ ap (λ b. f (if b then Some (Some old) else rest)) (flipped content_name c h)
 
-module _ (ds : List vals.Defined) (id : Data) (d : Words) (u : ℕ) where
+module _ (ds : List vals.Defined) (id : Data) (d : Words) (made : List ChoiceMade) where
   abbrev given : Data → Given
   given old = record { defs = ds; id = id; old = old; words = d }
 
   abbrev pub start : Now
-  start = record { content = None; used = u }
+  start = record { content = None; choices = made }
 
   -- ---- a read
   abbrev is_more : Option (List Data) → Option Bool
@@ -71,9 +72,9 @@ module _ (ds : List vals.Defined) (id : Data) (d : Words) (u : ℕ) where
     reads g = rows g (labeled (both_rows (await_that a channel.is_filled) (take_all m w p q r x))) [] start
 
     abbrev behind_test : Given → Option Bool → Answer
-    behind_test g o = then_do (decide o u (Goes start) (Fails Blocked u)) (λ n. rows g (labeled ((None, take_all m w p q r x) ∷ [])) [] n)
+    behind_test g o = then_do (decide o made (Goes start) (Fails Blocked made)) (λ n. rows g (labeled ((None, take_all m w p q r x) ∷ [])) [] n)
 
-    read_blocks : reads (given (sequence_data [])) ≡ Fails Blocked u
+    read_blocks : reads (given (sequence_data [])) ≡ Fails Blocked made
     read_blocks = ap (behind_test (given (sequence_data []))) (tested [])
 
     module _ (v : Data) (vs : List Data) (f : Fits (v ∷ vs)) where
@@ -84,7 +85,7 @@ module _ (ds : List vals.Defined) (id : Data) (d : Words) (u : ℕ) where
       under = (m.name, Some v) ∷ []
 
       abbrev taken : Now
-      taken = record { content = Some (sequence_data vs); used = u }
+      taken = record { content = Some (sequence_data vs); choices = made }
 
       head_is : bindable (value_of g (of_content (codes "Head")) [] None) ≡ Some v
       head_is = ap (λ o. bindable (option_and_then first_element o)) (elements_of (v ∷ vs)) ∙ first_bound v vs f
@@ -108,17 +109,17 @@ module _ (ds : List vals.Defined) (id : Data) (d : Words) (u : ℕ) where
       read_takes : reads g ≡ Yields v taken
       read_takes =
           ap (behind_test g) (tested (v ∷ vs) ∙ has_first v vs)
-          ∙ ap (λ o. then_do (then_in (named m.name [] (needs o u (λ z. Yields z start)) (λ env n. Binds env n)) (λ env n. run g (take_rest m p q r x) env n)) (λ n. Goes n)) head_is
-          ∙ ap (λ o. then_do (then_do (needs (option_map (λ z. Some z) o) u (λ c. Goes (record start { content = c }))) (λ n. rows g (labeled ((None, yield_as r (name m.name)) ∷ [])) under n)) (λ n. Goes n)) rest_is
-          ∙ ap (λ o. then_do (then_do (needs o u (λ z. Yields z taken)) (λ n. Goes n)) (λ n. Goes n)) message_is
+          ∙ ap (λ o. then_do (then_in (named m.name [] (needs o made (λ z. Yields z start)) (λ env n. Binds env n)) (λ env n. run g (take_rest m p q r x) env n)) (λ n. Goes n)) head_is
+          ∙ ap (λ o. then_do (then_do (needs (option_map (λ z. Some z) o) made (λ c. Goes (record start { content = c }))) (λ n. rows g (labeled ((None, yield_as r (name m.name)) ∷ [])) under n)) (λ n. Goes n)) rest_is
+          ∙ ap (λ o. then_do (then_do (needs o made (λ z. Yields z taken)) (λ n. Goes n)) (λ n. Goes n)) message_is
 
-  pub empty_blocks : (b : channel.Block) → IsRead b → rows (given (sequence_data [])) (labeled b) [] start ≡ Fails Blocked u
+  pub empty_blocks : (b : channel.Block) → IsRead b → rows (given (sequence_data [])) (labeled b) [] start ≡ Fails Blocked made
   empty_blocks b r =
       ap (λ z. rows (given (sequence_data [])) (labeled z) [] start) r.is
       ∙ read_blocks r.message r.with_place r.block_place r.assign_place r.yield_place r.name_place r.await_place r.apart
 
   pub first_yields : (b : channel.Block) → IsRead b → (v : Data) (vs : List Data) → Fits (v ∷ vs)
-      → rows (given (sequence_data (v ∷ vs))) (labeled b) [] start ≡ Yields v (record { content = Some (sequence_data vs); used = u })
+      → rows (given (sequence_data (v ∷ vs))) (labeled b) [] start ≡ Yields v (record { content = Some (sequence_data vs); choices = made })
   first_yields b r v vs f =
       ap (λ z. rows (given (sequence_data (v ∷ vs))) (labeled z) [] start) r.is
       ∙ read_takes r.message r.with_place r.block_place r.assign_place r.yield_place r.name_place r.await_place r.apart v vs f
@@ -138,7 +139,7 @@ module _ (ds : List vals.Defined) (id : Data) (d : Words) (u : ℕ) where
     writes = rows whole (labeled b) (written x) start
 
     abbrev behind_room : Option Bool → Answer
-    behind_room o = then_do (decide o u (Goes start) (Fails Blocked u)) (λ n. rows whole (labeled ((None, yield_as w.yield_place with_value) ∷ [])) (written x) n)
+    behind_room o = then_do (decide o made (Goes start) (Fails Blocked made)) (λ n. rows whole (labeled ((None, yield_as w.yield_place with_value) ∷ [])) (written x) n)
 
     room_is : truth_of (value_of whole (has_room c) (written x) None) ≡ Some (int_lt (pos (length xs)) z)
     room_is =
@@ -148,11 +149,11 @@ module _ (ds : List vals.Defined) (id : Data) (d : Words) (u : ℕ) where
     opened : writes ≡ behind_room (Some (int_lt (pos (length xs)) z))
     opened = ap (λ k. rows whole (labeled k) (written x) start) w.is ∙ ap behind_room room_is
 
-    pub full_blocks : int_lt (pos (length xs)) z ≡ false → writes ≡ Fails Blocked u
+    pub full_blocks : int_lt (pos (length xs)) z ≡ false → writes ≡ Fails Blocked made
     full_blocks h = opened ∙ ap (λ t. behind_room (Some t)) h
 
     pub appends : int_lt (pos (length xs)) z ≡ true → Fits (xs ++ x ∷ []) → writes ≡ Yields (sequence_data (xs ++ x ∷ [])) start
     appends h f =
         opened ∙ ap (λ t. behind_room (Some t)) h
-        ∙ ap (λ o. then_do (needs o u (λ v. Yields v start)) (λ n. Goes n))
+        ∙ ap (λ o. then_do (needs o made (λ v. Yields v start)) (λ n. Goes n))
         (ap (λ o. bindable (option_and_then (λ ys. sequence (ys ++ x ∷ [])) o)) (elements_of xs) ∙ ap bindable (sequence_is (xs ++ x ∷ []) f) ∙ bound_sequence (xs ++ x ∷ []) f)

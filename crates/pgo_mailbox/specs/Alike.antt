@@ -12,7 +12,7 @@ use Rattle.pgo_syntax.specs.declared.bound.Mapping.{Mapping}
 use Rattle.pgo_workers.specs.View.{Shown, raised}
 use Rattle.pgo_workers.specs.Worker.{counted}
 use Rattle.pgo_resource.specs.Answers.{Read, Written, fails}
-use Rattle.pgo_resource.specs.Picked.{words_of, used_of}
+use Rattle.pgo_resource.specs.Picked.{first_of, words_of, choices_of}
 use Rattle.pgo_resource.specs.declared.picks.Picks.{Picks}
 use Rattle.pgo_resource.specs.declared.resource.OpStop.{OpStop}
 use Rattle.pgo_resource.specs.declared.resource.OpStop.TheVariants as stops
@@ -69,9 +69,9 @@ AllMade [] s t p q (a ∷ as') = ⊥
 AllMade (c ∷ cs) s t p q [] = ⊥
 AllMade (c ∷ cs) s t p q (a ∷ as') = (u : Shown) × (r : Picks) × Made c s u p r a × AllMade cs u t r q as'
 
--- the same words of choice are left
+-- the same words of choice, and the same choices were made
 abbrev pub SameWords : Picks → Picks → Type 0
-SameWords p q = (words_of p ≡ words_of q) × (used_of p ≡ used_of q)
+SameWords p q = (words_of p ≡ words_of q) × (first_of p ≡ first_of q) × (choices_of p ≡ choices_of q)
 
 -- of a mailbox and a cell that show the same, every list of calls has the same answers, and they show the same behind it
 abbrev pub Alike : Type 0

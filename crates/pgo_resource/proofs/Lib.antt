@@ -1,3 +1,4 @@
 pub mod PlainPlaces
 pub mod PlainSteps
 pub mod WordAt
+pub mod Turning

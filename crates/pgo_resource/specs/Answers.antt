@@ -16,7 +16,7 @@ use Rattle.pgo_workers.specs.View.{Shown, View, World, TakeHeld, JournalHeld, Jo
 use Rattle.pgo_resource.specs.declared.attempts.NotCommitted.{NotCommitted}
 use Rattle.pgo_resource.specs.declared.attempts.NotNoted.{NotNoted}
 use Rattle.pgo_syntax.specs.declared.records.Note.{Note}
-use Rattle.pgo_resource.specs.Picked.{words_of, used_of}
+use Rattle.pgo_resource.specs.Picked.{first_of, words_of, choices_of}
 use Rattle.pgo_syntax.specs.declared.records.Refusal.{Refusal}
 use Rattle.pgo_resource.specs.declared.picks.Picks.{Picks}
 use Rattle.pgo_resource.specs.declared.resource.OpStop.{OpStop}
@@ -35,25 +35,25 @@ StopsSo stops.NoValue E = E (λ cs. Stops outcome.NoValue cs)
 StopsSo stops.AssertFails E = E (λ cs. Stops outcome.AssertFails cs)
 StopsSo stops.NoMemory E = Unit {0}
 
--- the words are the same
-abbrev pub Goes : Picks → Picks → Type 0
-Goes p q = words_of q ≡ words_of p
+-- the words are the same, those of the attempt and those of the leaf under way
+abbrev pub SameWords : Picks → Picks → Type 0
+SameWords p q = (words_of q ≡ words_of p) × (first_of q ≡ first_of p)
 
 -- a read of a content that was as `old` is answered so, and the content is as `new`
 abbrev pub Read : Mapping → List Defined → (id : Data) → (at : Option Data) → (old new : Shown) → Picks → Picks → Result Value OpStop → Type 0
 Read m ds id at old new p q (Ok v) =
-    (new ≡ record old { current = new.current }) × Goes p q
-    × Ends (read_of m ds id at (words_of p) old.current) (used_of p) (used_of q) (Gives (data_of v, new.current))
+    (new ≡ record old { current = new.current }) × SameWords p q
+    × Ends (read_of m ds id at (words_of p) old.current) (choices_of p) (choices_of q) (Gives (data_of v, new.current))
 Read m ds id at old new p q (Err x) =
-    (new ≡ old) × Goes p q × StopsSo x (λ e. Ends (read_of m ds id at (words_of p) old.current) (used_of p) (used_of q) e)
+    (new ≡ old) × SameWords p q × StopsSo x (λ e. Ends (read_of m ds id at (words_of p) old.current) (choices_of p) (choices_of q) e)
 
 -- a write of x
 abbrev pub Written : Mapping → List Defined → (id : Data) → (at : Option Data) → (x : Data) → (old new : Shown) → Picks → Picks → Result Unit OpStop → Type 0
 Written m ds id at x old new p q (Ok u) =
-    (new ≡ record old { current = new.current }) × Goes p q
-    × Ends (write_of m ds id at x (words_of p) old.current) (used_of p) (used_of q) (Gives new.current)
+    (new ≡ record old { current = new.current }) × SameWords p q
+    × Ends (write_of m ds id at x (words_of p) old.current) (choices_of p) (choices_of q) (Gives new.current)
 Written m ds id at x old new p q (Err e) =
-    (new ≡ old) × Goes p q × StopsSo e (λ f. Ends (write_of m ds id at x (words_of p) old.current) (used_of p) (used_of q) f)
+    (new ≡ old) × SameWords p q × StopsSo e (λ f. Ends (write_of m ds id at x (words_of p) old.current) (choices_of p) (choices_of q) f)
 
 module _ {S D : Type 0} (W : World S D) where
   abbrev pub RefusedTake : (r : ℕ) → Refusal → View D → View D → Type 0

@@ -1,3 +1,4 @@
+pub mod Points
 pub mod Picked
 pub mod Answers
 pub mod Nexts

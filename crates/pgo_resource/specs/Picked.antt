@@ -1,17 +1,28 @@
--- The words of choice that a source in memory gives.
-use Rattle.std.specs.Prelude.{ℕ}
+-- The words of choice of an attempt, and the choices that were made in the leaf under way.
+use Rattle.std.specs.Prelude.{◌≡◌, ℕ, List, map, reverse}
 use Rattle.pgo_model.specs.Choice as choice
 use Rattle.pgo_model.specs.System.{Words}
+use Rattle.pgo_tries.specs.Chosen.{ChoiceMade}
+use Rattle.pgo_tries.specs.Sections.{along}
 use Rattle.pgo_resource.specs.declared.picks.Picks.{Picks}
-use Rattle.pgo_resource.specs.declared.picks.Source.{Source}
-use Rattle.pgo_resource.specs.declared.picks.Source.TheVariants as sources
+use Rattle.pgo_resource.specs.Points.{source_of, point_view}
 
-abbrev pub source_of : Source → choice.Source
-source_of (sources.Listed l) = choice.Listed l.items
-source_of (sources.Seeded seed k a) = choice.Seeded seed k a
+-- the words of the attempt, which are those of its first leaf
+abbrev pub first_of : Picks → Words
+first_of p = choice.words_of (source_of p.source)
 
+-- the picks with which this leaf begins
+abbrev pub path_of : Picks → List ℕ
+path_of p = p.path.items
+
+-- the words of this leaf: its path, and behind it those of the attempt
 abbrev pub words_of : Picks → Words
-words_of p = choice.words_of (source_of p.source)
+words_of p = along 0 (path_of p) (first_of p)
 
-abbrev pub used_of : Picks → ℕ
-used_of p = p.used
+-- the choices that were made in this leaf, in order
+abbrev pub points_of : Picks → List ChoiceMade
+points_of p = map point_view p.points.items
+
+-- the same, the newest first
+abbrev pub choices_of : Picks → List ChoiceMade
+choices_of p = reverse (points_of p)

@@ -6,6 +6,7 @@ pub mod board;
 pub mod layout;
 pub mod picks;
 pub mod plain_board;
+mod points;
 pub mod resource;
 pub mod sections;
 pub mod taken;

@@ -152,7 +152,7 @@ impl Operations {
     /// What each step on a content says, and what the content is then.
     fn told<R: Resource>(&self, content: R) -> Result<String, AllocError> {
         let mut content = content;
-        let mut picks = Picks::of_words(copied(self.alloc, &self.words)?);
+        let mut picks = Picks::of_words(self.alloc, copied(self.alloc, &self.words)?);
         let mut answer = String::new(self.alloc);
         for step in self.steps.as_str().split("; ") {
             let said = self.step(step, &mut content, &mut picks)?;

@@ -1,17 +1,19 @@
-// Words of choice: which numbers they pick.
+// Words of choice: which numbers they pick, in one leaf after another.
 use crate::numbers::{copied, numbers};
 use pgo_resource::picks::Picks;
 use pgo_sheet::answers::{push_word, unless_same};
 use pgo_sheet::sheet::Subject;
 use std::alloc::{AllocError, Global};
 
-/// The words, or the seed, the instance and the attempt that give them; and among how many numbers each word picks.
+/// The words, or the seed, the instance and the attempt that give them; among how many numbers each word picks; and how many leaves
+/// are wanted at most.
 #[derive(Drop)]
 pub struct Picked {
     alloc: Global,
     words: Vec<u32>,
     seed: Option<(u64, u32, u32)>,
     among: Vec<u32>,
+    leaves: u32,
 }
 
 /// A seed, an instance and an attempt.
@@ -32,25 +34,40 @@ impl Picked {
             words: Vec::new(alloc),
             seed: None,
             among: Vec::new(alloc),
+            leaves: 1,
         }
     }
 
     fn picks(&self) -> Result<Picks, AllocError> {
         match self.seed {
-            Some((seed, instance, attempt)) => Ok(Picks::of_seed(seed, instance, attempt)),
-            None => Ok(Picks::of_words(copied(self.alloc, &self.words)?)),
+            Some((seed, instance, attempt)) => Ok(Picks::of_seed(self.alloc, seed, instance, attempt)),
+            None => Ok(Picks::of_words(self.alloc, copied(self.alloc, &self.words)?)),
         }
     }
 
-    fn answer(&self) -> Result<String, AllocError> {
-        let mut picks = self.picks()?;
+    /// The numbers that are picked in this leaf.
+    fn leaf(&self, picks: &mut Picks) -> Result<String, AllocError> {
         let mut answer = String::new(self.alloc);
         for n in &self.among {
             if *n > 0 {
-                let picked = picks.next(*n);
+                let picked = picks.next(*n)?;
                 let picked = format!(in self.alloc; "{picked}")?;
                 push_word(&mut answer, " ", picked.as_str())?;
             }
+        }
+        Ok(answer)
+    }
+
+    /// The leaves, and whether there are no more.
+    fn answer(&self) -> Result<String, AllocError> {
+        let mut picks = self.picks()?;
+        let mut answer = self.leaf(&mut picks)?;
+        for _ in 1..self.leaves {
+            if !picks.next_leaf() {
+                push_word(&mut answer, "; ", "no more")?;
+                return Ok(answer);
+            }
+            push_word(&mut answer, "; ", self.leaf(&mut picks)?.as_str())?;
         }
         Ok(answer)
     }
@@ -81,6 +98,11 @@ impl Subject for Picked {
             "seed" => {
                 self.seed = seeded(text);
                 Ok(self.seed.is_some())
+            }
+            "leaves" => {
+                let leaves: Option<u32> = text.parse().ok();
+                self.leaves = leaves.unwrap_or(1);
+                Ok(leaves.is_some())
             }
             _ => Ok(false),
         }

@@ -28,7 +28,7 @@ pub fn write_number(alloc: Global, cell: &mut Content, v: i64) -> Result<(), OpS
         defs: &defs,
         id: &id,
     };
-    let mut picks = Picks::of_words(Vec::new(alloc));
+    let mut picks = Picks::of_words(alloc, Vec::new(alloc));
     cell.write(
         alloc,
         &Mapping::Identity,

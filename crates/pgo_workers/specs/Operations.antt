@@ -1,6 +1,6 @@
 -- What a read and a write of a resource do, by a mapping macro on its content, or on the part of the content at an index.
 -- Source: the Modular PlusCal paper.
-use Rattle.std.specs.Prelude.{◌≡◌, ℕ, List, length, Option, Some, None}
+use Rattle.std.specs.Prelude.{◌≡◌, List, Option, Some, None}
 use Rattle.pgo_base.specs.Data.{Data}
 use Rattle.pgo_base.specs.declared.module.Defined.{Defined}
 use Rattle.pgo_model.specs.Operators.{apply, except}
@@ -38,6 +38,6 @@ read_of m ds id at d v cs = on (Stops NoValue cs) (part_of at v) (λ old. read_p
 abbrev pub write_of : Mapping → List Defined → (id : Data) → (at : Option Data) → (x : Data) → Words → (v : Data) → List ChoiceMade → MacroEnd Data
 write_of m ds id at x d v cs = on (Stops NoValue cs) (part_of at v) (λ old. write_put at v (MacWrite m ds id old x d cs))
 
--- after any choices, as many as words were used before, it ends so, with as many as are used then
-abbrev pub Ends : {A : Type 0} → (List ChoiceMade → MacroEnd A) → (used used' : ℕ) → (List ChoiceMade → MacroEnd A) → Type 0
-Ends f used used' e = (cs : List ChoiceMade) → length cs ≡ used → (cs' : List ChoiceMade) × (length cs' ≡ used') × (f cs ≡ e cs')
+-- after the choices `before` it ends so, with the choices `after` then, those of before among them; the newest is the first
+abbrev pub Ends : {A : Type 0} → (List ChoiceMade → MacroEnd A) → (before after : List ChoiceMade) → (List ChoiceMade → MacroEnd A) → Type 0
+Ends f before after e = f before ≡ e after

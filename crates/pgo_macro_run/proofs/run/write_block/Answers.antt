@@ -15,4 +15,4 @@ returns c =
     (λ cs. block_write (block_code c.args.b.now) (meanings (map defined_view c.args.env.defs.now) [] None) (data_of c.args.env.id.now) (data_of c.args.old.now) (data_of c.args.v) (words_of c.args.picks.now) cs)
     c.args.picks.now c.run_block.new.picks
     (block_writes c.in_ok-around.around c.args.env c.args.old c.in_ok-around.ensures.0 c.in_ok-around.ensures.1 c.args.b.now (env_of c.in_ok-names.names.items)
-    c.args.picks.now c.run_block.new.picks c.run_block.ensures.words c.run_block.result (data_of c.args.v) c.in_ok-names.ensures c.run_block.ensures.ended)
+    c.args.picks.now c.run_block.new.picks (c.run_block.ensures.words, c.run_block.ensures.first) c.run_block.result (data_of c.args.v) c.in_ok-names.ensures c.run_block.ensures.ended)

@@ -3,7 +3,7 @@ use Rattle.rand_pcg.specs.Lcg.{Lcg, advance, started, increment_of}
 use Rattle.rand_pcg.specs.Pcg.{multiplier_64, pcg32}
 use Rattle.pgo_model.specs.Choice.{generator}
 use Rattle.pgo_resource.proofs.WordAt.{word_from-advance}
-use Rattle.pgo_resource.proofs.picks.seeded_word.Goals as goal
+use Rattle.pgo_resource.proofs.points.seeded_word.Goals as goal
 
 pub returns : goal.returns
 unfolding generator
