@@ -19,8 +19,8 @@ use Rattle.pgo_mailbox.specs.BoxView.{box_view}
 gave_both : {A : Type 0} (a b : A) (u w : List ChoiceMade) → Gives a u ≡ Gives b w → (a ≡ b) × (u ≡ w)
 gave_both a b u w e = (cc, cc)
 
-stopped_both : {A : Type 0} (j k : Kind) (u w : List ChoiceMade) → Stops {A = A} j u ≡ Stops k w → (j ≡ k) × (u ≡ w)
-stopped_both j k u w e = (cc, cc)
+stopped_both : {A : Type 0} (x : MacroEnd A) (j k : Kind) (u w : List ChoiceMade) → x ≡ Stops j u → x ≡ Stops k w → (j ≡ k) × (u ≡ w)
+stopped_both x j k u w h g = (cc, cc)
 
 not_both : {A : Type 0} (a : A) (k : Kind) (u w : List ChoiceMade) → Gives a u ≡ Stops k w → ⊥
 not_both a k u w e = absurd (cc)
@@ -60,7 +60,7 @@ module _ (m : Mapping) (ds : List Defined) (id : Data) (at : Option Data) (s t t
   read_alike (Stopped i) (Gave y) h k = let r = read_stop i s t p p' m ds id at h in absurd (not_both _ _ _ _ (sym k.2.2 ∙ sym same_read ∙ r.2))
   read_alike (Stopped i) (Stopped j) h k =
       let r = read_stop i s t p p' m ds id at h in let z = read_stop j s t' q q' m ds id at k in
-      let g = stopped_both {A = Data × Data} _ _ _ _ (sym r.2 ∙ same_read ∙ z.2) in
+      let g = stopped_both _ _ _ _ _ r.2 (same_read ∙ z.2) in
       (ap Stopped g.0, r.0 ∙ sym z.0, kept g.1 r.1 z.1)
   read_alike Done b h k = absurd h
   read_alike (IsDown n) b h k = absurd h
@@ -81,7 +81,7 @@ module _ (m : Mapping) (ds : List Defined) (id : Data) (at : Option Data) (s t t
     write_alike (Stopped i) Done h k = let r = write_stop i s t p p' m ds id at x h in absurd (not_both _ _ _ _ (sym k.2 ∙ sym same_write ∙ r.2))
     write_alike (Stopped i) (Stopped j) h k =
         let r = write_stop i s t p p' m ds id at x h in let z = write_stop j s t' q q' m ds id at x k in
-        let g = stopped_both {A = Data} _ _ _ _ (sym r.2 ∙ same_write ∙ z.2) in
+        let g = stopped_both _ _ _ _ _ r.2 (same_write ∙ z.2) in
         (ap Stopped g.0, r.0 ∙ sym z.0, kept g.1 r.1 z.1)
     write_alike (Gave y) b h k = absurd h
     write_alike (IsDown n) b h k = absurd h
