@@ -6,7 +6,7 @@ use Rattle.pgo_base.specs.View.{data_of}
 use Rattle.pgo_base.specs.declared.value.Value.{Value}
 use Rattle.pgo_model.specs.Choice.{pick}
 use Rattle.pgo_model.specs.System.{Words}
-use Rattle.pgo_sections.specs.SectionRun.{ChoiceMade, choice_among}
+use Rattle.pgo_sections.specs.SectionRun.{choice_among}
 use Rattle.pgo_syntax.specs.Statement.{statements, labeled}
 use Rattle.pgo_syntax.specs.StatementSize.{height, statements_height, labeled_height}
 use Rattle.pgo_syntax.specs.StatementView.{statement, labeled_pair}

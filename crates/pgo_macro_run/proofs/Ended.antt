@@ -11,7 +11,7 @@ use Rattle.pgo_model.specs.System.{Words}
 use Rattle.pgo_model.specs.Val.{Defined}
 use Rattle.pgo_syntax.specs.Statement.{LabeledStatements}
 use Rattle.pgo_sections.specs.Context.{content_state}
-use Rattle.pgo_sections.specs.Exec.{MacroEnd, Gives, Stops, read_end, write_end}
+use Rattle.pgo_sections.specs.Exec.{Gives, Stops, read_end, write_end}
 use Rattle.pgo_sections.specs.Macros.{exec_block}
 use Rattle.pgo_sections.specs.SectionRun.{ChoiceMade, begun, Out, Go, Jump, Yielded, Stop}
 use Rattle.pgo_meaning.specs.Parameters.{block_setting}

@@ -1,9 +1,8 @@
 -- Turning to the next leaf.
-use Rattle.std.proofs.Common.{◌≡◌, ◌≤◌, ◌<◌, ℕ, zero, suc, ◌+◌, ◌%◌, Bool, true, false, List, [], ◌∷◌, ◌++◌, length, map, take, drop, get_or, Option, Some, None, refl, sym, ap, ◌∙◌, subst, arith}
+use Rattle.std.proofs.Common.{◌≡◌, ◌≤◌, ◌<◌, ℕ, zero, suc, ◌+◌, ◌%◌, Bool, true, false, List, [], ◌∷◌, ◌++◌, length, map, take, drop, get_or, Some, None, refl, sym, ap, ◌∙◌, arith}
 use Rattle.std.proofs.lemmas.List.{length-reverse}
 use Rattle.std.specs.Prelude.{if◌then◌else◌, nat_eq, reverse}
 use Rattle.pgo_model.specs.Choice.{pick}
-use Rattle.pgo_model.specs.Machine.{put}
 use Rattle.pgo_model.specs.System.{Words}
 use Rattle.pgo_tries.specs.Chosen.{ChoiceMade, turned, turned_at, following}
 use Rattle.pgo_tries.specs.Sections.{along}

@@ -1,5 +1,5 @@
 -- The words of choice of an attempt, and the choices that were made in the leaf under way.
-use Rattle.std.specs.Prelude.{◌≡◌, ℕ, List, map, reverse}
+use Rattle.std.specs.Prelude.{ℕ, List, map, reverse}
 use Rattle.pgo_model.specs.Choice as choice
 use Rattle.pgo_model.specs.System.{Words}
 use Rattle.pgo_tries.specs.Chosen.{ChoiceMade}

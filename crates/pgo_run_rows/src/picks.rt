@@ -40,7 +40,9 @@ impl Picked {
 
     fn picks(&self) -> Result<Picks, AllocError> {
         match self.seed {
-            Some((seed, instance, attempt)) => Ok(Picks::of_seed(self.alloc, seed, instance, attempt)),
+            Some((seed, instance, attempt)) => Ok(Picks::of_seed(
+                self.alloc, seed, instance, attempt,
+            )),
             None => Ok(Picks::of_words(self.alloc, copied(self.alloc, &self.words)?)),
         }
     }

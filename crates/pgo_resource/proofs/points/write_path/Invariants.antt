@@ -1,4 +1,4 @@
-use Rattle.std.proofs.Common.{◌≡◌, ◌≤◌, map, take, vec_capacity}
+use Rattle.std.proofs.Common.{◌≡◌, map, take, vec_capacity}
 use Rattle.pgo_resource.specs.declared.points.Point.{Point}
 use Rattle.pgo_resource.proofs.points.write_path.Given as goal
 
