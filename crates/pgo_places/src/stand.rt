@@ -138,16 +138,13 @@ impl Stand {
         Ok(())
     }
 
-    /// The number below n that the next word picks.
+    /// The number below n that the next word picks; the choice is made then.
     pub fn pick(&mut self, n: u32) -> Result<u32, AllocError>
         requires { 0 < n }
         ensures picked { IfOk result (λ i. i ≡ pick ((stand_view self.old).words (progress_view self.old).used) n) }
         ensures uses { IfOk result (λ _. stand_view self.new ≡ going (using_word (progress_view self.old)) (stand_view self.old)) }
     {
-        if self.picks.used() == u64::MAX {
-            return Err(AllocError);
-        }
-        Ok(self.picks.next(n))
+        self.picks.next(n)
     }
 
     /// The resource is too deep for a state, or it isn't.

@@ -9,7 +9,7 @@ ghost use Rattle.pgo_model.specs.Written.{pc};
 ghost use Rattle.pgo_code.specs.See.{section_view};
 ghost use Rattle.pgo_code.specs.declared.program.Program.{Program as ProgramView};
 ghost use Rattle.pgo_model.specs.Options.{on};
-ghost use Rattle.pgo_resource.specs.Picked.{words_of, used_of};
+ghost use Rattle.pgo_resource.specs.Picked.{words_of, points_of};
 ghost use Rattle.pgo_accesses.specs.Accesses.{no_value};
 ghost use Rattle.pgo_places.specs.AllNames.{AreNames, names_from, seen};
 ghost use Rattle.pgo_places.specs.PlaceView.{stand_view, fixed_view};
@@ -195,7 +195,7 @@ pub fn all_names(alloc: Global, program: &Program<'_>) -> Result<Vec<Arc<Fixed>>
 
 /// Where an attempt stands first.
 fn stand(alloc: Global, code: &Code<'_>, own: &State, picks: Picks) -> Result<Stand, AllocError>
-    requires { used_of picks ≡ 0 }
+    requires { points_of picks ≡ [] }
     ensures { IfOk result (λ s. stand_view s ≡ start_of code.now own.now (words_of picks)) }
 {
     let variables = start_values(alloc, &code.variables, own)?;
@@ -266,7 +266,7 @@ fn first_in(
 ) -> Result<Place, AllocError>
     requires code { nth program.now.codes.items instance ≡ Some code.now }
     requires names { fixed_view (arc_value fixed.now) ≡ fixed_of code.now }
-    requires fresh { used_of picks ≡ 0 }
+    requires fresh { points_of picks ≡ [] }
     ensures { IfOk result (λ p. walk_in program.now p ≡ limited (count_of program.now.bound.now) (on no_value (steps_named (find pc own.now) code.now) (λ xs. resume (attempt_with program.now.bound.now (data_of (arc_value fixed.now).id)) (fixed_of code.now) (suc (length xs)) xs (start_of code.now own.now (words_of picks))))) }
 {
     let Some(section) = section_at(code, own) else {
@@ -298,7 +298,7 @@ pub fn first_place(
     requires { AreNames program.now (map arc_value names.now) }
     ensures { IfOk result (λ p. walk_in program.now p ≡ tree_in program.now seed instance attempt own.now) }
 {
-    let picks = Picks::of_seed(seed, instance, attempt);
+    let picks = Picks::of_seed(alloc, seed, instance, attempt);
     let k = instance as usize;
     let Some(code) = at(&program.codes, k) else {
         return nowhere(alloc, picks);

@@ -8,12 +8,12 @@ use Rattle.pgo_base.specs.View.{data_of}
 use Rattle.pgo_sections.specs.Context.{index_value}
 use Rattle.pgo_workers.specs.Operations.{read_of}
 use Rattle.pgo_resource.specs.Answers.{Read as IsRead}
-use Rattle.pgo_resource.specs.Picked.{words_of, used_of}
+use Rattle.pgo_resource.specs.Picked.{words_of}
 use Rattle.pgo_accesses.specs.Accesses.{choices}
 use Rattle.pgo_code.specs.Steps.{Read}
 use Rattle.pgo_code.specs.See.{content_view}
 use Rattle.pgo_places.specs.Flows.{part_index, resource_at}
-use Rattle.pgo_places.specs.PlaceView.{stand_view, fixed_view, attempt_view}
+use Rattle.pgo_places.specs.PlaceView.{stand_view, fixed_view, attempt_view, used_of}
 use Rattle.pgo_places.proofs.Contents.{performs_read, read_answers, read_meant}
 use Rattle.pgo_places.proofs.Readiness.{first_there, second_there}
 use Rattle.pgo_places.proofs.perform.mapped_read.Goals as goal

@@ -9,12 +9,12 @@ use Rattle.pgo_sections.specs.BoundValues.{value_under}
 use Rattle.pgo_sections.specs.Context.{index_value}
 use Rattle.pgo_workers.specs.Operations.{write_of}
 use Rattle.pgo_resource.specs.Answers.{Written}
-use Rattle.pgo_resource.specs.Picked.{words_of, used_of}
+use Rattle.pgo_resource.specs.Picked.{words_of}
 use Rattle.pgo_accesses.specs.Accesses.{choices, left_by_write, behind_write, write_here}
 use Rattle.pgo_code.specs.Steps.{Write}
 use Rattle.pgo_code.specs.See.{content_view}
 use Rattle.pgo_places.specs.Flows.{part_index, resource_at}
-use Rattle.pgo_places.specs.PlaceView.{stand_view, fixed_view, attempt_view}
+use Rattle.pgo_places.specs.PlaceView.{stand_view, fixed_view, attempt_view, used_of}
 use Rattle.pgo_places.specs.Stands.{going, onward, with_words, resume}
 use Rattle.pgo_places.proofs.Contents.{performs_write, write_answers, write_meant}
 use Rattle.pgo_places.proofs.Puts.{writes_nothing}

@@ -42,4 +42,4 @@ returns c =
     let here : nth c.args.names.now k ≡ Some c.in-Some-at.fixed.now = search rules in
     let tree = (tree_some p k c.in-Some.code.now code s a own (map arc_value c.args.names.now) x c.requires (nth_map arc_value c.args.names.now k ∙ ap (option_map arc_value) here)).1 in
     IfOk-weaker c.first_in.result (λ q. walk_in p q ≡ tree_with p k c.in-Some.code.now code (data_of x.id) own (words_of c.of_seed-picks.result)) (λ q. walk_in p q ≡ tree_in p s k a own)
-    (λ q h. h ∙ tree (words_of c.of_seed-picks.result) c.of_seed-picks.ensures.words) c.first_in.ensures
+    (λ q h. h ∙ tree (words_of c.of_seed-picks.result) (c.of_seed-picks.ensures.words ∙ c.of_seed-picks.ensures.first)) c.first_in.ensures
