@@ -62,7 +62,7 @@ impl<S: Sections + Drop> Sections for NoPlaces<S> {
 
     fn settle(&self, alloc: Global, place: &mut S::Place) -> Result<bool, AllocError> {
         if self.hidden {
-            return Err(AllocError);
+            return Ok(false);
         }
         self.sections.settle(alloc, place)
     }
