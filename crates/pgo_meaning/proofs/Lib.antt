@@ -9,6 +9,7 @@ mod ExpansionRows
 mod LabelRows
 mod MacroCallRows
 mod ChoiceRows
+mod AttemptRows
 mod MappedRows
 mod ParameterRows
 pub mod SectionCode

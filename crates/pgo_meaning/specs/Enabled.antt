@@ -1,8 +1,6 @@
--- What an attempt does: it tries the choices of its section one after another. Which sections are enabled.
--- Source: this project's choice.
-use Rattle.std.proofs.Common.{◌≡◌, ◌≤◌, ◌<◌, ◌↔◌, ℕ, zero, suc, Bool, true, false, List, [], ◌∷◌, length, map, take, drop, Option, Some, None, refl, sym, ap, ◌∙◌, subst, arith}
+-- What an attempt says of which sections are enabled. Source: this project's choice.
+use Rattle.std.proofs.Common.{◌≡◌, ◌≤◌, ◌<◌, ◌↔◌, ℕ, zero, suc, Bool, true, false, List, [], ◌∷◌, map, take, drop, Option, Some, None, refl, sym, ap, ◌∙◌, subst, arith}
 use Rattle.std.specs.Prelude.{if◌then◌else◌}
-use Rattle.pgo_base.specs.Data.{Data}
 use Rattle.pgo_base.specs.Lookup.{Vars}
 use Rattle.pgo_model.specs.Choice.{word_at}
 use Rattle.pgo_model.specs.Machine.{nth}
@@ -16,34 +14,21 @@ use Rattle.pgo_syntax.specs.declared.bound.Bound.{Bound}
 use Rattle.pgo_syntax.specs.declared.bound.Instance.{Instance}
 use Rattle.pgo_bound.specs.Declares.{value_in}
 use Rattle.pgo_bound.specs.State.{id_of}
-use Rattle.pgo_sections.specs.ChoiceTrees.{in_order, section_leaf, tree}
+use Rattle.pgo_sections.specs.ChoiceTrees.{section_leaf, tree}
 use Rattle.pgo_sections.specs.Code.{Code}
 use Rattle.pgo_sections.specs.Context.{Context}
 use Rattle.pgo_sections.specs.Kinds.{EndsSo, section_so}
 use Rattle.pgo_sections.specs.Macros.{exec}
-use Rattle.pgo_sections.specs.Section.{ended, end_of, run_of, closed, if_shallow}
+use Rattle.pgo_sections.specs.Section.{end_of, closed, if_shallow}
 use Rattle.pgo_sections.specs.SectionRun.{begun, Out, Go, Jump, Yielded, Stop}
-use Rattle.pgo_tries.specs.Attempts as attempts
-use Rattle.pgo_tries.specs.Attempts.{Tried, Try, try_from, ends_of, outcome_of, is_blocked, try_outcome, blocked_is}
-use Rattle.pgo_tries.specs.Chosen.{Chosen, Ended, Chooses, Leaf, follow, leaves, leaves_from, turned, mapped, follow_mapped}
+use Rattle.pgo_tries.specs.Attempts.{Tried, ends_of, outcome_of, is_blocked, try_outcome, blocked_is}
+use Rattle.pgo_tries.specs.Chosen.{Chosen, Ended, Leaf, follow, leaves, leaves_from, turned, mapped, follow_mapped}
 use Rattle.pgo_tries.specs.Counts.{count, as_many}
 use Rattle.pgo_tries.specs.Outcomes.{Result, Found, AllBlocked, Many, AreBlocked, tried_on, first_of, tried_leaves, more_leaves, first_found}
 use Rattle.pgo_tries.specs.Sections.{along, tries, Follows, tries_tree, tries_blocked, blocked_tries, none_enabled}
-use Rattle.pgo_meaning.specs.Sect.{Sect, Allows, context_of, code_at, nothing}
-
-abbrev pub no_points : Tried Touched Vars
-no_points = record { section = nothing; points = [] }
-
-abbrev pub code_leaf : Bound → Instance → Vars → Code → Words → Tried Touched Vars
-code_leaf b i s c d = let o = exec (context_of b i s) c [] d (begun [] []) in record { section = ended (context_of b i s) o; points = in_order (run_of o).choices }
-
--- the section of instance k on s with the words d, and the choices that it makes
-abbrev pub SectLeaf : Bound → ℕ → Vars → Words → Tried Touched Vars
-SectLeaf b k s d = on no_points (nth b.instances k) (λ i. on no_points (code_at b i (value_in s pc (id_of i))) (λ c. code_leaf b i s c d))
-
--- an attempt on s with the words d
-abbrev pub SectTry : Bound → ℕ → Vars → Words → Section Touched Vars
-SectTry b k s d = Try (SectLeaf b k s) d
+pub use Rattle.pgo_meaning.specs.Attempt.{SectLeaf, SectTry}
+use Rattle.pgo_meaning.specs.Attempt.{no_points, code_leaf, leaf_section}
+use Rattle.pgo_meaning.specs.Sect.{Sect, Allows, context_of, code_at}
 
 -- the ends of the section of instance k on s, as a tree of its choices
 abbrev pub SectTree : Bound → ℕ → Vars → Chosen (Outcome Vars)
@@ -85,19 +70,7 @@ is_many Nowhere = false
 
 -- ---- laws
 
-leaf_section : (b : Bound) (k : ℕ) (s : Vars) (d : Words) → (SectLeaf b k s d).section ≡ Sect b k s d
-leaf_section b k s d = go (nth b.instances k)
-  where
-    code : (i : Instance) (o : Option Code) → (on no_points o (λ c. code_leaf b i s c d)).section ≡ on nothing o (λ c. ended (context_of b i s) (exec (context_of b i s) c [] d (begun [] [])))
-    code i None = refl
-    code i (Some c) = refl
-
-    go : (o : Option Instance) → (on no_points o (λ i. on no_points (code_at b i (value_in s pc (id_of i))) (λ c. code_leaf b i s c d))).section
-        ≡ on nothing o (λ i. on nothing (code_at b i (value_in s pc (id_of i))) (λ c. ended (context_of b i s) (exec (context_of b i s) c [] d (begun [] []))))
-    go None = refl
-    go (Some i) = code i (code_at b i (value_in s pc (id_of i)))
-
-leaf_follows : (b : Bound) (k : ℕ) (s : Vars) → Follows (ends_of (SectLeaf b k s)) (SectTree b k s)
+pub leaf_follows : (b : Bound) (k : ℕ) (s : Vars) → Follows (ends_of (SectLeaf b k s)) (SectTree b k s)
 leaf_follows b k s d = go (nth b.instances k) refl
   where
     pair : Tried Touched Vars → Leaf (Outcome Vars)
@@ -121,15 +94,15 @@ blocked_outcome (Found e) h n = absurd (let z : true ≡ false = sym (ap is_bloc
 blocked_outcome AllBlocked h n = refl
 blocked_outcome Many h n = absurd (let z : false ≡ true = ap is_blocked h in grind (arith, z))
 
--- what is found isn't blocked
-found_free : {S : Type 0} (run : Words → Leaf (Outcome S)) (w : Words) (room : ℕ) (p : List ℕ) (e : Outcome S) → tries is_blocked run w room p ≡ Found e → is_blocked e ≡ false
-found_free {S = S} run w zero p e h = absurd (let z : true ≡ false = ap is_many h in grind (arith, z))
+-- what is found is the end of a leaf that isn't blocked
+found_of : {S : Type 0} (Q : Outcome S → Type 0) (run : Words → Leaf (Outcome S)) → ((d : Words) → is_blocked (run d).1 ≡ false → Q (run d).1) → (w : Words) (room : ℕ) (p : List ℕ) (e : Outcome S) → tries is_blocked run w room p ≡ Found e → Q e
+found_of {S = S} Q run all w zero p e h = absurd (let z : true ≡ false = ap is_many h in grind (arith, z))
   where
     is_many : Result (Outcome S) → Bool
     is_many (Found e) = false
     is_many AllBlocked = false
     is_many Many = true
-found_free {S = S} run w (suc room) p e h = go (is_blocked (run (along 0 p w)).1) refl (turned w 0 (run (along 0 p w)).0) (λ q. found_free run w room q e) h
+found_of {S = S} Q run all w (suc room) p e h = go (is_blocked (run (along 0 p w)).1) refl (turned w 0 (run (along 0 p w)).0) (λ q. found_of Q run all w room q e) h
   where
     l : Leaf (Outcome S)
     l = run (along 0 p w)
@@ -144,11 +117,11 @@ found_free {S = S} run w (suc room) p e h = go (is_blocked (run (along 0 p w)).1
     is_found AllBlocked = false
     is_found Many = false
 
-    go : (b : Bool) → is_blocked l.1 ≡ b → (o : Option (List ℕ)) → ((q : List ℕ) → tries is_blocked run w room q ≡ Found e → is_blocked e ≡ false)
-        → (if b then tried_on (λ q. tries is_blocked run w room q) o else Found l.1) ≡ Found e → is_blocked e ≡ false
+    go : (b : Bool) → is_blocked l.1 ≡ b → (o : Option (List ℕ)) → ((q : List ℕ) → tries is_blocked run w room q ≡ Found e → Q e)
+        → (if b then tried_on (λ q. tries is_blocked run w room q) o else Found l.1) ≡ Found e → Q e
     go true f None ih h = absurd (let z : false ≡ true = ap is_found h in grind (arith, z))
     go true f (Some q) ih h = ih q h
-    go false f o ih h = let s : l.1 ≡ e = ap (λ r. at r e) h in sym (ap is_blocked s) ∙ f
+    go false f o ih h = let s : l.1 ≡ e = ap (λ r. at r e) h in subst Q s (all (along 0 p w) f)
 
 -- An attempt is Blocked exactly where no path of choices leads on, and there are few.
 pub blocked_try : (b : Bound) (k : ℕ) (s : Vars) (w : Words) → ((SectTry b k s w).end ≡ Stuck Blocked) ↔ IsQuiet b k s
@@ -160,7 +133,7 @@ blocked_try b k s w = (
     all : (SectTry b k s w).end ≡ Stuck Blocked → tries is_blocked (ends_of (SectLeaf b k s)) w most_leaves [] ≡ AllBlocked
     all h =
         blocked_outcome (tries is_blocked (ends_of (SectLeaf b k s)) w most_leaves []) (sym (try_outcome (SectLeaf b k s) w most_leaves []) ∙ h)
-        (λ e f. found_free (ends_of (SectLeaf b k s)) w most_leaves [] e f)
+        (λ e f. found_of (λ e. is_blocked e ≡ false) (ends_of (SectLeaf b k s)) (λ d free. free) w most_leaves [] e f)
 
 -- So a Blocked note says that the instance has no step: whatever the words, its section is Blocked.
 pub blocked_note : (b : Bound) (k : ℕ) (s : Vars) (w v : Words) → (SectTry b k s w).end ≡ Stuck Blocked → (Sect b k s v).end ≡ Stuck Blocked
@@ -207,34 +180,6 @@ leaf_free b k s d = go (nth b.instances k)
     go None = refl
     go (Some i) = code i (code_at b i (value_in s pc (id_of i)))
 
--- what is found is the end of a leaf
-found_free_of : {S : Type 0} (Q : Outcome S → Type 0) (run : Words → Leaf (Outcome S)) → ((d : Words) → Q (run d).1) → (w : Words) (room : ℕ) (p : List ℕ) (e : Outcome S) → tries is_blocked run w room p ≡ Found e → Q e
-found_free_of {S = S} Q run all w zero p e h = absurd (let z : true ≡ false = ap is_many_result h in grind (arith, z))
-  where
-    is_many_result : Result (Outcome S) → Bool
-    is_many_result (Found e) = false
-    is_many_result AllBlocked = false
-    is_many_result Many = true
-found_free_of {S = S} Q run all w (suc room) p e h = go (is_blocked (run (along 0 p w)).1) (turned w 0 (run (along 0 p w)).0) (λ q. found_free_of Q run all w room q e) h
-  where
-    l : Leaf (Outcome S)
-    l = run (along 0 p w)
-
-    at : Result (Outcome S) → Outcome S → Outcome S
-    at (Found x) y = x
-    at AllBlocked y = y
-    at Many y = y
-
-    is_found : Result (Outcome S) → Bool
-    is_found (Found e) = true
-    is_found AllBlocked = false
-    is_found Many = false
-
-    go : (b : Bool) (o : Option (List ℕ)) → ((q : List ℕ) → tries is_blocked run w room q ≡ Found e → Q e) → (if b then tried_on (λ q. tries is_blocked run w room q) o else Found l.1) ≡ Found e → Q e
-    go true None ih h = absurd (let z : false ≡ true = ap is_found h in grind (arith, z))
-    go true (Some q) ih h = ih q h
-    go false o ih h = let s : l.1 ≡ e = ap (λ r. at r e) h in subst Q s (all (along 0 p w))
-
 many_result : (r : Result (Outcome Vars)) → outcome_of r ≡ Stuck kinds.Many → ((e : Outcome Vars) → r ≡ Found e → is_many e ≡ false) → r ≡ Many
 many_result (Found e) h n = absurd (let z : true ≡ false = sym (ap is_many h) ∙ n e refl in grind (arith, z))
 many_result AllBlocked h n = absurd (let z : false ≡ true = ap is_many h in grind (arith, z))
@@ -260,7 +205,7 @@ module _ (b : Bound) (k : ℕ) (s : Vars) (w : Words) where
 
   pub many_try : (SectTry b k s w).end ≡ Stuck kinds.Many → TooMany b k s w
   many_try h =
-      let r = many_result result (outcome_is ∙ h) (λ e f. found_free_of (λ e. is_many e ≡ false) run (λ d. leaf_free b k s d) w most_leaves [] e f) in
+      let r = many_result result (outcome_is ∙ h) (λ e f. found_of (λ e. is_many e ≡ false) run (λ d free. leaf_free b k s d) w most_leaves [] e f) in
       let m = more_leaves is_blocked most_leaves (leaves_from w 0 (SectTree b k s)) (sym of_leaves ∙ r) in
       record { blocked = m.0; more = subst (λ n. most_leaves < n) (as_many w 0 (SectTree b k s)) m.1 }
 

@@ -4,13 +4,17 @@ pub mod Labels
 pub mod Parameters
 pub mod Sections
 pub mod Sect
+pub mod Attempt
 pub mod TreeAllows
 pub mod Expansions
 pub mod TreesAgree
 pub mod System
+pub mod NumberedTries
 pub mod SystemStates
 pub mod LabelSections
 pub mod Macros
 pub mod Ends
 pub mod Enabled
+pub mod LeafWords
+pub mod NoteTells
 pub mod Quiet

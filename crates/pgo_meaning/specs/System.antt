@@ -1,4 +1,4 @@
--- What a run has to know of a bound specification: it is a system, whose sections are those of its labels.
+-- What a run has to know of a bound specification: it is a system, whose sections are attempts at those of its labels.
 use Rattle.std.specs.Prelude.{List, map, filter, Option, Some, None}
 use Rattle.std.specs.List.{filter_map, flat_map}
 use Rattle.pgo_base.specs.Data.{Data}
@@ -14,7 +14,7 @@ use Rattle.pgo_syntax.specs.declared.bound.Target.TheVariants as targets
 use Rattle.pgo_syntax.specs.declared.process.Process.{Process}
 use Rattle.pgo_bound.specs.Sound.{index_in}
 use Rattle.pgo_bound.specs.State.{id_of, own_names}
-use Rattle.pgo_meaning.specs.Sect.{Sect}
+use Rattle.pgo_meaning.specs.Attempt.{SectTry}
 
 abbrev pub global_in : Target → Option Name
 global_in (targets.Value e) = None
@@ -47,5 +47,5 @@ system_of b = record {
   own = flat_map (owned_by b) b.spec.processes;
   resources = map resource_of b.resources;
   start = b.start;
-  sect = Sect b;
+  sect = SectTry b;
 }

@@ -8,9 +8,9 @@ ghost use Rattle.pgo_base.specs.Data.{Data, string};
 ghost use Rattle.pgo_base.specs.Lookup.{Name, Names, Vars, find};
 ghost use Rattle.pgo_base.specs.declared.module.Defined.{Defined};
 ghost use Rattle.pgo_model.specs.Machine.{nth};
-ghost use Rattle.pgo_model.specs.Outcome.{Blocked, Many, Outcome, Next, Stuck};
+ghost use Rattle.pgo_model.specs.Outcome.{Kind, Blocked, Many, Outcome, Next, Stuck};
 ghost use Rattle.pgo_model.specs.State.{AllValues};
-ghost use Rattle.pgo_model.specs.System.{Words};
+ghost use Rattle.pgo_model.specs.System.{Words, Touched};
 ghost use Rattle.pgo_model.specs.SystemFits.{AreOfResources};
 ghost use Rattle.pgo_model.specs.SystemState.{IsSystemState};
 ghost use Rattle.pgo_model.specs.Written.{pc};
@@ -31,12 +31,16 @@ ghost use Rattle.pgo_sections.specs.BoundValues.{bindable, value_under};
 ghost use Rattle.pgo_sections.specs.Macros.{IsMapped, exec, after_read, after_write};
 ghost use Rattle.pgo_sections.specs.SectionRun.{ChoiceMade, SectionRun};
 ghost use Rattle.pgo_tries.specs.Attempts.{is_blocked};
-ghost use Rattle.pgo_meaning.specs.Enabled.{SectTry, IsQuiet, FirstEnds, TooMany, is_many};
+ghost use Rattle.pgo_tries.specs.Chosen.{In};
+ghost use Rattle.pgo_meaning.specs.Attempt.{SectLeaf, SectTry};
+ghost use Rattle.pgo_meaning.specs.Enabled.{Leaves, IsQuiet, FirstEnds, TooMany, is_many};
 ghost use Rattle.pgo_meaning.specs.Ends.{KeepsElements};
 ghost use Rattle.pgo_meaning.specs.Expansions.{trees_of};
 ghost use Rattle.pgo_meaning.specs.LabelSections.{AreUnlabelled, NoneIsDone};
 ghost use Rattle.pgo_meaning.specs.Macros.{MacRead, MacWrite};
+ghost use Rattle.pgo_meaning.specs.NoteTells.{LeavesTell};
 ghost use Rattle.pgo_meaning.specs.Parameters.{reads_by, writes_by};
+ghost use Rattle.pgo_meaning.specs.Quiet.{SomeUndone, AreBlockedAt, Quiet};
 ghost use Rattle.pgo_meaning.specs.Sect.{context_of, nothing, Sect, Allows};
 ghost use Rattle.pgo_meaning.specs.Statements.{label_of};
 ghost use Rattle.pgo_meaning.specs.System.{globals_in, system_of};
@@ -138,16 +142,33 @@ pub fn system_states()
 
 /// An attempt tries the choices of its section one after another: it says which sections have a step.
 ///
+/// - `leaf`: each of its leaves (`SectLeaf`) is the section with the leaf's words.
+/// - `ends`: where it isn't Many it ends as the section does with some words.
+/// - `accesses`: each of its accesses the section makes with some words.
+/// - `first`: where the section isn't Blocked with its words, it is the section.
+/// - `nowhere`: at no label of its process it has no outcome, and reads and writes nothing.
+/// - `leaves`: the leaves of a section are what its words lead to: it ends so with some words exactly where one of them does.
 /// - `blocked`: with any words it is Blocked exactly where each leaf of the section is Blocked and there are at most 65,536 of them.
 /// - `no_step`: then the section is Blocked with all words, and no step is allowed from there.
 /// - `found`: where it is neither Blocked nor Many it ends as the first leaf that isn't Blocked does, in the order in which choice d
 ///   goes round from the arm that word d picks.
 /// - `many`: where it is Many, the first 65,536 leaves are Blocked, and there are more.
+/// - `notes`: so what a note says of the leaves (`LeavesTell`) is so of an attempt that ends with its kind.
+/// - `quiet`: of the instances that aren't at Done none has a step, and there is one, exactly where an attempt of each is Blocked,
+///   with whatever words.
 ///
 /// Source: this project's choice.
 pub fn attempts_tell()
+    ensures leaf { (b : Bound) (k : ℕ) (s : Vars) (w : Words) → (SectLeaf b k s w).section ≡ Sect b k s w }
+    ensures ends { (b : Bound) (k : ℕ) (s : Vars) (w : Words) (o : Outcome Vars) → (Stuck Many ≡ o → ⊥) → (SectTry b k s w).end ≡ o → (v : Words) × ((Sect b k s v).end ≡ o) }
+    ensures accesses { (b : Bound) (k : ℕ) (s : Vars) (w : Words) (c : Touched) → In c (SectTry b k s w).trace → (v : Words) × In c (Sect b k s v).trace }
+    ensures first { (b : Bound) (k : ℕ) (s : Vars) (w : Words) → is_blocked (Sect b k s w).end ≡ false → SectTry b k s w ≡ Sect b k s w }
+    ensures nowhere { (b : Bound) (k : ℕ) (i : Instance) (s : Vars) (w : Words) → AreUnlabelled b.spec.macros → NoneIsDone i → nth b.instances k ≡ Some i → ((l : Name) → value_in s pc (id_of i) ≡ Some (string l) → IsLabel i l → ⊥) → SectTry b k s w ≡ nothing }
+    ensures leaves { (b : Bound) (k : ℕ) (s : Vars) (o : Outcome Vars) → In o (Leaves b k s) ↔ ((v : Words) × ((Sect b k s v).end ≡ o)) }
     ensures blocked { (b : Bound) (k : ℕ) (s : Vars) (w : Words) → ((SectTry b k s w).end ≡ Stuck Blocked) ↔ IsQuiet b k s }
     ensures no_step { (b : Bound) (k : ℕ) (s : Vars) (w : Words) → (SectTry b k s w).end ≡ Stuck Blocked → ((v : Words) → (Sect b k s v).end ≡ Stuck Blocked) × ((t : Vars) → Allows b k s t → ⊥) }
     ensures found { (b : Bound) (k : ℕ) (s : Vars) (w : Words) (o : Outcome Vars) → (SectTry b k s w).end ≡ o → is_blocked o ≡ false → is_many o ≡ false → FirstEnds b k s w o }
     ensures many { (b : Bound) (k : ℕ) (s : Vars) (w : Words) → (SectTry b k s w).end ≡ Stuck Many → TooMany b k s w }
+    ensures notes { (b : Bound) (k : ℕ) (s : Vars) (w : Words) (kind : Kind) → (SectTry b k s w).end ≡ Stuck kind → LeavesTell b k s w kind }
+    ensures quiet { (b : Bound) (s : Vars) (w : ℕ → Words) → (SomeUndone b s × AreBlockedAt b s w) ↔ Quiet b s }
 {}

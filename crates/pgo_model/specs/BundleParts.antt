@@ -17,4 +17,4 @@ all_string_bytes (b ∷ bs) = is_string_byte b && all_string_bytes bs
 
 -- the statuses of a run
 abbrev pub is_run_status : ℕ → Bool
-is_run_status n = nat_eq n 0 || nat_eq n 20 || nat_eq n 21 || nat_eq n 23
+is_run_status n = nat_eq n 0 || nat_eq n 20 || nat_eq n 21 || nat_eq n 22 || nat_eq n 23

@@ -3,7 +3,7 @@ use Rattle.std.specs.Prelude.{◌≡◌, ℕ, suc, Bool, true, false, ◌||◌, 
 use Rattle.pgo_base.specs.Data.{Data, string}
 use Rattle.pgo_base.specs.Lookup.{Name, Vars, same_name}
 use Rattle.pgo_model.specs.Operators.{same_data}
-use Rattle.pgo_model.specs.Outcome.{Blocked, NoValue, AssertFails, Many, Section}
+use Rattle.pgo_model.specs.Outcome.{Blocked, NoValue, AssertFails, Many, Section, is_blocked}
 use Rattle.pgo_model.specs.System.{System, Member, Resource, Touched}
 use Rattle.pgo_model.specs.Variables.{place_of}
 use Rattle.pgo_model.specs.Options.{on}
@@ -122,10 +122,23 @@ abbrev pub are_at_done : System → Vars → ℕ → List Member → Bool
 are_at_done y s k [] = true
 are_at_done y s k (i ∷ is) = is_at_done y k s && are_at_done y s (suc k) is
 
+-- an attempt of each instance from k on that isn't at Done, with words 0, is Blocked in this state
+abbrev pub are_blocked : System → Vars → ℕ → List Member → Bool
+are_blocked y s k [] = true
+are_blocked y s k (i ∷ is) = (is_at_done y k s || is_blocked (y.sect k s (λ n. 0)).end) && are_blocked y s (suc k) is
+
+-- the state behind the entries
+abbrev pub state_behind : System → Settings → Finished Effect → Vars
+state_behind y settings f = state_at (rules_of y settings) y.start f.entries (length f.entries)
+
 -- 20: some instance's last record is a note NoValue or AssertFails; else 23: some instance's last record is a refusal Full;
--- else 21: some instance isn't at Done in the last state; else 0
-abbrev pub status_of : System → Settings → Finished Effect → ℕ
-status_of y settings f =
+-- else 0: each instance is at Done in the last state; else 22, where it is told that no instance has a step there; else 21
+abbrev pub status_where : Bool → System → Settings → Finished Effect → ℕ
+status_where quiet y settings f =
     let last = last_ends_from f 0 y.members in
     if has_stopped last then 20 else if has_full last then 23
-    else if are_at_done y (state_at (rules_of y settings) y.start f.entries (length f.entries)) 0 y.members then 0 else 21
+    else if are_at_done y (state_behind y settings f) 0 y.members then 0 else if quiet then 22 else 21
+
+-- 22: no instance that isn't at Done has a step in the last state; one attempt, with whatever words, decides it
+abbrev pub status_of : System → Settings → Finished Effect → ℕ
+status_of y settings f = status_where (are_blocked y (state_behind y settings f) 0 y.members) y settings f

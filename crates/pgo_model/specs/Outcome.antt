@@ -1,5 +1,5 @@
 -- How a section ends. `Many`: so many of its leaves as are tried are Blocked, and there are more.
-use Rattle.std.specs.Prelude.{ℕ, List}
+use Rattle.std.specs.Prelude.{ℕ, Bool, true, false, List}
 use Rattle.pgo_base.specs.Data.{Data}
 
 pub data Kind : Type 0 where
@@ -14,6 +14,14 @@ pub data Outcome (S : Type 0) : Type 0 where
   Next : (t : S) → (prints : List Data) → Outcome S
   Stuck : (kind : Kind) → Outcome S
   Nowhere : Outcome S
+
+abbrev pub is_blocked : {S : Type 0} → Outcome S → Bool
+is_blocked (Next t ps) = false
+is_blocked (Stuck Blocked) = true
+is_blocked (Stuck NoValue) = false
+is_blocked (Stuck AssertFails) = false
+is_blocked (Stuck Many) = false
+is_blocked Nowhere = false
 
 -- what one section does on one state: what it reads and writes of resources, in order, and its end
 pub record Section (R S : Type 0) : Type 0 where

@@ -1,17 +1,14 @@
 -- What code does, as a tree of its choice points: with words of choice it does what the tree leads to.
-use Rattle.std.proofs.Common.{◌≡◌, ◌≤◌, ◌<◌, ◌%◌, ◌↔◌, ◌++◌, ℕ, zero, suc, Bool, true, false, List, [], ◌∷◌, length, get_or, Option, Some, None, option_and_then, refl, sym, ap, ◌∙◌, subst, arith, mod-lt}
+use Rattle.std.proofs.Common.{◌≡◌, ◌<◌, ◌%◌, ◌++◌, ℕ, zero, suc, Bool, true, false, List, [], ◌∷◌, length, get_or, Option, Some, None, option_and_then, refl, sym, ap, ◌∙◌, arith, mod-lt}
 use Rattle.pgo_base.specs.Data.{Data}
-use Rattle.pgo_base.specs.Lookup.{Name, Names}
+use Rattle.pgo_base.specs.Lookup.{Names}
 use Rattle.pgo_model.specs.Choice.{pick}
 use Rattle.pgo_model.specs.Operators.{members_of, truth_of}
 use Rattle.pgo_model.specs.Options.{on}
-use Rattle.pgo_model.specs.Outcome.{Kind, Blocked, NoValue, AssertFails, Many}
+use Rattle.pgo_model.specs.Outcome.{Blocked, NoValue, AssertFails}
 use Rattle.pgo_model.specs.System.{Words}
 use Rattle.pgo_model.specs.Val.{Meaning}
 use Rattle.pgo_tries.specs.Chosen.{Chosen, Ended, Chooses, follow, Leaf, leaves}
-use Rattle.pgo_tries.specs.Counts.{count as leaf_count}
-use Rattle.pgo_tries.specs.Outcomes.{AllBlocked, AreBlocked}
-use Rattle.pgo_tries.specs.Sections.{tries, tries_blocked, blocked_tries, none_enabled}
 use Rattle.pgo_sections.specs.BoundValues.{bindable, value_under}
 use Rattle.pgo_sections.specs.Code.{Code, Empty, Skip, Let, Pick, Become, Set, Await, Assert, Print, If, Either, Seq, Goto, Yield, Read, Write, Codes, no_codes, more_codes, value_name}
 use Rattle.pgo_sections.specs.Context.{Context, block_context, content, content_state, index_value, put_content, put_new, value_of}
@@ -294,26 +291,3 @@ section_leaf d k c =
     let l = follow d 0 [] (tree k c [] (begun [] [])) in
     let e : told (exec k c [] d (begun [] [])) ≡ (onto l.0 [], l.1) = sym (section_led d k c [] (begun [] [])) ∙ led_leaf d 0 [] (tree k c [] (begun [] [])) refl in
     (λ i. (in_order (e i).0, (e i).1)) ∙ ap (λ ps. (ps, l.1)) (onto_back l.0 [] [] ∙ nil_append l.0)
-
--- ---- which sections are enabled
-
-abbrev pub blocked_out : Out → Bool
-blocked_out (Go run) = false
-blocked_out (Jump l run) = false
-blocked_out (Yielded v run) = false
-blocked_out (Stop Blocked run) = true
-blocked_out (Stop NoValue run) = false
-blocked_out (Stop AssertFails run) = false
-blocked_out (Stop Many run) = false
-
--- where all that is tried is Blocked, no words lead on
-pub none_leads : (k : Context) (c : Code) (w v : Words) (room : ℕ) → tries blocked_out (leaf_of k c) w room [] ≡ AllBlocked → blocked_out (exec k c [] v (begun [] [])) ≡ true
-none_leads k c w v room = none_enabled blocked_out (leaf_of k c) (tree k c [] (begun [] [])) (λ d. section_leaf d k c) w v room
-
--- all is Blocked exactly where each leaf is, of which there are at most as many as are tried
-pub all_tried : (k : Context) (c : Code) (w : Words) (room : ℕ)
-    → (tries blocked_out (leaf_of k c) w room [] ≡ AllBlocked) ↔ (AreBlocked blocked_out (leaves (tree k c [] (begun [] []))) × (leaf_count (tree k c [] (begun [] [])) ≤ room))
-all_tried k c w room =
-    let t = tree k c [] (begun [] []) in
-    let follows : (d : Words) → leaf_of k c d ≡ follow d 0 [] t = λ d. section_leaf d k c in
-    (tries_blocked blocked_out (leaf_of k c) t follows w room, λ a. blocked_tries blocked_out (leaf_of k c) t follows w room a.0 a.1)

@@ -1,8 +1,7 @@
 -- A section's code never ends in Many, which is of attempts alone.
-use Rattle.std.proofs.Common.{◌≡◌, ℕ, zero, suc, Bool, true, false, List, [], ◌∷◌, length, get_or, Option, Some, None, option_and_then}
+use Rattle.std.proofs.Common.{ℕ, zero, suc, Bool, true, false, List, [], ◌∷◌, length, get_or, Option, Some, None, option_and_then}
 use Rattle.pgo_base.specs.Data.{Data}
-use Rattle.pgo_base.specs.Lookup.{Name, Names}
-use Rattle.pgo_model.specs.Choice.{pick}
+use Rattle.pgo_base.specs.Lookup.{Names}
 use Rattle.pgo_model.specs.Operators.{members_of, truth_of}
 use Rattle.pgo_model.specs.Options.{on}
 use Rattle.pgo_model.specs.Outcome.{Kind, Blocked, NoValue, AssertFails, Many}

@@ -28,6 +28,7 @@ use Rattle.pgo_model.specs.Written.{pc, written}
 use Rattle.pgo_bound.specs.Declares.{value_in}
 use Rattle.pgo_bound.specs.State.{id_of}
 use Rattle.pgo_sections.specs.Section.{section}
+use Rattle.pgo_meaning.specs.Attempt.{SectTry, next_of_try, trace_of_try}
 use Rattle.pgo_meaning.specs.Ends.{KeepsElements}
 use Rattle.pgo_meaning.specs.Sect.{context_of, code_at, nothing, Sect}
 use Rattle.pgo_meaning.specs.System.{globals_in, member_of, resource_of, system_of}
@@ -157,12 +158,16 @@ module _ (b : Bound) (h : KeepsStates b) where
       }
 
   -- what an entry records leads to the section's end
-  pub entry_leads : StatesKept → (k : ℕ) (d : Words) (s t : Vars) (prints : List Data) → IsGoodState b s → (Sect b k s d).end ≡ Next t prints → After s (effect_between y k s t prints) ≡ Some t
-  entry_leads states k d s t prints good e =
+  section_leads : StatesKept → (k : ℕ) (d : Words) (s t : Vars) (prints : List Data) → IsGoodState b s → (Sect b k s d).end ≡ Next t prints → After s (effect_between y k s t prints) ≡ Some t
+  section_leads states k d s t prints good e =
       let i = instance_there b k s t d prints e in
       let is = on_domains s good.state in
       let it = states b k i.0 s t d prints i.1 (h.elements k i.0 i.1) (h.literals k i.0 i.1) (record { state = is; counted = good.counted }) e in
       leads b h.sound h.globals h.differ s t is it.state (unbound_stays k i.0 s t d prints i.1 e) k prints
+
+  -- and so to an attempt's, which is that of a section with some words
+  pub entry_leads : StatesKept → (k : ℕ) (d : Words) (s t : Vars) (prints : List Data) → IsGoodState b s → (SectTry b k s d).end ≡ Next t prints → After s (effect_between y k s t prints) ≡ Some t
+  entry_leads states k d s t prints good e = let q = next_of_try b k s d t prints e in section_leads states k q.0 s t prints good q.1
 
   -- the number of a read or write is of a resource of its global
   number_from : (rs : List Resource) (c : Touched) (n : ℕ) → number_among rs c ≡ Some n → (r : Resource) × IsAmong r rs × (r.number ≡ n) × (r.global ≡ c.0)
@@ -178,10 +183,13 @@ module _ (b : Bound) (h : KeepsStates b) where
       go true q k more = (r, inl refl, same_Some r.number n k, same_name-is r.global c.0 (left (same_name r.global c.0) (same_index r.index c.1) q))
       go false q k more = let z = more k in (z.0, inr z.1, z.2, z.3)
 
-  all_reached : (k : ℕ) (i : Instance) → nth b.instances k ≡ Some i → (cs : List Touched) → AreOfResources y.resources cs → AllByRecursion (λ c. is_among c.0 (globals_in i.bindings) ≡ true) cs → AllIn (Reaches y k) (numbers_of y.resources cs)
+  -- a read or write of a resource that the instance is bound to
+  abbrev IsReached : ℕ → Touched → Type 0
+  IsReached k c = (n : ℕ) × (number_among y.resources c ≡ Some n) × Reaches y k n
+
+  all_reached : (k : ℕ) (i : Instance) → nth b.instances k ≡ Some i → (cs : List Touched) → AreOfResources y.resources cs → AllByRecursion (λ c. is_among c.0 (globals_in i.bindings) ≡ true) cs → AllByRecursion (IsReached k) cs
   all_reached k i at_k [] r g = tt
-  all_reached k i at_k (c ∷ cs) r g =
-      subst (λ o. AllIn (Reaches y k) (on (numbers_of y.resources cs) o (λ n. n ∷ numbers_of y.resources cs))) (sym r.0.1) (one r.0.0 r.0.1, all_reached k i at_k cs r.1 g.1)
+  all_reached k i at_k (c ∷ cs) r g = ((r.0.0, r.0.1, one r.0.0 r.0.1), all_reached k i at_k cs r.1 g.1)
     where
       one : (n : ℕ) → number_among y.resources c ≡ Some n → Reaches y k n
       one n e =
@@ -191,25 +199,49 @@ module _ (b : Bound) (h : KeepsStates b) where
           let g = nth_among c.0 (globals_in i.bindings) (there_is c.0 (globals_in i.bindings) g.0) in
           (member_of i, q.0, nth_map member_of k b.instances i at_k, at_n, (g.0, g.1 ∙ ap Some (sym q.3)))
 
-  reached : TouchResources → TouchBound → (k : ℕ) (d : Words) (s : Vars) → IsGoodState b s → AllIn (Reaches y k) (numbers_of y.resources (Sect b k s d).trace)
-  reached resources bound k d s good = go (nth b.instances k) refl
+  section_reached : TouchResources → TouchBound → (k : ℕ) (d : Words) (s : Vars) → IsGoodState b s → AllByRecursion (IsReached k) (Sect b k s d).trace
+  section_reached resources bound k d s good = go (nth b.instances k) refl
     where
-      go : (o : Option Instance) → nth b.instances k ≡ o → AllIn (Reaches y k) (numbers_of y.resources (Sect b k s d).trace)
-      go None e = subst (λ (o : Option Instance). AllIn (Reaches y k) (numbers_of y.resources (on nothing o (λ i. on nothing (code_at b i (value_in s pc (id_of i))) (λ c. section (context_of b i s) c d))).trace)) (sym e) tt
+      go : (o : Option Instance) → nth b.instances k ≡ o → AllByRecursion (IsReached k) (Sect b k s d).trace
+      go None e = subst (λ (o : Option Instance). AllByRecursion (IsReached k) (on nothing o (λ i. on nothing (code_at b i (value_in s pc (id_of i))) (λ c. section (context_of b i s) c d))).trace) (sym e) tt
       go (Some i) e = all_reached k i e (Sect b k s d).trace (resources b k i s d e h.sound h.globals (h.elements k i e) (on_domains s good.state)) (bound b k i s d e (h.elements k i e))
 
-  pub all_resources : TouchResources → (k : ℕ) (s : Vars) (d : Words) → IsSystemState y s → AreOfResources y.resources (Sect b k s d).trace
-  all_resources resources k s d is = go (nth b.instances k) refl
+  numbers_reached : (k : ℕ) (cs : List Touched) → AllByRecursion (IsReached k) cs → AllIn (Reaches y k) (numbers_of y.resources cs)
+  numbers_reached k [] r = tt
+  numbers_reached k (c ∷ cs) r = subst (λ o. AllIn (Reaches y k) (on (numbers_of y.resources cs) o (λ n. n ∷ numbers_of y.resources cs))) (sym r.0.1) (r.0.2, numbers_reached k cs r.1)
+
+  reached : TouchResources → TouchBound → (k : ℕ) (d : Words) (s : Vars) → IsGoodState b s → AllIn (Reaches y k) (numbers_of y.resources (SectTry b k s d).trace)
+  reached resources bound k d s good =
+      numbers_reached k (SectTry b k s d).trace (trace_of_try (IsReached k) b k s d (λ v. section_reached resources bound k v s good))
+
+  -- reads and writes of resources, one by one
+  abbrev HasNumber : Touched → Type 0
+  HasNumber c = (n : ℕ) × (number_among y.resources c ≡ Some n)
+
+  each_has : (cs : List Touched) → AreOfResources y.resources cs → AllByRecursion HasNumber cs
+  each_has [] r = tt
+  each_has (c ∷ cs) r = (r.0, each_has cs r.1)
+
+  all_have : (cs : List Touched) → AllByRecursion HasNumber cs → AreOfResources y.resources cs
+  all_have [] r = tt
+  all_have (c ∷ cs) r = (r.0, all_have cs r.1)
+
+  section_resources : TouchResources → (k : ℕ) (s : Vars) (d : Words) → IsSystemState y s → AreOfResources y.resources (Sect b k s d).trace
+  section_resources resources k s d is = go (nth b.instances k) refl
     where
       go : (o : Option Instance) → nth b.instances k ≡ o → AreOfResources y.resources (Sect b k s d).trace
       go None e = subst (λ (o : Option Instance). AreOfResources y.resources (on nothing o (λ i. on nothing (code_at b i (value_in s pc (id_of i))) (λ c. section (context_of b i s) c d))).trace) (sym e) tt
       go (Some i) e = resources b k i s d e h.sound h.globals (h.elements k i e) (on_domains s is)
 
+  pub all_resources : TouchResources → (k : ℕ) (s : Vars) (d : Words) → IsSystemState y s → AreOfResources y.resources (SectTry b k s d).trace
+  all_resources resources k s d is =
+      all_have (SectTry b k s d).trace (trace_of_try HasNumber b k s d (λ v. each_has (Sect b k s v).trace (section_resources resources k s v is)))
+
   -- the machine's premises
   pub fitted : StatesKept → TouchResources → TouchBound → (settings : Settings) → Fits (rules_of y settings) (Reaches y) (IsGoodState b)
   fitted states resources bound settings = record {
     start = starts;
-    kept = λ k a s t ps good e. kept states k a (words_of (Seeded settings.seed k a)) s t ps good e;
+    kept = λ k a s t ps good e. let q = next_of_try b k s (words_of (Seeded settings.seed k a)) t ps e in kept states k a q.0 s t ps good q.1;
     patches = λ k a s t ps good e. ap (λ o. unwrap_or o s) (entry_leads states k (words_of (Seeded settings.seed k a)) s t ps good e);
     prints = λ k s t ps. refl;
     reaches = λ k a s good. reached resources bound k (words_of (Seeded settings.seed k a)) s good;

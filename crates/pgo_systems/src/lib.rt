@@ -1,16 +1,17 @@
 // Bound specifications as systems: what their sections give are values, and the core machine's law holds of them.
 #![tactic(auto)]
 
-ghost use Rattle.std.specs.Prelude.{◌≡◌, ◌≤◌, false, true, ℕ, List, length, Some};
+ghost use Rattle.std.specs.Prelude.{◌≡◌, ◌≤◌, Bool, false, true, ℕ, suc, List, length, Some};
 ghost use Rattle.pgo_base.specs.Data.{Data};
 ghost use Rattle.pgo_base.specs.Lookup.{Name, Vars};
 ghost use Rattle.pgo_base.specs.Tree.{Tree};
-ghost use Rattle.pgo_model.specs.Accounts.{Accounts, EntriesMade, Fits, JointAccounts, StepsAreSections, at};
+ghost use Rattle.pgo_model.specs.Accounts.{Accounts, EntriesMade, Fits, JointAccounts, NoteTrue, StepsAreSections, at};
+ghost use Rattle.pgo_model.specs.Choice.{Seeded, words_of};
 ghost use Rattle.pgo_model.specs.Core.{Core, Reaches, Settings, rules_of};
 ghost use Rattle.pgo_model.specs.Entries.{AllLead};
 ghost use Rattle.pgo_model.specs.Log.{Effect, StateAt};
-ghost use Rattle.pgo_model.specs.Machine.{Finished, finished_of, nth};
-ghost use Rattle.pgo_model.specs.Outcome.{Next};
+ghost use Rattle.pgo_model.specs.Machine.{Finished, Note, Noted, finished_of, nth};
+ghost use Rattle.pgo_model.specs.Outcome.{Kind, Next};
 ghost use Rattle.pgo_model.specs.State.{AllValues};
 ghost use Rattle.pgo_model.specs.System.{Resource, Words};
 ghost use Rattle.pgo_model.specs.SystemFits.{AreOfResources};
@@ -27,6 +28,7 @@ ghost use Rattle.pgo_sections.specs.Code.{Code};
 ghost use Rattle.pgo_sections.specs.Context.{Context};
 ghost use Rattle.pgo_sections.specs.Section.{section};
 ghost use Rattle.pgo_meaning.specs.Ends.{KeepsElements};
+ghost use Rattle.pgo_meaning.specs.NoteTells.{LeavesTell};
 ghost use Rattle.pgo_meaning.specs.Sect.{Sect};
 ghost use Rattle.pgo_meaning.specs.System.{system_of};
 ghost use Rattle.pgo_systems.specs.Counted.{AllCounted, ContextCounted, IsCounted, ScopeCounted};
@@ -36,7 +38,7 @@ ghost use Rattle.pgo_systems.specs.Literals.{CodeFits, LiteralsFit, StartFits};
 ghost use Rattle.pgo_systems.specs.Premises.{AllAtLabels, EndsAtLabels, IsCountedState, IsGoodState, KeepsStates, LiteralsFitIn, OwnsApart};
 ghost use Rattle.pgo_systems.specs.StatementLiterals.{SpecificationFits, TextFits};
 
-use pgo_meaning::{ends_are_states, sections_touch, system_states};
+use pgo_meaning::{attempts_tell, ends_are_states, sections_touch, system_states};
 
 /// Expressions and sections give values.
 ///
@@ -87,14 +89,14 @@ pub fn labels_are_kept()
 /// Of all states of the system (`IsSystemState`) the premises don't hold where a section puts `Cardinality(x)` into a variable: a state may have a
 /// set of 2^63 members there, and the end is no state then. No run comes to such a state.
 ///
-/// - `fits` (`Fits`): the run starts in a good state, and a section leads from one to one; there what an entry records leads to its section's end,
-///   with its prints, and a section reads and writes resources that its instance is bound to.
+/// - `fits` (`Fits`): the run starts in a good state, and an attempt leads from one to one; there what an entry records leads to its attempt's end,
+///   with its prints, and an attempt reads and writes resources that its instance is bound to.
 /// - `owns`: what is an instance's own is no global (a part of `KeepsStates`), in what a specification is bound to whose variables have names that
 ///   differ.
 /// - `kept`: what a specification is bound to meets `KeepsStates`, where it is sound, the rules hold (`SpecificationFits`), the constants' sets are
 ///   counted and literals fit.
 /// - `numbers`: resources stand at their numbers.
-/// - `resources`: on each state of the system a section reads and writes nothing but resources.
+/// - `resources`: on each state of the system an attempt reads and writes nothing but resources.
 ///
 /// Its premises (`KeepsStates`) are what binding and the rules on names and labels are to give.
 ///
@@ -115,7 +117,7 @@ pub fn system_fits()
 /// The law of the core machine, for the system of a bound specification, every settings and list of turns: what `core_accounts` of `pgo_model` says
 /// of a system, with premises on the specification alone (`KeepsStates`).
 ///
-/// - `runs`: each entry of the journal is what its instance's section does on the state after the entries before it.
+/// - `runs`: each entry of the journal is what its instance's attempt does on the state after the entries before it.
 /// - `entries`: each entry records the difference between the states before and after it.
 /// - `leads`: the changes that an entry records lead from the state before it to the state after it.
 /// - `states`: so the state by components after n entries is there, and is the machine's state after them.
@@ -136,6 +138,21 @@ pub fn bound_accounts()
 {
     values_are_given();
     system_fits();
+}
+
+/// What notes say of sections, of whatever a run of a bound specification leaves, with every settings:
+///
+/// - `note` (`LeavesTell` of pgo_meaning): of a true note (`NoteTrue`), on the state at its position: Blocked, that every leaf of the section is
+///   Blocked, of which there are at most 65,536, so that the instance has no step there; NoValue and AssertFails, that the first leaf that isn't
+///   Blocked ends so; Many, that the first 65,536 leaves are Blocked, and there are more.
+/// - `record`: so of each record that is a note, of an instance whose records say what became of its attempts (`Accounts`).
+///
+/// Source: this project's choice.
+pub fn notes_tell_of_leaves()
+    ensures note { (b : Bound) (settings : Settings) (f : Finished Effect) (n : Note) → NoteTrue (rules_of (system_of b) settings) f n → LeavesTell b n.instance (at (rules_of (system_of b) settings) f n.position) (words_of (Seeded settings.seed n.instance n.attempt)) n.kind }
+    ensures record { (b : Bound) (settings : Settings) (run : Bool) (f : Finished Effect) (k i p : ℕ) (kind : Kind) → Accounts (rules_of (system_of b) settings) (Reaches (system_of b)) run f k → nth (f.records k) i ≡ Some (Noted kind p) → LeavesTell b k (at (rules_of (system_of b) settings) f p) (words_of (Seeded settings.seed k (suc i))) kind }
+{
+    attempts_tell();
 }
 
 /// A refused pre-commit is of a resource that its instance is bound to (`DownsReached`), for the system of a bound specification that meets

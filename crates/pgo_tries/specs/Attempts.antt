@@ -1,29 +1,20 @@
 -- An attempt tries its choices one after another until one isn't Blocked.
-use Rattle.std.proofs.Common.{◌≡◌, ◌≤◌, ◌<◌, ℕ, zero, suc, Bool, true, false, List, [], ◌∷◌, ◌++◌, length, Option, Some, None, refl, sym, ap, ◌∙◌, subst, arith}
-use Rattle.std.specs.Prelude.{if◌then◌else◌, nat_eq}
+use Rattle.std.proofs.Common.{◌≡◌, ℕ, zero, suc, Bool, true, false, List, [], ◌∷◌, ◌++◌, Option, Some, None, refl, ap, arith}
+use Rattle.std.specs.Prelude.{if◌then◌else◌}
 use Rattle.std.specs.List.{AllByRecursion}
 use Rattle.pgo_base.specs.Data.{Data}
+pub use Rattle.pgo_model.specs.Outcome.{is_blocked}
 use Rattle.pgo_model.specs.Outcome.{Kind, Blocked, NoValue, AssertFails, Many, most_leaves, Outcome, Next, Stuck, Nowhere, Section}
 use Rattle.pgo_model.specs.System.{Words}
-use Rattle.pgo_tries.specs.Chosen.{ChoiceMade, Chosen, Leaf, leaves, turned, In}
+use Rattle.pgo_tries.specs.Chosen.{ChoiceMade, leaves, turned}
 use Rattle.pgo_tries.specs.Outcomes as outcomes
 use Rattle.pgo_tries.specs.Outcomes.{Result, tried_on}
-use Rattle.pgo_tries.specs.Counts.{count}
-use Rattle.pgo_tries.specs.Sections as sections
-use Rattle.pgo_tries.specs.Sections.{along, Run, Follows, tries, tries_blocked, blocked_tries, none_enabled}
+use Rattle.pgo_tries.specs.Sections.{along, Run, tries}
 
 -- what a section does with words of choice, and the choices that it made, the first first
 pub record Tried (R S : Type 0) : Type 0 where
   pub section : Section R S
   pub points : List ChoiceMade
-
-abbrev pub is_blocked : {S : Type 0} → Outcome S → Bool
-is_blocked (Next t ps) = false
-is_blocked (Stuck Blocked) = true
-is_blocked (Stuck NoValue) = false
-is_blocked (Stuck AssertFails) = false
-is_blocked (Stuck Many) = false
-is_blocked Nowhere = false
 
 -- the section, and behind it that of the next leaf
 abbrev pub then_next : {R S : Type 0} → Section R S → (List ℕ → Section R S) → Option (List ℕ) → Section R S

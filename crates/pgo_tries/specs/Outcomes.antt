@@ -1,10 +1,9 @@
 -- What comes of trying leaf after leaf.
-use Rattle.std.proofs.Common.{◌≡◌, ◌≤◌, ◌<◌, ℕ, zero, suc, ◌+◌, ◌%◌, Bool, true, false, List, [], ◌∷◌, ◌++◌, length, map, take, drop, Option, Some, None, refl, sym, ap, ◌∙◌, subst, arith, ◌⊎◌, inl, inr}
-use Rattle.std.specs.Prelude.{if◌then◌else◌, nat_eq}
-use Rattle.pgo_model.specs.Choice.{pick}
+use Rattle.std.proofs.Common.{◌≡◌, ◌≤◌, ◌<◌, ℕ, zero, suc, Bool, true, false, List, [], ◌∷◌, length, take, drop, Option, Some, None, refl, sym, ap, ◌∙◌, arith}
+use Rattle.std.specs.Prelude.{if◌then◌else◌}
 use Rattle.pgo_model.specs.System.{Words}
-use Rattle.pgo_tries.specs.Chosen.{Chosen, Ended, Chooses, Leaf, ahead, follow, round, around, leaves_from, turned, In, Here, There}
-use Rattle.pgo_tries.specs.Tries.{Left, left_start, left_next, first_most, Chained, Begins, chained}
+use Rattle.pgo_tries.specs.Chosen.{Chosen, Leaf, follow, leaves_from, turned, In, Here, There}
+use Rattle.pgo_tries.specs.Tries.{Chained, Begins, chained}
 
 -- the first leaf that isn't blocked; or all are; or the first ones are, as many as were tried, and there are more
 pub data Result (E : Type 0) : Type 0 where

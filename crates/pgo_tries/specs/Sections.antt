@@ -1,11 +1,11 @@
 -- The leaves of what is told by its words of choice alone.
-use Rattle.std.proofs.Common.{◌≡◌, ◌≤◌, ◌<◌, ◌↔◌, ℕ, zero, suc, Bool, true, false, List, [], ◌∷◌, length, Option, Some, None, refl, sym, ap, ◌∙◌, subst, arith}
+use Rattle.std.proofs.Common.{◌≡◌, ◌≤◌, ℕ, zero, suc, Bool, true, false, List, [], ◌∷◌, Option, Some, None, refl, sym, ap, ◌∙◌, subst, arith}
 use Rattle.std.specs.Prelude.{if◌then◌else◌, nat_eq}
 use Rattle.pgo_model.specs.Choice.{pick}
 use Rattle.pgo_model.specs.Machine.{put}
 use Rattle.pgo_model.specs.System.{Words}
-use Rattle.pgo_tries.specs.Chosen.{Chosen, Ended, Chooses, Leaf, ahead, follow, leaves_from, leaves, turned, In}
-use Rattle.pgo_tries.specs.Outcomes.{Result, Found, AllBlocked, Many, tried_on, tried, tried_leaves, first_of, AreBlocked, all_blocked, when_blocked}
+use Rattle.pgo_tries.specs.Chosen.{Chosen, Ended, Chooses, Leaf, ahead, follow, leaves_from, leaves, turned}
+use Rattle.pgo_tries.specs.Outcomes.{Result, Found, AllBlocked, Many, tried_on, tried, tried_leaves, AreBlocked, all_blocked, when_blocked}
 use Rattle.pgo_tries.specs.Counts.{count, as_many, is_leaf, same_leaves}
 
 -- the path's numbers from word d on, and then the words

@@ -1,9 +1,9 @@
 -- Laws of trying leaf after leaf.
-use Rattle.std.proofs.Common.{◌≡◌, ◌≤◌, ◌<◌, ℕ, zero, suc, ◌+◌, ◌%◌, Bool, true, false, List, [], ◌∷◌, ◌++◌, length, map, Option, Some, None, refl, sym, ap, ◌∙◌, subst, arith, ◌⊎◌, inl, inr, mod-lt, mod-eq_of_lt, zero-lt-suc}
+use Rattle.std.proofs.Common.{◌≡◌, ◌≤◌, ◌<◌, ℕ, zero, suc, ◌+◌, ◌%◌, Bool, true, false, List, [], ◌∷◌, ◌++◌, map, Some, None, refl, sym, ap, ◌∙◌, subst, arith, ◌⊎◌, inl, inr, mod-lt, mod-eq_of_lt, zero-lt-suc}
 use Rattle.std.specs.Prelude.{if◌then◌else◌, nat_eq}
 use Rattle.pgo_model.specs.Choice.{pick}
 use Rattle.pgo_model.specs.System.{Words}
-use Rattle.pgo_tries.specs.Chosen.{ChoiceMade, Chosen, Ended, Chooses, Leaf, ahead, follow, round, around, turned_at, following, leaves_from, leaves, turned, In, Here, There}
+use Rattle.pgo_tries.specs.Chosen.{Chosen, Ended, Chooses, Leaf, ahead, follow, round, around, turned_at, leaves_from, leaves, turned}
 
 -- so many arms are left behind arm i, before that of word d comes round again
 abbrev pub Left : ℕ → ℕ → ℕ → ℕ → Type 0
