@@ -4,7 +4,7 @@ ghost use Rattle.pgo_base.specs.declared.bindings.NamedValue.{NamedValue};
 ghost use Rattle.pgo_base.specs.declared.value.Value.{Value};
 ghost use Rattle.pgo_syntax.specs.Statement.{labeled};
 ghost use Rattle.pgo_syntax.specs.StatementView.{statement};
-ghost use Rattle.pgo_resource.specs.Picked.{first_of, words_of, choices_of};
+ghost use Rattle.pgo_resource.specs.Picked.{attempt_words, words_of, choices_of};
 ghost use Rattle.pgo_resource.specs.declared.picks.Picks.{Picks};
 ghost use Rattle.pgo_macro_run.specs.AroundView.{given_of, env_of, now_of, EndedSo, BlockSo};
 ghost use Rattle.pgo_macro_run.specs.Given.{Answer};
@@ -32,7 +32,7 @@ fn run_statement(
     s: &Stmt,
 ) -> Result<Option<Value>, OpStop>
     ensures words { words_of picks.new ≡ words_of picks.old }
-    ensures first { first_of picks.new ≡ first_of picks.old }
+    ensures first { attempt_words picks.new ≡ attempt_words picks.old }
     ensures names { OnOk result (names.new.items ≡ names.old.items) }
     ensures ended { EndedSo (runs.run (given_of around.now (words_of picks.old)) (statement s.now) (env_of names.old.items) (now_of content.old picks.old)) content.new picks.new result }
 {
@@ -54,7 +54,7 @@ fn follow(
     next: Next<'_>,
 ) -> Result<Option<Value>, OpStop>
     ensures words { words_of picks.new ≡ words_of picks.old }
-    ensures first { first_of picks.new ≡ first_of picks.old }
+    ensures first { attempt_words picks.new ≡ attempt_words picks.old }
     ensures names { OnOk result (names.new.items ≡ names.old.items) }
     ensures ended { EndedSo (rest_of (given_of around.now (words_of picks.old)) next.entry (env_of names.old.items) (now_of content.old picks.old)) content.new picks.new result }
 {
@@ -78,7 +78,7 @@ pub fn run_rows(
     b: &Block,
 ) -> Result<Option<Value>, OpStop>
     ensures words { words_of picks.new ≡ words_of picks.old }
-    ensures first { first_of picks.new ≡ first_of picks.old }
+    ensures first { attempt_words picks.new ≡ attempt_words picks.old }
     ensures names { OnOk result (names.new.items ≡ names.old.items) }
     ensures ended { EndedSo (runs.rows (given_of around.now (words_of picks.old)) (labeled b.now) (env_of names.old.items) (now_of content.old picks.old)) content.new picks.new result }
 {
@@ -115,7 +115,7 @@ pub fn run_block(
     b: &Block,
 ) -> Result<(Value, Option<Value>), OpStop>
     ensures words { words_of picks.new ≡ words_of picks.old }
-    ensures first { first_of picks.new ≡ first_of picks.old }
+    ensures first { attempt_words picks.new ≡ attempt_words picks.old }
     ensures ended { BlockSo (runs.rows (given_of around.now (words_of picks.old)) (labeled b.now) (env_of names.items) (record { content = None; choices = choices_of picks.old })) picks.new result }
 {
     let mut content = None;

@@ -10,7 +10,7 @@ ghost use Rattle.pgo_sections.specs.BoundValues.{bindable};
 ghost use Rattle.pgo_syntax.specs.Statement.{guarded, statements};
 ghost use Rattle.pgo_syntax.specs.StatementSize.{height, guarded_height, statements_height};
 ghost use Rattle.pgo_syntax.specs.StatementView.{statement, branch_parts};
-ghost use Rattle.pgo_resource.specs.Picked.{first_of, words_of, choices_of};
+ghost use Rattle.pgo_resource.specs.Picked.{attempt_words, words_of};
 ghost use Rattle.pgo_resource.specs.declared.picks.Picks.{Picks};
 ghost use Rattle.pgo_macro_run.specs.Answers.{GivesSo};
 ghost use Rattle.pgo_macro_run.specs.AroundView.{given_of, value_in, env_of, now_of, Begins};
@@ -167,7 +167,7 @@ fn yield_as<'s>(
 /// An `either`: the statement that the next word picks.
 fn either<'s>(arms: &'s [Stmt], picks: &mut Picks) -> Result<Next<'s>, OpStop>
     ensures words { words_of picks.new ≡ words_of picks.old }
-    ensures first { first_of picks.new ≡ first_of picks.old }
+    ensures first { attempt_words picks.new ≡ attempt_words picks.old }
     ensures next { (a : Around) (env : Names) (c : Option Value) → let g = given_of a (words_of picks.old) in let ts = statements (map statement arms.now) in NextSo (suc (statements_height ts)) g (let many = runs.count ts in let n = now_of c picks.old in let i = next_pick (words_of picks.old) n many in runs.arm g ts i env (drawn many i n)) env (now_of c picks.new) picks.new result }
 {
     if arms.is_empty() {
@@ -204,7 +204,7 @@ fn with_in<'s>(
     t: &'s Stmt,
 ) -> Result<Next<'s>, OpStop>
     ensures words { words_of picks.new ≡ words_of picks.old }
-    ensures first { first_of picks.new ≡ first_of picks.old }
+    ensures first { attempt_words picks.new ≡ attempt_words picks.old }
     ensures begins { OnOk result (Begins names.old.items names.new.items) }
     ensures next { let g = given_of around.now (words_of picks.old) in NextSo (suc (height (statement t.now))) g (then_in (bind_all g list.now (env_of names.old.items) (now_of content.now picks.old)) (λ env m. runs.run g (statement t.now) env m)) (env_of names.new.items) (now_of content.now picks.new) picks.new result }
 {
@@ -222,7 +222,7 @@ pub fn step<'s>(
     s: &'s Stmt,
 ) -> Result<Next<'s>, OpStop>
     ensures words { words_of picks.new ≡ words_of picks.old }
-    ensures first { first_of picks.new ≡ first_of picks.old }
+    ensures first { attempt_words picks.new ≡ attempt_words picks.old }
     ensures begins { OnOk result (Begins names.old.items names.new.items) }
     ensures next { let g = given_of around.now (words_of picks.old) in NextSo (height (statement s.now)) g (runs.run g (statement s.now) (env_of names.old.items) (now_of content.old picks.old)) (env_of names.new.items) (now_of content.new picks.new) picks.new result }
 {

@@ -7,7 +7,7 @@ ghost use Rattle.pgo_model.specs.Choice.{pick};
 ghost use Rattle.pgo_model.specs.Operators.{truth_of, members_of};
 ghost use Rattle.pgo_sections.specs.BoundValues.{bindable};
 ghost use Rattle.pgo_sections.specs.SectionRun.{choice_among};
-ghost use Rattle.pgo_resource.specs.Picked.{first_of, words_of, choices_of};
+ghost use Rattle.pgo_resource.specs.Picked.{attempt_words, words_of, choices_of};
 ghost use Rattle.pgo_resource.specs.declared.resource.OpStop.TheVariants as stops;
 ghost use Rattle.pgo_macro_run.specs.Answers.{GivesSo};
 ghost use Rattle.pgo_macro_run.specs.AroundView.{given_of, value_in, env_of, now_of, ValueSo, BoundSo, Begins};
@@ -81,7 +81,7 @@ fn is_true(v: &Value) -> Result<bool, OpStop>
 pub fn next_pick(picks: &mut Picks, n: usize) -> Result<usize, OpStop>
     requires { 0 < n }
     ensures words { words_of picks.new ≡ words_of picks.old }
-    ensures first { first_of picks.new ≡ first_of picks.old }
+    ensures first { attempt_words picks.new ≡ attempt_words picks.old }
     ensures number { IfOk result (λ i. i ≡ pick (words_of picks.old (length (choices_of picks.old))) n) }
     ensures made { IfOk result (λ i. choices_of picks.new ≡ record { count = n; taken = i } ∷ choices_of picks.old) }
     ensures err { IfErr result (λ x. x ≡ stops.NoMemory) }
@@ -96,7 +96,7 @@ pub fn next_pick(picks: &mut Picks, n: usize) -> Result<usize, OpStop>
 /// The choice of an `either` without arms, which counts as one among one.
 pub fn only_pick(picks: &mut Picks) -> Result<(), OpStop>
     ensures words { words_of picks.new ≡ words_of picks.old }
-    ensures first { first_of picks.new ≡ first_of picks.old }
+    ensures first { attempt_words picks.new ≡ attempt_words picks.old }
     ensures made { OnOk result (choices_of picks.new ≡ choice_among 0 0 ∷ choices_of picks.old) }
     ensures err { IfErr result (λ x. x ≡ stops.NoMemory) }
 {
@@ -107,7 +107,7 @@ pub fn only_pick(picks: &mut Picks) -> Result<(), OpStop>
 /// The member of a set that the next word picks.
 fn choose(alloc: Global, v: &Value, picks: &mut Picks) -> Result<Value, OpStop>
     ensures words { words_of picks.new ≡ words_of picks.old }
-    ensures first { first_of picks.new ≡ first_of picks.old }
+    ensures first { attempt_words picks.new ≡ attempt_words picks.old }
     ensures value { (c : Option Value) → ValueSo (needs (members_of (data_of v.now)) (choices_of picks.old) (λ ms. given.choose (words_of picks.old) ms (now_of c picks.old))) c picks.new result }
 {
     let Some(set) = as_set(v) else {
@@ -131,7 +131,7 @@ fn member(
     picks: &mut Picks,
 ) -> Result<Value, OpStop>
     ensures words { words_of picks.new ≡ words_of picks.old }
-    ensures first { first_of picks.new ≡ first_of picks.old }
+    ensures first { attempt_words picks.new ≡ attempt_words picks.old }
     ensures value { ValueSo (needs (option_and_then members_of (value_in around.now (tree e.now) (env_of names.now) (option_map data_of content.now))) (choices_of picks.old) (λ ms. given.choose (words_of picks.old) ms (now_of content.now picks.old))) content.now picks.new result }
 {
     let v = around.value(alloc, names, content, e)?;
@@ -148,7 +148,7 @@ fn origin(
     picks: &mut Picks,
 ) -> Result<Value, OpStop>
     ensures words { words_of picks.new ≡ words_of picks.old }
-    ensures first { first_of picks.new ≡ first_of picks.old }
+    ensures first { attempt_words picks.new ≡ attempt_words picks.old }
     ensures value { ValueSo (given.origin (given_of around.now (words_of picks.old)) o.now (env_of names.now) (now_of content.now picks.old)) content.now picks.new result }
 {
     match o {
@@ -185,7 +185,7 @@ pub fn bind_all(
     picks: &mut Picks,
 ) -> Result<(), OpStop>
     ensures words { words_of picks.new ≡ words_of picks.old }
-    ensures first { first_of picks.new ≡ first_of picks.old }
+    ensures first { attempt_words picks.new ≡ attempt_words picks.old }
     ensures begins { OnOk result (Begins names.old.items names.new.items) }
     ensures bound { BoundSo (given.bind_all (given_of around.now (words_of picks.old)) list.now (env_of names.old.items) (now_of content.now picks.old)) (env_of names.new.items) content.now picks.new result }
 {

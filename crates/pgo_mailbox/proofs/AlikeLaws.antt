@@ -9,10 +9,10 @@ use Rattle.pgo_sections.specs.SectionRun.{ChoiceMade}
 use Rattle.pgo_workers.specs.Operations.{read_of, write_of, Ends}
 use Rattle.pgo_workers.specs.View.{Shown}
 use Rattle.pgo_resource.specs.Answers.{Read, Written, SameWords as Kept}
-use Rattle.pgo_resource.specs.Picked.{first_of, words_of, choices_of}
+use Rattle.pgo_resource.specs.Picked.{attempt_words, words_of, choices_of}
 use Rattle.pgo_resource.specs.declared.picks.Picks.{Picks}
 use Rattle.pgo_cells.specs.CellView.{cell_view}
-use Rattle.pgo_mailbox.specs.Alike.{Call, Reads, Writes, PreCommits, Commits, Aborts, Answer, Gave, Done, Stopped, IsDown, StopsBy, Made, AllMade, SameWords, Alike}
+use Rattle.pgo_mailbox.specs.Alike.{Call, Reads, Writes, PreCommits, Commits, Aborts, Answer, Gave, Done, Stopped, IsDown, StopsBy, Made, AllMade, SamePicks, Alike}
 use Rattle.pgo_mailbox.specs.BoxView.{box_view}
 
 -- ---- two ends of one run
@@ -41,15 +41,15 @@ write_stop AssertFails s t p q m ds id at x h = h
 write_stop Many s t p q m ds id at x h = absurd h
 
 -- ---- one call
-module _ (m : Mapping) (ds : List Defined) (id : Data) (at : Option Data) (s t t' : Shown) (p p' q q' : Picks) (w : SameWords p q) where
+module _ (m : Mapping) (ds : List Defined) (id : Data) (at : Option Data) (s t t' : Shown) (p p' q q' : Picks) (w : SamePicks p q) where
   -- both begin alike
   same_read : read_of m ds id at (words_of p) s.current (choices_of p) ≡ read_of m ds id at (words_of q) s.current (choices_of q)
   same_read = λ i. read_of m ds id at (w.0 i) s.current (w.2 i)
 
-  kept : (choices_of p' ≡ choices_of q') → Kept p p' → Kept q q' → SameWords p' q'
+  kept : (choices_of p' ≡ choices_of q') → Kept p p' → Kept q q' → SamePicks p' q'
   kept e h k = (h.0 ∙ w.0 ∙ sym k.0, h.1 ∙ w.1 ∙ sym k.1, e)
 
-  read_alike : (a b : Answer) → Made (Reads m ds id at) s t p p' a → Made (Reads m ds id at) s t' q q' b → (a ≡ b) × (t ≡ t') × SameWords p' q'
+  read_alike : (a b : Answer) → Made (Reads m ds id at) s t p p' a → Made (Reads m ds id at) s t' q q' b → (a ≡ b) × (t ≡ t') × SamePicks p' q'
   read_alike (Gave x) (Gave y) h k =
       let g = gave_both _ _ _ _ (sym h.2.2 ∙ same_read ∙ k.2.2) in (
         ap Gave (sym h.1 ∙ ap (λ z. z.0) g.0 ∙ k.1),
@@ -73,7 +73,7 @@ module _ (m : Mapping) (ds : List Defined) (id : Data) (at : Option Data) (s t t
     same_write : write_of m ds id at x (words_of p) s.current (choices_of p) ≡ write_of m ds id at x (words_of q) s.current (choices_of q)
     same_write = λ i. write_of m ds id at x (w.0 i) s.current (w.2 i)
 
-    write_alike : (a b : Answer) → Made (Writes m ds id at x) s t p p' a → Made (Writes m ds id at x) s t' q q' b → (a ≡ b) × (t ≡ t') × SameWords p' q'
+    write_alike : (a b : Answer) → Made (Writes m ds id at x) s t p p' a → Made (Writes m ds id at x) s t' q q' b → (a ≡ b) × (t ≡ t') × SamePicks p' q'
     write_alike Done Done h k =
         let g = gave_both _ _ _ _ (sym h.2 ∙ same_write ∙ k.2) in
         (refl, h.0 ∙ ap (λ z. record s { current = z }) g.0 ∙ sym k.0, kept g.1 h.1 k.1)
@@ -90,10 +90,10 @@ module _ (m : Mapping) (ds : List Defined) (id : Data) (at : Option Data) (s t t
     write_alike (Stopped i) (Gave y) h k = absurd k
     write_alike (Stopped i) (IsDown n) h k = absurd k
 
-same_words : (p p' q q' : Picks) → SameWords p q → p' ≡ p → q' ≡ q → SameWords p' q'
-same_words p p' q q' w e f = (ap words_of e ∙ w.0 ∙ sym (ap words_of f), ap first_of e ∙ w.1 ∙ sym (ap first_of f), ap choices_of e ∙ w.2 ∙ sym (ap choices_of f))
+same_words : (p p' q q' : Picks) → SamePicks p q → p' ≡ p → q' ≡ q → SamePicks p' q'
+same_words p p' q q' w e f = (ap words_of e ∙ w.0 ∙ sym (ap words_of f), ap attempt_words e ∙ w.1 ∙ sym (ap attempt_words f), ap choices_of e ∙ w.2 ∙ sym (ap choices_of f))
 
-plain_alike : (c : Call) (s t t' : Shown) (p p' q q' : Picks) → SameWords p q → (a b : Answer) → Made c s t p p' a → Made c s t' q q' b → (a ≡ b) × (t ≡ t') × SameWords p' q'
+plain_alike : (c : Call) (s t t' : Shown) (p p' q q' : Picks) → SamePicks p q → (a b : Answer) → Made c s t p p' a → Made c s t' q q' b → (a ≡ b) × (t ≡ t') × SamePicks p' q'
 plain_alike (Reads m ds id at) s t t' p p' q q' w a b h k = read_alike m ds id at s t t' p p' q q' w a b h k
 plain_alike (Writes m ds id at x) s t t' p p' q q' w a b h k = write_alike m ds id at s t t' p p' q q' w x a b h k
 plain_alike (PreCommits l) s t t' p p' q q' w Done Done h k = (refl, h.0 ∙ sym k.0, same_words p p' q q' w h.2 k.2)
@@ -122,7 +122,7 @@ plain_alike Aborts s t t' p p' q q' w Done (Stopped j) h k = absurd k
 plain_alike Aborts s t t' p p' q q' w Done (IsDown j) h k = absurd k
 
 -- ---- all calls
-pub all_alike : (cs : List Call) (s t t' : Shown) (p p' q q' : Picks) → SameWords p q → (as' bs : List Answer) → AllMade cs s t p p' as' → AllMade cs s t' q q' bs → (as' ≡ bs) × (t ≡ t') × SameWords p' q'
+pub all_alike : (cs : List Call) (s t t' : Shown) (p p' q q' : Picks) → SamePicks p q → (as' bs : List Answer) → AllMade cs s t p p' as' → AllMade cs s t' q q' bs → (as' ≡ bs) × (t ≡ t') × SamePicks p' q'
 all_alike [] s t t' p p' q q' w [] [] h k = (refl, h.0 ∙ sym k.0, same_words p p' q q' w h.1 k.1)
 all_alike [] s t t' p p' q q' w (a ∷ as') bs h k = absurd h
 all_alike [] s t t' p p' q q' w [] (b ∷ bs) h k = absurd k

@@ -12,7 +12,7 @@ use Rattle.pgo_syntax.specs.declared.bound.Mapping.{Mapping}
 use Rattle.pgo_workers.specs.View.{Shown, raised}
 use Rattle.pgo_workers.specs.Worker.{counted}
 use Rattle.pgo_resource.specs.Answers.{Read, Written, fails}
-use Rattle.pgo_resource.specs.Picked.{first_of, words_of, choices_of}
+use Rattle.pgo_resource.specs.Picked.{attempt_words, words_of, choices_of}
 use Rattle.pgo_resource.specs.declared.picks.Picks.{Picks}
 use Rattle.pgo_resource.specs.declared.resource.OpStop.{OpStop}
 use Rattle.pgo_resource.specs.declared.resource.OpStop.TheVariants as stops
@@ -70,11 +70,11 @@ AllMade (c ∷ cs) s t p q [] = ⊥
 AllMade (c ∷ cs) s t p q (a ∷ as') = (u : Shown) × (r : Picks) × Made c s u p r a × AllMade cs u t r q as'
 
 -- the same words of choice, and the same choices were made
-abbrev pub SameWords : Picks → Picks → Type 0
-SameWords p q = (words_of p ≡ words_of q) × (first_of p ≡ first_of q) × (choices_of p ≡ choices_of q)
+abbrev pub SamePicks : Picks → Picks → Type 0
+SamePicks p q = (words_of p ≡ words_of q) × (attempt_words p ≡ attempt_words q) × (choices_of p ≡ choices_of q)
 
 -- of a mailbox and a cell that show the same, every list of calls has the same answers, and they show the same behind it
 abbrev pub Alike : Type 0
-Alike = (cs : List Call) (b b' : Mailbox) (c c' : Cell) (p p' q q' : Picks) (as' bs : List Answer) → box_view b ≡ cell_view c → SameWords p q
+Alike = (cs : List Call) (b b' : Mailbox) (c c' : Cell) (p p' q q' : Picks) (as' bs : List Answer) → box_view b ≡ cell_view c → SamePicks p q
     → AllMade cs (box_view b) (box_view b') p p' as' → AllMade cs (cell_view c) (cell_view c') q q' bs
-    → (as' ≡ bs) × (box_view b' ≡ cell_view c') × SameWords p' q'
+    → (as' ≡ bs) × (box_view b' ≡ cell_view c') × SamePicks p' q'

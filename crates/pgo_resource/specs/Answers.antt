@@ -16,7 +16,7 @@ use Rattle.pgo_workers.specs.View.{Shown, View, World, TakeHeld, JournalHeld, Jo
 use Rattle.pgo_resource.specs.declared.attempts.NotCommitted.{NotCommitted}
 use Rattle.pgo_resource.specs.declared.attempts.NotNoted.{NotNoted}
 use Rattle.pgo_syntax.specs.declared.records.Note.{Note}
-use Rattle.pgo_resource.specs.Picked.{first_of, words_of, choices_of}
+use Rattle.pgo_resource.specs.Picked.{attempt_words, words_of, choices_of}
 use Rattle.pgo_syntax.specs.declared.records.Refusal.{Refusal}
 use Rattle.pgo_resource.specs.declared.picks.Picks.{Picks}
 use Rattle.pgo_resource.specs.declared.resource.OpStop.{OpStop}
@@ -37,7 +37,7 @@ StopsSo stops.NoMemory E = Unit {0}
 
 -- the words are the same, those of the attempt and those of the leaf under way
 abbrev pub SameWords : Picks → Picks → Type 0
-SameWords p q = (words_of q ≡ words_of p) × (first_of q ≡ first_of p)
+SameWords p q = (words_of q ≡ words_of p) × (attempt_words q ≡ attempt_words p)
 
 -- a read of a content that was as `old` is answered so, and the content is as `new`
 abbrev pub Read : Mapping → List Defined → (id : Data) → (at : Option Data) → (old new : Shown) → Picks → Picks → Result Value OpStop → Type 0

@@ -8,8 +8,8 @@ use Rattle.pgo_resource.specs.declared.picks.Picks.{Picks}
 use Rattle.pgo_resource.specs.Points.{source_of, point_view}
 
 -- the words of the attempt, which are those of its first leaf
-abbrev pub first_of : Picks → Words
-first_of p = choice.words_of (source_of p.source)
+abbrev pub attempt_words : Picks → Words
+attempt_words p = choice.words_of (source_of p.source)
 
 -- the picks with which this leaf begins
 abbrev pub path_of : Picks → List ℕ
@@ -17,7 +17,7 @@ path_of p = p.path.items
 
 -- the words of this leaf: its path, and behind it those of the attempt
 abbrev pub words_of : Picks → Words
-words_of p = along 0 (path_of p) (first_of p)
+words_of p = along 0 (path_of p) (attempt_words p)
 
 -- the choices that were made in this leaf, in order
 abbrev pub points_of : Picks → List ChoiceMade

@@ -37,7 +37,7 @@ pub struct Turn {
     pub pick: u32,
 }
 
-/// The last choice of some at which some pick wasn't made, and the next pick there.
+/// The last of these choices at which a pick is left that wasn't made, and the next pick there.
 pub fn last_turn(source: &Source, points: &[Point]) -> Option<Turn>
     requires picks { All IsPick points.now }
     ensures turned { option_map (turned_to points.now) result ≡ turned (choice.words_of (source_of source.now)) 0 (map point_view points.now) }

@@ -14,5 +14,6 @@ pub mod StatementSize
 pub mod StatementView
 pub mod StatementFalls
 pub mod RecordView
+pub mod ManyLeaves
 pub mod Least
 pub mod UnitNames

@@ -1,11 +1,15 @@
 // What becomes of the attempts of a run, and how a run is set.
 ghost use Rattle.std.specs.Prelude.{◌≡◌, [], ◌∷◌, ◌++◌, option_map, IfOk};
 ghost use Rattle.pgo_model.specs.Core.{is_listed, end_by};
+ghost use Rattle.pgo_syntax.specs.ManyLeaves.{noted_result};
 ghost use Rattle.pgo_syntax.specs.RecordView.{ended, result_view};
 
 use pgo_base::items::Items;
 use std::alloc::{AllocError, Global};
 use std::marker::Model;
+
+/// How many leaves an attempt tries at most.
+pub const MOST_LEAVES: u32 = 65_536;
 
 /// Why an attempt found no end: an `await` is FALSE or a `with` has no member, an expression has no value, or an
 /// `assert` is FALSE.
@@ -39,11 +43,12 @@ pub enum Refusal {
     Down { resource: u32, op: u32 },
     /// the journal has so many entries, and room for no more
     Full { entries: u32 },
-    /// so many of its choices were blocked, with so many entries before its note, and there are more
+    /// so many of its choices were blocked, with so many entries before its note, and there are more; so many are `MOST_LEAVES`
     Many { leaves: u32, position: u32 },
 }
 
-/// What became of an attempt: entry n (from 1), a note with n entries before it, or a refusal.
+/// What became of an attempt: entry n (from 1), a note with n entries before it, or a refusal. An attempt with a note of kind
+/// Many is the refusal Many.
 #[derive(Clone, Copy)]
 pub enum AttemptResult {
     Step { n: u32 },
@@ -74,6 +79,23 @@ pub enum End {
 }
 
 impl AttemptResult {
+    /// What became of an attempt that has a note of this kind, with n entries before it.
+    pub fn of_note(kind: NoteKind, n: u32) -> AttemptResult
+        ensures { result ≡ noted_result kind n }
+    {
+        match kind {
+            NoteKind::Blocked | NoteKind::NoValue | NoteKind::AssertFails => {
+                AttemptResult::Noted { kind, n }
+            }
+            NoteKind::Many => AttemptResult::Refused {
+                refusal: Refusal::Many {
+                    leaves: MOST_LEAVES,
+                    position: n,
+                },
+            },
+        }
+    }
+
     /// The end that it shows where it is the last of an instance's records; none where the instance goes on.
     pub fn shown_end(self) -> Option<End>
         ensures { result ≡ option_map ended (end_by (result_view self ∷ [])) }

@@ -1,11 +1,11 @@
 -- Where all contents are put back as they were, worker and board still meet.
-use Rattle.std.proofs.Common.{◌≡◌, ◌≤◌, ℕ, Bool, true, false, List, [], ◌∷◌, ◌++◌, length, Option, Some, refl, sym, ap, ◌∙◌, subst, arith, ◌⊎◌, inl, inr}
+use Rattle.std.proofs.Common.{◌≡◌, ℕ, Bool, true, false, List, [], ◌∷◌, ◌++◌, refl, sym, ap, ◌∙◌, subst, arith, ◌⊎◌, inl, inr}
 use Rattle.pgo_base.specs.Data.{Data}
 use Rattle.pgo_model.specs.Machine.{among}
-use Rattle.pgo_workers.specs.Walk.{Walk, Stop, Touch, Again, Along, Within, settled, taken_after, along_settled, within_settled}
+use Rattle.pgo_workers.specs.Walk.{Walk, Stop, Touch, Again, Along, settled, taken_after, along_settled, within_settled}
 use Rattle.pgo_workers.specs.View.{Hold, View, World, EachHold, IsSteady, resources_of, values_of, nows_of, aborted}
 use Rattle.pgo_workers.specs.Worker.{Program, Worker, with_held, walks_on, attempt, put_back}
-use Rattle.pgo_workers.specs.Sentences.{IsOwn, Under, Taken, Sound, Meets, Runs}
+use Rattle.pgo_workers.specs.Sentences.{IsOwn, Under, Sound, Meets, Runs}
 use Rattle.pgo_workers.specs.Holds as holds
 
 again_touch : (w : Walk) (r : ℕ) (l : Data → Data) (s : Data → Walk) → Again w ≡ Touch r l s → ⊥

@@ -6,7 +6,7 @@ use Rattle.pgo_base.specs.Data.{Data}
 use Rattle.pgo_model.specs.Machine.{Entry, Record, among, put, last_ends, nth}
 use Rattle.pgo_model.specs.MachineLists.{nth_below, nth_end}
 use Rattle.pgo_model.specs.MachineAccounts.{equal_or, append_none}
-use Rattle.pgo_workers.specs.Walk.{Own, End, Goes, Walk, Stop, Touch, Again, At, Agrees, Along, Within, visits, visits_from, ending, ending_from, taken_after, among_append, append_assoc, along_start, along_takes, along_operates, agrees_first}
+use Rattle.pgo_workers.specs.Walk.{Own, End, Goes, Walk, Stop, Touch, Again, At, Agrees, Along, Within, visits, visits_from, ending_from, taken_after, among_append, append_assoc, along_start, along_takes, along_operates, agrees_first}
 use Rattle.pgo_workers.specs.View.{Shown, Hold, Taking, Told, View, World, Others, OtherNotes, EachHold, Once, Same, Grows, hold_at, resources_of, values_of, nows_of, with_content, own_left, own_seen, Takes, untold, answers}
 use Rattle.pgo_workers.specs.Worker.{Program, Phase, is_resting, Resting, Walking, Giving, Worker, with_held, walks_on, attempt, rest_of, readied_of, Goes_on, is_giving, counted}
 use Rattle.pgo_workers.specs.Sentences.{refusals, downs, Sub, flat, OthersAt, Shows, Ends, AccountsOfOne, OwnThen, Past, History, Under, Taken, PassedBy, Place, TakenNow, Lists, Sound, Meets, Runs, IsOwn}

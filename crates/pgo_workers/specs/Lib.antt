@@ -11,6 +11,7 @@ pub mod Kept
 pub mod Backs
 pub mod Ends
 pub mod Turns
+pub mod Settles
 pub mod Stops
 pub mod Closed
 pub mod Grown

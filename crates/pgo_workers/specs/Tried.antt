@@ -1,19 +1,28 @@
 -- The tree of an attempt that tries its choices one after another, from the trees of the leaves.
-use Rattle.std.proofs.Common.{◌≡◌, ◌≤◌, ◌<◌, ℕ, zero, suc, Bool, true, false, List, [], ◌∷◌, ◌++◌, length, Option, Some, None, refl, sym, ap, ◌∙◌, subst, arith}
+use Rattle.std.proofs.Common.{◌≡◌, ℕ, zero, suc, Bool, false, List, [], ◌∷◌, ◌++◌, Option, Some, None, refl, sym, ap, ◌∙◌, arith}
 use Rattle.std.specs.Prelude.{if◌then◌else◌}
 use Rattle.pgo_base.specs.Data.{Data}
 use Rattle.pgo_model.specs.Machine.{put}
-use Rattle.pgo_model.specs.Outcome.{Kind, Blocked, NoValue, AssertFails, Many, Outcome, Next, Stuck, Nowhere, Section}
+use Rattle.pgo_model.specs.Outcome.{Kind, Blocked, Many, Stuck, Section}
 use Rattle.pgo_model.specs.System.{Words}
 use Rattle.pgo_tries.specs.Chosen.{ChoiceMade, turned}
 use Rattle.pgo_tries.specs.Sections.{along}
 use Rattle.pgo_tries.specs.Attempts.{Tried, is_blocked, then_next, try_from}
-use Rattle.pgo_workers.specs.Walk.{Own, End, Goes, Sticks, Steps, Stop, Touch, Again, Walk, visits_from, ending_from, final_from, visits, ending, final, settled}
+use Rattle.pgo_workers.specs.Walk.{Own, End, Goes, Sticks, Steps, Stop, Touch, Again, Walk, Leaves, Within, StraightWithin, visits_from, ending_from, final_from, visits, ending, final, settled, within_settled, visits_settled, ending_settled, final_settled}
 
 -- how a leaf ends: with an end, or Blocked, with the choices that it made, the first first
 pub data LeafEnd : Type 0 where
   Leads : (e : End) → LeafEnd
   Blocks : (points : List ChoiceMade) → LeafEnd
+
+-- what is done by the section with some words of choice
+abbrev pub LeafTree : Type 0
+LeafTree = Steps LeafEnd
+
+-- what is left of the own components meets Q, where there is no note
+abbrev pub LeafLeaves : (Own → Type 0) → LeafEnd → Type 0
+LeafLeaves Q (Leads e) = Leaves Q e
+LeafLeaves Q (Blocks points) = Unit {0}
 
 -- and then what k makes of the end
 abbrev pub and_then : {E F : Type 0} → Steps E → (E → Steps F) → Steps F
@@ -30,9 +39,13 @@ on_end w f (Leads e) = Stop e
 on_end w f (Blocks points) = next_leaf f (turned w 0 points)
 
 -- at most `room` leaves, from the path p on; each is the tree with the words along its path
-abbrev pub trying : (leaf : List ℕ → Steps LeafEnd) → Words → (room : ℕ) → List ℕ → Walk
+abbrev pub trying : (leaf : List ℕ → LeafTree) → Words → (room : ℕ) → List ℕ → Walk
 trying leaf w zero p = Stop (Sticks Many)
 trying leaf w (suc room) p = and_then (leaf p) (on_end w (λ q. trying leaf w room q))
+
+-- the tree of an attempt, which begins at an access or an end
+abbrev pub attempting : (leaf : List ℕ → LeafTree) → Words → (room : ℕ) → Walk
+attempting leaf w room = settled (trying leaf w room [])
 
 -- ---- laws
 
@@ -52,21 +65,21 @@ final_then s (Touch r leave rest) k f = final_then s (rest (f r)) k (put r (leav
 final_then s (Again t) k f = final_then s t k s
 
 -- a leaf's section is the leaf's tree: it accesses what the tree visits, and ends as the tree does
-pub record LeafIs {S : Type 0} (x : Tried ℕ S) (t : Steps LeafEnd) (f : ℕ → Data) : Type 0 where
+pub record LeafIs {S : Type 0} (x : Tried ℕ S) (t : LeafTree) (f : ℕ → Data) : Type 0 where
   pub trace : x.section.trace ≡ visits t f
   pub blocks : (points : List ChoiceMade) → ending t f ≡ Blocks points → (x.section.end ≡ Stuck Blocked) × (x.points ≡ points)
   pub sticks : (kind : Kind) → ending t f ≡ Leads (Sticks kind) → (x.section.end ≡ Stuck kind) × (is_blocked x.section.end ≡ false)
   pub goes : (o : Own) (ps : List Data) → ending t f ≡ Leads (Goes o ps) → is_blocked x.section.end ≡ false
 
 -- an attempt is the tree that tries
-pub record TryIs {S : Type 0} (run : Words → Tried ℕ S) (leaf : List ℕ → Steps LeafEnd) (words : Words) (f : ℕ → Data) (x : Section ℕ S) (w : Walk) : Type 0 where
+pub record TryIs {S : Type 0} (run : Words → Tried ℕ S) (leaf : List ℕ → LeafTree) (words : Words) (f : ℕ → Data) (x : Section ℕ S) (w : Walk) : Type 0 where
   pub trace : x.trace ≡ visits w f
   pub sticks : (kind : Kind) → ending w f ≡ Sticks kind → x.end ≡ Stuck kind
   -- where it goes on it ends as one of its leaves does
   pub goes : (o : Own) (ps : List Data) → ending w f ≡ Goes o ps
       → (p : List ℕ) × (ending (leaf p) f ≡ Leads (Goes o ps)) × (x.end ≡ (run (along 0 p words)).section.end) × ((r : ℕ) → final w f r ≡ final (leaf p) f r)
 
-module _ {S : Type 0} (run : Words → Tried ℕ S) (leaf : List ℕ → Steps LeafEnd) (words : Words) (f : ℕ → Data) (each : (p : List ℕ) → LeafIs (run (along 0 p words)) (leaf p) f) where
+module _ {S : Type 0} (run : Words → Tried ℕ S) (leaf : List ℕ → LeafTree) (words : Words) (f : ℕ → Data) (each : (p : List ℕ) → LeafIs (run (along 0 p words)) (leaf p) f) where
   abbrev Is : Section ℕ S → Walk → Type 0
   Is x w = TryIs run leaf words f x w
 
@@ -149,3 +162,37 @@ module _ {S : Type 0} (run : Words → Tried ℕ S) (leaf : List ℕ → Steps L
                     let g = i.goes o ps (sym end ∙ z) in
                     (g.0, g.1, ap (λ (x : Section ℕ S). x.end) e ∙ g.2, λ r. ap (λ g. g r) (leaves (Blocks points) is ∙ ap (λ o. final_from f (next_leaf (λ q. trying leaf words room q) o) (final (leaf p) f)) n) ∙ g.3 r);
               }
+
+  -- and so is it from the first access or end on
+  pub attempt_is : (room : ℕ) → Is (try_from run words room []) (attempting leaf words room)
+  attempt_is room =
+      let w = trying leaf words room [] in
+      let t = tried_is room [] in
+      record {
+        trace = t.trace ∙ sym (visits_settled w f);
+        sticks = λ kind e. t.sticks kind (sym (ending_settled w f) ∙ e);
+        goes = λ o ps e. let g = t.goes o ps (sym (ending_settled w f) ∙ e) in (g.0, g.1, g.2, λ r. ap (λ h. h r) (final_settled w f) ∙ g.3 r);
+      }
+
+-- ---- whatever is found
+
+within_then : (P : ℕ → Type 0) (Q : Own → Type 0) (t : LeafTree) (k : LeafEnd → Walk) → StraightWithin P (LeafLeaves Q) t → ((e : LeafEnd) → LeafLeaves Q e → Within P Q (k e)) → Within P Q (and_then t k)
+within_then P Q (Stop e) k h g = g e h
+within_then P Q (Touch r leave rest) k h g = (h.0, λ v. within_then P Q (rest v) k (h.1 v) g)
+within_then P Q (Again t) k h g = absurd h
+
+module _ (P : ℕ → Type 0) (Q : Own → Type 0) (leaf : List ℕ → LeafTree) (each : (p : List ℕ) → StraightWithin P (LeafLeaves Q) (leaf p)) (words : Words) where
+  trying_within : (room : ℕ) (p : List ℕ) → Within P Q (trying leaf words room p)
+  trying_within zero p = tt
+  trying_within (suc room) p = within_then P Q (leaf p) (on_end words (λ q. trying leaf words room q)) (each p) (λ e h. end e h (λ q. trying_within room q))
+    where
+      next : (o : Option (List ℕ)) → ((q : List ℕ) → Within P Q (trying leaf words room q)) → Within P Q (next_leaf (λ q. trying leaf words room q) o)
+      next None ih = tt
+      next (Some q) ih = ih q
+
+      end : (e : LeafEnd) → LeafLeaves Q e → ((q : List ℕ) → Within P Q (trying leaf words room q)) → Within P Q (on_end words (λ q. trying leaf words room q) e)
+      end (Leads e) h ih = h
+      end (Blocks points) h ih = next (turned words 0 points) ih
+
+  pub attempting_within : (room : ℕ) → Within P Q (attempting leaf words room)
+  attempting_within room = within_settled P Q (trying leaf words room []) (trying_within room [])

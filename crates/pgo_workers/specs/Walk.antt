@@ -73,9 +73,9 @@ Within P Q (Stop e) = Leaves Q e
 Within P Q (Touch r leave rest) = P r × ((v : Data) → Within P Q (rest v))
 Within P Q (Again w) = Within P Q w
 
--- as Within, and nothing is put back
-abbrev pub StraightWithin : (ℕ → Type 0) → (Own → Type 0) → Walk → Type 0
-StraightWithin P Q (Stop e) = Leaves Q e
+-- of a walk in which nothing is put back: whatever is found, each access is of a resource that meets P, and its end meets Q
+abbrev pub StraightWithin : {E : Type 0} → (ℕ → Type 0) → (E → Type 0) → Steps E → Type 0
+StraightWithin P Q (Stop e) = Q e
 StraightWithin P Q (Touch r leave rest) = P r × ((v : Data) → StraightWithin P Q (rest v))
 StraightWithin P Q (Again w) = ⊥
 
@@ -97,7 +97,7 @@ taken_after [] taken = taken
 taken_after (r ∷ rs) taken = if among r taken then taken_after rs taken else taken_after rs (taken ++ (r ∷ []))
 
 -- behind the accesses p of w0 on f there stands w, on g
-pub record Ahead (w0 : Walk) (f : ℕ → Data) (p : List ℕ) (w : Walk) (g : ℕ → Data) : Type 0 where
+pub record Ahead {E : Type 0} (w0 : Steps E) (f : ℕ → Data) (p : List ℕ) (w : Steps E) (g : ℕ → Data) : Type 0 where
   pub trace : visits w0 f ≡ p ++ visits_from f w g
   pub ends : ending w0 f ≡ ending_from f w g
   pub leaves : (r : ℕ) → final w0 f r ≡ final_from f w g r
@@ -196,22 +196,23 @@ within_settled P Q (Stop e) h = h
 within_settled P Q (Touch r leave rest) h = h
 within_settled P Q (Again w) h = within_settled P Q w h
 
-pub settled_stays : (w : Walk) → goes_back (settled w) ≡ false
+pub settled_stays : {E : Type 0} (w : Steps E) → goes_back (settled w) ≡ false
 settled_stays (Stop e) = refl
 settled_stays (Touch r leave rest) = refl
 settled_stays (Again w) = settled_stays w
 
-pub straight_within : (P : ℕ → Type 0) (Q : Own → Type 0) (w : Walk) → StraightWithin P Q w → Within P Q w
-straight_within P Q (Stop e) h = h
-straight_within P Q (Touch r leave rest) h = (h.0, λ v. straight_within P Q (rest v) (h.1 v))
-straight_within P Q (Again w) h = absurd h
+-- what a walk does from its start is what it does behind the places where contents are put back
+pub visits_settled : {E : Type 0} (w : Steps E) (f : ℕ → Data) → visits (settled w) f ≡ visits w f
+visits_settled (Stop e) f = refl
+visits_settled (Touch r leave rest) f = refl
+visits_settled (Again w) f = visits_settled w f
 
-pub straight_settled : (P : ℕ → Type 0) (Q : Own → Type 0) (w : Walk) → StraightWithin P Q w → settled w ≡ w
-straight_settled P Q (Stop e) h = refl
-straight_settled P Q (Touch r leave rest) h = refl
-straight_settled P Q (Again w) h = absurd h
+pub ending_settled : {E : Type 0} (w : Steps E) (f : ℕ → Data) → ending (settled w) f ≡ ending w f
+ending_settled (Stop e) f = refl
+ending_settled (Touch r leave rest) f = refl
+ending_settled (Again w) f = ending_settled w f
 
-pub straight_back : (P : ℕ → Type 0) (Q : Own → Type 0) (w : Walk) → StraightWithin P Q w → goes_back w ≡ false
-straight_back P Q (Stop e) h = refl
-straight_back P Q (Touch r leave rest) h = refl
-straight_back P Q (Again w) h = absurd h
+pub final_settled : {E : Type 0} (w : Steps E) (f : ℕ → Data) → final (settled w) f ≡ final w f
+final_settled (Stop e) f = refl
+final_settled (Touch r leave rest) f = refl
+final_settled (Again w) f = final_settled w f

@@ -3,7 +3,7 @@ ghost use Rattle.std.specs.Prelude.{◌≡◌, ◌<◌, ◌∷◌, [], length, I
 ghost use Rattle.pgo_model.specs.Choice as choice;
 ghost use Rattle.pgo_model.specs.Choice.{pick, word_at};
 ghost use Rattle.pgo_tries.specs.Chosen.{turned};
-ghost use Rattle.pgo_resource.specs.Picked.{first_of, path_of, words_of, points_of, choices_of};
+ghost use Rattle.pgo_resource.specs.Picked.{attempt_words, path_of, words_of, points_of, choices_of};
 
 use crate::picks::Picks;
 use crate::points::{Point, Source, last_turn, word_of, write_path};
@@ -12,8 +12,8 @@ use std::alloc::{AllocError, Global};
 impl Picks {
     /// These words, and 0 behind them. No choice is made. It takes no memory.
     pub fn of_words(alloc: Global, words: Vec<u32>) -> Picks
-        ensures first { first_of result ≡ word_at words.items }
-        ensures words { words_of result ≡ first_of result }
+        ensures first { attempt_words result ≡ word_at words.items }
+        ensures words { words_of result ≡ attempt_words result }
         ensures points { points_of result ≡ [] }
     {
         Picks {
@@ -28,8 +28,8 @@ impl Picks {
     ///
     /// Source: this project's choice, over PCG (O'Neill).
     pub fn of_seed(alloc: Global, seed: u64, instance: u32, attempt: u32) -> Picks
-        ensures first { first_of result ≡ choice.words_of (choice.Seeded seed instance attempt) }
-        ensures words { words_of result ≡ first_of result }
+        ensures first { attempt_words result ≡ choice.words_of (choice.Seeded seed instance attempt) }
+        ensures words { words_of result ≡ attempt_words result }
         ensures points { points_of result ≡ [] }
     {
         Picks {
@@ -55,7 +55,7 @@ impl Picks {
         }
     }
 
-    /// The number below n that the next word picks; the choice is made then.
+    /// The number below n that the next word picks. The choice is kept.
     ///
     /// Err only where there is no memory; then nothing has changed.
     pub fn next(&mut self, n: u32) -> Result<u32, AllocError>
@@ -64,7 +64,7 @@ impl Picks {
         ensures made { IfOk result (λ i. choices_of self.new ≡ record { count = n; taken = i } ∷ choices_of self.old) }
         ensures kept { OnErr result (choices_of self.new ≡ choices_of self.old) }
         ensures words { words_of self.new ≡ words_of self.old }
-        ensures first { first_of self.new ≡ first_of self.old }
+        ensures first { attempt_words self.new ≡ attempt_words self.old }
     {
         let taken = self.word() % n;
         self.path.reserve(self.points.len() + 1)?;
@@ -78,10 +78,10 @@ impl Picks {
     ///
     /// Source: this project's choice.
     pub fn next_leaf(&mut self) -> bool
-        ensures turns { (if result then Some (path_of self.new) else None) ≡ turned (first_of self.old) 0 (points_of self.old) }
+        ensures turns { (if result then Some (path_of self.new) else None) ≡ turned (attempt_words self.old) 0 (points_of self.old) }
         ensures begins { result ≡ true → points_of self.new ≡ [] }
         ensures same { result ≡ false → self.new ≡ self.old }
-        ensures first { first_of self.new ≡ first_of self.old }
+        ensures first { attempt_words self.new ≡ attempt_words self.old }
     {
         match last_turn(&self.source, &self.points) {
             None => false,
