@@ -18,7 +18,8 @@ use Rattle.pgo_sections.specs.FreeNames.{free_names}
 use Rattle.pgo_sections.specs.Plain.{All}
 use Rattle.pgo_sections.specs.SectionRun.{ChoiceMade}
 use Rattle.pgo_workers.specs.Walk as walks
-use Rattle.pgo_workers.specs.Walk.{Walk, Touch, Ahead, append_assoc}
+use Rattle.pgo_workers.specs.Tried.{LeafTree}
+use Rattle.pgo_workers.specs.Walk.{Touch, Ahead, append_assoc}
 use Rattle.pgo_accesses.specs.Accesses as accesses
 use Rattle.pgo_accesses.specs.Accesses.{Attempt, Progress, with_value, with_whole, reads_then, evaluating}
 use Rattle.pgo_accesses.proofs.FreeValues.{there, same_value}
@@ -101,7 +102,7 @@ module _ (K : Context) (rs : List Resource) (at_start : walks.Own) (d : Words) w
       go true e h ih = ap Some (ap (λ y. here seen pch y q.1) (sym (same_name-is x q.0 e)) ∙ h q.1 refl)
       go false e h ih = ih h
 
-  module _ (G : AsBound K rs at_start d) (w0 : Walk) (f0 : ℕ → Data) where
+  module _ (G : AsBound K rs at_start d) (w0 : LeafTree) (f0 : ℕ → Data) where
     -- what the seen values have to be
     abbrev IsSeen : List Name → Vars → Vars → Vars → Type 0
     IsSeen xs seen seen' ch =
@@ -118,7 +119,7 @@ module _ (K : Context) (rs : List Resource) (at_start : walks.Own) (d : Words) w
     one_whole : (y z : Name) → Some (Whole y) ≡ Some (Whole z) → y ≡ z
     one_whole y z e = cc
 
-    pub reads_at : (xs : List Name) (seen : Vars) (F : Vars → Walk) (ts : List Touched) (ch : Vars) (cs : List ChoiceMade) (ps : List Data) (p : Progress) (g : ℕ → Data) → Related K rs at_start d ch cs ps p g
+    pub reads_at : (xs : List Name) (seen : Vars) (F : Vars → LeafTree) (ts : List Touched) (ch : Vars) (cs : List ChoiceMade) (ps : List Data) (p : Progress) (g : ℕ → Data) → Related K rs at_start d ch cs ps p g
         → Ahead w0 f0 (numbers_of rs ts) (reads_then a xs seen F) g → (seen' : Vars) × Ahead w0 f0 (numbers_of rs (ts ++ reads_among K.places xs)) (F seen') g × IsSeen xs seen seen' ch
     reads_at [] seen F ts ch cs ps p g R h =
         (seen, subst (λ l. Ahead w0 f0 (numbers_of rs l) (F seen) g) (sym (append_none ts)) h, λ x y at k. elim k [ inl m ↦ absurd (let z : false ≡ true = m in grind (arith, z)) | inr s ↦ s ])
@@ -132,7 +133,7 @@ module _ (K : Context) (rs : List Resource) (at_start : walks.Own) (d : Words) w
         Rest seen ts = Ahead w0 f0 (numbers_of rs ts) (reads_then a xs seen F) g → (seen' : Vars) × Ahead w0 f0 (numbers_of rs (ts ++ reads_among K.places xs)) (F seen') g × IsSeen xs seen seen' ch
 
         go : (o : Option Place) → find x K.places ≡ o
-            → Ahead w0 f0 (numbers_of rs ts) (elim o as (λ o. Walk) [ None ↦ reads_then a xs seen F | Some (Whole g) ↦ with_whole a g (λ r. Touch r (λ v. v) (λ v. reads_then a xs ((x, v) ∷ seen) F)) | Some (Own y) ↦ reads_then a xs seen F ]) g
+            → Ahead w0 f0 (numbers_of rs ts) (elim o as (λ o. LeafTree) [ None ↦ reads_then a xs seen F | Some (Whole g) ↦ with_whole a g (λ r. Touch r (λ v. v) (λ v. reads_then a xs ((x, v) ∷ seen) F)) | Some (Own y) ↦ reads_then a xs seen F ]) g
             → ((seen : Vars) (ts : List Touched) → Ahead w0 f0 (numbers_of rs ts) (reads_then a xs seen F) g → (seen' : Vars) × Ahead w0 f0 (numbers_of rs (ts ++ reads_among K.places xs)) (F seen') g × IsSeen xs seen seen' ch)
             → (seen' : Vars) × Ahead w0 f0 (numbers_of rs (ts ++ touched_whole o (reads_among K.places xs))) (F seen') g × IsSeen (x ∷ xs) seen seen' ch
         go None e h ih = let r = ih seen ts h in (r.0, r.1, not_whole x xs seen r.0 ch (λ y f. let z : None ≡ Some (Whole y) = sym e ∙ f in grind (arith, z)) r.2)
@@ -156,7 +157,7 @@ module _ (K : Context) (rs : List Resource) (at_start : walks.Own) (d : Words) w
             held z y at (inr f) false s n v seen' i = i z y at (inr (ap (λ b. if b then Some (g n) else find z seen) s ∙ f))
 
     -- the value of an expression
-    pub evaluated : (e : Tree) (env : Names) (F : Option Data → Walk) (ts : List Touched) (ch : Vars) (cs : List ChoiceMade) (ps : List Data) (p : Progress) (g : ℕ → Data) → Related K rs at_start d ch cs ps p g
+    pub evaluated : (e : Tree) (env : Names) (F : Option Data → LeafTree) (ts : List Touched) (ch : Vars) (cs : List ChoiceMade) (ps : List Data) (p : Progress) (g : ℕ → Data) → Related K rs at_start d ch cs ps p g
         → Ahead w0 f0 (numbers_of rs ts) (evaluating a e env p F) g → Ahead w0 f0 (numbers_of rs (ts ++ unmapped_reads K.places e)) (F (sections.value_of K e env ch)) g
     evaluated e env F ts ch cs ps p g R h =
         let r = reads_at (first_occurrences (free_names [] e)) [] (λ seen. F (accesses.value_of a e env seen p.changes)) ts ch cs ps p g R h in

@@ -1,7 +1,6 @@
 -- A section's code does what the tree of its accesses says: one induction over the code.
 use Rattle.std.proofs.Common.{◌≡◌, ℕ, zero, suc, Bool, true, false, List, [], ◌∷◌, ◌++◌, length, Option, Some, None, ◌⊎◌, inl, inr, refl, sym, ap, ◌∙◌, subst, arith, option_map, option_and_then}
 use Rattle.std.specs.Prelude.{get_or, if◌then◌else◌}
-use Rattle.std.proofs.lemmas.List.{length-replicate}
 use Rattle.pgo_base.specs.Data.{Data}
 use Rattle.pgo_base.specs.Lookup.{Name, Names, Vars, same_name, find}
 use Rattle.pgo_base.specs.Tree.{Tree}
@@ -14,20 +13,21 @@ use Rattle.pgo_model.specs.Outcome.{Blocked, NoValue, AssertFails}
 use Rattle.pgo_model.specs.System.{Words, Resource, Touched}
 use Rattle.pgo_model.specs.Names.{is_among}
 use Rattle.pgo_sections.specs.BoundValues.{bindable, value_under}
+use Rattle.pgo_sections.specs.ChoiceTrees.{in_order}
 use Rattle.pgo_sections.specs.Code.{Place, Whole, Own, Code, Empty, Skip, Let, Pick, Become, Set, Await, Assert, Print, If, Either, Seq, Goto, Yield, Read, Write, Codes, no_codes, more_codes}
 use Rattle.pgo_sections.specs.Context.{Context, content, index_value, put_content, put_new, value_of, with_content}
 use Rattle.pgo_sections.specs.Domains.{Uses, AllUse}
 use Rattle.pgo_sections.specs.Exec.{MacroEnd, Gives, Stops, if_gives, with_choices, touching, read_unmapped, becoming, count, exec_arm_with}
 use Rattle.pgo_sections.specs.Macros.{block_read, block_write, exec}
 use Rattle.pgo_sections.specs.SectionRun as runs
-use Rattle.pgo_sections.specs.SectionRun.{ChoiceMade, SectionRun, Out, Go, Jump, Yielded, changed, printed, chosen, picked, picked_number, go_on}
+use Rattle.pgo_sections.specs.SectionRun.{ChoiceMade, SectionRun, Out, Go, Jump, Yielded, changed, printed, choice_among, chosen, picked, picked_number, go_on}
 use Rattle.pgo_workers.specs.Operations.{part_of, with_part, read_put, write_put}
+use Rattle.pgo_workers.specs.Tried.{Blocks, LeafTree}
 use Rattle.pgo_workers.specs.Walk as walks
-use Rattle.pgo_workers.specs.Walk.{Walk, Touch, Ahead, Sticks}
+use Rattle.pgo_workers.specs.Walk.{Touch, Ahead}
 use Rattle.pgo_accesses.specs.Accesses as accesses
-use Rattle.pgo_accesses.specs.Accesses.{Attempt, Progress, evaluating, with_value, if_true, with_member, putting, printing, using_word, reading, writing, read_here, write_here, left_by_read, left_by_write, behind_read, behind_write, can_stand, choices, accesses_of_arm, ended, no_value}
+use Rattle.pgo_accesses.specs.Accesses.{Attempt, Progress, evaluating, with_value, if_true, with_member, putting, printing, choosing, reading, writing, read_here, write_here, left_by_read, left_by_write, behind_read, behind_write, can_stand, accesses_of_arm, ended, no_value, stuck, waits, fails}
 use Rattle.pgo_accesses.specs.Assigned.{AssignsBound, AllAssign}
-use Rattle.pgo_accesses.proofs.Blocks.{AlikeEnds, block_reads_on, block_writes_on}
 use Rattle.pgo_accesses.proofs.Evaluated.{evaluated, numbers_one}
 use Rattle.pgo_accesses.proofs.Mapped.{Mapped, Outside, Inside, IsMapped, mapped_at}
 use Rattle.pgo_accesses.proofs.Parts.{bound_low}
@@ -38,24 +38,21 @@ append_none : {A : Type 0} (l : List A) → l ++ [] ≡ l
 append_none [] = refl
 append_none (x ∷ l) = ap (λ k. x ∷ k) (append_none l)
 
-long : (n : ℕ) → length (choices n) ≡ n
-long n = length-replicate n (record { count = 0; taken = 0 })
-
-module _ (K : Context) (rs : List Resource) (at_start : walks.Own) (d : Words) (w0 : Walk) (f0 : ℕ → Data) where
+module _ (K : Context) (rs : List Resource) (at_start : walks.Own) (d : Words) (w0 : LeafTree) (f0 : ℕ → Data) where
   abbrev a : Attempt
   a = attempt K rs at_start d
 
   -- what is left of the tree where the code has run so far
-  pub record At (w : Walk) (run : SectionRun) (p : Progress) (g : ℕ → Data) : Type 0 where
+  pub record At (w : LeafTree) (run : SectionRun) (p : Progress) (g : ℕ → Data) : Type 0 where
     pub ahead : Ahead w0 f0 (numbers_of rs run.trace) w g
     pub related : Related K rs at_start d run.changes run.choices run.prints p g
 
   -- how code ends, the tree goes on as f says, or ends so
-  abbrev pub Arrives : Out → (Progress → Walk) → Type 0
+  abbrev pub Arrives : Out → (Progress → LeafTree) → Type 0
   Arrives (Go run) f = (p : Progress) × (g : ℕ → Data) × At (f p) run p g
   Arrives (Jump l run) f = (p : Progress) × (g : ℕ → Data) × At (ended a l p) run p g
   Arrives (Yielded v run) f = Unit {0}
-  Arrives (runs.Stop kind run) f = (g : ℕ → Data) × Ahead w0 f0 (numbers_of rs run.trace) (walks.Stop (Sticks kind)) g
+  Arrives (runs.Stop kind run) f = (g : ℕ → Data) × Ahead w0 f0 (numbers_of rs run.trace) (walks.Stop (stuck kind run.choices)) g
 
   -- the places that are assigned, and the mapped parameters
   abbrev pub PlaceHere : Place → Type 0
@@ -82,49 +79,53 @@ module _ (K : Context) (rs : List Resource) (at_start : walks.Own) (d : Words) (
 
   -- ---- steps
 
-  valued : {A : Type 0} (o : Option A) (run : SectionRun) (F : A → Walk) (f : A → Out) (p : Progress) (g : ℕ → Data) (cont : Progress → Walk) → At (with_value o F) run p g
+  valued : {A : Type 0} (o : Option A) (run : SectionRun) (F : A → LeafTree) (f : A → Out) (p : Progress) (g : ℕ → Data) (cont : Progress → LeafTree) → At (with_value o F) run p g
       → ((v : A) → o ≡ Some v → At (F v) run p g → Arrives (f v) cont) → Arrives (runs.with_value o run f) cont
   valued None run F f p g cont h k = (g, h.ahead)
   valued (Some v) run F f p g cont h k = k v refl h
 
-  decided : (o : Option Bool) (run : SectionRun) (x y : Walk) (s t : Out) (p : Progress) (g : ℕ → Data) (cont : Progress → Walk) → At (if_true o x y) run p g
+  decided : (o : Option Bool) (run : SectionRun) (x y : LeafTree) (s t : Out) (p : Progress) (g : ℕ → Data) (cont : Progress → LeafTree) → At (if_true o x y) run p g
       → (At x run p g → Arrives s cont) → (At y run p g → Arrives t cont) → Arrives (runs.if_true o run s t) cont
   decided (Some true) run x y s t p g cont h k l = k h
   decided (Some false) run x y s t p g cont h k l = l h
   decided None run x y s t p g cont h k l = (g, h.ahead)
 
   -- one more choice
-  chooses : (w : Walk) (run : SectionRun) (p : Progress) (g : ℕ → Data) (n i : ℕ) → At w run p g → At w (chosen n i run) (using_word p) g
+  chooses : (w : LeafTree) (run : SectionRun) (p : Progress) (g : ℕ → Data) (n i : ℕ) → At w run p g → At w (chosen n i run) (choosing n i p) g
   chooses w run p g n i h = record {
     ahead = h.ahead;
-    related = record { own = h.related.own; whole = h.related.whole; elements = h.related.elements; used = ap suc h.related.used; prints = h.related.prints; deep = h.related.deep; only = h.related.only; changed = h.related.changed };
+    related = record { own = h.related.own; whole = h.related.whole; elements = h.related.elements; points = ap (λ cs. choice_among n i ∷ cs) h.related.points; prints = h.related.prints; deep = h.related.deep; only = h.related.only; changed = h.related.changed };
   }
 
-  chosen_one : (ms : List Data) (run : SectionRun) (F : Data → Progress → Walk) (f : Data → SectionRun → Out) (p : Progress) (g : ℕ → Data) (cont : Progress → Walk) → At (with_member a ms p F) run p g
-      → ((v : Data) (n i : ℕ) → At (F v (using_word p)) (chosen n i run) (using_word p) g → Arrives (f v (chosen n i run)) cont) → Arrives (picked ms d run f) cont
-  chosen_one [] run F f p g cont h k = (g, h.ahead)
+  -- it waits, behind the choices of the run
+  waiting : (run : SectionRun) (p : Progress) (g : ℕ → Data) → At (waits p) run p g → Ahead w0 f0 (numbers_of rs run.trace) (walks.Stop (Blocks (in_order run.choices))) g
+  waiting run p g h = subst (λ cs. Ahead w0 f0 (numbers_of rs run.trace) (walks.Stop (Blocks (in_order cs))) g) h.related.points h.ahead
+
+  chosen_one : (ms : List Data) (run : SectionRun) (F : Data → Progress → LeafTree) (f : Data → SectionRun → Out) (p : Progress) (g : ℕ → Data) (cont : Progress → LeafTree) → At (with_member a ms p F) run p g
+      → ((v : Data) (n i : ℕ) → At (F v (choosing n i p)) (chosen n i run) (choosing n i p) g → Arrives (f v (chosen n i run)) cont) → Arrives (picked ms d run f) cont
+  chosen_one [] run F f p g cont h k = (g, waiting run p g h)
   chosen_one (m ∷ ms) run F f p g cont h k =
       let n = length (m ∷ ms) in
       let i = picked_number d run n in
       let v = get_or (m ∷ ms) i m in
-      let here = subst (λ u. At (F (get_or (m ∷ ms) (pick (d u) n) m) (using_word p)) run p g) h.related.used h in
-      k v n i (chooses (F v (using_word p)) run p g n i here)
+      let here = subst (λ (cs : List ChoiceMade). let j = pick (d (length cs)) n in At (F (get_or (m ∷ ms) j m) (choosing n j p)) run p g) h.related.points h in
+      k v n i (chooses (F v (choosing n i p)) run p g n i here)
 
   -- the value of an expression
-  evaluates : AsBound K rs at_start d → (e : Tree) (env : Names) (F : Option Data → Walk) (run : SectionRun) (p : Progress) (g : ℕ → Data) → At (evaluating a e env p F) run p g → At (F (value_of K e env run.changes)) (read_unmapped K e run) p g
+  evaluates : AsBound K rs at_start d → (e : Tree) (env : Names) (F : Option Data → LeafTree) (run : SectionRun) (p : Progress) (g : ℕ → Data) → At (evaluating a e env p F) run p g → At (F (value_of K e env run.changes)) (read_unmapped K e run) p g
   evaluates G e env F run p g h = record {
     ahead = evaluated K rs at_start d G w0 f0 e env F run.trace run.changes run.choices run.prints p g h.related h.ahead;
     related = h.related;
   }
 
   -- a resource is accessed
-  touches : (c : Touched) (r : ℕ) (leave : Data → Data) (rest : Data → Walk) (ts : List Touched) (g : ℕ → Data) → number_among rs c ≡ Some r → Ahead w0 f0 (numbers_of rs ts) (Touch r leave rest) g
+  touches : (c : Touched) (r : ℕ) (leave : Data → Data) (rest : Data → LeafTree) (ts : List Touched) (g : ℕ → Data) → number_among rs c ≡ Some r → Ahead w0 f0 (numbers_of rs ts) (Touch r leave rest) g
       → Ahead w0 f0 (numbers_of rs (ts ++ (c ∷ []))) (rest (g r)) (put r (leave (g r)) g)
   touches c r leave rest ts g e h =
       subst (λ l. Ahead w0 f0 l (rest (g r)) (put r (leave (g r)) g)) (sym (numbers_one K rs at_start d c r ts e)) (accessed w0 f0 g (numbers_of rs ts) r leave rest h)
 
   -- a place is assigned
-  puts : AsBound K rs at_start d → (s : Place) (v : Data) (run : SectionRun) (p : Progress) (g : ℕ → Data) (cont : Progress → Walk) → PlaceHere s → IsLow v → At (putting a s v p cont) run p g → Arrives (Go (becoming s v run)) cont
+  puts : AsBound K rs at_start d → (s : Place) (v : Data) (run : SectionRun) (p : Progress) (g : ℕ → Data) (cont : Progress → LeafTree) → PlaceHere s → IsLow v → At (putting a s v p cont) run p g → Arrives (Go (becoming s v run)) cont
   puts G (Whole y) v run p g cont is low h =
       let r = is.1.0 in
       let first = subst (λ o. Ahead w0 f0 (numbers_of rs run.trace) (with_value o (λ r. Touch r (λ old. v) (λ old. cont (accesses.becoming false r v p)))) g) is.1.1 h.ahead in
@@ -145,9 +146,9 @@ module _ (K : Context) (rs : List Resource) (at_start : walks.Own) (d : Words) (
     },
   )
 
-  -- as many words are used
-  uses_words : (ch : Vars) (cs es : List ChoiceMade) (n : ℕ) (ps : List Data) (p : Progress) (g : ℕ → Data) → n ≡ length es → Related K rs at_start d ch cs ps p g → Related K rs at_start d ch es ps (record p { used = n }) g
-  uses_words ch cs es n ps p g e h = record { own = h.own; whole = h.whole; elements = h.elements; used = e; prints = h.prints; deep = h.deep; only = h.only; changed = h.changed }
+  -- with the choices that a block made
+  with_points : (ch : Vars) (cs es : List ChoiceMade) (ps : List Data) (p : Progress) (g : ℕ → Data) → Related K rs at_start d ch cs ps p g → Related K rs at_start d ch es ps (record p { points = es }) g
+  with_points ch cs es ps p g h = record { own = h.own; whole = h.whole; elements = h.elements; points = refl; prints = h.prints; deep = h.deep; only = h.only; changed = h.changed }
 
   -- ---- a mapped parameter is read
 
@@ -157,125 +158,122 @@ module _ (K : Context) (rs : List Resource) (at_start : walks.Own) (d : Words) (
 
     -- the walk behind the access
     module _ (r : ℕ) (at : Option Data) (m : Mapped K rs at_start d y j run.changes g r at) where
-      abbrev Behind : (Data → Walk) → Data → Type 0
+      abbrev Behind : (Data → LeafTree) → Data → Type 0
       Behind rest left = Ahead w0 f0 (numbers_of rs moved.trace) (rest (g r)) (put r left g)
 
       -- what the block gives is put back
-      module _ (F : Data → Progress → Walk) (f : Data → SectionRun → Out) (cont : Progress → Walk) (k : (v : Data) (run : SectionRun) (p : Progress) (g : ℕ → Data) → IsLow v → At (F v p) run p g → Arrives (f v run) cont) where
+      module _ (F : Data → Progress → LeafTree) (f : Data → SectionRun → Out) (cont : Progress → LeafTree) (k : (v : Data) (run : SectionRun) (p : Progress) (g : ℕ → Data) → IsLow v → At (F v p) run p g → Arrives (f v run) cont) where
         abbrev ReadBack : MacroEnd (Data × Data) → Type 0
         ReadBack x = Ahead w0 f0 (numbers_of rs moved.trace) (behind_read (K.by_element y) r p x F) (put r (left_by_read (g r) x) g)
 
         abbrev goes_on : Data × Option Data → SectionRun → Out
         goes_on x then' = runs.with_value (put_new K y j x.1 run.changes) then' (λ ch. f x.0 (record then' { changes = ch }))
 
-        put_read : (v : Data) (o : Option Data) (cs es : List ChoiceMade) → IsLow v → length es ≡ length cs → ReadBack (read_put at (g r) (Gives (v, o) es)) → Arrives (goes_on (v, o) (with_choices cs moved)) cont
-        put_read v None cs es low e h =
-            let q = record p { used = length es } in
+        put_read : (v : Data) (o : Option Data) (cs : List ChoiceMade) → IsLow v → ReadBack (read_put at (g r) (Gives (v, o) cs)) → Arrives (goes_on (v, o) (with_choices cs moved)) cont
+        put_read v None cs low h =
+            let q = record p { points = cs } in
             k v (record (with_choices cs moved) { changes = run.changes }) (accesses.becoming (K.by_element y) r (g r) q) (put r (g r) g) low (record {
               ahead = subst (λ b. Ahead w0 f0 (numbers_of rs moved.trace) (if b then F v (accesses.becoming (K.by_element y) r (g r) q) else no_value) (put r (g r) g)) m.low h;
-              related = m.stays cs run.prints q (uses_words run.changes run.choices cs (length es) run.prints p g e R);
+              related = m.stays cs run.prints q (with_points run.changes run.choices cs run.prints p g R);
             })
-        put_read v (Some new) cs es low e h = back (with_part at new (g r)) refl h
+        put_read v (Some new) cs low h = back (with_part at new (g r)) refl h
           where
             stood : (w : Data) → with_part at new (g r) ≡ Some w → (b : Bool) → can_stand (K.by_element y) w ≡ b
-                → Ahead w0 f0 (numbers_of rs moved.trace) (if b then F v (accesses.becoming (K.by_element y) r w (record p { used = length es })) else no_value) (put r w g)
+                → Ahead w0 f0 (numbers_of rs moved.trace) (if b then F v (accesses.becoming (K.by_element y) r w (record p { points = cs })) else no_value) (put r w g)
                 → Arrives (runs.with_value (option_map (λ u. (y, u) ∷ run.changes) (bindable (with_content K y j (Some new) run.changes))) (with_choices cs moved) (λ ch. f v (record (with_choices cs moved) { changes = ch }))) cont
             stood w q true s h =
                 let c = m.change new w q s in
-                let p' = record p { used = length es } in
+                let p' = record p { points = cs } in
                 subst (λ o. Arrives (runs.with_value (option_map (λ u. (y, u) ∷ run.changes) o) (with_choices cs moved) (λ ch. f v (record (with_choices cs moved) { changes = ch }))) cont) (sym c.1)
                 (k v (record (with_choices cs moved) { changes = (y, c.0) ∷ run.changes }) (accesses.becoming (K.by_element y) r w p') (put r w g) low (record {
                   ahead = h;
-                  related = c.2 cs run.prints p' (uses_words run.changes run.choices cs (length es) run.prints p g e R);
+                  related = c.2 cs run.prints p' (with_points run.changes run.choices cs run.prints p g R);
                 }))
             stood w q false s h =
                 subst (λ o. Arrives (runs.with_value (option_map (λ u. (y, u) ∷ run.changes) o) (with_choices cs moved) (λ ch. f v (record (with_choices cs moved) { changes = ch }))) cont) (sym (m.high new w q s))
                 (put r w g, h)
 
-            back : (o : Option Data) → with_part at new (g r) ≡ o → ReadBack (on (Stops NoValue es) o (λ w. Gives (v, w) es))
+            back : (o : Option Data) → with_part at new (g r) ≡ o → ReadBack (on (Stops NoValue cs) o (λ w. Gives (v, w) cs))
                 → Arrives (runs.with_value (option_map (λ u. (y, u) ∷ run.changes) (bindable (with_content K y j (Some new) run.changes))) (with_choices cs moved) (λ ch. f v (record (with_choices cs moved) { changes = ch }))) cont
             back None q h =
                 subst (λ o. Arrives (runs.with_value (option_map (λ u. (y, u) ∷ run.changes) o) (with_choices cs moved) (λ ch. f v (record (with_choices cs moved) { changes = ch }))) cont) (sym (m.none new q))
                 (put r (g r) g, h)
             back (Some w) q h = stood w q (can_stand (K.by_element y) w) refl h
 
-        gives_read : (x x' : MacroEnd (Data × Option Data)) → ((v : Data × Option Data) (cs : List ChoiceMade) → x ≡ Gives v cs → IsLow v.0) → AlikeEnds x x' → ReadBack (read_put at (g r) x') → Arrives (if_gives x moved goes_on) cont
-        gives_read (Gives v cs) x' low alike h = put_read v.0 v.1 cs alike.0 (low v cs refl) alike.1 (subst (λ x. ReadBack (read_put at (g r) x)) alike.2 h)
-        gives_read (Stops kind cs) x' low alike h = (put r (g r) g, subst (λ x. ReadBack (read_put at (g r) x)) alike.2 h)
+        gives_read : (x : MacroEnd (Data × Option Data)) → ((v : Data × Option Data) (cs : List ChoiceMade) → x ≡ Gives v cs → IsLow v.0) → ReadBack (read_put at (g r) x) → Arrives (if_gives x moved goes_on) cont
+        gives_read (Gives v cs) low h = put_read v.0 v.1 cs (low v cs refl) h
+        gives_read (Stops kind cs) low h = (put r (g r) g, h)
 
-        read_inside : ReadBack (read_here a block at p.used (g r)) → Arrives (runs.with_value (bindable (content K y j run.changes)) moved (λ old. if_gives (block_read block K.defs K.id old d run.choices) moved goes_on)) cont
+        read_inside : ReadBack (read_here a block at p.points (g r)) → Arrives (runs.with_value (bindable (content K y j run.changes)) moved (λ old. if_gives (block_read block K.defs K.id old d run.choices) moved goes_on)) cont
         read_inside h =
             subst (λ o. Arrives (runs.with_value (bindable o) moved (λ old. if_gives (block_read block K.defs K.id old d run.choices) moved goes_on)) cont) (sym m.content_is)
-            (go (part_of at (g r)) refl h)
+            (go (part_of at (g r)) refl (subst (λ cs. ReadBack (read_here a block at cs (g r))) R.points h))
           where
-            go : (o : Option Data) → part_of at (g r) ≡ o → ReadBack (on (Stops NoValue (choices p.used)) o (λ old. read_put at (g r) (block_read block K.defs K.id old d (choices p.used))))
+            go : (o : Option Data) → part_of at (g r) ≡ o → ReadBack (on (Stops NoValue run.choices) o (λ old. read_put at (g r) (block_read block K.defs K.id old d run.choices)))
                 → Arrives (runs.with_value (bindable o) moved (λ old. if_gives (block_read block K.defs K.id old d run.choices) moved goes_on)) cont
             go None e h = (put r (g r) g, h)
             go (Some old) e h =
                 subst (λ o. Arrives (runs.with_value o moved (λ old. if_gives (block_read block K.defs K.id old d run.choices) moved goes_on)) cont) (sym (m.part_low old e))
-                (gives_read (block_read block K.defs K.id old d run.choices) (block_read block K.defs K.id old d (choices p.used))
-                (λ v cs q. block_gives_low block K.defs K.id old d run.choices v cs q)
-                (block_reads_on block K.defs K.id old d run.choices (choices p.used) (long p.used ∙ R.used)) h)
+                (gives_read (block_read block K.defs K.id old d run.choices) (λ v cs q. block_gives_low block K.defs K.id old d run.choices v cs q) h)
 
       -- ---- or written
-      module _ (cont : Progress → Walk) where
+      module _ (cont : Progress → LeafTree) where
         abbrev WrittenBack : MacroEnd Data → Type 0
         WrittenBack x = Ahead w0 f0 (numbers_of rs moved.trace) (behind_write (K.by_element y) r p x cont) (put r (left_by_write (g r) x) g)
 
         abbrev ends_so : Data → SectionRun → Out
         ends_so new then' = runs.with_value (put_content K y j (Some new) run.changes) then' (λ ch. Go (record then' { changes = ch }))
 
-        put_written : (new : Data) (cs es : List ChoiceMade) → length es ≡ length cs → WrittenBack (write_put at (g r) (Gives new es)) → Arrives (ends_so new (with_choices cs moved)) cont
-        put_written new cs es e h = back (with_part at new (g r)) refl h
+        put_written : (new : Data) (cs : List ChoiceMade) → WrittenBack (write_put at (g r) (Gives new cs)) → Arrives (ends_so new (with_choices cs moved)) cont
+        put_written new cs h = back (with_part at new (g r)) refl h
           where
             stood : (w : Data) → with_part at new (g r) ≡ Some w → (b : Bool) → can_stand (K.by_element y) w ≡ b
-                → Ahead w0 f0 (numbers_of rs moved.trace) (if b then cont (accesses.becoming (K.by_element y) r w (record p { used = length es })) else no_value) (put r w g)
+                → Ahead w0 f0 (numbers_of rs moved.trace) (if b then cont (accesses.becoming (K.by_element y) r w (record p { points = cs })) else no_value) (put r w g)
                 → Arrives (runs.with_value (option_map (λ u. (y, u) ∷ run.changes) (bindable (with_content K y j (Some new) run.changes))) (with_choices cs moved) (λ ch. Go (record (with_choices cs moved) { changes = ch }))) cont
             stood w q true s h =
                 let c = m.change new w q s in
-                let p' = record p { used = length es } in
+                let p' = record p { points = cs } in
                 subst (λ o. Arrives (runs.with_value (option_map (λ u. (y, u) ∷ run.changes) o) (with_choices cs moved) (λ ch. Go (record (with_choices cs moved) { changes = ch }))) cont) (sym c.1) (
                   accesses.becoming (K.by_element y) r w p',
                   put r w g,
                   record {
                     ahead = h;
-                    related = c.2 cs run.prints p' (uses_words run.changes run.choices cs (length es) run.prints p g e R);
+                    related = c.2 cs run.prints p' (with_points run.changes run.choices cs run.prints p g R);
                   },
                 )
             stood w q false s h =
                 subst (λ o. Arrives (runs.with_value (option_map (λ u. (y, u) ∷ run.changes) o) (with_choices cs moved) (λ ch. Go (record (with_choices cs moved) { changes = ch }))) cont) (sym (m.high new w q s))
                 (put r w g, h)
 
-            back : (o : Option Data) → with_part at new (g r) ≡ o → WrittenBack (on (Stops NoValue es) o (λ w. Gives w es))
+            back : (o : Option Data) → with_part at new (g r) ≡ o → WrittenBack (on (Stops NoValue cs) o (λ w. Gives w cs))
                 → Arrives (runs.with_value (option_map (λ u. (y, u) ∷ run.changes) (bindable (with_content K y j (Some new) run.changes))) (with_choices cs moved) (λ ch. Go (record (with_choices cs moved) { changes = ch }))) cont
             back None q h =
                 subst (λ o. Arrives (runs.with_value (option_map (λ u. (y, u) ∷ run.changes) o) (with_choices cs moved) (λ ch. Go (record (with_choices cs moved) { changes = ch }))) cont) (sym (m.none new q))
                 (put r (g r) g, h)
             back (Some w) q h = stood w q (can_stand (K.by_element y) w) refl h
 
-        gives_written : (x x' : MacroEnd Data) → AlikeEnds x x' → WrittenBack (write_put at (g r) x') → Arrives (if_gives x moved ends_so) cont
-        gives_written (Gives new cs) x' alike h = put_written new cs alike.0 alike.1 (subst (λ x. WrittenBack (write_put at (g r) x)) alike.2 h)
-        gives_written (Stops kind cs) x' alike h = (put r (g r) g, subst (λ x. WrittenBack (write_put at (g r) x)) alike.2 h)
+        gives_written : (x : MacroEnd Data) → WrittenBack (write_put at (g r) x) → Arrives (if_gives x moved ends_so) cont
+        gives_written (Gives new cs) h = put_written new cs h
+        gives_written (Stops kind cs) h = (put r (g r) g, h)
 
-        written_inside : (o : Option Data) → WrittenBack (write_here a block at o p.used (g r))
+        written_inside : (o : Option Data) → WrittenBack (write_here a block at o p.points (g r))
             → Arrives (runs.with_value (bindable (content K y j run.changes)) moved (λ old. runs.with_value o moved (λ v. if_gives (block_write block K.defs K.id old v d run.choices) moved ends_so))) cont
         written_inside o h =
             subst (λ c. Arrives (runs.with_value (bindable c) moved (λ old. runs.with_value o moved (λ v. if_gives (block_write block K.defs K.id old v d run.choices) moved ends_so))) cont) (sym m.content_is)
-            (go (part_of at (g r)) refl o h)
+            (go (part_of at (g r)) refl o (subst (λ cs. WrittenBack (write_here a block at o cs (g r))) R.points h))
           where
             go : (c : Option Data) → part_of at (g r) ≡ c → (o : Option Data)
-                → WrittenBack (on (Stops NoValue (choices p.used)) c (λ old. on (Stops NoValue (choices p.used)) o (λ x. write_put at (g r) (block_write block K.defs K.id old x d (choices p.used)))))
+                → WrittenBack (on (Stops NoValue run.choices) c (λ old. on (Stops NoValue run.choices) o (λ x. write_put at (g r) (block_write block K.defs K.id old x d run.choices))))
                 → Arrives (runs.with_value (bindable c) moved (λ old. runs.with_value o moved (λ v. if_gives (block_write block K.defs K.id old v d run.choices) moved ends_so))) cont
             go None e o h = (put r (g r) g, h)
             go (Some old) e None h =
                 subst (λ c. Arrives (runs.with_value c moved (λ old. runs.Stop NoValue moved)) cont) (sym (m.part_low old e)) (put r (g r) g, h)
             go (Some old) e (Some v) h =
                 subst (λ c. Arrives (runs.with_value c moved (λ old. if_gives (block_write block K.defs K.id old v d run.choices) moved ends_so)) cont) (sym (m.part_low old e))
-                (gives_written (block_write block K.defs K.id old v d run.choices) (block_write block K.defs K.id old v d (choices p.used))
-                (block_writes_on block K.defs K.id old v d run.choices (choices p.used) (long p.used ∙ R.used)) h)
+                (gives_written (block_write block K.defs K.id old v d run.choices) h)
 
     -- no such element
-    outside : (o : Outside K rs at_start d y j run.changes) (F : ℕ → Option Data → Walk) (f : Data → Out) (cont : Progress → Walk) → Ahead w0 f0 (numbers_of rs run.trace) (accesses.accessing a y j F) g
+    outside : (o : Outside K rs at_start d y j run.changes) (F : ℕ → Option Data → LeafTree) (f : Data → Out) (cont : Progress → LeafTree) → Ahead w0 f0 (numbers_of rs run.trace) (accesses.accessing a y j F) g
         → Arrives (runs.with_value (bindable (content K y j run.changes)) moved f) cont
     outside o F f cont h =
         subst (λ c. Arrives (runs.with_value (bindable c) moved f) cont) (sym o.content_is) (
@@ -297,14 +295,14 @@ module _ (K : Context) (rs : List Resource) (at_start : walks.Own) (d : Words) (
         go None e = absurd (grind (arith, e))
         go (Some v) e = (v, let s : j ≡ Some v = cc in s)
 
-    reads : (y : Name) (j : Option Data) (block : Code) (F : Data → Progress → Walk) (f : Data → SectionRun → Out) (cont : Progress → Walk) (run : SectionRun) (p : Progress) (g : ℕ → Data) → IsMapped K rs at_start d y j
+    reads : (y : Name) (j : Option Data) (block : Code) (F : Data → Progress → LeafTree) (f : Data → SectionRun → Out) (cont : Progress → LeafTree) (run : SectionRun) (p : Progress) (g : ℕ → Data) → IsMapped K rs at_start d y j
         → At (reading a y j block p F) run p g → ((v : Data) (run : SectionRun) (p : Progress) (g : ℕ → Data) → IsLow v → At (F v p) run p g → Arrives (f v run) cont)
         → Arrives (runs.with_value (bindable (content K y j run.changes)) (touching K y j run) (λ old. if_gives (block_read block K.defs K.id old d run.choices) (touching K y j run)
         (λ x then'. runs.with_value (put_new K y j x.1 run.changes) then' (λ ch. f x.0 (record then' { changes = ch }))))) cont
     reads y j block F f cont run p g is h k = go (mapped_at K rs at_start d G y j run.changes run.choices run.prints p g is h.related)
       where
-        walk : ℕ → Option Data → Walk
-        walk r at = Touch r (λ v. left_by_read v (read_here a block at p.used v)) (λ v. behind_read (K.by_element y) r p (read_here a block at p.used v) F)
+        walk : ℕ → Option Data → LeafTree
+        walk r at = Touch r (λ v. left_by_read v (read_here a block at p.points v)) (λ v. behind_read (K.by_element y) r p (read_here a block at p.points v) F)
 
         go : Outside K rs at_start d y j run.changes ⊎ Inside K rs at_start d y j run.changes g
             → Arrives (runs.with_value (bindable (content K y j run.changes)) (touching K y j run) (λ old. if_gives (block_read block K.defs K.id old d run.choices) (touching K y j run)
@@ -315,18 +313,18 @@ module _ (K : Context) (rs : List Resource) (at_start : walks.Own) (d : Words) (
         go (inr i) =
             let m = i.mapped in
             let first = subst (λ w. Ahead w0 f0 (numbers_of rs run.trace) w g) (i.tree walk) h.ahead in
-            let next = touches m.event i.r (λ v. left_by_read v (read_here a block i.at p.used v)) (λ v. behind_read (K.by_element y) i.r p (read_here a block i.at p.used v) F) run.trace g m.number first in
+            let next = touches m.event i.r (λ v. left_by_read v (read_here a block i.at p.points v)) (λ v. behind_read (K.by_element y) i.r p (read_here a block i.at p.points v) F) run.trace g m.number first in
             read_inside G y j block run p g h.related i.r i.at m F f cont k
-            (subst (λ ts. Ahead w0 f0 (numbers_of rs (run.trace ++ ts)) (behind_read (K.by_element y) i.r p (read_here a block i.at p.used (g i.r)) F) (put i.r (left_by_read (g i.r) (read_here a block i.at p.used (g i.r))) g)) (sym m.trace) next)
+            (subst (λ ts. Ahead w0 f0 (numbers_of rs (run.trace ++ ts)) (behind_read (K.by_element y) i.r p (read_here a block i.at p.points (g i.r)) F) (put i.r (left_by_read (g i.r) (read_here a block i.at p.points (g i.r))) g)) (sym m.trace) next)
 
-    writes : (y : Name) (j : Option Data) (block : Code) (o : Option Data) (cont : Progress → Walk) (run : SectionRun) (p : Progress) (g : ℕ → Data) → IsMapped K rs at_start d y j
+    writes : (y : Name) (j : Option Data) (block : Code) (o : Option Data) (cont : Progress → LeafTree) (run : SectionRun) (p : Progress) (g : ℕ → Data) → IsMapped K rs at_start d y j
         → At (writing a y j block o p cont) run p g
         → Arrives (runs.with_value (bindable (content K y j run.changes)) (touching K y j run) (λ old. runs.with_value o (touching K y j run) (λ v. if_gives (block_write block K.defs K.id old v d run.choices) (touching K y j run)
         (λ new then'. runs.with_value (put_content K y j (Some new) run.changes) then' (λ ch. Go (record then' { changes = ch })))))) cont
     writes y j block o cont run p g is h = go (mapped_at K rs at_start d G y j run.changes run.choices run.prints p g is h.related)
       where
-        walk : ℕ → Option Data → Walk
-        walk r at = Touch r (λ v. left_by_write v (write_here a block at o p.used v)) (λ v. behind_write (K.by_element y) r p (write_here a block at o p.used v) cont)
+        walk : ℕ → Option Data → LeafTree
+        walk r at = Touch r (λ v. left_by_write v (write_here a block at o p.points v)) (λ v. behind_write (K.by_element y) r p (write_here a block at o p.points v) cont)
 
         go : Outside K rs at_start d y j run.changes ⊎ Inside K rs at_start d y j run.changes g
             → Arrives (runs.with_value (bindable (content K y j run.changes)) (touching K y j run) (λ old. runs.with_value o (touching K y j run) (λ v. if_gives (block_write block K.defs K.id old v d run.choices) (touching K y j run)
@@ -337,18 +335,18 @@ module _ (K : Context) (rs : List Resource) (at_start : walks.Own) (d : Words) (
         go (inr i) =
             let m = i.mapped in
             let first = subst (λ w. Ahead w0 f0 (numbers_of rs run.trace) w g) (i.tree walk) h.ahead in
-            let next = touches m.event i.r (λ v. left_by_write v (write_here a block i.at o p.used v)) (λ v. behind_write (K.by_element y) i.r p (write_here a block i.at o p.used v) cont) run.trace g m.number first in
+            let next = touches m.event i.r (λ v. left_by_write v (write_here a block i.at o p.points v)) (λ v. behind_write (K.by_element y) i.r p (write_here a block i.at o p.points v) cont) run.trace g m.number first in
             written_inside G y j block run p g h.related i.r i.at m cont o
-            (subst (λ ts. Ahead w0 f0 (numbers_of rs (run.trace ++ ts)) (behind_write (K.by_element y) i.r p (write_here a block i.at o p.used (g i.r)) cont) (put i.r (left_by_write (g i.r) (write_here a block i.at o p.used (g i.r))) g)) (sym m.trace) next)
+            (subst (λ ts. Ahead w0 f0 (numbers_of rs (run.trace ++ ts)) (behind_write (K.by_element y) i.r p (write_here a block i.at o p.points (g i.r)) cont) (put i.r (left_by_write (g i.r) (write_here a block i.at o p.points (g i.r))) g)) (sym m.trace) next)
 
-    sequel : (o : Out) (f : Progress → Walk) (k : SectionRun → Out) (cont : Progress → Walk) → Arrives o f → ((run : SectionRun) (p : Progress) (g : ℕ → Data) → At (f p) run p g → Arrives (k run) cont) → Arrives (go_on o k) cont
+    sequel : (o : Out) (f : Progress → LeafTree) (k : SectionRun → Out) (cont : Progress → LeafTree) → Arrives o f → ((run : SectionRun) (p : Progress) (g : ℕ → Data) → At (f p) run p g → Arrives (k run) cont) → Arrives (go_on o k) cont
     sequel (Go run) f k cont h more = more run h.0 h.1 h.2
     sequel (Jump l run) f k cont h more = h
     sequel (Yielded v run) f k cont h more = h
     sequel (runs.Stop kind run) f k cont h more = h
 
     mutual
-      pub follows : (c : Code) (ws : List Name) (env : Names) (cont : Progress → Walk) (run : SectionRun) (p : Progress) (g : ℕ → Data) → UsesHere c → AssignsBound ws c → AreLow ws env
+      pub follows : (c : Code) (ws : List Name) (env : Names) (cont : Progress → LeafTree) (run : SectionRun) (p : Progress) (g : ℕ → Data) → UsesHere c → AssignsBound ws c → AreLow ws env
           → At (accesses.accesses a c env p cont) run p g → Arrives (exec K c env d run) cont
       follows Empty ws env cont run p g u b low h = (p, g, h)
       follows Skip ws env cont run p g u b low h = (p, g, h)
@@ -363,7 +361,7 @@ module _ (K : Context) (rs : List Resource) (at_start : walks.Own) (d : Words) (
           let F = λ (v : Data) (q : Progress). accesses.accesses a c ((w, Some v) ∷ env) q cont in
           valued (option_and_then members_of (value_of K e env run.changes)) now (λ ms. with_member a ms p F) (λ ms. picked ms d now f) p g cont
           (evaluates G e env (λ o. with_value (option_and_then members_of o) (λ ms. with_member a ms p F)) run p g h)
-          (λ ms q k. chosen_one ms now F f p g cont k (λ v n i k. follows c [] ((w, Some v) ∷ env) cont (chosen n i now) (using_word p) g u b (λ z among. absurd (let z : false ≡ true = among in grind (arith, z))) k))
+          (λ ms q k. chosen_one ms now F f p g cont k (λ v n i k. follows c [] ((w, Some v) ∷ env) cont (chosen n i now) (choosing n i p) g u b (λ z among. absurd (let z : false ≡ true = among in grind (arith, z))) k))
       follows (Become s w) ws env cont run p g u b low h =
           valued (value_under w env) run (λ v. putting a s v p cont) (λ v. Go (becoming s v run)) p g cont h (λ v q k. puts G s v run p g cont u (low w b v q) k)
       follows (Set x s e) ws env cont run p g u b low h =
@@ -372,12 +370,12 @@ module _ (K : Context) (rs : List Resource) (at_start : walks.Own) (d : Words) (
           (λ v q k. puts G s v (read_unmapped K e run) p g cont u (bound_low (value_of K e env run.changes) v q).1 k)
       follows (Await e) ws env cont run p g u b low h =
           let now = read_unmapped K e run in
-          decided (truth_of (value_of K e env run.changes)) now (cont p) (walks.Stop (Sticks Blocked)) (Go now) (runs.Stop Blocked now) p g cont
-          (evaluates G e env (λ o. if_true (truth_of o) (cont p) (walks.Stop (Sticks Blocked))) run p g h) (λ k. (p, g, k)) (λ k. (g, k.ahead))
+          decided (truth_of (value_of K e env run.changes)) now (cont p) (waits p) (Go now) (runs.Stop Blocked now) p g cont
+          (evaluates G e env (λ o. if_true (truth_of o) (cont p) (waits p)) run p g h) (λ k. (p, g, k)) (λ k. (g, waiting now p g k))
       follows (Assert e) ws env cont run p g u b low h =
           let now = read_unmapped K e run in
-          decided (truth_of (value_of K e env run.changes)) now (cont p) (walks.Stop (Sticks AssertFails)) (Go now) (runs.Stop AssertFails now) p g cont
-          (evaluates G e env (λ o. if_true (truth_of o) (cont p) (walks.Stop (Sticks AssertFails))) run p g h) (λ k. (p, g, k)) (λ k. (g, k.ahead))
+          decided (truth_of (value_of K e env run.changes)) now (cont p) fails (Go now) (runs.Stop AssertFails now) p g cont
+          (evaluates G e env (λ o. if_true (truth_of o) (cont p) fails) run p g h) (λ k. (p, g, k)) (λ k. (g, k.ahead))
       follows (Print e) ws env cont run p g u b low h =
           let now = read_unmapped K e run in
           valued (value_of K e env run.changes) now (λ v. cont (printing v p)) (λ v. Go (printed v now)) p g cont
@@ -387,7 +385,7 @@ module _ (K : Context) (rs : List Resource) (at_start : walks.Own) (d : Words) (
             g,
             record {
               ahead = k.ahead;
-              related = record { own = k.related.own; whole = k.related.whole; elements = k.related.elements; used = k.related.used; prints = ap (λ l. l ++ v ∷ []) k.related.prints; deep = k.related.deep; only = k.related.only; changed = k.related.changed };
+              related = record { own = k.related.own; whole = k.related.whole; elements = k.related.elements; points = k.related.points; prints = ap (λ l. l ++ v ∷ []) k.related.prints; deep = k.related.deep; only = k.related.only; changed = k.related.changed };
             },
           ))
       follows (If e x y) ws env cont run p g u b low h =
@@ -398,8 +396,8 @@ module _ (K : Context) (rs : List Resource) (at_start : walks.Own) (d : Words) (
       follows (Either cs) ws env cont run p g u b low h =
           let n = count cs in
           let i = picked_number d run n in
-          let here = subst (λ z. At (accesses_of_arm a cs (pick (d z) n) env (using_word p) cont) run p g) h.related.used h in
-          follows_arm cs i ws env cont (chosen n i run) (using_word p) g u b low (chooses (accesses_of_arm a cs i env (using_word p) cont) run p g n i here)
+          let here = subst (λ (l : List ChoiceMade). let j = pick (d (length l)) n in At (accesses_of_arm a cs j env (choosing n j p) cont) run p g) h.related.points h in
+          follows_arm cs i ws env cont (chosen n i run) (choosing n i p) g u b low (chooses (accesses_of_arm a cs i env (choosing n i p) cont) run p g n i here)
       follows (Seq x y) ws env cont run p g u b low h =
           sequel (exec K x env d run) (λ q. accesses.accesses a y env q cont) (λ now. exec K y env d now) cont
           (follows x ws env (λ q. accesses.accesses a y env q cont) run p g u.0 b.0 low h) (λ now q f k. follows y ws env cont now q f u.1 b.1 low k)
@@ -421,7 +419,7 @@ module _ (K : Context) (rs : List Resource) (at_start : walks.Own) (d : Words) (
           (λ new then'. runs.with_value (put_content K y j (Some new) run.changes) then' (λ ch. Go (record then' { changes = ch })))))) p g cont h
           (λ j q k. writes y j block (value_under w env) cont run p g (mapped_of y i j env u q) k)
 
-      follows_arm : (cs : Codes) (i : ℕ) (ws : List Name) (env : Names) (cont : Progress → Walk) (run : SectionRun) (p : Progress) (g : ℕ → Data) → AllUse PlaceHere MappedHere cs → AllAssign ws cs → AreLow ws env
+      follows_arm : (cs : Codes) (i : ℕ) (ws : List Name) (env : Names) (cont : Progress → LeafTree) (run : SectionRun) (p : Progress) (g : ℕ → Data) → AllUse PlaceHere MappedHere cs → AllAssign ws cs → AreLow ws env
           → At (accesses_of_arm a cs i env p cont) run p g → Arrives (exec_arm_with block_read block_write K cs i env d run) cont
       follows_arm no_codes i ws env cont run p g u b low h = (g, h.ahead)
       follows_arm (more_codes c cs) zero ws env cont run p g u b low h = follows c ws env cont run p g u.0 b.0 low h

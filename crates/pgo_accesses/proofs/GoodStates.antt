@@ -555,7 +555,7 @@ module _ (b : Bound) (R : Runnable b) where
             each = λ j. each_begun z is j;
             domain = λ q h. let same : function e.pairs ≡ function q = (let z : Some (function e.pairs) ≡ Some (function q) = sym e.is ∙ h in cc) in same_graph e.pairs q same;
           };
-      used = refl;
+      points = refl;
       prints = refl;
       deep = λ c n h. sym (shallow_begun c n h);
       only = λ n h. absurd (let z : false ≡ true = h in grind (arith, z));

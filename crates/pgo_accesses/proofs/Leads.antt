@@ -9,8 +9,8 @@ use Rattle.pgo_model.specs.Log.{content}
 use Rattle.pgo_model.specs.Machine.{nth}
 use Rattle.pgo_model.specs.Names.{same_name-self, is_among}
 use Rattle.pgo_model.specs.Options.{on}
-use Rattle.pgo_model.specs.Outcome.{Outcome, Next, Stuck, Nowhere}
-use Rattle.pgo_model.specs.System.{System, Words}
+use Rattle.pgo_model.specs.Outcome.{Outcome, Next, Stuck, Nowhere, Section}
+use Rattle.pgo_model.specs.System.{System, Words, Touched}
 use Rattle.pgo_model.specs.SystemState.{IsSystemState}
 use Rattle.pgo_model.specs.Variables.{place_of}
 use Rattle.pgo_model.specs.Written.{pc, done}
@@ -23,11 +23,13 @@ use Rattle.pgo_bound.specs.Among.{nth_map}
 use Rattle.pgo_bound.specs.Declares.{value_in}
 use Rattle.pgo_bound.specs.Sound.{index_in, IsAtLabel}
 use Rattle.pgo_bound.specs.State.{id_of, kind_in}
-use Rattle.pgo_meaning.specs.Sect.{Sect, code_at, context_of, is_by_element, nothing}
+use Rattle.pgo_meaning.specs.Attempt.{SectTry}
+use Rattle.pgo_meaning.specs.Sect.{code_at, context_of, is_by_element, nothing}
 use Rattle.pgo_meaning.specs.System.{member_of, resource_of, system_of}
 use Rattle.pgo_meaning.proofs.LabelSections.{label_section}
 use Rattle.pgo_sections.specs.Code.{Code}
 use Rattle.pgo_sections.specs.Context.{part_at}
+use Rattle.pgo_sections.specs.Section.{section}
 use Rattle.pgo_workers.specs.Walk as walks
 use Rattle.pgo_workers.specs.Walk.{Walk, Goes, Sticks, visits, ending, final}
 use Rattle.pgo_workers.specs.Worlds as worlds
@@ -41,7 +43,7 @@ use Rattle.pgo_accesses.proofs.Frames.{same_front, same_walk}
 use Rattle.pgo_accesses.proofs.GoodStates as good_states
 use Rattle.pgo_accesses.proofs.GoodStates.{among_true}
 use Rattle.pgo_accesses.proofs.Parts.{is_less}
-use Rattle.pgo_accesses.proofs.Programs.{own_start, own_is, place_is, code_here, sect_is, trace_is, stuck_is, next_is, has_code}
+use Rattle.pgo_accesses.proofs.Programs.{own_start, own_is, place_is, NoSection, HasSection, section_at, trace_is, stuck_is, next_is, has_section}
 use Rattle.pgo_accesses.proofs.Related.{IsResource}
 use Rattle.pgo_accesses.proofs.SectionTrees.{Left}
 
@@ -55,34 +57,37 @@ module _ (b : Bound) (R : Runnable b) (s : Vars) (good : IsSystemState (system_o
   -- the end, where a section goes on
   pub record Leads (k : ℕ) (o : walks.Own) (ps : List Data) : Type 0 where
     pub end : Vars
-    pub is : (Sect b k s d).end ≡ Next end ps
+    pub is : (SectTry b k s d).end ≡ Next end ps
     pub instance : Instance
     pub at : nth b.instances k ≡ Some instance
     pub code : Code
     pub at_code : code_at b instance (value_in s pc (id_of instance)) ≡ Some code
-    pub left : Left (context_of b instance s) y.resources (own_start b R s good d k instance at) d end o (final (tree_with b d k (own_in L s k)) (worlds.value_in L s))
+    -- with these words the section goes on
+    pub words : Words
+    pub leads : (section (context_of b instance s) code words).end ≡ Next end ps
+    pub left : Left (context_of b instance s) y.resources (own_start b R s good words k instance at) words end o (final (tree_with b d k (own_in L s k)) (worlds.value_in L s))
     pub own : own_in L end k ≡ o
     pub values : (r : ℕ) → nat_lt r (length L.resources) ≡ true → worlds.value_in L end r ≡ final (tree_with b d k (own_in L s k)) (worlds.value_in L s) r
 
-  module _ (k : ℕ) (i : Instance) (at_k : nth b.instances k ≡ Some i) (o : walks.Own) (h : ℕ → Data) (t : Vars) (left : Left (context_of b i s) y.resources (own_start b R s good d k i at_k) d t o h) where
+  module _ (k : ℕ) (i : Instance) (at_k : nth b.instances k ≡ Some i) (o : walks.Own) (h : ℕ → Data) (t : Vars) (v : Words) (left : Left (context_of b i s) y.resources (own_start b R s good v k i at_k) v t o h) where
     names : List Name
-    names = pc ∷ good_states.own_list b R k i at_k s good d
+    names = pc ∷ good_states.own_list b R k i at_k s good v
 
-    own_lists : (xs : List Name) → ((x : Name) → is_among x xs ≡ true → is_among x (pc ∷ good_states.own_list b R k i at_k s good d) ≡ true)
+    own_lists : (xs : List Name) → ((x : Name) → is_among x xs ≡ true → is_among x (pc ∷ good_states.own_list b R k i at_k s good v) ≡ true)
         → own_at k (id_of i) xs t ≡ own_next left.label left.changes (own_at k (id_of i) xs s)
     own_lists [] h = refl
     own_lists (x ∷ xs) h =
-        let part = left.parts x (or_nothing (part_at x (id_of i) s)) (good_states.part_of b R k i at_k s good d x (h x (own_name_here x x xs refl))) in
+        let part = left.parts x (or_nothing (part_at x (id_of i) s)) (good_states.part_of b R k i at_k s good v x (h x (own_name_here x x xs refl))) in
         λ j. (x, or_nothing (part j)) ∷ own_lists xs (λ z e. h z (own_name_behind z x xs e)) j
 
     left_own : own_in L t k ≡ o
     left_own =
-        ap (λ o. on [] o (λ id. own_at k id (names_at L (Some id)) t)) (good_states.at_id b R k i at_k s good d)
-        ∙ own_lists (pc ∷ good_states.own_list b R k i at_k s good d) (λ x h. h)
+        ap (λ o. on [] o (λ id. own_at k id (names_at L (Some id)) t)) (good_states.at_id b R k i at_k s good v)
+        ∙ own_lists (pc ∷ good_states.own_list b R k i at_k s good v) (λ x h. h)
         ∙ sym left.own_is
 
     -- each resource is whole or an element
-    resource_kind : (r : ℕ) (q : resource.Resource) → nth b.resources r ≡ Some q → (j : Option Data) → index_in q ≡ j → number_among y.resources (q.global, j) ≡ Some r → IsResource (context_of b i s) y.resources (own_start b R s good d k i at_k) d q.global j
+    resource_kind : (r : ℕ) (q : resource.Resource) → nth b.resources r ≡ Some q → (j : Option Data) → index_in q ≡ j → number_among y.resources (q.global, j) ≡ Some r → IsResource (context_of b i s) y.resources (own_start b R s good v k i at_k) v q.global j
     resource_kind r q at None e n = go (kind_in b q.global) refl
       where
         go : (z : ResourceKind) → kind_in b q.global ≡ z → is_by_element (kind_in b q.global) ≡ false
@@ -125,12 +130,24 @@ module _ (b : Bound) (R : Runnable b) (s : Vars) (good : IsSystemState (system_o
         let has = left.resources (q.global, index_in q) r number (resource_kind r q n.1 (index_in q) refl number) in
         ap or_nothing (ap (λ z. content z t) (component_there L.resources r (resource_of q) at) ∙ has)
 
-  pub leads : (k : ℕ) (i : Instance) (o : walks.Own) (ps : List Data) → nth b.instances k ≡ Some i → ending (tree_with b d k (own_in L s k)) (worlds.value_in L s) ≡ Goes o ps → Leads k o ps
-  leads k i o ps at_k e =
-      let c = has_code b R s good d k i o ps at_k e in
-      let n = next_is b R s good d k i c.0 o ps at_k c.1 e in
+  pub leads : (k : ℕ) (o : walks.Own) (ps : List Data) → ending (tree_with b d k (own_in L s k)) (worlds.value_in L s) ≡ Goes o ps → Leads k o ps
+  leads k o ps e =
+      let c = has_section b R s good d k o ps e in
+      let n = next_is b R s good d k c.instance c.code o ps c.at c.at_code e in
       let h = final (tree_with b d k (own_in L s k)) (worlds.value_in L s) in
-      record { end = n.0; is = n.1; instance = i; at = at_k; code = c.0; at_code = c.1; left = n.2; own = left_own k i at_k o h n.0 n.2; values = left_value k i at_k o h n.0 n.2 }
+      record {
+        end = n.0;
+        is = n.1;
+        instance = c.instance;
+        at = c.at;
+        code = c.code;
+        at_code = c.at_code;
+        words = n.2;
+        leads = n.3;
+        left = n.4;
+        own = left_own k c.instance c.at o h n.0 n.2 n.4;
+        values = left_value k c.instance c.at o h n.0 n.2 n.4;
+      }
 
 -- ---- an instance that isn't done has a section
 
@@ -174,10 +191,10 @@ module _ (b : Bound) (R : Runnable b) (s t : Vars) (good_s : IsSystemState (syst
   g = worlds.value_in Ls t
 
   abbrev trace_s : List ℕ
-  trace_s = numbers_of ys.resources (Sect b k s d).trace
+  trace_s = numbers_of ys.resources (SectTry b k s d).trace
 
   abbrev trace_t : List ℕ
-  trace_t = numbers_of ys.resources (Sect b k t d).trace
+  trace_t = numbers_of ys.resources (SectTry b k t d).trace
 
   on_t : trace_t ≡ visits w g
   on_t = trace_is b R t good_t d k ∙ ap (λ o. visits (tree_with b d k o) g) (sym own)
@@ -188,7 +205,7 @@ module _ (b : Bound) (R : Runnable b) (s t : Vars) (good_s : IsSystemState (syst
   pub front : (j : ℕ) → AgreeOn (take j trace_s) f g → take (suc j) trace_s ≡ take (suc j) trace_t
   front j h = ap (take (suc j)) on_s ∙ same_front w f g j (subst (λ l. AgreeOn (take j l) f g) on_s h) ∙ ap (take (suc j)) (sym on_t)
 
-  module _ (h : AgreeOn (numbers_of (system_of b).resources (Sect b k s d).trace) (worlds.value_in (layout_of (system_of b)) s) (worlds.value_in (layout_of (system_of b)) t)) where
+  module _ (h : AgreeOn (numbers_of (system_of b).resources (SectTry b k s d).trace) (worlds.value_in (layout_of (system_of b)) s) (worlds.value_in (layout_of (system_of b)) t)) where
     here : AgreeOn (visits w f) f g
     here = subst (λ l. AgreeOn l f g) on_s h
 
@@ -201,32 +218,30 @@ module _ (b : Bound) (R : Runnable b) (s t : Vars) (good_s : IsSystemState (syst
     swap : (x x' z z' : Outcome Vars) → x ≡ z → x' ≡ z' → SameEnd (world_at b) k s t z z' → SameEnd (world_at b) k s t x x'
     swap x x' z z' e e' m = subst (λ q. SameEnd (world_at b) k s t q x') (sym e) (subst (λ q. SameEnd (world_at b) k s t z q) (sym e') m)
 
-    ended : (i : Instance) (at_k : nth b.instances k ≡ Some i) (e : walks.End) → ending w f ≡ e → (q : Option Code) → code_here b R s good_s d k i at_k ≡ q → (q' : Option Code) → code_here b R t good_t d k i at_k ≡ q' → q ≡ q'
-        → SameEnd (world_at b) k s t (Sect b k s d).end (Sect b k t d).end
-    ended i at_k e is None c None c' same =
-        swap (Sect b k s d).end (Sect b k t d).end Nowhere Nowhere
-        (ap (λ x. x.end) (sect_is b R s good_s d k i at_k ∙ ap (λ o. on nothing o (λ c. Rattle.pgo_sections.specs.Section.section (context_of b i s) c d)) c))
-        (ap (λ x. x.end) (sect_is b R t good_t d k i at_k ∙ ap (λ o. on nothing o (λ c. Rattle.pgo_sections.specs.Section.section (context_of b i t) c d)) c')) tt
-    ended i at_k e is None c (Some x) c' same = absurd (grind (arith, same))
-    ended i at_k e is (Some x) c None c' same = absurd (grind (arith, same))
-    ended i at_k (Sticks kind) is (Some x) c (Some x') c' same =
-        let is_t : ending (tree_with b d k (own_in Ls t k)) g ≡ Sticks kind = ap (λ o. ending (tree_with b d k o) g) (sym own) ∙ sym (same_walk w f g here).ends ∙ is in
-        swap (Sect b k s d).end (Sect b k t d).end (Stuck kind) (Stuck kind) (stuck_is b R s good_s d k i x kind at_k c is) (stuck_is b R t good_t d k i x' kind at_k c' is_t) refl
-    ended i at_k (Goes o ps) is (Some x) c (Some x') c' same =
-        let is_t : ending (tree_with b d k (own_in Ls t k)) g ≡ Goes o ps = ap (λ o. ending (tree_with b d k o) g) (sym own) ∙ sym (same_walk w f g here).ends ∙ is in
-        let l = leads b R s good_s d k i o ps at_k is in
-        let m = leads b R t good_t d k i o ps at_k is_t in
-        swap (Sect b k s d).end (Sect b k t d).end (Next l.end ps) (Next m.end ps) l.is m.is
+    -- the same code on both
+    same_code : (i : Instance) → nth b.instances k ≡ Some i → code_at b i (value_in s pc (id_of i)) ≡ code_at b i (value_in t pc (id_of i))
+    same_code i e = ap (code_at b i) (sym (place_is b R s good_s d k i e) ∙ ap (find pc) (sym (own_is b R s good_s d k i e) ∙ own ∙ own_is b R t good_t d k i e) ∙ place_is b R t good_t d k i e)
+
+    ends_on_t : (e : walks.End) → ending w f ≡ e → ending (tree_with b d k (own_in Ls t k)) g ≡ e
+    ends_on_t e is = ap (λ o. ending (tree_with b d k o) g) (sym own) ∙ sym (same_walk w f g here).ends ∙ is
+
+    ended : (i : Instance) (c : Code) → nth b.instances k ≡ Some i → code_at b i (value_in s pc (id_of i)) ≡ Some c → (e : walks.End) → ending w f ≡ e → SameEnd (world_at b) k s t (SectTry b k s d).end (SectTry b k t d).end
+    ended i c at_k at_code (Sticks kind) is =
+        swap (SectTry b k s d).end (SectTry b k t d).end (Stuck kind) (Stuck kind) (stuck_is b R s good_s d k i c kind at_k at_code is)
+        (stuck_is b R t good_t d k i c kind at_k (sym (same_code i at_k) ∙ at_code) (ends_on_t (Sticks kind) is)) refl
+    ended i c at_k at_code (Goes o ps) is =
+        let l = leads b R s good_s d k o ps is in
+        let m = leads b R t good_t d k o ps (ends_on_t (Goes o ps) is) in
+        swap (SectTry b k s d).end (SectTry b k t d).end (Next l.end ps) (Next m.end ps) l.is m.is
         (refl, l.own ∙ sym m.own, λ r is_r e. l.values r is_r ∙ (same_walk w f g here).leaves r e ∙ ap (λ o. final (tree_with b d k o) g r) own ∙ sym (m.values r is_r))
 
-    pub same_end : SameEnd (world_at b) k s t (Sect b k s d).end (Sect b k t d).end
-    same_end = go (nth b.instances k) refl
+    pub same_end : SameEnd (world_at b) k s t (SectTry b k s d).end (SectTry b k t d).end
+    same_end = go (section_at b R s good_s d k) (section_at b R t good_t d k)
       where
-        go : (o : Option Instance) → nth b.instances k ≡ o → SameEnd (world_at b) k s t (Sect b k s d).end (Sect b k t d).end
-        go None e =
-            swap (Sect b k s d).end (Sect b k t d).end Nowhere Nowhere
-            (ap (λ o. (on nothing o (λ i. on nothing (code_at b i (value_in s pc (id_of i))) (λ c. Rattle.pgo_sections.specs.Section.section (context_of b i s) c d))).end) e)
-            (ap (λ o. (on nothing o (λ i. on nothing (code_at b i (value_in t pc (id_of i))) (λ c. Rattle.pgo_sections.specs.Section.section (context_of b i t) c d))).end) e) tt
-        go (Some i) e =
-            ended i e (ending w f) refl (code_here b R s good_s d k i e) refl (code_here b R t good_t d k i e) refl
-            (ap (code_at b i) (sym (place_is b R s good_s d k i e) ∙ ap (find pc) (sym (own_is b R s good_s d k i e) ∙ own ∙ own_is b R t good_t d k i e) ∙ place_is b R t good_t d k i e))
+        nowhere : (x : Section Touched Vars) → x ≡ nothing → x.end ≡ Nowhere
+        nowhere x e = ap (λ (x : Section Touched Vars). x.end) e
+
+        go : NoSection b R s good_s d k ⊎ HasSection b R s good_s d k → NoSection b R t good_t d k ⊎ HasSection b R t good_t d k → SameEnd (world_at b) k s t (SectTry b k s d).end (SectTry b k t d).end
+        go (inr h) x = ended h.instance h.code h.at h.at_code (ending w f) refl
+        go (inl n) (inl m) = swap (SectTry b k s d).end (SectTry b k t d).end Nowhere Nowhere (nowhere (SectTry b k s d) n.section_is) (nowhere (SectTry b k t d) m.section_is) tt
+        go (inl n) (inr h) = absurd (n.none h.instance h.code h.at (same_code h.instance h.at ∙ h.at_code))

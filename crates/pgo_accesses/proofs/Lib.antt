@@ -1,5 +1,4 @@
 pub mod FreeValues
-pub mod Blocks
 pub mod Frames
 pub mod Parts
 pub mod Related

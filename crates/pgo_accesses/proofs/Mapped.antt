@@ -15,8 +15,8 @@ use Rattle.pgo_sections.specs.Context.{Context, content, with_content, value_now
 use Rattle.pgo_sections.specs.Exec.{touched}
 use Rattle.pgo_sections.specs.SectionRun.{ChoiceMade}
 use Rattle.pgo_workers.specs.Operations.{part_of, with_part}
+use Rattle.pgo_workers.specs.Tried.{LeafTree}
 use Rattle.pgo_workers.specs.Walk as walks
-use Rattle.pgo_workers.specs.Walk.{Walk}
 use Rattle.pgo_accesses.specs.Accesses.{Attempt, Progress, can_stand, becoming, accessing, no_value, with_value, with_whole}
 use Rattle.pgo_accesses.proofs.Parts.{bindable_low, bindable_high, part_low, put_low, put_high, with_at, lookup_low, le_of, of_le}
 use Rattle.pgo_accesses.proofs.Related.{Matches, attempt, IsWhole, IsElements, Elements, AsBound, Related, whole_changed, element_changed, same_again}
@@ -44,12 +44,12 @@ module _ (K : Context) (rs : List Resource) (at_start : walks.Own) (d : Words) w
   pub record Outside (g : Name) (j : Option Data) (ch : Vars) : Type 0 where
     pub trace : touched (K.by_element g) g j (content K g j ch) ≡ []
     pub content_is : content K g j ch ≡ None
-    pub tree : (f : ℕ → Option Data → Walk) → accessing a g j f ≡ no_value
+    pub tree : (f : ℕ → Option Data → LeafTree) → accessing a g j f ≡ no_value
 
   pub record Inside (g : Name) (j : Option Data) (ch : Vars) (G : ℕ → Data) : Type 0 where
     pub r : ℕ
     pub at : Option Data
-    pub tree : (f : ℕ → Option Data → Walk) → accessing a g j f ≡ f r at
+    pub tree : (f : ℕ → Option Data → LeafTree) → accessing a g j f ≡ f r at
     pub mapped : Mapped g j ch G r at
 
   abbrev pub IsMapped : Name → Option Data → Type 0
@@ -99,7 +99,7 @@ module _ (K : Context) (rs : List Resource) (at_start : walks.Own) (d : Words) w
         content_at : content K g (Some i) ch ≡ lookup i (graph E.pairs)
         content_at = ap (option_and_then (λ f. apply f i)) E.is
 
-        tree_at : (o : Option ℕ) → number_among rs (g, Some i) ≡ o → (f : ℕ → Option Data → Walk) → accessing a g (Some i) f ≡ with_value o (λ r. f r None)
+        tree_at : (o : Option ℕ) → number_among rs (g, Some i) ≡ o → (f : ℕ → Option Data → LeafTree) → accessing a g (Some i) f ≡ with_value o (λ r. f r None)
         tree_at o e f = ap (λ b. if b then with_value (number_among rs (g, Some i)) (λ r. f r None) else with_whole a g (λ r. f r (Some i))) is.0 ∙ ap (λ o. with_value o (λ r. f r None)) e
 
         same_new : (new w : Data) → Some new ≡ Some w → new ≡ w

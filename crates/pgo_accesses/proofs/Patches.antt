@@ -23,7 +23,8 @@ use Rattle.pgo_syntax.specs.declared.process.Process.{Process}
 use Rattle.pgo_bound.specs.Among.{IsAmong, among_nth, nth_among, from_map, from_flat_map, among_append, among_flat_map, among_map}
 use Rattle.pgo_bound.specs.State as bound
 use Rattle.pgo_bound.specs.State.{id_of, kind_in, variables_of}
-use Rattle.pgo_meaning.specs.Sect.{Sect, code_at, context_of, is_by_element, nothing}
+use Rattle.pgo_meaning.specs.Attempt.{SectTry}
+use Rattle.pgo_meaning.specs.Sect.{context_of, is_by_element}
 use Rattle.pgo_meaning.specs.System.{member_of, owned, owned_by, resource_of, system_of}
 use Rattle.pgo_sections.specs.Context.{part_at}
 use Rattle.pgo_workers.specs.Walk as walks
@@ -41,7 +42,6 @@ use Rattle.pgo_workers.proofs.MadeEntries.{renews}
 use Rattle.pgo_workers.proofs.Patched.{after_is, patched_names}
 use Rattle.pgo_sections.proofs.Domains.{same_of, domains_kept}
 use Rattle.pgo_sections.specs.Domains.{own, elements}
-use Rattle.pgo_sections.specs.Section.{section}
 use Rattle.pgo_meaning.proofs.Ends.{end_at}
 use Rattle.pgo_meaning.proofs.SystemStates.{states_same}
 use Rattle.pgo_accesses.specs.Programs.{tree_with, world_at}
@@ -50,7 +50,7 @@ use Rattle.pgo_accesses.proofs.Extensional.{OfParts, OfOthers, after_keeps, afte
 use Rattle.pgo_accesses.proofs.GoodStates as good_states
 use Rattle.pgo_accesses.proofs.GoodStates.{among_true, some_there}
 use Rattle.pgo_accesses.proofs.Leads.{Leads, leads}
-use Rattle.pgo_accesses.proofs.Programs.{own_start, sect_is}
+use Rattle.pgo_accesses.proofs.Programs.{own_start}
 use Rattle.pgo_accesses.proofs.Related.{IsElements, MayChange}
 use Rattle.pgo_accesses.proofs.Within.{within_reach, reaches_resource}
 use Rattle.pgo_bound.specs.declared.kinds.Kind.{Kind as ResourceKind}
@@ -166,7 +166,7 @@ module _ (b : Bound) (R : Runnable b) (s : Vars) (good : IsSystemState (system_o
   id = id_of E.instance
 
   at_id : nth L.ids k ≡ Some (id_of E.instance)
-  at_id = good_states.at_id b R k E.instance E.at s good d
+  at_id = good_states.at_id b R k E.instance E.at s good E.words
 
   named_k : (x : Name) → is_among x (names_of L k) ≡ true → is_among x (pc ∷ own_names (id_of E.instance) L.own) ≡ true
   named_k x n = sym (ap (λ o. is_among x (names_at L o)) at_id) ∙ n
@@ -188,7 +188,7 @@ module _ (b : Bound) (R : Runnable b) (s : Vars) (good : IsSystemState (system_o
   part_of_k : (x : Name) → is_among x (names_of L k) ≡ true → part_at x (id_of E.instance) t ≡ part_at x (id_of E.instance) u
   part_of_k x n =
       parts_equal t u k (id_of E.instance) at_id (E.own ∙ sym own_u) x n
-      (ap is_some (E.left.parts x (or_nothing (part_at x (id_of E.instance) s)) (good_states.part_of b R k E.instance E.at s good d x (named_k x n))))
+      (ap is_some (E.left.parts x (or_nothing (part_at x (id_of E.instance) s)) (good_states.part_of b R k E.instance E.at s good E.words x (named_k x n))))
       (all_there.own k (id_of E.instance) x at_id n)
 
   global_not_own : (x : Name) (a : Data) → is_among x (pc ∷ own_names a L.own) ≡ true → is_among x (good_states.globals b R) ≡ false
@@ -214,7 +214,7 @@ module _ (b : Bound) (R : Runnable b) (s : Vars) (good : IsSystemState (system_o
       not_global : is_among x (good_states.globals b R) ≡ false
       not_global = global_not_own x a (sym (ap (λ o. is_among x (names_at L o)) at) ∙ n)
 
-      may_not : is_among x (pc ∷ own_names (id_of E.instance) L.own) ≡ false → MayChange (context_of b E.instance s) y.resources (own_start b R s good d k E.instance E.at) d x → ⊥
+      may_not : is_among x (pc ∷ own_names (id_of E.instance) L.own) ≡ false → MayChange (context_of b E.instance s) y.resources (own_start b R s good E.words k E.instance E.at) E.words x → ⊥
       may_not m (inl mine) = let z : true ≡ false = sym (own_name_behind x pc (own_names (id_of E.instance) L.own) (R.owns k E.instance x E.at mine.1)) ∙ m in grind (arith, z)
       may_not m (inr (inl whole)) =
           let z : true ≡ false = sym (among_true x (good_states.globals b R) (good_states.declared_at b R (x, None) whole.1.0 whole.1.1)) ∙ not_global in grind (arith, z)
@@ -231,7 +231,7 @@ module _ (b : Bound) (R : Runnable b) (s : Vars) (good : IsSystemState (system_o
       of_t = go (is_among x (pc ∷ own_names (id_of E.instance) L.own)) refl
         where
           go : (c : Bool) → is_among x (pc ∷ own_names (id_of E.instance) L.own) ≡ c → part_at x a t ≡ part_at x a s
-          go true m = E.left.others x (or_nothing (part_at x (id_of E.instance) s)) a (good_states.part_of b R k E.instance E.at s good d x m) other
+          go true m = E.left.others x (or_nothing (part_at x (id_of E.instance) s)) a (good_states.part_of b R k E.instance E.at s good E.words x m) other
           go false m = ap (option_and_then (λ f. apply f a)) (E.left.unchanged x (may_not m) (no_place m))
 
   part_same : (j : ℕ) (a : Data) → nth L.ids j ≡ Some a → (x : Name) → is_among x (names_of L j) ≡ true → part_at x a t ≡ part_at x a u
@@ -246,14 +246,10 @@ module _ (b : Bound) (R : Runnable b) (s : Vars) (good : IsSystemState (system_o
 
   -- ---- variables
 
-  section_end : (section (context_of b E.instance s) E.code d).end ≡ Next t ps
-  section_end =
-      sym (ap (λ z. z.end) (sect_is b R s good d k E.instance E.at ∙ ap (λ o. on nothing o (λ c. section (context_of b E.instance s) c d)) E.at_code)) ∙ E.is
-
   keeps_t : (x : Name) (ks : List Data) → Rattle.pgo_sections.specs.Domains.KeepsDomain (context_of b E.instance s) x → IsFunctionOn ks (find x s) → IsFunctionOn ks (find x t)
   keeps_t x ks keeps on_s =
-      let l = end_at b k E.instance s d s [] (value_in s pc (id_of E.instance)) E.code E.at_code in
-      domains_kept (context_of b E.instance s) E.code d t ps x ks ((R.keeps k E.instance E.at).elements l.0 E.code l.1) section_end keeps on_s
+      let l = end_at b k E.instance s E.words s [] (value_in s pc (id_of E.instance)) E.code E.at_code in
+      domains_kept (context_of b E.instance s) E.code E.words t ps x ks ((R.keeps k E.instance E.at).elements l.0 E.code l.1) E.leads keeps on_s
 
   after_made : after_changes made.changes s ≡ Some u
   after_made = go (Rattle.pgo_model.specs.Log.are_in made.changes s) (after_is L layout k s has made is_of_k)
@@ -415,8 +411,8 @@ module _ (b : Bound) (R : Runnable b) (s : Vars) (good : IsSystemState (system_o
 
   elements_same : (x : Name) → is_among x (good_states.globals b R) ≡ true → is_by_element (kind_in b x) ≡ true → find x t ≡ find x u
   elements_same x m by =
-      let is : IsElements (context_of b E.instance s) y.resources (own_start b R s good d k E.instance E.at) d x = (by, m) in
-      let e = good_states.elements_at b R k E.instance E.at s good d x is in
+      let is : IsElements (context_of b E.instance s) y.resources (own_start b R s good E.words k E.instance E.at) E.words x = (by, m) in
+      let e = good_states.elements_at b R k E.instance E.at s good E.words x is in
       let ks = keys (graph e.pairs) in
       let on_s : IsFunctionOn ks (find x s) = (e.pairs, e.is, refl) in
       let on_t = keeps_t x ks (elements by) on_s in
@@ -444,7 +440,7 @@ module _ (b : Bound) (R : Runnable b) (s : Vars) (good : IsSystemState (system_o
           let q = found_resource n r at in
           R.globals.unbound n q.0 q.1 (ap (kind_in b) (ap (λ (z : Resource). z.global) q.2 ∙ sym same) ∙ kind)
 
-      may_not : MayChange (context_of b E.instance s) y.resources (own_start b R s good d k E.instance E.at) d x → ⊥
+      may_not : MayChange (context_of b E.instance s) y.resources (own_start b R s good E.words k E.instance E.at) E.words x → ⊥
       may_not (inl mine) = let z : true ≡ false = sym m ∙ mine.0 in grind (arith, z)
       may_not (inr (inl whole)) =
           let a = good_states.numbered b R (x, None) whole.1.0 whole.1.1 in
@@ -492,16 +488,7 @@ module _ (b : Bound) (R : Runnable b) (s : Vars) (good : IsSystemState (system_o
 -- an instance whose section goes on
 pub next_of : (b : Bound) (R : Runnable b) (s : Vars) (good : IsSystemState (system_of b) s) (d : Words) (k : ℕ) (o : walks.Own) (ps : List Data)
     → ending (tree_with b d k (own_in (layout_of (system_of b)) s k)) (worlds.value_in (layout_of (system_of b)) s) ≡ Goes o ps
-    → (Sect b k s d).end ≡ Next ((world_at b).patched s (effect_of (layout_of (system_of b)) k (own_in (layout_of (system_of b)) s k) o (changes_at (taken_after (visits (tree_with b d k (own_in (layout_of (system_of b)) s k)) (worlds.value_in (layout_of (system_of b)) s)) []) (worlds.value_in (layout_of (system_of b)) s) (final (tree_with b d k (own_in (layout_of (system_of b)) s k)) (worlds.value_in (layout_of (system_of b)) s))) ps)) ps
-next_of b R s good d k o ps goes = go (nth b.instances k) refl
-  where
-    goal : Type 0
-    goal = (Sect b k s d).end ≡ Next ((world_at b).patched s (effect_of (layout_of (system_of b)) k (own_in (layout_of (system_of b)) s k) o (changes_at (taken_after (visits (tree_with b d k (own_in (layout_of (system_of b)) s k)) (worlds.value_in (layout_of (system_of b)) s)) []) (worlds.value_in (layout_of (system_of b)) s) (final (tree_with b d k (own_in (layout_of (system_of b)) s k)) (worlds.value_in (layout_of (system_of b)) s))) ps)) ps
-
-    go : (q : Option Instance) → nth b.instances k ≡ q → goal
-    go None e =
-        absurd (let z : walks.Sticks Rattle.pgo_model.specs.Outcome.NoValue ≡ Goes o ps =
-        sym (ap (λ q. ending (on Rattle.pgo_accesses.specs.Accesses.no_value q (λ i. on Rattle.pgo_accesses.specs.Accesses.no_value (code_at b i (find pc (own_in (layout_of (system_of b)) s k))) (λ c. Rattle.pgo_accesses.specs.Accesses.accesses_of (Rattle.pgo_accesses.specs.Programs.attempt_of b i (own_in (layout_of (system_of b)) s k) d) c))) (worlds.value_in (layout_of (system_of b)) s)) e) ∙ goes in grind (arith, z))
-    go (Some i) e =
-        let E = leads b R s good d k i o ps e goes in
-        E.is ∙ ap (λ x. Next x ps) (end_is b R s good d k o ps E goes)
+    → (SectTry b k s d).end ≡ Next ((world_at b).patched s (effect_of (layout_of (system_of b)) k (own_in (layout_of (system_of b)) s k) o (changes_at (taken_after (visits (tree_with b d k (own_in (layout_of (system_of b)) s k)) (worlds.value_in (layout_of (system_of b)) s)) []) (worlds.value_in (layout_of (system_of b)) s) (final (tree_with b d k (own_in (layout_of (system_of b)) s k)) (worlds.value_in (layout_of (system_of b)) s))) ps)) ps
+next_of b R s good d k o ps goes =
+    let E = leads b R s good d k o ps goes in
+    E.is ∙ ap (λ x. Next x ps) (end_is b R s good d k o ps E goes)

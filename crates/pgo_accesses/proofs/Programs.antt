@@ -3,21 +3,25 @@ use Rattle.std.proofs.Common.{◌≡◌, ℕ, suc, Bool, true, false, ◌||◌, 
 use Rattle.pgo_base.specs.Data.{Data}
 use Rattle.pgo_base.specs.Lookup.{Name, Vars, find}
 use Rattle.pgo_model.specs.Core as core
-use Rattle.pgo_model.specs.Core.{numbers_of}
+use Rattle.pgo_model.specs.Core.{numbers_of, numbered}
 use Rattle.pgo_model.specs.Machine.{nth}
 use Rattle.pgo_model.specs.Names.{same_name-self, is_among}
 use Rattle.pgo_model.specs.Options.{on}
-use Rattle.pgo_model.specs.Outcome.{Kind, NoValue, Next, Stuck}
-use Rattle.pgo_model.specs.System.{System, Words}
+use Rattle.pgo_model.specs.Outcome.{Kind, NoValue, most_leaves, Next, Stuck, Section}
+use Rattle.pgo_model.specs.System.{System, Words, Touched}
 use Rattle.pgo_model.specs.SystemState.{IsSystemState}
 use Rattle.pgo_model.specs.Variables.{place_of}
 use Rattle.pgo_model.specs.Written.{pc, done}
+use Rattle.pgo_tries.specs.Attempts.{is_blocked}
+use Rattle.pgo_tries.specs.Sections.{along}
 use Rattle.pgo_syntax.specs.declared.bound.Bound.{Bound}
 use Rattle.pgo_syntax.specs.declared.bound.Instance.{Instance}
 use Rattle.pgo_bound.specs.Among.{nth_map}
 use Rattle.pgo_bound.specs.Declares.{value_in}
 use Rattle.pgo_bound.specs.State.{id_of, kind_in}
 use Rattle.pgo_meaning.specs.Parameters.{places_of}
+use Rattle.pgo_meaning.specs.Attempt.{SectLeaf, SectTry, code_leaf, no_points, try_first}
+use Rattle.pgo_meaning.specs.NumberedTries.{NumberedLeaf, numbered_leaf, numbered_try}
 use Rattle.pgo_meaning.specs.Sect.{Sect, code_at, context_of, is_by_element, nothing}
 use Rattle.pgo_meaning.specs.System.{globals_in, member_of, system_of}
 use Rattle.pgo_meaning.specs.TreesAgree.{sections_at}
@@ -28,12 +32,13 @@ use Rattle.pgo_sections.specs.Domains.{HasIndex}
 use Rattle.pgo_sections.specs.Macros.{exec}
 use Rattle.pgo_sections.specs.Section.{section}
 use Rattle.pgo_sections.specs.SectionRun.{begun}
+use Rattle.pgo_workers.specs.Tried.{LeafTree, Leads, LeafIs, TryIs, and_then, on_end, trying, attempting, attempt_is}
 use Rattle.pgo_workers.specs.Walk as walks
-use Rattle.pgo_workers.specs.Walk.{Walk, Goes, Sticks, visits, ending, final}
+use Rattle.pgo_workers.specs.Walk.{Stop, Goes, Sticks, settled, visits, ending, final}
 use Rattle.pgo_workers.specs.Worlds as worlds
 use Rattle.pgo_workers.specs.Worlds.{Layout, layout_of, own_at, own_in, names_at}
 use Rattle.pgo_accesses.specs.Accesses.{accesses_of, no_value}
-use Rattle.pgo_accesses.specs.Programs.{attempt_of, tree_with, is_done}
+use Rattle.pgo_accesses.specs.Programs.{attempt_of, leaf_with, tree_with, is_done}
 use Rattle.pgo_accesses.specs.Runnable.{Runnable}
 use Rattle.pgo_accesses.proofs.Bindings.{IsPlaceOf, IsBoundHere, uses_at, uses_both, own_among}
 use Rattle.pgo_accesses.proofs.Follows.{PlaceHere, MappedHere, UsesHere}
@@ -67,17 +72,17 @@ module _ (b : Bound) (R : Runnable b) (s : Vars) (good : IsSystemState (system_o
     abbrev pub code_here : Option Code
     code_here = code_at b i (value_in s pc (id_of i))
 
-    abbrev pub tree_of_code : Code → Walk
+    abbrev pub tree_of_code : Code → LeafTree
     tree_of_code c = accesses_of (attempt (context_of b i s) y.resources own_start d) c
 
-    pub tree_is : tree_with b d k (own_in L s k) ≡ on no_value code_here tree_of_code
+    tree_is : leaf_with b d k (own_in L s k) ≡ on no_value code_here tree_of_code
     tree_is =
         ap (λ o. on no_value o (λ i. on no_value (code_at b i (find pc (own_in L s k))) (λ c. accesses_of (attempt_of b i (own_in L s k) d) c))) at_k
         ∙ ap (λ (o : walks.Own). on no_value (code_at b i (find pc o)) (λ c. accesses_of (attempt_of b i o d) c)) own_is
         ∙ ap (λ o. on no_value (code_at b i o) tree_of_code) place_is
 
-    pub sect_is : Sect b k s d ≡ on nothing code_here (λ c. section (context_of b i s) c d)
-    sect_is = ap (λ o. on nothing o (λ i. on nothing (code_at b i (value_in s pc (id_of i))) (λ c. section (context_of b i s) c d))) at_k
+    leaf_is : SectLeaf b k s d ≡ on no_points code_here (λ c. code_leaf b i s c d)
+    leaf_is = ap (λ o. on no_points o (λ i. on no_points (code_at b i (value_in s pc (id_of i))) (λ c. code_leaf b i s c d))) at_k
 
     uses : (l : Name) (c : Code) → find l (sections_at b i) ≡ Some c → UsesHere (context_of b i s) y.resources own_start d (tree_of_code c) (values b R k i at_k s good d) c
     uses l c h =
@@ -103,50 +108,27 @@ module _ (b : Bound) (R : Runnable b) (s : Vars) (good : IsSystemState (system_o
         section_agrees (context_of b i s) y.resources own_start d (as_bound b R k i at_k s good d) (start b R k i at_k s good d) (values b R k i at_k s good d) (good_states.begun b R k i at_k s good d) c
         (uses l.0 c l.1) (section_assigns b.spec.macros i.process i.archetype i.bindings l.0 c l.1) (section_jumps b.spec.macros i.process i.archetype i.bindings l.0 c l.1) (section_without b.spec.macros i.process i.archetype i.bindings l.0 c (R.yields k i at_k) l.1)
 
-  -- what an instance accesses
-  pub trace_is : (k : ℕ) → numbers_of y.resources (Sect b k s d).trace ≡ visits (tree_with b d k (own_in L s k)) (worlds.value_in L s)
-  trace_is k = go (nth b.instances k) refl
-    where
-      coded : (i : Instance) (at_k : nth b.instances k ≡ Some i) (o : Option Code) → code_here k i at_k ≡ o
-          → numbers_of y.resources (on nothing o (λ c. section (context_of b i s) c d)).trace ≡ visits (on no_value o (tree_of_code k i at_k)) (worlds.value_in L s)
-      coded i at_k None e = refl
-      coded i at_k (Some c) e = (agrees k i at_k c e).trace
+    -- where it has a section, its leaf is the leaf's tree
+    module _ (c : Code) (e : code_here ≡ Some c) where
+      tree_here : leaf_with b d k (own_in L s k) ≡ tree_of_code c
+      tree_here = tree_is ∙ ap (λ o. on no_value o tree_of_code) e
 
-      go : (o : Option Instance) → nth b.instances k ≡ o → numbers_of y.resources (Sect b k s d).trace ≡ visits (tree_with b d k (own_in L s k)) (worlds.value_in L s)
-      go None e =
-          ap (λ o. numbers_of y.resources (on nothing o (λ i. on nothing (code_at b i (value_in s pc (id_of i))) (λ c. section (context_of b i s) c d))).trace) e
-          ∙ sym (ap (λ o. visits (on no_value o (λ i. on no_value (code_at b i (find pc (own_in L s k))) (λ c. accesses_of (attempt_of b i (own_in L s k) d) c))) (worlds.value_in L s)) e)
-      go (Some i) e =
-          ap (λ x. numbers_of y.resources x.trace) (sect_is k i e) ∙ coded i e (code_here k i e) refl ∙ sym (ap (λ w. visits w (worlds.value_in L s)) (tree_is k i e))
+      leaf_here : SectLeaf b k s d ≡ code_leaf b i s c d
+      leaf_here = leaf_is ∙ ap (λ o. on no_points o (λ c. code_leaf b i s c d)) e
 
-  -- where it has a section, it is stuck where its tree is
-  pub stuck_is : (k : ℕ) (i : Instance) (c : Code) (kind : Kind) → nth b.instances k ≡ Some i → code_at b i (value_in s pc (id_of i)) ≡ Some c
-      → ending (tree_with b d k (own_in L s k)) (worlds.value_in L s) ≡ Sticks kind → (Sect b k s d).end ≡ Stuck kind
-  stuck_is k i c kind at_k e h =
-      let w : tree_with b d k (own_in L s k) ≡ tree_of_code k i at_k c = tree_is k i at_k ∙ ap (λ o. on no_value o (tree_of_code k i at_k)) e in
-      ap (λ x. x.end) (sect_is k i at_k ∙ ap (λ o. on nothing o (λ c. section (context_of b i s) c d)) e)
-      ∙ (agrees k i at_k c e).stuck kind (sym (ap (λ w. ending w (worlds.value_in L s)) w) ∙ h)
+      pub leaf_same : LeafIs (NumberedLeaf b k s d) (leaf_with b d k (own_in L s k)) (worlds.value_in L s)
+      leaf_same =
+          let a = agrees c e in
+          subst (λ w. LeafIs (NumberedLeaf b k s d) w (worlds.value_in L s)) (sym tree_here)
+          (subst (λ x. LeafIs (numbered_leaf y x) (tree_of_code c) (worlds.value_in L s)) (sym leaf_here)
+          (record { trace = a.trace; blocks = a.blocks; sticks = a.sticks; goes = λ o ps h. ap is_blocked (a.next o ps h).1 }))
 
-  -- and goes on where its tree does
-  pub next_is : (k : ℕ) (i : Instance) (c : Code) (o : walks.Own) (ps : List Data) (at_k : nth b.instances k ≡ Some i) → code_at b i (value_in s pc (id_of i)) ≡ Some c
-      → ending (tree_with b d k (own_in L s k)) (worlds.value_in L s) ≡ Goes o ps
-      → (t : Vars) × ((Sect b k s d).end ≡ Next t ps) × Left (context_of b i s) y.resources (own_start k i at_k) d t o (final (tree_with b d k (own_in L s k)) (worlds.value_in L s))
-  next_is k i c o ps at_k e h =
-      let w : tree_with b d k (own_in L s k) ≡ tree_of_code k i at_k c = tree_is k i at_k ∙ ap (λ o. on no_value o (tree_of_code k i at_k)) e in
-      let n = (agrees k i at_k c e).next o ps (sym (ap (λ w. ending w (worlds.value_in L s)) w) ∙ h) in (
-        n.0,
-        ap (λ x. x.end) (sect_is k i at_k ∙ ap (λ o. on nothing o (λ c. section (context_of b i s) c d)) e) ∙ n.1,
-        subst (λ w. Left (context_of b i s) y.resources (own_start k i at_k) d n.0 o (final w (worlds.value_in L s))) (sym w) n.2,
-      )
-
-  -- an instance that goes on has a section
-  pub has_code : (k : ℕ) (i : Instance) (o : walks.Own) (ps : List Data) → nth b.instances k ≡ Some i → ending (tree_with b d k (own_in L s k)) (worlds.value_in L s) ≡ Goes o ps
-      → (c : Code) × (code_at b i (value_in s pc (id_of i)) ≡ Some c)
-  has_code k i o ps at_k h = go (code_here k i at_k) refl (sym (ap (λ w. ending w (worlds.value_in L s)) (tree_is k i at_k)) ∙ h)
-    where
-      go : (q : Option Code) → code_here k i at_k ≡ q → ending (on no_value q (tree_of_code k i at_k)) (worlds.value_in L s) ≡ Goes o ps → (c : Code) × (code_here k i at_k ≡ Some c)
-      go None e h = absurd (let z : Sticks NoValue ≡ Goes o ps = h in grind (arith, z))
-      go (Some c) e h = (c, e)
+      -- the state to which it leads
+      pub leaf_next : (o : walks.Own) (ps : List Data) → ending (leaf_with b d k (own_in L s k)) (worlds.value_in L s) ≡ Leads (Goes o ps)
+          → (t : Vars) × ((section (context_of b i s) c d).end ≡ Next t ps) × ((SectLeaf b k s d).section.end ≡ Next t ps) × Left (context_of b i s) y.resources own_start d t o (final (leaf_with b d k (own_in L s k)) (worlds.value_in L s))
+      leaf_next o ps h =
+          let n = (agrees c e).next o ps (sym (ap (λ w. ending w (worlds.value_in L s)) tree_here) ∙ h) in
+          (n.0, n.1, ap (λ x. x.section.end) leaf_here ∙ n.1, subst (λ w. Left (context_of b i s) y.resources own_start d n.0 o (final w (worlds.value_in L s))) (sym tree_here) n.2)
 
   -- it is at Done where its own components are
   pub done_is : (k : ℕ) → core.is_at_done y k s ≡ is_done (own_in L s k)
@@ -175,3 +157,98 @@ module _ (b : Bound) (R : Runnable b) (s : Vars) (good : IsSystemState (system_o
           ap (λ o. on false o (λ i. core.is_place done (place_of i.id s))) (nth_map member_of k b.instances i e)
           ∙ ap (core.is_place done) (same_place (find pc s) (id_of i) ∙ sym (place_is k i e))
           ∙ sym (ap is_done (own_is k i e))
+
+-- ---- attempts
+
+no_leaf : (leaf : List ℕ → LeafTree) (d : Words) → leaf [] ≡ no_value → attempting leaf d most_leaves ≡ Stop (Sticks NoValue)
+no_leaf leaf d e = ap (λ t. settled (and_then t (on_end d (λ q. trying leaf d 65535 q)))) e
+
+module _ (b : Bound) (R : Runnable b) (s : Vars) (good : IsSystemState (system_of b) s) (d : Words) where
+  abbrev f : ℕ → Data
+  f = worlds.value_in (layout_of (system_of b)) s
+
+  abbrev own_now : ℕ → walks.Own
+  own_now k = own_in (layout_of (system_of b)) s k
+
+  -- where an instance has a section, an attempt is its tree
+  pub attempt_same : (k : ℕ) (i : Instance) (c : Code) → nth b.instances k ≡ Some i → code_at b i (value_in s pc (id_of i)) ≡ Some c
+      → TryIs (NumberedLeaf b k s) (λ p. leaf_with b (along 0 p d) k (own_now k)) d f (numbered (system_of b) (SectTry b k s d)) (tree_with b d k (own_now k))
+  attempt_same k i c at_k e =
+      subst (λ x. TryIs (NumberedLeaf b k s) (λ p. leaf_with b (along 0 p d) k (own_now k)) d f x (tree_with b d k (own_now k))) (sym (numbered_try b k s d))
+      (attempt_is (NumberedLeaf b k s) (λ p. leaf_with b (along 0 p d) k (own_now k)) d f (λ p. leaf_same b R s good (along 0 p d) k i at_k c e) most_leaves)
+
+  -- where it has none it makes no access
+  pub record NoSection (k : ℕ) : Type 0 where
+    pub section_is : SectTry b k s d ≡ nothing
+    pub tree_is : tree_with b d k (own_now k) ≡ Stop (Sticks NoValue)
+    pub none : (i : Instance) (c : Code) → nth b.instances k ≡ Some i → code_at b i (value_in s pc (id_of i)) ≡ Some c → ⊥
+
+  pub record HasSection (k : ℕ) : Type 0 where
+    pub instance : Instance
+    pub at : nth b.instances k ≡ Some instance
+    pub code : Code
+    pub at_code : code_at b instance (value_in s pc (id_of instance)) ≡ Some code
+
+  pub section_at : (k : ℕ) → NoSection k ⊎ HasSection k
+  section_at k = go (nth b.instances k) refl
+    where
+      none : (x : Section Touched Vars) → Sect b k s d ≡ x → x ≡ nothing → leaf_with b d k (own_now k) ≡ no_value
+          → ((i : Instance) (c : Code) → nth b.instances k ≡ Some i → code_at b i (value_in s pc (id_of i)) ≡ Some c → ⊥) → NoSection k
+      none x is e t not = record {
+        section_is = try_first b k s d (ap (λ (x : Section Touched Vars). is_blocked x.end) (is ∙ e)) ∙ is ∙ e;
+        tree_is = no_leaf (λ p. leaf_with b (along 0 p d) k (own_now k)) d t;
+        none = not;
+      }
+
+      same : (i j : Instance) → Some i ≡ Some j → i ≡ j
+      same i j e = cc
+
+      coded : (i : Instance) → nth b.instances k ≡ Some i → (o : Option Code) → code_at b i (value_in s pc (id_of i)) ≡ o → NoSection k ⊎ HasSection k
+      coded i at_k None e =
+          inl (none (on nothing (code_at b i (value_in s pc (id_of i))) (λ c. section (context_of b i s) c d))
+          (ap (λ o. on nothing o (λ i. on nothing (code_at b i (value_in s pc (id_of i))) (λ c. section (context_of b i s) c d))) at_k)
+          (ap (λ o. on nothing o (λ c. section (context_of b i s) c d)) e)
+          (tree_is b R s good d k i at_k ∙ ap (λ o. on no_value o (tree_of_code b R s good d k i at_k)) e)
+          (λ j c at at_code. let z : None ≡ Some c = sym e ∙ ap (λ i. code_at b i (value_in s pc (id_of i))) (same i j (sym at_k ∙ at)) ∙ at_code in grind (arith, z)))
+      coded i at_k (Some c) e = inr (record { instance = i; at = at_k; code = c; at_code = e })
+
+      go : (o : Option Instance) → nth b.instances k ≡ o → NoSection k ⊎ HasSection k
+      go None e =
+          inl (none (Sect b k s d) refl
+          (ap (λ o. on nothing o (λ i. on nothing (code_at b i (value_in s pc (id_of i))) (λ c. section (context_of b i s) c d))) e)
+          (ap (λ o. on no_value o (λ i. on no_value (code_at b i (find pc (own_now k))) (λ c. accesses_of (attempt_of b i (own_now k) d) c))) e)
+          (λ j c at at_code. let z : None ≡ Some j = sym e ∙ at in grind (arith, z)))
+      go (Some i) e = coded i e (code_at b i (value_in s pc (id_of i))) refl
+
+  -- what an instance accesses
+  pub trace_is : (k : ℕ) → numbers_of (system_of b).resources (SectTry b k s d).trace ≡ visits (tree_with b d k (own_now k)) f
+  trace_is k = go (section_at k)
+    where
+      go : NoSection k ⊎ HasSection k → numbers_of (system_of b).resources (SectTry b k s d).trace ≡ visits (tree_with b d k (own_now k)) f
+      go (inl n) = ap (λ (x : Section Touched Vars). numbers_of (system_of b).resources x.trace) n.section_is ∙ sym (ap (λ w. visits w f) n.tree_is)
+      go (inr h) = (attempt_same k h.instance h.code h.at h.at_code).trace
+
+  -- where it has a section, it is stuck where its tree is
+  pub stuck_is : (k : ℕ) (i : Instance) (c : Code) (kind : Kind) → nth b.instances k ≡ Some i → code_at b i (value_in s pc (id_of i)) ≡ Some c
+      → ending (tree_with b d k (own_now k)) f ≡ Sticks kind → (SectTry b k s d).end ≡ Stuck kind
+  stuck_is k i c kind at_k e h = (attempt_same k i c at_k e).sticks kind h
+
+  -- and goes on where its tree does, as one of its leaves
+  pub next_is : (k : ℕ) (i : Instance) (c : Code) (o : walks.Own) (ps : List Data) (at_k : nth b.instances k ≡ Some i) → code_at b i (value_in s pc (id_of i)) ≡ Some c
+      → ending (tree_with b d k (own_now k)) f ≡ Goes o ps
+      → (t : Vars) × ((SectTry b k s d).end ≡ Next t ps) × (v : Words) × ((section (context_of b i s) c v).end ≡ Next t ps)
+      × Left (context_of b i s) (system_of b).resources (own_start b R s good v k i at_k) v t o (final (tree_with b d k (own_now k)) f)
+  next_is k i c o ps at_k e h =
+      let g = (attempt_same k i c at_k e).goes o ps h in
+      let v = along 0 g.0 d in
+      let n = leaf_next b R s good v k i at_k c e o ps g.1 in
+      let same : final (leaf_with b v k (own_now k)) f ≡ final (tree_with b d k (own_now k)) f = λ j r. sym (g.3 r) j in
+      (n.0, g.2 ∙ n.2, v, n.1, subst (λ h. Left (context_of b i s) (system_of b).resources (own_start b R s good v k i at_k) v n.0 o h) same n.3)
+
+  -- an instance that goes on has a section
+  pub has_section : (k : ℕ) (o : walks.Own) (ps : List Data) → ending (tree_with b d k (own_now k)) f ≡ Goes o ps → HasSection k
+  has_section k o ps h = go (section_at k)
+    where
+      go : NoSection k ⊎ HasSection k → HasSection k
+      go (inl n) = absurd (let z : Sticks NoValue ≡ Goes o ps = sym (ap (λ w. ending w f) n.tree_is) ∙ h in grind (arith, z))
+      go (inr q) = q

@@ -15,13 +15,13 @@ use Rattle.pgo_sections.specs.Context.{Context, part_at, value_now}
 use Rattle.pgo_sections.specs.SectionRun.{ChoiceMade}
 use Rattle.pgo_sections.proofs.Domains.{same_of}
 use Rattle.pgo_workers.specs.Walk as walks
-use Rattle.pgo_workers.specs.Walk.{Walk, Touch, Ahead, visits, visits_from, append_assoc, among_append, not_either}
+use Rattle.pgo_workers.specs.Walk.{Steps, Touch, Ahead, visits, visits_from, append_assoc, among_append, not_either}
 use Rattle.pgo_accesses.specs.Accesses.{Attempt, Progress, is_too_deep, marked, becoming, without}
 use Rattle.pgo_accesses.proofs.Parts.{with_at, lookup_here, lookup_other, replaced_low, replaced_length, replaced_keys, at_low, le_of}
 
 -- ---- one access
 
-pub accessed : (w0 : Walk) (f0 g : ℕ → Data) (ns : List ℕ) (r : ℕ) (leave : Data → Data) (rest : Data → Walk) → Ahead w0 f0 ns (Touch r leave rest) g → Ahead w0 f0 (ns ++ (r ∷ [])) (rest (g r)) (put r (leave (g r)) g)
+pub accessed : {E : Type 0} (w0 : Steps E) (f0 g : ℕ → Data) (ns : List ℕ) (r : ℕ) (leave : Data → Data) (rest : Data → Steps E) → Ahead w0 f0 ns (Touch r leave rest) g → Ahead w0 f0 (ns ++ (r ∷ [])) (rest (g r)) (put r (leave (g r)) g)
 accessed w0 f0 g ns r leave rest a = record {
   trace = a.trace ∙ sym (append_assoc ns (r ∷ []) (visits_from f0 (rest (g r)) (put r (leave (g r)) g)));
   ends = a.ends;
@@ -151,7 +151,7 @@ module _ (K : Context) (rs : List Resource) (at_start : walks.Own) (d : Words) w
     pub own : (y : Name) → is_among y K.globals ≡ false → find y p.changes ≡ find y ch
     pub whole : (y : Name) (r : ℕ) → number_among rs (y, None) ≡ Some r → K.by_element y ≡ false → (value_now K (Whole y) ch ≡ Some (g r)) × (nat_le (depth (g r)) 2047 ≡ true)
     pub elements : (y : Name) → IsElements y → Elements y (value_now K (Whole y) ch) g
-    pub used : p.used ≡ length cs
+    pub points : p.points ≡ cs
     pub prints : p.prints ≡ ps
     -- what is deep, and nothing else
     pub deep : (c : Touched) (r : ℕ) → number_among rs c ≡ Some r → among r p.too_deep ≡ is_too_deep (K.by_element c.0) (g r)
@@ -193,7 +193,7 @@ module _ (K : Context) (rs : List Resource) (at_start : walks.Own) (d : Words) w
       own = λ z n. ap (λ o. if same_name z y then Some v else o) (h.own z n);
       whole = λ z r e b. let w = h.whole z r e b in (value_other y z v ch (apart y z not (G.globals (z, None) r e)) ∙ w.0, w.1);
       elements = λ z e. subst (λ o. Elements z o g) (sym (value_other y z v ch (apart y z not e.1))) (h.elements z e);
-      used = h.used;
+      points = h.points;
       prints = h.prints;
       deep = h.deep;
       only = h.only;
@@ -236,7 +236,7 @@ module _ (K : Context) (rs : List Resource) (at_start : walks.Own) (d : Words) w
           own = h.own;
           whole = h.whole;
           elements = h.elements;
-          used = h.used;
+          points = h.points;
           prints = h.prints;
           deep = λ c q e. subst (λ f. among q (marked b r p.too_deep) ≡ is_too_deep (K.by_element c.0) (f q)) (put_same r g) (deep_after k r (g r) p.too_deep g at h.deep c q e);
           only = only_after k r b p.too_deep at is h.only;
@@ -260,7 +260,7 @@ module _ (K : Context) (rs : List Resource) (at_start : walks.Own) (d : Words) w
                 (λ q f. put_there r q v g (numbers_apart (z, Some i) (y, None) q r f at (ap (λ b. b && false) n))) (old.each i);
             domain = old.domain;
           };
-      used = h.used;
+      points = h.points;
       prints = h.prints;
       deep = deep_after (y, None) r v p.too_deep g at h.deep;
       only = only_after (y, None) r (is_too_deep (K.by_element y) v) p.too_deep at by h.only;
@@ -294,7 +294,7 @@ module _ (K : Context) (rs : List Resource) (at_start : walks.Own) (d : Words) w
           let there = put_there r q v g (numbers_apart (z, None) (y, Some i) q r e at (ap (λ b. b && false) n)) in
           (value_other y z (with_at i v E.pairs) ch n ∙ w.0 ∙ ap Some (sym there), subst (λ x. nat_le (depth x) 2047 ≡ true) (sym there) w.1);
       elements = λ z e. element_case z e (same_name z y) refl;
-      used = h.used;
+      points = h.points;
       prints = h.prints;
       deep = deep_after (y, Some i) r v p.too_deep g at h.deep;
       only = only_after (y, Some i) r (is_too_deep (K.by_element y) v) p.too_deep at is h.only;

@@ -31,7 +31,7 @@ runs b settings R =
           let code = code_there b R s good k i.0 i.1 not_done in
           stuck_is b R s good.state (words_of (Seeded settings.seed k a)) k i.0 code.0 kind i.1 code.1 e;
       within = λ k a o names. within_reach b R (words_of (Seeded settings.seed k a)) k o names;
-      settles = λ k a o names. settles b R (words_of (Seeded settings.seed k a)) k o names;
+      settles = λ k a o names. settles b (words_of (Seeded settings.seed k a)) k o;
       reaches = λ k r h. reaches_resource b k r h;
       done = λ k s good. done_is b R s good.state (words_of (Seeded settings.seed k 0)) k;
       next = λ k a s o ps good below not_done e. next_of b R s good.state (words_of (Seeded settings.seed k a)) k o ps e;

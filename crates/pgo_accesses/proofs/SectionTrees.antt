@@ -6,27 +6,35 @@ use Rattle.pgo_base.specs.Lookup.{Name, Vars, same_name, find}
 use Rattle.pgo_model.specs.Core.{number_among, numbers_of}
 use Rattle.pgo_model.specs.Operators.{apply, lookup, same_data}
 use Rattle.pgo_model.specs.Options.{on}
-use Rattle.pgo_model.specs.Outcome.{Kind, NoValue, Outcome, Next, Stuck}
+use Rattle.pgo_model.specs.Outcome.{Kind, Blocked, NoValue, AssertFails, Many, Outcome, Next, Stuck}
 use Rattle.pgo_model.specs.State.{is_shallow}
 use Rattle.pgo_model.specs.System.{Words, Resource, Touched}
 use Rattle.pgo_model.specs.Written.{pc}
+use Rattle.pgo_tries.specs.Attempts.{is_blocked}
+use Rattle.pgo_sections.specs.ChoiceTrees.{in_order}
 use Rattle.pgo_sections.specs.Code.{Whole, Code}
 use Rattle.pgo_sections.specs.Context.{Context, part_at, value_now}
 use Rattle.pgo_sections.specs.Macros.{exec}
 use Rattle.pgo_sections.specs.Section.{if_shallow, end_of, run_of}
 use Rattle.pgo_sections.specs.SectionRun as runs
-use Rattle.pgo_sections.specs.SectionRun.{begun, Out, Go, Jump, Yielded}
+use Rattle.pgo_sections.specs.SectionRun.{ChoiceMade, begun, Out, Go, Jump, Yielded}
 use Rattle.pgo_sections.specs.SectionsAgree.{keys}
 use Rattle.pgo_sections.proofs.Closing.{closed_keys}
+use Rattle.pgo_workers.specs.Tried.{LeafEnd, Leads, Blocks, LeafTree}
 use Rattle.pgo_workers.specs.Walk as walks
-use Rattle.pgo_workers.specs.Walk.{Walk, Ahead, Goes, Sticks, visits, ending, final}
+use Rattle.pgo_workers.specs.Walk.{End, Ahead, Goes, Sticks, visits, ending, final}
 use Rattle.pgo_accesses.specs.Accesses as accesses
-use Rattle.pgo_accesses.specs.Accesses.{Progress, accesses_of, own_next, is_empty, all_shallow, no_value}
+use Rattle.pgo_accesses.specs.Accesses.{Progress, accesses_of, own_next, is_empty, all_shallow, no_value, stuck}
 use Rattle.pgo_accesses.specs.Assigned.{AssignsBound, JumpsAtEnd, NeverYields}
 use Rattle.pgo_accesses.proofs.Ending.{HasPart, Start, Closes, end_is, global_at, own_at, other_at, unchanged_at, is_state}
 use Rattle.pgo_accesses.proofs.Follows.{At, Arrives, UsesHere, follows}
 use Rattle.pgo_accesses.proofs.Jumps.{GoesOn, Yields, jumps, yields_nothing}
 use Rattle.pgo_accesses.proofs.Related.{Matches, attempt, IsResource, MayChange, AsBound, Related}
+
+goes : LeafEnd → Bool
+goes (Leads (Goes own ps)) = true
+goes (Leads (Sticks kind)) = false
+goes (Blocks points) = false
 
 -- what a component has
 abbrev pub component_in : Touched → Vars → Option Data
@@ -44,33 +52,54 @@ module _ (K : Context) (rs : List Resource) (at_start : walks.Own) (d : Words) w
     pub unchanged : (x : Name) → (MayChange K rs at_start d x → ⊥) → same_name x pc ≡ false → find x t ≡ find x K.start
     pub resources : (c : Touched) (r : ℕ) → number_among rs c ≡ Some r → IsResource K rs at_start d c.0 c.1 → component_in c t ≡ Some (h r)
 
-  module _ (w : Walk) (f0 : ℕ → Data) (o : Out) where
+  module _ (w : LeafTree) (f0 : ℕ → Data) (o : Out) where
     pub record Agrees : Type 0 where
       pub trace : numbers_of rs (run_of o).trace ≡ visits w f0
-      pub stuck : (kind : Kind) → ending w f0 ≡ Sticks kind → end_of K o ≡ Stuck kind
-      pub next : (own : walks.Own) (ps : List Data) → ending w f0 ≡ Goes own ps → (t : Vars) × (end_of K o ≡ Next t ps) × Left t own (final w f0)
+      pub blocks : (points : List ChoiceMade) → ending w f0 ≡ Blocks points → (end_of K o ≡ Stuck Blocked) × (in_order (run_of o).choices ≡ points)
+      pub sticks : (kind : Kind) → ending w f0 ≡ Leads (Sticks kind) → (end_of K o ≡ Stuck kind) × (is_blocked (end_of K o) ≡ false)
+      pub next : (own : walks.Own) (ps : List Data) → ending w f0 ≡ Leads (Goes own ps) → (t : Vars) × (end_of K o ≡ Next t ps) × Left t own (final w f0)
 
   append_none : (l : List ℕ) → Rattle.std.specs.Prelude.◌++◌ l [] ≡ l
   append_none [] = refl
   append_none (x ∷ l) = ap (λ k. x ∷ k) (append_none l)
 
-  kind_of : (j k : Kind) → Sticks j ≡ Sticks k → j ≡ k
+  kind_of : (j k : Kind) → Leads (Sticks j) ≡ Leads (Sticks k) → j ≡ k
   kind_of j k e = cc
 
-  -- the end of a walk
-  stopped : (w : Walk) (f0 : ℕ → Data) (ns : List ℕ) (kind : Kind) (g : ℕ → Data) (e : Outcome Vars) → e ≡ Stuck kind → Ahead w f0 ns (walks.Stop (Sticks kind)) g
-      → (ns ≡ visits w f0) × ((k : Kind) → ending w f0 ≡ Sticks k → e ≡ Stuck k) × ((own : walks.Own) (ps : List Data) → ending w f0 ≡ Goes own ps → ⊥)
-  stopped w f0 ns kind g e is a = (
-    sym (a.trace ∙ append_none ns),
-    λ k h. is ∙ ap Stuck (kind_of kind k (sym a.ends ∙ h)),
-    λ own ps h. (let z : Sticks kind ≡ Goes own ps = sym a.ends ∙ h in grind (arith, z)),
-  )
+  points_of : (ps qs : List ChoiceMade) → Blocks ps ≡ Blocks qs → ps ≡ qs
+  points_of ps qs e = cc
 
-  module _ (G : AsBound K rs at_start d) (S : Start K rs at_start d) (w : Walk) (f0 : ℕ → Data) where
+  -- the end of a tree in a note, behind the choices cs
+  pub record Stopped (w : LeafTree) (f0 : ℕ → Data) (ns : List ℕ) (e : Outcome Vars) (cs : List ChoiceMade) : Type 0 where
+    pub trace : ns ≡ visits w f0
+    pub blocks : (points : List ChoiceMade) → ending w f0 ≡ Blocks points → (e ≡ Stuck Blocked) × (in_order cs ≡ points)
+    pub sticks : (kind : Kind) → ending w f0 ≡ Leads (Sticks kind) → (e ≡ Stuck kind) × (is_blocked e ≡ false)
+    pub next : (own : walks.Own) (ps : List Data) → ending w f0 ≡ Leads (Goes own ps) → ⊥
+
+  noted : (w : LeafTree) (f0 : ℕ → Data) (ns : List ℕ) (kind : Kind) (cs : List ChoiceMade) (g : ℕ → Data) (e : Outcome Vars) → e ≡ Stuck kind → is_blocked e ≡ false → Ahead w f0 ns (walks.Stop (Leads (Sticks kind))) g → Stopped w f0 ns e cs
+  noted w f0 ns kind cs g e is free a = record {
+    trace = sym (a.trace ∙ append_none ns);
+    blocks = λ points h. absurd (let z : Leads (Sticks kind) ≡ Blocks points = sym a.ends ∙ h in grind (arith, z));
+    sticks = λ k h. (is ∙ ap Stuck (kind_of kind k (sym a.ends ∙ h)), free);
+    next = λ own ps h. (let z : goes (Leads (Sticks kind)) ≡ goes (Leads (Goes own ps)) = ap goes (sym a.ends ∙ h) in grind (arith, z));
+  }
+
+  stopped : (w : LeafTree) (f0 : ℕ → Data) (ns : List ℕ) (kind : Kind) (cs : List ChoiceMade) (g : ℕ → Data) (e : Outcome Vars) → e ≡ Stuck kind → Ahead w f0 ns (walks.Stop (stuck kind cs)) g → Stopped w f0 ns e cs
+  stopped w f0 ns Blocked cs g e is a = record {
+    trace = sym (a.trace ∙ append_none ns);
+    blocks = λ points h. (is, points_of (in_order cs) points (sym a.ends ∙ h));
+    sticks = λ k h. absurd (let z : Blocks (in_order cs) ≡ Leads (Sticks k) = sym a.ends ∙ h in grind (arith, z));
+    next = λ own ps h. (let z : Blocks (in_order cs) ≡ Leads (Goes own ps) = sym a.ends ∙ h in grind (arith, z));
+  }
+  stopped w f0 ns NoValue cs g e is a = noted w f0 ns NoValue cs g e is (ap is_blocked is) a
+  stopped w f0 ns AssertFails cs g e is a = noted w f0 ns AssertFails cs g e is (ap is_blocked is) a
+  stopped w f0 ns Many cs g e is a = noted w f0 ns Many cs g e is (ap is_blocked is) a
+
+  module _ (G : AsBound K rs at_start d) (S : Start K rs at_start d) (w : LeafTree) (f0 : ℕ → Data) where
     abbrev Begun : Type 0
     Begun = Related K rs at_start d [] [] [] accesses.begun f0
 
-    own_of : (o o' : walks.Own) (ps ps' : List Data) → Goes o ps ≡ Goes o' ps' → (o ≡ o') × (ps ≡ ps')
+    own_of : (o o' : walks.Own) (ps ps' : List Data) → Leads (Goes o ps) ≡ Leads (Goes o' ps') → (o ≡ o') × (ps ≡ ps')
     own_of o o' ps ps' e = (cc, cc)
 
     jumped : (l : Name) (run : runs.SectionRun) (p : Progress) (g : ℕ → Data) → At K rs at_start d w f0 (accesses.ended (attempt K rs at_start d) l p) run p g → Agrees w f0 (Jump l run)
@@ -123,25 +152,26 @@ module _ (K : Context) (rs : List Resource) (at_start : walks.Own) (d : Words) w
                 let E = R.elements x is in
                 ap (option_and_then (λ v. apply v i)) (global x (Some i) r e ∙ E.is) ∙ element r (number_among rs (x, Some i)) e (lookup i (graph E.pairs)) (E.each i)
 
-        go : (b : Bool) → (is_empty p.too_deep && all_shallow o) ≡ b → Ahead w f0 (numbers_of rs run.trace) (if b then walks.Stop (Goes o p.prints) else no_value) g → Agrees w f0 (Jump l run)
+        go : (b : Bool) → (is_empty p.too_deep && all_shallow o) ≡ b → Ahead w f0 (numbers_of rs run.trace) (if b then walks.Stop (Leads (Goes o p.prints)) else no_value) g → Agrees w f0 (Jump l run)
         go true e a = record {
           trace = sym (a.trace ∙ append_none (numbers_of rs run.trace));
-          stuck = λ kind k. absurd (let z : Goes o p.prints ≡ Sticks kind = sym a.ends ∙ k in grind (arith, z));
+          blocks = λ points k. absurd (let z : Leads (Goes o p.prints) ≡ Blocks points = sym a.ends ∙ k in grind (arith, z));
+          sticks = λ kind k. absurd (let z : goes (Leads (Goes o p.prints)) ≡ goes (Leads (Sticks kind)) = ap goes (sym a.ends ∙ k) in grind (arith, z));
           next = λ own ps k.
               let same = own_of o own p.prints ps (sym a.ends ∙ k) in
               (t, end_at true e ∙ ap (Next t) (sym R.prints ∙ same.1), left own (sym same.0) (λ r. sym (a.leaves r)));
         }
         go false e a =
-            let s = stopped w f0 (numbers_of rs run.trace) NoValue g (end_of K (Jump l run)) (end_at false e) a in
-            record { trace = s.0; stuck = s.1; next = λ own ps k. absurd (s.2 own ps k) }
+            let s = stopped w f0 (numbers_of rs run.trace) NoValue run.choices g (end_of K (Jump l run)) (end_at false e) a in
+            record { trace = s.trace; blocks = s.blocks; sticks = s.sticks; next = λ own ps k. absurd (s.next own ps k) }
 
     arrived : (o : Out) → GoesOn o → Yields o → Arrives K rs at_start d w f0 o (λ p. no_value) → Agrees w f0 o
     arrived (Go run) j y h = absurd j
     arrived (Jump l run) j y h = jumped l run h.0 h.1 h.2
     arrived (Yielded v run) j y h = absurd y
     arrived (runs.Stop kind run) j y h =
-        let s = stopped w f0 (numbers_of rs run.trace) kind h.0 (Stuck kind) refl h.1 in
-        record { trace = s.0; stuck = s.1; next = λ own ps k. absurd (s.2 own ps k) }
+        let s = stopped w f0 (numbers_of rs run.trace) kind run.choices h.0 (Stuck kind) refl h.1 in
+        record { trace = s.trace; blocks = s.blocks; sticks = s.sticks; next = λ own ps k. absurd (s.next own ps k) }
 
   -- the section of code that may run here
   pub section_agrees : AsBound K rs at_start d → Start K rs at_start d → (f0 : ℕ → Data) → Related K rs at_start d [] [] [] accesses.begun f0 → (c : Code)

@@ -8,7 +8,7 @@ use Rattle.pgo_model.specs.Choice.{word_at}
 use Rattle.pgo_model.specs.Outcome.{Blocked, NoValue}
 use Rattle.pgo_base.specs.declared.module.Defined.TheVariants.{Given}
 use Rattle.pgo_base.specs.declared.value.Value.TheVariants.{Int}
-use Rattle.pgo_syntax.specs.Statement.{assign, await_that, with_in, yield_as, block, labeled}
+use Rattle.pgo_syntax.specs.Statement.{assign, either_of, await_that, with_in, yield_as, block, statements, labeled}
 use Rattle.pgo_syntax.specs.declared.archetype.Archetype.{Archetype}
 use Rattle.pgo_syntax.specs.declared.archetype.Extent.TheVariants as extents
 use Rattle.pgo_syntax.specs.declared.assignment.Step.TheVariants as step
@@ -113,11 +113,46 @@ row_with_left = refl
 row_with_end : ending (tree_with chooses (word_at (5 ∷ [])) 0 (place (codes "P_l"))) (λ r. int 2) ≡ Goes (place (codes "Done")) []
 row_with_end = refl
 
-row_with_waits : visits (tree_with chooses (word_at (3 ∷ [])) 0 (place (codes "P_l"))) (λ r. int 2) ≡ 0 ∷ []
+-- the word picks 1, with which it waits; then 2 is tried, and x is read anew
+row_with_tries : visits (tree_with chooses (word_at (3 ∷ [])) 0 (place (codes "P_l"))) (λ r. int 2) ≡ 0 ∷ 0 ∷ 0 ∷ []
+row_with_tries = refl
+
+row_with_tries_left : final (tree_with chooses (word_at (3 ∷ [])) 0 (place (codes "P_l"))) (λ r. int 2) 0 ≡ int 4
+row_with_tries_left = refl
+
+row_with_tries_end : ending (tree_with chooses (word_at (3 ∷ [])) 0 (place (codes "P_l"))) (λ r. int 2) ≡ Goes (place (codes "Done")) []
+row_with_tries_end = refl
+
+-- with each of the three it waits
+row_with_waits : visits (tree_with chooses (word_at (5 ∷ [])) 0 (place (codes "P_l"))) (λ r. int 0) ≡ 0 ∷ 0 ∷ 0 ∷ []
 row_with_waits = refl
 
-row_with_waits_end : ending (tree_with chooses (word_at (3 ∷ [])) 0 (place (codes "P_l"))) (λ r. int 2) ≡ Sticks Blocked
+row_with_waits_end : ending (tree_with chooses (word_at (5 ∷ [])) 0 (place (codes "P_l"))) (λ r. int 0) ≡ Sticks Blocked
 row_with_waits_end = refl
+
+-- l: either { v := 1; await v > 1; } or { v := v + 2; };
+abbrev puts_back : Bound
+puts_back =
+    record (one_instance [] (codes "P") (archetype (codes "A") [] ((
+      Some (placed_name (codes "l")),
+      either_of 0 (statements (
+          block 0 (labeled ((None, assign 0 (assignment (codes "v") [] (number (pos 1)) ∷ [])) ∷ (None, await_that 0 (binary infixs.Greater (name (codes "v")) (number (pos 1)))) ∷ []))
+          ∷ assign 0 (assignment (codes "v") [] (binary infixs.Add (name (codes "v")) (number (pos 2))) ∷ []) ∷ [])),
+    ) ∷ []))
+    (binding (codes "v") (targets.Global (codes "x") extents.Whole None) ∷ []) (codes "x" ∷ []) [] (Int (pos 1))) {
+      resources = record { number = 0; global = codes "x"; index = None } ∷ [];
+    }
+
+-- behind the arm that waits x is as it was at the start
+row_puts_back : visits (tree_with puts_back (word_at (4 ∷ [])) 0 (place (codes "P_l"))) (λ r. int 5) ≡ 0 ∷ 0 ∷ 0 ∷ 0 ∷ []
+row_puts_back = refl
+
+row_puts_back_left : final (tree_with puts_back (word_at (4 ∷ [])) 0 (place (codes "P_l"))) (λ r. int 5) 0 ≡ int 7
+row_puts_back_left = refl
+
+-- its second arm doesn't wait
+row_second_arm : visits (tree_with puts_back (word_at (1 ∷ [])) 0 (place (codes "P_l"))) (λ r. int 5) ≡ 0 ∷ 0 ∷ []
+row_second_arm = refl
 
 -- at Done there is no section, and nothing is accessed
 row_done : visits (tree_with chooses (word_at []) 0 (place (codes "Done"))) (λ r. int 2) ≡ []

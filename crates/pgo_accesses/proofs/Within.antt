@@ -6,7 +6,9 @@ use Rattle.pgo_base.specs.Lookup.{Name, Vars, find}
 use Rattle.pgo_model.specs.Core.{Reaches, number_among}
 use Rattle.pgo_model.specs.Machine.{nth}
 use Rattle.pgo_model.specs.Options.{on}
+use Rattle.pgo_model.specs.Outcome.{most_leaves}
 use Rattle.pgo_model.specs.System.{Words}
+use Rattle.pgo_tries.specs.Sections.{along}
 use Rattle.pgo_syntax.specs.declared.bound.Bound.{Bound}
 use Rattle.pgo_syntax.specs.declared.bound.Instance.{Instance}
 use Rattle.pgo_bound.specs.Among.{nth_map, nth_among}
@@ -17,10 +19,11 @@ use Rattle.pgo_meaning.proofs.Traces.{among_is}
 use Rattle.pgo_model.specs.Names.{is_among}
 use Rattle.pgo_sections.specs.Code.{Place, Whole, Own, Code}
 use Rattle.pgo_workers.specs.Sentences.{IsOwn}
+use Rattle.pgo_workers.specs.Tried.{LeafTree, LeafLeaves, trying, attempting_within}
 use Rattle.pgo_workers.specs.Walk as walks
-use Rattle.pgo_workers.specs.Walk.{Walk, Within, StraightWithin, straight_within, straight_back, goes_back}
+use Rattle.pgo_workers.specs.Walk.{Within, StraightWithin, settled_stays, goes_back}
 use Rattle.pgo_accesses.specs.Accesses.{accesses_of, own_next, no_value}
-use Rattle.pgo_accesses.specs.Programs.{attempt_of, tree_with, world_at}
+use Rattle.pgo_accesses.specs.Programs.{attempt_of, leaf_with, tree_with, world_at}
 use Rattle.pgo_accesses.specs.Runnable.{Runnable}
 use Rattle.pgo_accesses.proofs.Bindings.{IsPlaceOf, IsBoundHere, uses_at, uses_both, places_whole}
 use Rattle.pgo_accesses.proofs.GoodStates as good_states
@@ -38,11 +41,11 @@ names_kept : (l : Name) (ch : Vars) (o : walks.Own) → map (λ p. p.0) (own_nex
 names_kept l ch [] = refl
 names_kept l ch (p ∷ o) = ap (λ ns. p.0 ∷ ns) (names_kept l ch o)
 
-straight_reach : (b : Bound) (R : Runnable b) (d : Words) (k : ℕ) (o : walks.Own) → IsOwn (world_at b) k o → StraightWithin (Reaches (system_of b) k) (IsOwn (world_at b) k) (tree_with b d k o)
-straight_reach b R d k o own = go (nth b.instances k) refl
+leaf_reach : (b : Bound) (R : Runnable b) (d : Words) (k : ℕ) (o : walks.Own) → IsOwn (world_at b) k o → StraightWithin (Reaches (system_of b) k) (LeafLeaves (IsOwn (world_at b) k)) (leaf_with b d k o)
+leaf_reach b R d k o own = go (nth b.instances k) refl
   where
-    In : Walk → Type 0
-    In w = StraightWithin (Reaches (system_of b) k) (IsOwn (world_at b) k) w
+    In : LeafTree → Type 0
+    In w = StraightWithin (Reaches (system_of b) k) (LeafLeaves (IsOwn (world_at b) k)) w
 
     reach : (i : Instance) → nth b.instances k ≡ Some i → (g : Name) → is_among g (globals_in i.bindings) ≡ true → (j : Option Data) (r : ℕ) → number_among (system_of b).resources (g, j) ≡ Some r → Reaches (system_of b) k r
     reach i at_k g is j r n =
@@ -74,8 +77,9 @@ straight_reach b R d k o own = go (nth b.instances k) refl
     go (Some i) e = code i e (code_at b i (find (Rattle.pgo_model.specs.Written.pc) o)) refl
 
 pub within_reach : (b : Bound) (R : Runnable b) (d : Words) (k : ℕ) (o : walks.Own) → IsOwn (world_at b) k o → Within (Reaches (system_of b) k) (IsOwn (world_at b) k) (tree_with b d k o)
-within_reach b R d k o own = straight_within (Reaches (system_of b) k) (IsOwn (world_at b) k) (tree_with b d k o) (straight_reach b R d k o own)
+within_reach b R d k o own =
+    attempting_within (Reaches (system_of b) k) (IsOwn (world_at b) k) (λ p. leaf_with b (along 0 p d) k o) (λ p. leaf_reach b R (along 0 p d) k o own) d most_leaves
 
 -- an attempt begins at an access or an end
-pub settles : (b : Bound) (R : Runnable b) (d : Words) (k : ℕ) (o : walks.Own) → IsOwn (world_at b) k o → goes_back (tree_with b d k o) ≡ false
-settles b R d k o own = straight_back (Reaches (system_of b) k) (IsOwn (world_at b) k) (tree_with b d k o) (straight_reach b R d k o own)
+pub settles : (b : Bound) (d : Words) (k : ℕ) (o : walks.Own) → goes_back (tree_with b d k o) ≡ false
+settles b d k o = settled_stays (trying (λ p. leaf_with b (along 0 p d) k o) d most_leaves [])

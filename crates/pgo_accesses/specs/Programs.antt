@@ -7,6 +7,7 @@ use Rattle.pgo_model.specs.Log.{Effect}
 use Rattle.pgo_model.specs.Machine.{nth}
 use Rattle.pgo_model.specs.ModuleView.{defined_view}
 use Rattle.pgo_model.specs.Options.{on}
+use Rattle.pgo_model.specs.Outcome.{most_leaves}
 use Rattle.pgo_model.specs.System.{Words}
 use Rattle.pgo_model.specs.Val.{meanings}
 use Rattle.pgo_model.specs.Written.{pc, done}
@@ -16,7 +17,9 @@ use Rattle.pgo_bound.specs.State.{id_of, kind_in}
 use Rattle.pgo_meaning.specs.Parameters.{places_of}
 use Rattle.pgo_meaning.specs.Sect.{code_at, is_by_element}
 use Rattle.pgo_meaning.specs.System.{system_of}
+use Rattle.pgo_tries.specs.Sections.{along}
 use Rattle.pgo_workers.specs.Programs as workers
+use Rattle.pgo_workers.specs.Tried.{LeafTree, attempting}
 use Rattle.pgo_workers.specs.Walk.{Own, Walk}
 use Rattle.pgo_workers.specs.Worker.{Program}
 use Rattle.pgo_workers.specs.View.{World}
@@ -34,9 +37,13 @@ attempt_of b i own d = record {
   words = d;
 }
 
--- the section of the label at which the own components are
+-- the section of the label at which the own components are, with the words d
+abbrev pub leaf_with : Bound → Words → ℕ → Own → LeafTree
+leaf_with b d k own = on no_value (nth b.instances k) (λ i. on no_value (code_at b i (find pc own)) (λ c. accesses_of (attempt_of b i own d) c))
+
+-- an attempt on it: it tries the choices of the section one after another, the words d first
 abbrev pub tree_with : Bound → Words → ℕ → Own → Walk
-tree_with b d k own = on no_value (nth b.instances k) (λ i. on no_value (code_at b i (find pc own)) (λ c. accesses_of (attempt_of b i own d) c))
+tree_with b d k own = attempting (λ p. leaf_with b (along 0 p d) k own) d most_leaves
 
 -- what attempt a of instance k does under a seed
 abbrev pub tree_of : Bound → (seed : ℕ) → (k a : ℕ) → Own → Walk

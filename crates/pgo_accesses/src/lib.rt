@@ -1,4 +1,4 @@
-// A section as the accesses that it makes, one after the other; laws of these.
+// A section, and an attempt at it, as the accesses that are made, one after the other; laws of these.
 #![tactic(auto)]
 
 ghost use Rattle.std.specs.Prelude.{◌≡◌, ◌<◌, ℕ, suc, true, false, List, [], take};
@@ -15,12 +15,12 @@ ghost use Rattle.pgo_accesses.specs.Frame.{AgreeOn, SameEnd};
 ghost use Rattle.pgo_accesses.specs.Programs.{program_of, world_at};
 ghost use Rattle.pgo_accesses.specs.Runnable.{Runnable, IsRunState};
 
-/// A section is the tree of its accesses: on each state of the system it does what the tree says.
+/// An attempt is the tree of its accesses: on each state of the system it does what the tree says.
 ///
 /// - `trace`: it accesses what the tree visits on the resources' values.
-/// - `stuck`: of an instance that is at a label, where the tree ends in a note, so does the section. At Done, and where there is no
-///   such instance, a section has no end.
-/// - `next`: where the tree goes on, the section leads to the state behind the entry that a worker makes of the accessed resources and
+/// - `stuck`: of an instance that is at a label, where the tree ends in a note, so does the attempt. At Done, and where there is no
+///   such instance, an attempt has no end.
+/// - `next`: where the tree goes on, the attempt leads to the state behind the entry that a worker makes of the accessed resources and
 ///   of the own components, and prints the same.
 /// - `done`: an instance is at Done where its own components are.
 /// - `within`: whatever is found, a tree accesses resources of the globals that the instance is bound to, and keeps the names of the
@@ -43,7 +43,7 @@ pub fn sections_are_accesses()
     ensures runs { (b : Bound) (settings : Settings) → Runnable b → Runs (world_at b) (program_of b settings) (Reaches (system_of b)) (IsRunState b) }
 {}
 
-/// The frame law: what a section does hangs on the instance's own components and on what it accesses alone. Of two states of the
+/// The frame law: what an attempt does hangs on the instance's own components and on what it accesses alone. Of two states of the
 /// system that agree on the own components:
 ///
 /// - `front`: where they agree on the first j accesses on the one, the first j accesses are the same on both, and so is the next

@@ -168,12 +168,13 @@ same_ends s t ps o o' (ends u v e f deep kept) =
 
 -- the traces part, or all is the same
 abbrev pub Same : Context → Vars → Vars → Out → Out → Type 0
-Same C s t o o' = Parted s t (run_of o).trace (run_of o').trace ⊎ (((run_of o).trace ≡ (run_of o').trace) × SameEnd s t (end_of (K1 C s t) o) (end_of (K2 C s t) o'))
+Same C s t o o' =
+    Parted s t (run_of o).trace (run_of o').trace ⊎ (((run_of o).trace ≡ (run_of o').trace) × ((run_of o).choices ≡ (run_of o').choices) × SameEnd s t (end_of (K1 C s t) o) (end_of (K2 C s t) o'))
 
 pub end_same : (C : Context) (s t : Vars) → is_shallow s ≡ true → is_shallow t ≡ true → ((x : Name) → (same_name x pc ≡ true) ⊎ (is_among x C.owns ≡ true) → HasOneDomain s t x)
     → map (λ p. p.0) s ≡ map (λ p. p.0) t → Entries s s → Entries t t → (o o' : Out) → Sim C s t o o' → Same C s t o o'
-end_same C s t low_s low_t domains one es et o o' (goes run ch' h) = inr (refl, tt)
+end_same C s t low_s low_t domains one es et o o' (goes run ch' h) = inr (refl, refl, tt)
 end_same C s t low_s low_t domains one es et o o' (jumps l run ch' h) =
-    inr (refl, same_ends s t run.prints (closed (K1 C s t) l run.changes s) (closed (K2 C s t) l ch' t) (closing C s t low_s low_t domains l run.changes ch' h s t one es et))
-end_same C s t low_s low_t domains one es et o o' (stops kind run ch') = inr (refl, refl)
+    inr (refl, refl, same_ends s t run.prints (closed (K1 C s t) l run.changes s) (closed (K2 C s t) l ch' t) (closing C s t low_s low_t domains l run.changes ch' h s t one es et))
+end_same C s t low_s low_t domains one es et o o' (stops kind run ch') = inr (refl, refl, refl)
 end_same C s t low_s low_t domains one es et o o' (parts q q' h) = inl h

@@ -1,4 +1,4 @@
--- The trees that workers run, on the contents that they find, are the sections on every state that agrees with these.
+-- The trees that workers run, on the contents that they find, are attempts on every state that agrees with these.
 use Rattle.std.proofs.Common.{◌≡◌, ℕ, suc, Bool, true, false, List, [], ◌∷◌, ◌++◌, take, Option, Some, None, inl, inr, refl, sym, ap, ◌∙◌, subst, arith, option_and_then}
 use Rattle.std.specs.Prelude.{if◌then◌else◌}
 use Rattle.pgo_base.specs.Data.{Data, string}
@@ -19,7 +19,8 @@ use Rattle.pgo_bound.specs.Among.{nth_map}
 use Rattle.pgo_bound.specs.Declares.{value_in}
 use Rattle.pgo_bound.specs.Sound.{IsAtLabel}
 use Rattle.pgo_bound.specs.State.{id_of}
-use Rattle.pgo_meaning.specs.Sect.{Sect, code_at}
+use Rattle.pgo_meaning.specs.Attempt.{SectTry}
+use Rattle.pgo_meaning.specs.Sect.{code_at}
 use Rattle.pgo_meaning.specs.System.{member_of, system_of}
 use Rattle.pgo_meaning.proofs.LabelSections.{label_section}
 use Rattle.pgo_sections.specs.Code.{Code}
@@ -95,19 +96,19 @@ module _ (b : Bound) (R : Runnable b) (s : Vars) (good : IsSystemState (system_o
       go (l, e, inr label) = let c = label_section b i R.unlabelled (R.none_done k i at_k) l label in (c.0, ap (code_at b i) e ∙ c.1)
 
   module _ (f : ℕ → Data) where
-    pub front_is : (j : ℕ) → AgreeOn (take j (visits w f)) f g → take (suc j) (numbers_of (system_of b).resources (Sect b k s d).trace) ≡ take (suc j) (visits w f)
+    pub front_is : (j : ℕ) → AgreeOn (take j (visits w f)) f g → take (suc j) (numbers_of (system_of b).resources (SectTry b k s d).trace) ≡ take (suc j) (visits w f)
     front_is j h = ap (take (suc j)) (trace_is b R s good d k) ∙ sym (same_front w f g j h)
 
-    pub whole_is : AgreeOn (visits w f) f g → numbers_of (system_of b).resources (Sect b k s d).trace ≡ visits w f
+    pub whole_is : AgreeOn (visits w f) f g → numbers_of (system_of b).resources (SectTry b k s d).trace ≡ visits w f
     whole_is h = trace_is b R s good d k ∙ sym (same_walk w f g h).trace
 
-    pub sticks : (kind : Kind) (i : Instance) → AgreeOn (visits w f) f g → nth b.instances k ≡ Some i → IsAtLabel i s → core.is_at_done (system_of b) k s ≡ false → ending w f ≡ Sticks kind → (Sect b k s d).end ≡ Stuck kind
+    pub sticks : (kind : Kind) (i : Instance) → AgreeOn (visits w f) f g → nth b.instances k ≡ Some i → IsAtLabel i s → core.is_at_done (system_of b) k s ≡ false → ending w f ≡ Sticks kind → (SectTry b k s d).end ≡ Stuck kind
     sticks kind i h at_k label not_done e =
         let c = code_there i at_k label not_done in
         stuck_is b R s good d k i c.0 kind at_k c.1 (sym (same_walk w f g h).ends ∙ e)
 
     pub leads : (o : walks.Own) (ps : List Data) → AgreeOn (visits w f) f g → ending w f ≡ Goes o ps
-        → (Sect b k s d).end ≡ Next ((world_at b).patched s (effect_of L k (own_in L s k) o (changes_at (taken_after (visits w f) []) f (final w f)) ps)) ps
+        → (SectTry b k s d).end ≡ Next ((world_at b).patched s (effect_of L k (own_in L s k) o (changes_at (taken_after (visits w f) []) f (final w f)) ps)) ps
     leads o ps h e =
         let same = same_walk w f g h in
         let found = changes_same (taken_after (visits w f) []) f g (final w f) (final w g) (agree_taken (visits w f) [] f g h tt) same.leaves in
@@ -118,17 +119,17 @@ module _ (b : Bound) (R : Runnable b) (s : Vars) (good : IsSystemState (system_o
   -- ---- what is held
 
   module _ (held nows : List At) (accesses : List ℕ) (rest : Walk) (h : Agrees held g) (along : Along w held accesses rest nows) where
-    pub held_front : (now : ℕ → Data) × (numbers_of (system_of b).resources (Sect b k s d).trace ≡ accesses ++ visits_from g rest now) × Agrees nows now
+    pub held_front : (now : ℕ → Data) × (numbers_of (system_of b).resources (SectTry b k s d).trace ≡ accesses ++ visits_from g rest now) × Agrees nows now
     held_front = let q = along g h in (q.0, trace_is b R s good d k ∙ q.1.trace, q.2)
 
-    pub held_sticks : (kind : Kind) (i : Instance) → rest ≡ Stop (Sticks kind) → nth b.instances k ≡ Some i → IsAtLabel i s → core.is_at_done (system_of b) k s ≡ false → (Sect b k s d).end ≡ Stuck kind
+    pub held_sticks : (kind : Kind) (i : Instance) → rest ≡ Stop (Sticks kind) → nth b.instances k ≡ Some i → IsAtLabel i s → core.is_at_done (system_of b) k s ≡ false → (SectTry b k s d).end ≡ Stuck kind
     held_sticks kind i e at_k label not_done =
         let q = along g h in
         let c = code_there i at_k label not_done in
         stuck_is b R s good d k i c.0 kind at_k c.1 (q.1.ends ∙ ap (λ r. ending_from g r q.0) e)
 
   pub held_leads : (held : List Hold) (accesses : List ℕ) (o : walks.Own) (ps : List Data) → EachHold IsSteady held → Agrees (values_of held) g → Along w (values_of held) accesses (Stop (Goes o ps)) (nows_of held)
-      → taken_after accesses [] ≡ resources_of held → (Sect b k s d).end ≡ Next ((world_at b).patched s (effect_of L k (own_in L s k) o (changes_of held) ps)) ps
+      → taken_after accesses [] ≡ resources_of held → (SectTry b k s d).end ≡ Next ((world_at b).patched s (effect_of L k (own_in L s k) o (changes_of held) ps)) ps
   held_leads held accesses o ps steady h along all =
       let q = along g h in
       let seen : visits w g ≡ accesses = q.1.trace ∙ append_none accesses in
@@ -138,11 +139,11 @@ module _ (b : Bound) (R : Runnable b) (s : Vars) (good : IsSystemState (system_o
       ∙ (λ i. Next ((world_at b).patched s (effect_of L k (own_in L s k) o (changes_at (taken i) g (left i)) ps)) ps)
       ∙ ap (λ cs. Next ((world_at b).patched s (effect_of L k (own_in L s k) o cs ps)) ps) (changes_held held g q.0 steady h q.2)
 
-  -- what an answered take shows is so of the section
-  pub held_reached : (m : Taking) → Agrees m.held g → Shows w m → (others : List ℕ) × OthersAt m others × ReachedAfter m.resource others (numbers_of (system_of b).resources (Sect b k s d).trace)
+  -- what an answered take shows is so on the state
+  pub held_reached : (m : Taking) → Agrees m.held g → Shows w m → (others : List ℕ) × OthersAt m others × ReachedAfter m.resource others (numbers_of (system_of b).resources (SectTry b k s d).trace)
   held_reached m h shows =
       (shows.0, shows.1, subst (ReachedAfter m.resource shows.0) (sym (trace_is b R s good d k)) (shows.2 g h))
 
   -- and so is that an attempt ends without a note
-  pub held_ends : (held : List At) → Agrees held g → Ends w held → (t : Vars) × (ps : List Data) × ((Sect b k s d).end ≡ Next t ps)
+  pub held_ends : (held : List At) → Agrees held g → Ends w held → (t : Vars) × (ps : List Data) × ((SectTry b k s d).end ≡ Next t ps)
   held_ends held h ends = let e = ends g h in (_, e.1, next_of b R s good d k e.0 e.1 e.2)

@@ -9,7 +9,7 @@ use Rattle.pgo_base.specs.Tree.{name, binary, index, trees}
 use Rattle.pgo_model.specs.Choice.{word_at}
 use Rattle.pgo_model.specs.Outcome.{Nowhere, NoValue, Section}
 use Rattle.pgo_model.specs.System.{Touched}
-use Rattle.pgo_syntax.specs.Statement.{assign, print_out, yield_as}
+use Rattle.pgo_syntax.specs.Statement.{assign, await_that, block, either_of, labeled, print_out, statements, yield_as}
 use Rattle.pgo_syntax.specs.declared.archetype.Archetype.{Archetype}
 use Rattle.pgo_syntax.specs.declared.archetype.Extent.TheVariants as extents
 use Rattle.pgo_syntax.specs.declared.assignment.Step.TheVariants as step
@@ -18,6 +18,7 @@ use Rattle.pgo_syntax.specs.declared.bound.Bound.{Bound}
 use Rattle.pgo_syntax.specs.declared.bound.Mapping.TheVariants.{Identity}
 use Rattle.pgo_syntax.specs.declared.bound.Target.TheVariants as targets
 use Rattle.pgo_meaning.proofs.RowTools.{placed_name, assignment, archetype, binding, one_instance, ref, n, int, deep, whole, element, at_label, stuck, leads}
+use Rattle.pgo_meaning.specs.Attempt.{SectTry}
 use Rattle.pgo_meaning.specs.Sect.{Sect}
 use Rattle.pgo_frame.specs.Agreement.{value_at}
 
@@ -78,6 +79,28 @@ row_counts_other = refl
 -- one that is too deep for a state would be seen at the end
 row_counts_deep : does counts (counted (int 3) (deep 255) (int 0) (codes "P_l")) ≡ stuck accesses NoValue
 row_counts_deep = refl
+
+-- ---- l: either { await net[1] = 3; v := 1; } or { v := net[2]; }
+
+abbrev tries : Bound → Vars → Section Touched Vars
+tries b s = SectTry b 0 s (word_at [])
+
+abbrev chooses : Bound
+chooses =
+    running (archetype (codes "A") (codes "v" ∷ []) ((
+      Some (placed_name (codes "l")),
+      either_of 0 (statements (
+          block 0 (labeled ((None, await_that 0 (binary infixs.Equal (index (name (codes "net")) (trees (n 1 ∷ []))) (n 3))) ∷ (None, assign 0 (assignment (codes "v") [] (n 1) ∷ [])) ∷ []))
+          ∷ assign 0 (assignment (codes "v") [] (index (name (codes "net")) (trees (n 2 ∷ []))) ∷ []) ∷ [])),
+    ) ∷ []))
+    (by_element (codes "net") (codes "net") ∷ []) (codes "net" ∷ [])
+
+row_first_leaf : tries chooses (counted (int 3) (int 4) (int 0) (codes "P_l")) ≡ leads (element (codes "net") 1 ∷ []) (counted (int 3) (int 4) (int 1) (codes "Done")) []
+row_first_leaf = refl
+
+-- what a blocked leaf accesses is seen: it decides which leaf is the last
+row_second_leaf : tries chooses (counted (int 5) (int 4) (int 0) (codes "P_l")) ≡ leads (element (codes "net") 1 ∷ element (codes "net") 2 ∷ []) (counted (int 5) (int 4) (int 4) (codes "Done")) []
+row_second_leaf = refl
 
 -- ---- l: net[1] := 5; print v; where the local's variable has the name of the global
 

@@ -1,11 +1,12 @@
 -- The sections of a bound specification on two states beside each other.
-use Rattle.std.proofs.Common.{◌≡◌, ℕ, zero, suc, Bool, true, false, ◌||◌, List, [], ◌∷◌, ◌++◌, map, take, Option, Some, None, ◌⊎◌, inl, inr, refl, sym, ap, ◌∙◌, subst, arith}
+use Rattle.std.proofs.Common.{◌≡◌, ℕ, Bool, true, false, ◌||◌, List, [], ◌∷◌, ◌++◌, map, Option, Some, None, ◌⊎◌, inl, inr, refl, sym, ap, ◌∙◌, subst, arith}
 use Rattle.std.specs.List.{flat_map}
 use Rattle.pgo_base.specs.Data.{Data}
 use Rattle.pgo_base.specs.Lookup.{Name, Vars, same_name, find}
 use Rattle.pgo_model.specs.Machine.{nth}
 use Rattle.pgo_model.specs.Names.{same_name-self, same_name-is, is_among}
 use Rattle.pgo_model.specs.Options.{on}
+use Rattle.pgo_model.specs.Outcome.{most_leaves}
 use Rattle.pgo_model.specs.System.{Words, Touched}
 use Rattle.pgo_model.specs.Variables.{HasOneDomain}
 use Rattle.pgo_model.specs.Written.{pc, written}
@@ -19,25 +20,29 @@ use Rattle.pgo_bound.specs.Declares.{value_in}
 use Rattle.pgo_bound.specs.Different.{different_apart}
 use Rattle.pgo_bound.specs.State.{AreDifferent, IsState, id_of, identifiers, identifiers_of, kind_in, own_names, variables_of}
 use Rattle.pgo_meaning.specs.Parameters.{own_variables, places_of}
-use Rattle.pgo_meaning.specs.Sect.{Sect, code_at, context_of, is_by_element, nothing}
+use Rattle.pgo_meaning.specs.Attempt.{SectLeaf, SectTry, code_leaf, leaf_section, no_points}
+use Rattle.pgo_meaning.specs.Sect.{Sect, code_at, context_of, is_by_element}
 use Rattle.pgo_meaning.specs.System.{globals_in}
+use Rattle.pgo_meaning.specs.TreesAgree.{sections_at}
 use Rattle.pgo_meaning.proofs.Ends.{end_at}
 use Rattle.pgo_meaning.proofs.Traces.{among_is}
+use Rattle.pgo_sections.specs.ChoiceTrees.{in_order}
 use Rattle.pgo_sections.specs.Code.{Place, Whole, Own, Code}
 use Rattle.pgo_sections.specs.Context.{Context, part_at}
 use Rattle.pgo_sections.specs.Domains.{Uses}
 use Rattle.pgo_sections.specs.Macros.{exec}
-use Rattle.pgo_sections.specs.Section.{section}
-use Rattle.pgo_sections.specs.SectionRun.{begun}
+use Rattle.pgo_sections.specs.SectionRun.{begun, Out}
 use Rattle.pgo_sections.proofs.Closing as closing
+use Rattle.pgo_tries.specs.Attempts.{Tried}
 use Rattle.pgo_accesses.proofs.Bindings.{IsPlaceOf, IsBoundHere, own_among, places_whole, uses_at, uses_both}
 use Rattle.pgo_accesses.proofs.NoYields.{section_without}
-use Rattle.pgo_frame.specs.Agreement.{AgreeOn, AgreeFor, SameEnd}
+use Rattle.pgo_frame.specs.Agreement.{AgreeOn, AgreeFor}
 use Rattle.pgo_frame.specs.WellBound.{WellBound, IsLocal}
 use Rattle.pgo_frame.proofs.Beside.{PlaceHere, MappedHere, sim}
 use Rattle.pgo_frame.proofs.Changed.{by_elements, changed_start}
-use Rattle.pgo_frame.proofs.Ends.{end_same}
-use Rattle.pgo_frame.proofs.Parted.{agrees, agree_test, Parted, both_true}
+use Rattle.pgo_frame.proofs.Ends.{Same, end_same}
+use Rattle.pgo_frame.proofs.Parted.{both_true}
+use Rattle.pgo_frame.proofs.Tries.{Alike, AlikeLeaf, tries_alike}
 
 -- an own component is one of these
 own_agrees : (s t : Vars) (id : Data) (xs : List Name) (x : Name) → AgreeOn s t (map (λ x. (x, Some id)) xs) → is_among x xs ≡ true → part_at x id s ≡ part_at x id t
@@ -87,9 +92,6 @@ module _ (b : Bound) (W : WellBound b) where
         subst (HasOneDomain s t) (sym q.6) (identifiers_of b q.2.name.name, good_s.locals q.0 q.1 q.2 q.3 q.4 q.5, good_t.locals q.0 q.1 q.2 q.3 q.4 q.5)
 
     module _ (k : ℕ) (A : AgreeFor b k s t) (d : Words) where
-      abbrev pub Agreed : Type 0
-      Agreed = Parted s t (Sect b k s d).trace (Sect b k t d).trace ⊎ (((Sect b k s d).trace ≡ (Sect b k t d).trace) × SameEnd s t (Sect b k s d).end (Sect b k t d).end)
-
       module _ (i : Instance) (at_k : nth b.instances k ≡ Some i) where
         abbrev C : Context
         C = context_of b i s
@@ -103,7 +105,7 @@ module _ (b : Bound) (W : WellBound b) where
             let q = W.bound k n.0 i g at_k n.1 in
             closing.among_nth globals q.0 g (nth_map (λ d. d.name.name) q.0 b.spec.globals q.1 q.2 ∙ ap Some q.3)
 
-        uses : (l : Name) (c : Code) → find l (Rattle.pgo_meaning.specs.TreesAgree.sections_at b i) ≡ Some c → Uses (PlaceHere C s t) (MappedHere C s t) c
+        uses : (l : Name) (c : Code) → find l (sections_at b i) ≡ Some c → Uses (PlaceHere C s t) (MappedHere C s t) c
         uses l c h =
             uses_both (IsPlaceOf b i) (IsPlaceOf b i) (PlaceHere C s t) (IsBoundHere b i) (IsBoundHere b i) (MappedHere C s t) (λ p q _. place p q) (λ g j q _. declared g q) c (uses_at b i l c h) (uses_at b i l c h)
           where
@@ -135,61 +137,54 @@ module _ (b : Bound) (W : WellBound b) where
         place_same = own_agrees s t (id_of i) (pc ∷ owns) pc (A.own i at_k) (among_here pc pc owns refl)
 
         abbrev Both : Option Code → Type 0
-        Both o =
-            Parted s t (on nothing o (λ c. section (context_of b i s) c d)).trace (on nothing o (λ c. section (context_of b i t) c d)).trace
-            ⊎ (((on nothing o (λ c. section (context_of b i s) c d)).trace ≡ (on nothing o (λ c. section (context_of b i t) c d)).trace)
-            × SameEnd s t (on nothing o (λ c. section (context_of b i s) c d)).end (on nothing o (λ c. section (context_of b i t) c d)).end)
+        Both o = AlikeLeaf s t (on no_points o (λ c. code_leaf b i s c d)) (on no_points o (λ c. code_leaf b i t c d))
 
         coded : (o : Option Code) → code_at b i (value_in s pc (id_of i)) ≡ o → Both o
-        coded None e = inr (refl, tt)
-        coded (Some c) e =
-            let l = end_at b k i s d s [] (value_in s pc (id_of i)) c e in
-            end_same C s t good_s.shallow good_t.shallow own_domains (good_s.variables ∙ sym good_t.variables) (entries s good_s.variables) (entries t good_t.variables)
-            (exec (context_of b i s) c [] d (begun [] [])) (exec (context_of b i t) c [] d (begun [] []))
-            (sim C s t owned d c [] (begun [] []) [] (section_without b.spec.macros i.process i.archetype i.bindings l.0 c (W.yields k i at_k) l.1) (uses l.0 c l.1)
-            (changed_start C s t domains good_s.shallow good_t.shallow))
+        coded None e = inr (refl, refl, tt)
+        coded (Some c) e = leaf there
+          where
+            l : (l : Name) × (find l (sections_at b i) ≡ Some c)
+            l = end_at b k i s d s [] (value_in s pc (id_of i)) c e
+
+            o : Out
+            o = exec (context_of b i s) c [] d (begun [] [])
+
+            o' : Out
+            o' = exec (context_of b i t) c [] d (begun [] [])
+
+            there : Same C s t o o'
+            there =
+                end_same C s t good_s.shallow good_t.shallow own_domains (good_s.variables ∙ sym good_t.variables) (entries s good_s.variables) (entries t good_t.variables) o o'
+                (sim C s t owned d c [] (begun [] []) [] (section_without b.spec.macros i.process i.archetype i.bindings l.0 c (W.yields k i at_k) l.1) (uses l.0 c l.1)
+                (changed_start C s t domains good_s.shallow good_t.shallow))
+
+            leaf : Same C s t o o' → AlikeLeaf s t (code_leaf b i s c d) (code_leaf b i t c d)
+            leaf (inl p) = inl p
+            leaf (inr h) = inr (h.0, ap in_order h.1, h.2)
 
         instance_same : Both (code_at b i (value_in s pc (id_of i)))
         instance_same = coded (code_at b i (value_in s pc (id_of i))) refl
 
-      abbrev runs_on : Vars → Option Instance → Rattle.pgo_model.specs.Outcome.Section Touched Vars
-      runs_on u o = on nothing o (λ i. on nothing (code_at b i (value_in u pc (id_of i))) (λ c. section (context_of b i u) c d))
+      abbrev leaf_on : Vars → Option Instance → Tried Touched Vars
+      leaf_on u o = on no_points o (λ i. on no_points (code_at b i (value_in u pc (id_of i))) (λ c. code_leaf b i u c d))
 
-      abbrev Alike : Rattle.pgo_model.specs.Outcome.Section Touched Vars → Rattle.pgo_model.specs.Outcome.Section Touched Vars → Type 0
-      Alike p q = Parted s t p.trace q.trace ⊎ ((p.trace ≡ q.trace) × SameEnd s t p.end q.end)
-
-      -- their traces part where the states don't agree, or they do the same
-      pub sect_agreed : Agreed
-      sect_agreed = go (nth b.instances k) refl
+      -- their traces part where the states don't agree, or they do the same and make the same choices
+      leaf_alike : AlikeLeaf s t (SectLeaf b k s d) (SectLeaf b k t d)
+      leaf_alike = go (nth b.instances k) refl
         where
-          go : (o : Option Instance) → nth b.instances k ≡ o → Alike (runs_on s (nth b.instances k)) (runs_on t (nth b.instances k))
-          go None e = subst (λ o. Alike (runs_on s o) (runs_on t o)) (sym e) (inr (refl, tt))
+          go : (o : Option Instance) → nth b.instances k ≡ o → AlikeLeaf s t (leaf_on s (nth b.instances k)) (leaf_on t (nth b.instances k))
+          go None e = subst (λ o. AlikeLeaf s t (leaf_on s o) (leaf_on t o)) (sym e) (inr (refl, refl, tt))
           go (Some i) e =
-              subst (λ o. Alike (runs_on s o) (runs_on t o)) (sym e)
-              (subst (λ q. Alike (runs_on s (Some i)) (on nothing (code_at b i q) (λ c. section (context_of b i t) c d))) (place_same i e) (instance_same i e))
+              subst (λ o. AlikeLeaf s t (leaf_on s o) (leaf_on t o)) (sym e)
+              (subst (λ q. AlikeLeaf s t (leaf_on s (Some i)) (on no_points (code_at b i q) (λ c. code_leaf b i t c d))) (place_same i e) (instance_same i e))
 
-      -- ---- what follows
-
-      differing : (before : List Touched) (at : Touched) (rest : List Touched) → agrees s t at ≡ false → AgreeOn s t (before ++ (at ∷ rest)) → ⊥
-      differing [] at rest n h = let z : true ≡ false = sym (agree_test s t at h.0) ∙ n in grind (arith, z)
-      differing (c ∷ before) at rest n h = differing before at rest n h.1
-
-      pub all_same : AgreeOn s t (Sect b k s d).trace → ((Sect b k s d).trace ≡ (Sect b k t d).trace) × SameEnd s t (Sect b k s d).end (Sect b k t d).end
-      all_same h = go sect_agreed
+      pub sect_alike : Alike s t (Sect b k s d) (Sect b k t d)
+      sect_alike = subst (λ x. Alike s t x (Sect b k t d)) (leaf_section b k s d) (subst (Alike s t (SectLeaf b k s d).section) (leaf_section b k t d) (go leaf_alike))
         where
-          go : Agreed → ((Sect b k s d).trace ≡ (Sect b k t d).trace) × SameEnd s t (Sect b k s d).end (Sect b k t d).end
-          go (inl p) = absurd (differing p.before p.at p.rest p.differs (subst (AgreeOn s t) p.left h))
-          go (inr e) = e
+          go : AlikeLeaf s t (SectLeaf b k s d) (SectLeaf b k t d) → Alike s t (SectLeaf b k s d).section (SectLeaf b k t d).section
+          go (inl p) = inl p
+          go (inr h) = inr (h.0, h.2)
 
-      taken : (j : ℕ) (before : List Touched) (at : Touched) (rest rest' : List Touched) → agrees s t at ≡ false → AgreeOn s t (take j (before ++ (at ∷ rest))) → take (suc j) (before ++ (at ∷ rest)) ≡ take (suc j) (before ++ (at ∷ rest'))
-      taken zero [] at rest rest' n h = refl
-      taken (suc j) [] at rest rest' n h = absurd (let z : true ≡ false = sym (agree_test s t at h.0) ∙ n in grind (arith, z))
-      taken zero (c ∷ before) at rest rest' n h = refl
-      taken (suc j) (c ∷ before) at rest rest' n h = ap (λ l. c ∷ l) (taken j before at rest rest' n h.1)
-
-      pub front_same : (j : ℕ) → AgreeOn s t (take j (Sect b k s d).trace) → take (suc j) (Sect b k s d).trace ≡ take (suc j) (Sect b k t d).trace
-      front_same j h = go sect_agreed
-        where
-          go : Agreed → take (suc j) (Sect b k s d).trace ≡ take (suc j) (Sect b k t d).trace
-          go (inl p) = ap (take (suc j)) p.left ∙ taken j p.before p.at p.rest p.rest' p.differs (subst (λ l. AgreeOn s t (take j l)) p.left h) ∙ sym (ap (take (suc j)) p.right)
-          go (inr e) = ap (take (suc j)) e.0
+    -- and so do attempts
+    pub try_alike : (k : ℕ) → AgreeFor b k s t → (d : Words) → Alike s t (SectTry b k s d) (SectTry b k t d)
+    try_alike k A d = tries_alike s t (SectLeaf b k s) (SectLeaf b k t) d (λ v. leaf_alike k A v) most_leaves []

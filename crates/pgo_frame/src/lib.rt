@@ -12,6 +12,7 @@ ghost use Rattle.pgo_syntax.specs.declared.bound.Bound.{Bound};
 ghost use Rattle.pgo_syntax.specs.declared.bound.Instance.{Instance};
 ghost use Rattle.pgo_bound.specs.Sound.{IsAtLabel};
 ghost use Rattle.pgo_bound.specs.State.{IsState};
+ghost use Rattle.pgo_meaning.specs.Attempt.{SectTry};
 ghost use Rattle.pgo_meaning.specs.Sect.{Sect};
 ghost use Rattle.pgo_workers.specs.Sentences.{OthersAt, ReachedAfter, Shows, Ends, changes_at};
 ghost use Rattle.pgo_workers.specs.View.{Hold, Taking, EachHold, IsSteady, resources_of, values_of, nows_of};
@@ -32,6 +33,8 @@ ghost use Rattle.pgo_frame.specs.WellBound.{WellBound};
 /// - `trace`: where they agree on all accesses on the one, the accesses are the same on both.
 /// - `end`: and so are the kind of the end and the prints; and whatever component the states agree on, the ends agree on, which is
 ///   each own component of the instance and each one that was accessed.
+/// - `attempt_front`, `attempt_trace`, `attempt_end`: the same of an attempt, which tries the choices of its section one after another: of
+///   the accesses of all leaves that it tries, and of its end.
 /// - `runnable`: what is asked of the bound specification is so of each that can be run.
 ///
 /// That both are states is needed: the end would see a value that is too deep for a state, and an own variable that is no function,
@@ -42,18 +45,21 @@ pub fn frame_law()
     ensures front { (b : Bound) (k j : ℕ) (s t : Vars) (d : Words) → WellBound b → IsState b s → IsState b t → AgreeFor b k s t → AgreeOn s t (take j (Sect b k s d).trace) → take (suc j) (Sect b k s d).trace ≡ take (suc j) (Sect b k t d).trace }
     ensures trace { (b : Bound) (k : ℕ) (s t : Vars) (d : Words) → WellBound b → IsState b s → IsState b t → AgreeFor b k s t → AgreeOn s t (Sect b k s d).trace → (Sect b k s d).trace ≡ (Sect b k t d).trace }
     ensures end { (b : Bound) (k : ℕ) (s t : Vars) (d : Words) → WellBound b → IsState b s → IsState b t → AgreeFor b k s t → AgreeOn s t (Sect b k s d).trace → SameEnd s t (Sect b k s d).end (Sect b k t d).end }
+    ensures attempt_front { (b : Bound) (k j : ℕ) (s t : Vars) (d : Words) → WellBound b → IsState b s → IsState b t → AgreeFor b k s t → AgreeOn s t (take j (SectTry b k s d).trace) → take (suc j) (SectTry b k s d).trace ≡ take (suc j) (SectTry b k t d).trace }
+    ensures attempt_trace { (b : Bound) (k : ℕ) (s t : Vars) (d : Words) → WellBound b → IsState b s → IsState b t → AgreeFor b k s t → AgreeOn s t (SectTry b k s d).trace → (SectTry b k s d).trace ≡ (SectTry b k t d).trace }
+    ensures attempt_end { (b : Bound) (k : ℕ) (s t : Vars) (d : Words) → WellBound b → IsState b s → IsState b t → AgreeFor b k s t → AgreeOn s t (SectTry b k s d).trace → SameEnd s t (SectTry b k s d).end (SectTry b k t d).end }
     ensures runnable { (b : Bound) → Runnable b → WellBound b }
 {}
 
-/// What workers run is the sections, on every state that agrees with what they found: with the instance's own components, and with
+/// What workers run is attempts at the sections, on every state that agrees with what they found: with the instance's own components, and with
 /// the contents of the resources that are accessed. The other instances may be anywhere, and what isn't accessed may be anything.
 ///
-/// - `front`: where a state agrees with the first j accesses, the section's first j accesses are these, and so is the next one, or
+/// - `front`: where a state agrees with the first j accesses, the attempt's first j accesses are these, and so is the next one, or
 ///   there is none.
-/// - `trace`: where it agrees with all, the section accesses these.
-/// - `stuck`: where the tree ends in a note, so does the section of an instance that is at a label. At Done, and where there is no
-///   such instance, a section has no end.
-/// - `next`: where the tree goes on, the section leads to the state behind the entry that the worker makes of what it found and
+/// - `trace`: where it agrees with all, the attempt accesses these.
+/// - `stuck`: where the tree ends in a note, so does the attempt of an instance that is at a label. At Done, and where there is no
+///   such instance, an attempt has no end.
+/// - `next`: where the tree goes on, the attempt leads to the state behind the entry that the worker makes of what it found and
 ///   what it leaves, and prints the same.
 ///
 /// Source: this project's choice.
@@ -64,17 +70,17 @@ pub fn programs_are_sections()
     ensures next { (b : Bound) (settings : Settings) (k a : ℕ) (own after : Own) (found : ℕ → Data) (s : Vars) (ps : List Data) → Runnable b → HasFound b k own (visits ((program_of b settings).tree k a own) found) found s → ending ((program_of b settings).tree k a own) found ≡ Goes after ps → ((program_of b settings).sect k a s).end ≡ Next ((world_at b).patched s ((program_of b settings).effect k own after (changes_at (taken_after (visits ((program_of b settings).tree k a own) found) []) found (final ((program_of b settings).tree k a own) found)) ps)) ps }
 {}
 
-/// The same of what a worker holds: what is done of an attempt is what the section does, on every state that has the instance's own
+/// The same of what a worker holds: what is done of an attempt is what it does on every state that has the instance's own
 /// components, and the values with which the held resources were taken.
 ///
-/// - `front`: where an attempt stands behind some accesses (`Along`), the section makes these first, and then those of what stands
+/// - `front`: where an attempt stands behind some accesses (`Along`), it makes these first on the state, and then those of what stands
 ///   there, where contents that are put back are as the state has them.
-/// - `stuck`: where it stands at a note, the section ends so, of an instance that is at a label.
-/// - `next`: where it stands at its end, the section leads to the state behind the entry that the worker commits, which is made of
+/// - `stuck`: where it stands at a note, it ends so, of an instance that is at a label.
+/// - `next`: where it stands at its end, it leads to the state behind the entry that the worker commits, which is made of
 ///   what it holds, and prints the same.
-/// - `reached`: what an answered take shows of the attempt (`Shows`) is so of the section: it accesses that resource, after the
+/// - `reached`: what an answered take shows of the attempt (`Shows`) is so on the state: it accesses that resource, after the
 ///   others that were then held.
-/// - `ends`: an attempt that ends without a note (`Ends`) is of a section that leads to a state.
+/// - `ends`: an attempt that ends without a note (`Ends`) leads to a state.
 ///
 /// Source: this project's choice.
 pub fn attempts_are_sections()

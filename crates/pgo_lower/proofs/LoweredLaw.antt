@@ -9,16 +9,16 @@ use Rattle.pgo_model.specs.Choice.{pick}
 use Rattle.pgo_model.specs.Core.{number_among}
 use Rattle.pgo_model.specs.Occurrences.{first_occurrences}
 use Rattle.pgo_model.specs.Operators.{members_of, truth_of}
-use Rattle.pgo_model.specs.Outcome.{Blocked, AssertFails}
 use Rattle.pgo_sections.specs.BoundValues.{bindable, value_under}
 use Rattle.pgo_sections.specs.Code as codes
 use Rattle.pgo_sections.specs.Code.{Place, Code, Codes, no_codes, more_codes}
 use Rattle.pgo_sections.specs.Context.{index_value}
 use Rattle.pgo_sections.specs.Exec.{count}
 use Rattle.pgo_sections.specs.FreeNames.{free_names}
-use Rattle.pgo_workers.specs.Walk.{Walk, Stop, Touch, Sticks}
+use Rattle.pgo_workers.specs.Tried.{LeafTree}
+use Rattle.pgo_workers.specs.Walk.{Touch}
 use Rattle.pgo_accesses.specs.Accesses as trees
-use Rattle.pgo_accesses.specs.Accesses.{Attempt, Progress, begun, printing, using_word, with_value, if_true, value_of, with_member, accesses, accesses_of, accesses_of_arm}
+use Rattle.pgo_accesses.specs.Accesses.{Attempt, Progress, begun, printing, picked_number, choosing, waits, fails, with_value, if_true, value_of, with_member, accesses, accesses_of, accesses_of_arm}
 use Rattle.pgo_code.specs.Steps.{Target, Step, Bind, Pick, Unbind, Assign, Set, Await, Assert, Print, Branch, Choose, Jump, End, Read, Write, Fail, evaluating, reads_then, putting, reading, writing, unbound, steps, steps_of}
 use Rattle.pgo_lower.specs.Lowered.{target_of, read_before, reads_among, bare, evaluation, lowered, arms_lowered, arm_starts}
 use Rattle.pgo_lower.specs.Attempts.{tables_at}
@@ -60,16 +60,16 @@ module _ (a : Attempt) where
   enough (suc n) (suc m) (Set t e ∷ is) env p h k =
       λ i. evaluating a e env p (λ o. with_value (bindable o) (λ v. putting t v p (λ q. enough n m is env q (one_less _ _ h) (one_less _ _ k) i)))
   enough (suc n) (suc m) (Await e ∷ is) env p h k =
-      λ i. evaluating a e env p (λ o. if_true (truth_of o) (enough n m is env p (one_less _ _ h) (one_less _ _ k) i) (Stop (Sticks Blocked)))
+      λ i. evaluating a e env p (λ o. if_true (truth_of o) (enough n m is env p (one_less _ _ h) (one_less _ _ k) i) (waits p))
   enough (suc n) (suc m) (Assert e ∷ is) env p h k =
-      λ i. evaluating a e env p (λ o. if_true (truth_of o) (enough n m is env p (one_less _ _ h) (one_less _ _ k) i) (Stop (Sticks AssertFails)))
+      λ i. evaluating a e env p (λ o. if_true (truth_of o) (enough n m is env p (one_less _ _ h) (one_less _ _ k) i) fails)
   enough (suc n) (suc m) (Print e ∷ is) env p h k =
       λ i. evaluating a e env p (λ o. with_value o (λ v. enough n m is env (printing v p) (one_less _ _ h) (one_less _ _ k) i))
   enough (suc n) (suc m) (Branch e j ∷ is) env p h k =
       λ i. evaluating a e env p (λ o. if_true (truth_of o) (enough n m is env p (one_less _ _ h) (one_less _ _ k) i) (enough n m (drop j is) env p (fewer j is n h) (fewer j is m k) i))
   enough (suc n) (suc m) (Choose ks ∷ is) env p h k =
-      let j = get_or ks (pick (a.words p.used) (length ks)) 0 in
-      enough n m (drop j is) env (using_word p) (fewer j is n h) (fewer j is m k)
+      let l = length ks in let i = picked_number a p l in let j = get_or ks i 0 in
+      enough n m (drop j is) env (choosing l i p) (fewer j is n h) (fewer j is m k)
   enough (suc n) (suc m) (Jump j ∷ is) env p h k = enough n m (drop j is) env p (fewer j is n h) (fewer j is m k)
   enough (suc n) (suc m) (End l ∷ is) env p h k = refl
   enough (suc n) (suc m) (Read w c j ∷ is) env p h k =
@@ -79,7 +79,7 @@ module _ (a : Attempt) where
   enough (suc n) (suc m) (Fail ∷ is) env p h k = refl
 
   -- with turns enough
-  abbrev pub full : List Step → Names → Progress → Walk
+  abbrev pub full : List Step → Names → Progress → LeafTree
   full is env p = steps (suc (length is)) a is env p
 
   -- where steps were passed over
@@ -103,7 +103,7 @@ module _ (a : Attempt) where
   abbrev whole : Name → Option ℕ
   whole g = number_among a.resources (g, None)
 
-  reads_law : (xs : List Name) (seen : Vars) (f : Vars → Walk) → reads_then (reads_among (tables_at a).targets xs) seen f ≡ trees.reads_then a xs seen f
+  reads_law : (xs : List Name) (seen : Vars) (f : Vars → LeafTree) → reads_then (reads_among (tables_at a).targets xs) seen f ≡ trees.reads_then a xs seen f
   reads_law [] seen f = refl
   reads_law (x ∷ xs) seen f =
       ap (λ o. reads_then (read_before x o (reads_among (tables_at a).targets xs)) seen f) (found x a.places (target_of whole))
@@ -111,7 +111,7 @@ module _ (a : Attempt) where
     where
       go : (o : Option Place) → ((s : Vars) → reads_then (reads_among (tables_at a).targets xs) s f ≡ trees.reads_then a xs s f)
           → reads_then (read_before x (option_map (target_of whole) o) (reads_among (tables_at a).targets xs)) seen f
-          ≡ (elim o as (λ o. Walk) [
+          ≡ (elim o as (λ o. LeafTree) [
             | None ↦ trees.reads_then a xs seen f
             | Some (codes.Whole g) ↦ trees.with_whole a g (λ r. Touch r (λ v. v) (λ v. trees.reads_then a xs ((x, v) ∷ seen) f))
             | Some (codes.Own y) ↦ trees.reads_then a xs seen f
@@ -120,10 +120,10 @@ module _ (a : Attempt) where
       go (Some (codes.Whole g)) h = λ i. with_value (whole g) (λ r. Touch r (λ v. v) (λ v. h ((x, v) ∷ seen) i))
       go (Some (codes.Own y)) h = h seen
 
-  evaluated : (e : Tree) (env : Names) (p : Progress) (f : Option Data → Walk) → evaluating a (evaluation (tables_at a).targets e) env p f ≡ trees.evaluating a e env p f
+  evaluated : (e : Tree) (env : Names) (p : Progress) (f : Option Data → LeafTree) → evaluating a (evaluation (tables_at a).targets e) env p f ≡ trees.evaluating a e env p f
   evaluated e env p f = reads_law (first_occurrences (free_names [] e)) [] (λ seen. f (value_of a e env seen p.changes))
 
-  put : (s : Place) (v : Data) (p : Progress) (f : Progress → Walk) → putting (target_of whole s) v p f ≡ trees.putting a s v p f
+  put : (s : Place) (v : Data) (p : Progress) (f : Progress → LeafTree) → putting (target_of whole s) v p f ≡ trees.putting a s v p f
   put (codes.Whole g) v p f = refl
   put (codes.Own y) v p f = refl
 
@@ -138,7 +138,7 @@ module _ (a : Attempt) where
   abbrev starts : ℕ → Codes → List ℕ
   starts n cs = arm_starts (tables_at a) n cs
 
-  abbrev then_full : List Step → Names → Progress → Walk
+  abbrev then_full : List Step → Names → Progress → LeafTree
   then_full is env q = full is env q
 
   as_many : (n : ℕ) (cs : Codes) → length (starts n cs) ≡ count cs
@@ -158,16 +158,18 @@ module _ (a : Attempt) where
   longer pre xs k = omega (arith, length-append pre (xs ++ Jump k ∷ []), length-append xs (Jump k ∷ []))
 
   either_law : (cs : Codes) (is : List Step) (env : Names) (p : Progress)
-      → ((j : ℕ) → j < count cs → full (drop (get_or (starts 0 cs) j 0) (made_arms cs ++ is)) env (using_word p) ≡ accesses_of_arm a cs j env (using_word p) (then_full is env))
+      → ((j : ℕ) → j < count cs → full (drop (get_or (starts 0 cs) j 0) (made_arms cs ++ is)) env (choosing (count cs) j p) ≡ accesses_of_arm a cs j env (choosing (count cs) j p) (then_full is env))
       → full (made (codes.Either cs) ++ is) env p ≡ accesses a (codes.Either cs) env p (then_full is env)
   either_law no_codes is env p h = refl
   either_law (more_codes c cs) is env p h =
       let all = more_codes c cs in
       let rest = made_arms all ++ is in
-      let j = get_or (starts 0 all) (pick (a.words p.used) (length (starts 0 all))) 0 in
-      passed (suc (length rest)) (drop j rest) (drop j rest) env (using_word p) refl (never_longer j rest)
-      ∙ ap (λ k. full (drop (get_or (starts 0 all) (pick (a.words p.used) k) 0) rest) env (using_word p)) (as_many 0 all)
-      ∙ h (pick (a.words p.used) (count all)) (below_count (a.words p.used) (count cs))
+      let n = length (starts 0 all) in
+      let i = picked_number a p n in
+      let j = get_or (starts 0 all) i 0 in
+      passed (suc (length rest)) (drop j rest) (drop j rest) env (choosing n i p) refl (never_longer j rest)
+      ∙ ap (λ k. let i = picked_number a p k in full (drop (get_or (starts 0 all) i 0) rest) env (choosing k i p)) (as_many 0 all)
+      ∙ h (picked_number a p (count all)) (below_count (a.words (length p.points)) (count cs))
 
   mutual
     pub law : (c : Code) (is : List Step) (env : Names) (p : Progress) → full (made c ++ is) env p ≡ accesses a c env p (then_full is env)
@@ -183,8 +185,8 @@ module _ (a : Attempt) where
     law (codes.Set b s e) is env p =
         evaluated e env p (λ o. with_value (bindable o) (λ v. putting (target_of whole s) v p (then_full is env)))
         ∙ (λ i. trees.evaluating a e env p (λ o. with_value (bindable o) (λ v. put s v p (then_full is env) i)))
-    law (codes.Await e) is env p = evaluated e env p (λ o. if_true (truth_of o) (full is env p) (Stop (Sticks Blocked)))
-    law (codes.Assert e) is env p = evaluated e env p (λ o. if_true (truth_of o) (full is env p) (Stop (Sticks AssertFails)))
+    law (codes.Await e) is env p = evaluated e env p (λ o. if_true (truth_of o) (full is env p) (waits p))
+    law (codes.Assert e) is env p = evaluated e env p (λ o. if_true (truth_of o) (full is env p) fails)
     law (codes.Print e) is env p = evaluated e env p (λ o. with_value o (λ v. full is env (printing v p)))
     law (codes.If e c d) is env p =
         let rest = (made c ++ Jump (length (made d)) ∷ made d) ++ is in
@@ -195,7 +197,7 @@ module _ (a : Attempt) where
         ∙ (λ j. accesses a c env p (λ q. jumped (made d) is env q j))) i)
         ((passed (suc (length rest)) (drop (suc (length (made c))) rest) (made d ++ is) env p (other_arm (made c) (made d) is (length (made d))) (other_short (made c) (made d) is (length (made d)))
         ∙ law d is env p) i)))
-    law (codes.Either cs) is env p = either_law cs is env p (λ k h. arms_law cs k [] is env (using_word p) h)
+    law (codes.Either cs) is env p = either_law cs is env p (λ k h. arms_law cs k [] is env (choosing (count cs) k p) h)
     law (codes.Seq c d) is env p =
         ap (λ l. full l env p) (append_assoc (made c) (made d) is)
         ∙ law c (made d ++ is) env p
@@ -234,14 +236,14 @@ module _ (a : Attempt) where
   bare_law (suc n) (Unbind ∷ is) env p = bare_law n is (unbound env) p
   bare_law (suc n) (Assign t w ∷ is) env p = λ i. with_value (value_under w env) (λ v. putting t v p (λ q. bare_law n is env q i))
   bare_law (suc n) (Set t e ∷ is) env p = λ i. evaluating a e env p (λ o. with_value (bindable o) (λ v. putting t v p (λ q. bare_law n is env q i)))
-  bare_law (suc n) (Await e ∷ is) env p = λ i. evaluating a e env p (λ o. if_true (truth_of o) (bare_law n is env p i) (Stop (Sticks Blocked)))
-  bare_law (suc n) (Assert e ∷ is) env p = λ i. evaluating a e env p (λ o. if_true (truth_of o) (bare_law n is env p i) (Stop (Sticks AssertFails)))
+  bare_law (suc n) (Await e ∷ is) env p = λ i. evaluating a e env p (λ o. if_true (truth_of o) (bare_law n is env p i) (waits p))
+  bare_law (suc n) (Assert e ∷ is) env p = λ i. evaluating a e env p (λ o. if_true (truth_of o) (bare_law n is env p i) fails)
   bare_law (suc n) (Print e ∷ is) env p = λ i. evaluating a e env p (λ o. with_value o (λ v. bare_law n is env (printing v p) i))
   bare_law (suc n) (Branch e j ∷ is) env p =
       λ i. evaluating a e env p (λ o. if_true (truth_of o) (bare_law n is env p i) ((ap (λ l. steps n a l env p) (drop-map bare j is) ∙ bare_law n (drop j is) env p) i))
   bare_law (suc n) (Choose ks ∷ is) env p =
-      let j = get_or ks (pick (a.words p.used) (length ks)) 0 in
-      ap (λ l. steps n a l env (using_word p)) (drop-map bare j is) ∙ bare_law n (drop j is) env (using_word p)
+      let l = length ks in let i = picked_number a p l in let j = get_or ks i 0 in
+      ap (λ xs. steps n a xs env (choosing l i p)) (drop-map bare j is) ∙ bare_law n (drop j is) env (choosing l i p)
   bare_law (suc n) (Jump j ∷ is) env p = ap (λ l. steps n a l env p) (drop-map bare j is) ∙ bare_law n (drop j is) env p
   bare_law (suc n) (End l ∷ is) env p = refl
   bare_law (suc n) (Read w c j ∷ is) env p = λ i. with_value (index_value j env) (λ x. reading a c x p (λ v q. bare_law n is ((w, Some v) ∷ env) q i))

@@ -1,6 +1,5 @@
 -- What a content's answers say of an access.
-use Rattle.std.proofs.Common.{◌≡◌, ℕ, List, Option, Some, None, Result, Ok, Err, refl, ap, sym, ◌∙◌, subst, length}
-use Rattle.std.proofs.lemmas.List.{length-replicate}
+use Rattle.std.proofs.Common.{◌≡◌, ℕ, List, Option, Some, None, Result, Ok, Err, refl, ap, sym, ◌∙◌, subst}
 use Rattle.pgo_base.specs.Data.{Data}
 use Rattle.pgo_base.specs.Lookup.{Name}
 use Rattle.pgo_base.specs.declared.module.Defined.{Defined}
@@ -19,21 +18,19 @@ use Rattle.pgo_sections.specs.Macros.{block_read, block_write}
 use Rattle.pgo_sections.specs.SectionRun.{ChoiceMade}
 use Rattle.pgo_meaning.proofs.MacroUse.{identity_writes}
 use Rattle.pgo_meaning.specs.Parameters.{reads_by, writes_by}
-use Rattle.pgo_workers.specs.Operations.{part_of, with_part, read_of, write_of, read_put, write_put, Ends}
+use Rattle.pgo_workers.specs.Operations.{part_of, read_of, write_of, read_put, write_put, Ends}
 use Rattle.pgo_workers.specs.View.{Shown}
 use Rattle.pgo_workers.specs.Walk.{Touch}
 use Rattle.pgo_resource.specs.Answers.{Read as IsRead, Written, StopsSo}
-use Rattle.pgo_resource.specs.Picked.{words_of, choices_of}
+use Rattle.pgo_resource.specs.Picked.{attempt_words, words_of, choices_of}
 use Rattle.pgo_resource.specs.declared.picks.Picks.{Picks}
 use Rattle.pgo_resource.specs.declared.resource.OpStop.{OpStop}
 use Rattle.pgo_resource.specs.declared.resource.OpStop.TheVariants as stops
-use Rattle.pgo_accesses.proofs.Blocks.{AlikeEnds, block_reads_on, block_writes_on}
-use Rattle.pgo_accesses.specs.Accesses.{Attempt, Progress, choices, no_value, left_by_read, left_by_write, behind_read, behind_write, read_here, write_here}
+use Rattle.pgo_accesses.specs.Accesses.{Attempt, Progress, no_value, left_by_read, left_by_write, behind_read, behind_write, read_here, write_here}
 use Rattle.pgo_code.specs.Steps.{Content, Step, Read, Write}
 use Rattle.pgo_places.specs.declared.flow.Flow.{Flow}
 use Rattle.pgo_places.specs.Flows.{flow_walk, resource_at, part_index}
 use Rattle.pgo_places.specs.Performs.{Performs, IsNoMemory, IsTold, ReadAnswers, WriteAnswers}
-use Rattle.pgo_places.specs.PlaceView.{used_of}
 use Rattle.pgo_places.specs.Stands.{Fixed, Stand, binding, going, onward, with_words, resume}
 use Rattle.pgo_places.proofs.Standing.{read_is, write_is}
 
@@ -70,11 +67,11 @@ write_meant a b h m id at x old new p q (Err e) r =
 identity_is : (ds : List Defined) (id x d : Data) (w : Words) (cs : List ChoiceMade) → bindable (Some x) ≡ Some x → write_of Identity ds id None x w d cs ≡ Gives x cs
 identity_is ds id x d w cs b = ap (write_put None d) (identity_writes ds id d x w cs b)
 
--- it makes the content the value, and uses no word
+-- it makes the content the value, and makes no choice
 pub identity_written : (ds : List Defined) (id x d : Data) (w : Words) (cs cs' : List ChoiceMade) (new : Data) → bindable (Some x) ≡ Some x
-    → Ends (write_of Identity ds id None x w d) cs cs' (Gives new) → (new ≡ x) × (length cs' ≡ length cs)
+    → Ends (write_of Identity ds id None x w d) cs cs' (Gives new) → (new ≡ x) × (cs' ≡ cs)
 identity_written ds id x d w cs cs' new b h =
-    let same : Gives new cs' ≡ Gives x cs = sym h ∙ identity_is ds id x d w cs b in (ap (given_of new) same, ap (λ m. length (made_in m)) same)
+    let same : Gives new cs' ≡ Gives x cs = sym h ∙ identity_is ds id x d w cs b in (ap (given_of new) same, ap made_in same)
 
 gives_stops : {A : Type 0} (x : A) (kind : Kind) (cs ds : List ChoiceMade) → Gives x cs ≡ Stops kind ds → ⊥
 gives_stops x kind cs ds h = cc
@@ -93,92 +90,37 @@ identity_stops ds id x d w cs cs' stop b = go stop
     go stops.AssertFails h = never AssertFails h
     go stops.NoMemory h = tt
 
--- ---- what an access finds hangs on how many choices were made before it, and not on which
-put_read : (at : Option Data) (v : Data) (m n : MacroEnd (Data × Option Data)) → AlikeEnds m n → AlikeEnds (read_put at v m) (read_put at v n)
-put_read at v (Gives r cs) n a = subst (λ z. AlikeEnds {A = Data × Data} (read_put at v (Gives r cs)) (read_put at v z)) (sym a.2) (go r.1)
-  where
-    part : (o : Option Data) → AlikeEnds {A = Data × Data} (on (Stops NoValue cs) o (λ w. Gives (r.0, w) cs)) (on (Stops NoValue a.0) o (λ w. Gives (r.0, w) a.0))
-    part None = (a.0, a.1, refl)
-    part (Some w) = (a.0, a.1, refl)
-
-    go : (o : Option Data)
-        → AlikeEnds {A = Data × Data} (on (Gives (r.0, v) cs) o (λ new. on (Stops NoValue cs) (with_part at new v) (λ w. Gives (r.0, w) cs)))
-        (on (Gives (r.0, v) a.0) o (λ new. on (Stops NoValue a.0) (with_part at new v) (λ w. Gives (r.0, w) a.0)))
-    go None = (a.0, a.1, refl)
-    go (Some new) = part (with_part at new v)
-put_read at v (Stops kind cs) n a = (a.0, a.1, ap (read_put at v) a.2)
-
-put_write : (at : Option Data) (v : Data) (m n : MacroEnd Data) → AlikeEnds m n → AlikeEnds (write_put at v m) (write_put at v n)
-put_write at v (Gives new cs) n a = subst (λ z. AlikeEnds (write_put at v (Gives new cs)) (write_put at v z)) (sym a.2) (go (with_part at new v))
-  where
-    go : (o : Option Data) → AlikeEnds (on (Stops NoValue cs) o (λ w. Gives w cs)) (on (Stops NoValue a.0) o (λ w. Gives w a.0))
-    go None = (a.0, a.1, refl)
-    go (Some w) = (a.0, a.1, refl)
-put_write at v (Stops kind cs) n a = (a.0, a.1, ap (write_put at v) a.2)
-
-reads_alike : (m : Mapping) (ds : List Defined) (id : Data) (at : Option Data) (d : Words) (v : Data) (cs es : List ChoiceMade) → length es ≡ length cs → AlikeEnds (read_of m ds id at d v cs) (read_of m ds id at d v es)
-reads_alike m ds id at d v cs es e = go (part_of at v)
-  where
-    go : (o : Option Data)
-        → AlikeEnds (on (Stops NoValue cs) o (λ old. read_put at v (block_read (reads_by m) (meant ds) id old d cs))) (on (Stops NoValue es) o (λ old. read_put at v (block_read (reads_by m) (meant ds) id old d es)))
-    go None = (es, e, refl)
-    go (Some old) = put_read at v _ _ (block_reads_on (reads_by m) (meant ds) id old d cs es e)
-
-writes_alike : (m : Mapping) (ds : List Defined) (id : Data) (at : Option Data) (x : Data) (d : Words) (v : Data) (cs es : List ChoiceMade) → length es ≡ length cs
-    → AlikeEnds (write_of m ds id at x d v cs) (write_of m ds id at x d v es)
-writes_alike m ds id at x d v cs es e = go (part_of at v)
-  where
-    go : (o : Option Data)
-        → AlikeEnds (on (Stops NoValue cs) o (λ old. write_put at v (block_write (writes_by m) (meant ds) id old x d cs))) (on (Stops NoValue es) o (λ old. write_put at v (block_write (writes_by m) (meant ds) id old x d es)))
-    go None = (es, e, refl)
-    go (Some old) = put_write at v _ _ (block_writes_on (writes_by m) (meant ds) id old x d cs es e)
-
-as_many : (p : Picks) → length (choices (used_of p)) ≡ length (choices_of p)
-as_many p = length-replicate (used_of p) (record { count = 0; taken = 0 })
-
--- behind as many choices as were made, of which no more is asked
-read_by : (m : Mapping) (ds : List Defined) (id : Data) (at : Option Data) (v : Data) (p : Picks) (e : MacroEnd (Data × Data)) → read_of m ds id at (words_of p) v (choices_of p) ≡ e
-    → AlikeEnds e (read_of m ds id at (words_of p) v (choices (used_of p)))
-read_by m ds id at v p e h =
-    subst (λ x. AlikeEnds x (read_of m ds id at (words_of p) v (choices (used_of p)))) h (reads_alike m ds id at (words_of p) v (choices_of p) (choices (used_of p)) (as_many p))
-
-write_by : (m : Mapping) (ds : List Defined) (id : Data) (at : Option Data) (x v : Data) (p : Picks) (e : MacroEnd Data) → write_of m ds id at x (words_of p) v (choices_of p) ≡ e
-    → AlikeEnds e (write_of m ds id at x (words_of p) v (choices (used_of p)))
-write_by m ds id at x v p e h =
-    subst (λ y. AlikeEnds y (write_of m ds id at x (words_of p) v (choices (used_of p)))) h (writes_alike m ds id at x (words_of p) v (choices_of p) (choices (used_of p)) (as_many p))
-
 -- ---- what the answers say
 pub read_answers : (m : Mapping) (ds : List Defined) (id : Data) (at : Option Data) (old new : Shown) (p q : Picks) (ans : Result Value OpStop) (pr : Progress)
     → IsRead m ds id at old new p q ans → IsTold ans
-    → (new.current ≡ left_by_read old.current (read_of m ds id at (words_of p) old.current (choices (used_of p))))
-    × ReadAnswers ans new.current (record pr { used = used_of q }) pr (read_of m ds id at (words_of p) old.current (choices (used_of p)))
-    × (words_of q ≡ words_of p)
-read_answers m ds id at old new p q (Ok v) pr h t =
-    let e = read_by m ds id at old.current p (Gives (data_of v, new.current) (choices_of q)) h.2 in
-    (sym (ap (left_by_read old.current) e.2), (e.0, e.2, ap (λ u. record pr { used = u }) e.1), h.1.0)
-read_answers m ds id at old new p q (Err stops.Blocked) pr h t =
-    let e = read_by m ds id at old.current p (Stops Blocked (choices_of q)) h.2 in (ap (λ z. z.current) h.0 ∙ sym (ap (left_by_read old.current) e.2), (e.0, e.2), h.1.0)
-read_answers m ds id at old new p q (Err stops.NoValue) pr h t =
-    let e = read_by m ds id at old.current p (Stops NoValue (choices_of q)) h.2 in (ap (λ z. z.current) h.0 ∙ sym (ap (left_by_read old.current) e.2), (e.0, e.2), h.1.0)
-read_answers m ds id at old new p q (Err stops.AssertFails) pr h t =
-    let e = read_by m ds id at old.current p (Stops AssertFails (choices_of q)) h.2 in (ap (λ z. z.current) h.0 ∙ sym (ap (left_by_read old.current) e.2), (e.0, e.2), h.1.0)
+    → (new.current ≡ left_by_read old.current (read_of m ds id at (words_of p) old.current (choices_of p)))
+    × ReadAnswers ans new.current (record pr { points = choices_of q }) pr (read_of m ds id at (words_of p) old.current (choices_of p))
+    × (words_of q ≡ words_of p) × (attempt_words q ≡ attempt_words p)
+read_answers m ds id at old new p q (Ok v) pr h t = (sym (ap (left_by_read old.current) h.2), (h.2, refl), h.1.0, h.1.1)
+read_answers m ds id at old new p q (Err stops.Blocked) pr h t = (ap (λ z. z.current) h.0 ∙ sym (ap (left_by_read old.current) h.2), h.2, h.1.0, h.1.1)
+read_answers m ds id at old new p q (Err stops.NoValue) pr h t = (ap (λ z. z.current) h.0 ∙ sym (ap (left_by_read old.current) h.2), h.2, h.1.0, h.1.1)
+read_answers m ds id at old new p q (Err stops.AssertFails) pr h t = (ap (λ z. z.current) h.0 ∙ sym (ap (left_by_read old.current) h.2), h.2, h.1.0, h.1.1)
 read_answers m ds id at old new p q (Err stops.NoMemory) pr h t = absurd t
 
 pub write_answers : (m : Mapping) (ds : List Defined) (id : Data) (at : Option Data) (x : Data) (old new : Shown) (p q : Picks) (ans : Result (Unit {0}) OpStop) (pr : Progress)
     → Written m ds id at x old new p q ans → IsTold ans
-    → (new.current ≡ left_by_write old.current (write_of m ds id at x (words_of p) old.current (choices (used_of p))))
-    × WriteAnswers ans new.current (record pr { used = used_of q }) pr (write_of m ds id at x (words_of p) old.current (choices (used_of p)))
-    × (words_of q ≡ words_of p)
-write_answers m ds id at x old new p q (Ok v) pr h t =
-    let e = write_by m ds id at x old.current p (Gives new.current (choices_of q)) h.2 in
-    (sym (ap (left_by_write old.current) e.2), (e.0, e.2, ap (λ u. record pr { used = u }) e.1), h.1.0)
-write_answers m ds id at x old new p q (Err stops.Blocked) pr h t =
-    let e = write_by m ds id at x old.current p (Stops Blocked (choices_of q)) h.2 in (ap (λ z. z.current) h.0 ∙ sym (ap (left_by_write old.current) e.2), (e.0, e.2), h.1.0)
-write_answers m ds id at x old new p q (Err stops.NoValue) pr h t =
-    let e = write_by m ds id at x old.current p (Stops NoValue (choices_of q)) h.2 in (ap (λ z. z.current) h.0 ∙ sym (ap (left_by_write old.current) e.2), (e.0, e.2), h.1.0)
-write_answers m ds id at x old new p q (Err stops.AssertFails) pr h t =
-    let e = write_by m ds id at x old.current p (Stops AssertFails (choices_of q)) h.2 in (ap (λ z. z.current) h.0 ∙ sym (ap (left_by_write old.current) e.2), (e.0, e.2), h.1.0)
+    → (new.current ≡ left_by_write old.current (write_of m ds id at x (words_of p) old.current (choices_of p)))
+    × WriteAnswers ans new.current (record pr { points = choices_of q }) pr (write_of m ds id at x (words_of p) old.current (choices_of p))
+    × (words_of q ≡ words_of p) × (attempt_words q ≡ attempt_words p)
+write_answers m ds id at x old new p q (Ok v) pr h t = (sym (ap (left_by_write old.current) h.2), (h.2, refl), h.1.0, h.1.1)
+write_answers m ds id at x old new p q (Err stops.Blocked) pr h t = (ap (λ z. z.current) h.0 ∙ sym (ap (left_by_write old.current) h.2), h.2, h.1.0, h.1.1)
+write_answers m ds id at x old new p q (Err stops.NoValue) pr h t = (ap (λ z. z.current) h.0 ∙ sym (ap (left_by_write old.current) h.2), h.2, h.1.0, h.1.1)
+write_answers m ds id at x old new p q (Err stops.AssertFails) pr h t = (ap (λ z. z.current) h.0 ∙ sym (ap (left_by_write old.current) h.2), h.2, h.1.0, h.1.1)
 write_answers m ds id at x old new p q (Err stops.NoMemory) pr h t = absurd t
+
+-- the attempt's words stay
+pub read_first : (m : Mapping) (ds : List Defined) (id : Data) (at : Option Data) (old new : Shown) (p q : Picks) (ans : Result Value OpStop) → IsRead m ds id at old new p q ans → attempt_words q ≡ attempt_words p
+read_first m ds id at old new p q (Ok v) h = h.1.1
+read_first m ds id at old new p q (Err x) h = h.1.1
+
+pub write_first : (m : Mapping) (ds : List Defined) (id : Data) (at : Option Data) (x : Data) (old new : Shown) (p q : Picks) (ans : Result (Unit {0}) OpStop) → Written m ds id at x old new p q ans → attempt_words q ≡ attempt_words p
+write_first m ds id at x old new p q (Ok v) h = h.1.1
+write_first m ds id at x old new p q (Err e) h = h.1.1
 
 pub write_keeps : (m : Mapping) (ds : List Defined) (id : Data) (at : Option Data) (x : Data) (old new : Shown) (p q : Picks) (ans : Result (Unit {0}) OpStop)
     → Written m ds id at x old new p q ans → new ≡ record old { current = new.current }
@@ -186,42 +128,42 @@ write_keeps m ds id at x old new p q (Ok v) h = h.0
 write_keeps m ds id at x old new p q (Err e) h = h.0 ∙ ap (λ (v : Data). record old { current = v }) (ap (λ z. z.current) (sym h.0))
 
 -- a mapped parameter is read; behind that the stand has these words and is so far
-pub performs_read : (a : Attempt) (k : Fixed) (w : Name) (c : Content) (i : Option Name) (s : Stand) (d : Words) (p : Progress) (j : Option Data) (r : ℕ) (f : Flow) (t : Stand) (old new : Data)
-    → index_value i s.env ≡ Some j → resource_at a c j ≡ Some r → d ≡ s.words
-    → new ≡ left_by_read old (read_here (with_words s.words a) c.reads (part_index c j) s.progress.used old)
-    → ((n : ℕ) (is : List Step) → behind_read c.is_element r s.progress (read_here (with_words s.words a) c.reads (part_index c j) s.progress.used old)
-    (λ x q. resume a k n is (binding w x (going q (onward (record s { words = d; progress = p }))))) ≡ flow_walk a k n (Read w c i) is f t)
+pub performs_read : (a : Attempt) (k : Fixed) (w : Name) (c : Content) (i : Option Name) (s : Stand) (fs d : Words) (p : Progress) (j : Option Data) (r : ℕ) (f : Flow) (t : Stand) (old new : Data)
+    → index_value i s.env ≡ Some j → resource_at a c j ≡ Some r → d ≡ s.words → fs ≡ s.first
+    → new ≡ left_by_read old (read_here (with_words s.words a) c.reads (part_index c j) s.progress.points old)
+    → ((n : ℕ) (is : List Step) → behind_read c.is_element r s.progress (read_here (with_words s.words a) c.reads (part_index c j) s.progress.points old)
+    (λ x q. resume a k n is (binding w x (going q (onward (record s { first = fs; words = d; progress = p }))))) ≡ flow_walk a k n (Read w c i) is f t)
     → Performs a k (Read w c i) s f t old new
-performs_read a k w c i s d p j r f t old new e g ws left h = λ n is. (
+performs_read a k w c i s fs d p j r f t old new e g ws fe left h = λ n is. (
   r,
-  λ v. left_by_read v (read_here (with_words s.words a) c.reads (part_index c j) s.progress.used v),
-  λ v. behind_read c.is_element r s.progress (read_here (with_words s.words a) c.reads (part_index c j) s.progress.used v) (λ x q. resume a k n is (binding w x (going q (onward s)))),
+  λ v. left_by_read v (read_here (with_words s.words a) c.reads (part_index c j) s.progress.points v),
+  λ v. behind_read c.is_element r s.progress (read_here (with_words s.words a) c.reads (part_index c j) s.progress.points v) (λ x q. resume a k n is (binding w x (going q (onward s)))),
   read_is a k w c i s j e n is
       ∙ ap (λ o. on no_value o (λ r.
-      Touch r (λ v. left_by_read v (read_here (with_words s.words a) c.reads (part_index c j) s.progress.used v))
-      (λ v. behind_read c.is_element r s.progress (read_here (with_words s.words a) c.reads (part_index c j) s.progress.used v) (λ x q. resume a k n is (binding w x (going q (onward s))))))) g,
+      Touch r (λ v. left_by_read v (read_here (with_words s.words a) c.reads (part_index c j) s.progress.points v))
+      (λ v. behind_read c.is_element r s.progress (read_here (with_words s.words a) c.reads (part_index c j) s.progress.points v) (λ x q. resume a k n is (binding w x (going q (onward s))))))) g,
   left,
-  ap (λ (y : Words). behind_read c.is_element r s.progress (read_here (with_words s.words a) c.reads (part_index c j) s.progress.used old)
-      (λ x q. resume a k n is (binding w x (going q (onward (record s { words = y; progress = p })))))) (sym ws)
+  (λ l. behind_read c.is_element r s.progress (read_here (with_words s.words a) c.reads (part_index c j) s.progress.points old)
+      (λ x q. resume a k n is (binding w x (going q (onward (record s { first = sym fe l; words = sym ws l; progress = p }))))))
       ∙ h n is,
 )
 
-pub performs_write : (a : Attempt) (k : Fixed) (c : Content) (i : Option Name) (w : Name) (s : Stand) (d : Words) (p : Progress) (j : Option Data) (r : ℕ) (f : Flow) (t : Stand) (old new : Data)
-    → index_value i s.env ≡ Some j → resource_at a c j ≡ Some r → d ≡ s.words
-    → new ≡ left_by_write old (write_here (with_words s.words a) c.writes (part_index c j) (value_under w s.env) s.progress.used old)
-    → ((n : ℕ) (is : List Step) → behind_write c.is_element r s.progress (write_here (with_words s.words a) c.writes (part_index c j) (value_under w s.env) s.progress.used old)
-    (λ q. resume a k n is (going q (onward (record s { words = d; progress = p })))) ≡ flow_walk a k n (Write c i w) is f t)
+pub performs_write : (a : Attempt) (k : Fixed) (c : Content) (i : Option Name) (w : Name) (s : Stand) (fs d : Words) (p : Progress) (j : Option Data) (r : ℕ) (f : Flow) (t : Stand) (old new : Data)
+    → index_value i s.env ≡ Some j → resource_at a c j ≡ Some r → d ≡ s.words → fs ≡ s.first
+    → new ≡ left_by_write old (write_here (with_words s.words a) c.writes (part_index c j) (value_under w s.env) s.progress.points old)
+    → ((n : ℕ) (is : List Step) → behind_write c.is_element r s.progress (write_here (with_words s.words a) c.writes (part_index c j) (value_under w s.env) s.progress.points old)
+    (λ q. resume a k n is (going q (onward (record s { first = fs; words = d; progress = p })))) ≡ flow_walk a k n (Write c i w) is f t)
     → Performs a k (Write c i w) s f t old new
-performs_write a k c i w s d p j r f t old new e g ws left h = λ n is. (
+performs_write a k c i w s fs d p j r f t old new e g ws fe left h = λ n is. (
   r,
-  λ v. left_by_write v (write_here (with_words s.words a) c.writes (part_index c j) (value_under w s.env) s.progress.used v),
-  λ v. behind_write c.is_element r s.progress (write_here (with_words s.words a) c.writes (part_index c j) (value_under w s.env) s.progress.used v) (λ q. resume a k n is (going q (onward s))),
+  λ v. left_by_write v (write_here (with_words s.words a) c.writes (part_index c j) (value_under w s.env) s.progress.points v),
+  λ v. behind_write c.is_element r s.progress (write_here (with_words s.words a) c.writes (part_index c j) (value_under w s.env) s.progress.points v) (λ q. resume a k n is (going q (onward s))),
   write_is a k c i w s j e n is
       ∙ ap (λ o. on no_value o (λ r.
-      Touch r (λ v. left_by_write v (write_here (with_words s.words a) c.writes (part_index c j) (value_under w s.env) s.progress.used v))
-      (λ v. behind_write c.is_element r s.progress (write_here (with_words s.words a) c.writes (part_index c j) (value_under w s.env) s.progress.used v) (λ q. resume a k n is (going q (onward s)))))) g,
+      Touch r (λ v. left_by_write v (write_here (with_words s.words a) c.writes (part_index c j) (value_under w s.env) s.progress.points v))
+      (λ v. behind_write c.is_element r s.progress (write_here (with_words s.words a) c.writes (part_index c j) (value_under w s.env) s.progress.points v) (λ q. resume a k n is (going q (onward s)))))) g,
   left,
-  ap (λ (y : Words). behind_write c.is_element r s.progress (write_here (with_words s.words a) c.writes (part_index c j) (value_under w s.env) s.progress.used old)
-      (λ q. resume a k n is (going q (onward (record s { words = y; progress = p }))))) (sym ws)
+  (λ l. behind_write c.is_element r s.progress (write_here (with_words s.words a) c.writes (part_index c j) (value_under w s.env) s.progress.points old)
+      (λ q. resume a k n is (going q (onward (record s { first = sym fe l; words = sym ws l; progress = p })))))
       ∙ h n is,
 )

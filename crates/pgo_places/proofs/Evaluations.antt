@@ -4,7 +4,8 @@ use Rattle.std.proofs.lemmas.Option.{same_Some}
 use Rattle.pgo_base.specs.Data.{Data}
 use Rattle.pgo_base.specs.Lookup.{Name, Names}
 use Rattle.pgo_model.specs.Options.{on}
-use Rattle.pgo_workers.specs.Walk.{Walk, Touch}
+use Rattle.pgo_workers.specs.Tried.{LeafTree}
+use Rattle.pgo_workers.specs.Walk.{Touch}
 use Rattle.pgo_accesses.specs.Accesses.{Attempt, with_value}
 use Rattle.pgo_code.specs.Steps.{Unmapped, Evaluation, Step, Bind, Pick, Unbind, Assign, Set, Await, Assert, Print, Branch, Choose, Jump, End, Read, Write, Fail}
 use Rattle.pgo_places.specs.Flows.{evaluation_in, after, left_of}
@@ -72,7 +73,7 @@ resume_waits a k n is i s x xs h = go (evaluation_in i s.value) refl h
         let next = λ (v : Data) (t : Stand) (us : List Unmapped). reads_then k us (updated (is_global_named x.0) (Some v) k.owners s.variables) (λ vs. after a k n is i t (value_in a k e.expression s.env vs)) in
         resume_evaluates a k n is i s e q
         ∙ ap (λ us. reads_then k us s.variables (λ vs. after a k n is i (cleared k s) (value_in a k e.expression s.env vs))) l
-        ∙ ap (λ (f : Data → Walk). with_value x.1 (λ r. Touch r (λ v. v) f))
+        ∙ ap (λ (f : Data → LeafTree). with_value x.1 (λ r. Touch r (λ v. v) f))
         (same_function (λ v. next v (cleared k s) xs) (λ v. resume a k (suc n) (i ∷ is) (looked k x.0 v s))
         (λ v. ap (λ t. next v t xs) (sym (cleared_looked k x.0 v s)) ∙ ap (λ us. next v (cleared k (looked k x.0 v s)) us) (sym (drop_next s.done e.reads x xs l))
         ∙ sym (resume_evaluates a k n is i (looked k x.0 v s) e q)))

@@ -8,11 +8,10 @@ use Rattle.pgo_base.specs.View.{data_of}
 use Rattle.pgo_bound.specs.State.{id_of}
 use Rattle.pgo_syntax.specs.declared.bound.Instance.{Instance}
 use Rattle.pgo_model.specs.Machine.{nth}
-use Rattle.pgo_model.specs.Choice.{Seeded, words_of}
 use Rattle.pgo_model.specs.Options.{on}
 use Rattle.pgo_model.specs.System.{Words}
 use Rattle.pgo_model.specs.Written.{pc}
-use Rattle.pgo_workers.specs.Walk.{Own, Walk}
+use Rattle.pgo_workers.specs.Walk.{Own}
 use Rattle.pgo_accesses.specs.Accesses.{no_value}
 use Rattle.pgo_code.specs.declared.program.Code.{Code}
 use Rattle.pgo_places.specs.declared.stand.Fixed as memory
@@ -21,7 +20,8 @@ use Rattle.pgo_places.specs.AllNames.{AreNames, names_from, seen}
 use Rattle.pgo_places.specs.PlaceView.{fixed_view}
 use Rattle.pgo_places.specs.PlaceWalk.{count_of}
 use Rattle.pgo_places.specs.Stands.{Fixed, limited, resume}
-use Rattle.pgo_places.specs.Trees.{attempt_with, fixed_of, start_of, steps_named, tree_in}
+use Rattle.pgo_places.specs.FirstStands.{fixed_of, start_of, steps_named}
+use Rattle.pgo_places.specs.Trees.{attempt_with, leaf_named, leaf_of}
 
 -- those of one instance more
 pub names_more : (ns : List (Fixed × Data)) (cs : List Code) (n m : ℕ) (c : Code) (i : Instance) (left others : List Instance) → n < length cs → m ≡ suc n → left ≡ i ∷ others
@@ -86,30 +86,25 @@ module _ (p : Program) (k : ℕ) (c : Code) (code : nth p.codes.items k ≡ Some
       go None g = refl
       go (Some i) g = absurd (cc)
 
-  -- what an attempt of an instance with this identifier does
-  abbrev pub tree_with : Data → Own → Words → Walk
-  tree_with id own d =
-      limited (count_of p.bound.now)
-      (on no_value (steps_named (find pc own) c) (λ xs. resume (attempt_with p.bound.now id) (fixed_of c) (suc (length xs)) xs (start_of c own d)))
+  -- what a leaf of an instance with this identifier does
+  pub leaf_there : (first d : Words) (own : Own) (i : Instance) → nth p.bound.now.instances k ≡ Some i → leaf_of p first d k own ≡ leaf_named p c (id_of i) own first d
+  leaf_there first d own i h = λ j. limited (count_of p.bound.now) (on no_value (code j) (λ c. on no_value (h j) (λ i. on no_value (steps_named (find pc own) c) (λ xs.
+      resume (attempt_with p.bound.now (id_of i)) (fixed_of c) (suc (length xs)) xs (start_of c own first d)))))
 
-  pub tree_there : (seed a : ℕ) (own : Own) (i : Instance) → nth p.bound.now.instances k ≡ Some i → tree_in p seed k a own ≡ tree_with (id_of i) own (words_of (Seeded seed k a))
-  tree_there seed a own i h = λ j. limited (count_of p.bound.now) (on no_value (code j) (λ d. on no_value (h j) (λ i. on no_value (steps_named (find pc own) d) (λ xs.
-      resume (attempt_with p.bound.now (id_of i)) (fixed_of d) (suc (length xs)) xs (start_of d own (words_of (Seeded seed k a)))))))
+  leaf_nowhere : (first d : Words) (own : Own) → nth p.bound.now.instances k ≡ None → leaf_of p first d k own ≡ no_value
+  leaf_nowhere first d own h = λ j. limited (count_of p.bound.now) (on no_value (code j) (λ c. on no_value (h j) (λ i. on no_value (steps_named (find pc own) c) (λ xs.
+      resume (attempt_with p.bound.now (id_of i)) (fixed_of c) (suc (length xs)) xs (start_of c own first d)))))
 
-  pub tree_nowhere : (seed a : ℕ) (own : Own) → nth p.bound.now.instances k ≡ None → tree_in p seed k a own ≡ no_value
-  tree_nowhere seed a own h = λ j. limited (count_of p.bound.now) (on no_value (code j) (λ d. on no_value (h j) (λ i. on no_value (steps_named (find pc own) d) (λ xs.
-      resume (attempt_with p.bound.now (id_of i)) (fixed_of d) (suc (length xs)) xs (start_of d own (words_of (Seeded seed k a)))))))
+  -- what a leaf does at the names of an instance that has code
+  pub leaf_some : (own : Own) (xs : List memory.Fixed) (x : memory.Fixed) → AreNames p xs → nth xs k ≡ Some x
+      → (fixed_view x ≡ fixed_of c) × ((first d : Words) → leaf_named p c (data_of x.id) own first d ≡ leaf_of p first d k own)
+  leaf_some own xs x h e = let n = some_names xs x h e in (n.2, λ first d. ap (λ id. leaf_named p c id own first d) n.3 ∙ sym (leaf_there first d own n.0 n.1))
 
-  -- what an attempt does at the names of an instance that has code
-  pub tree_some : (seed a : ℕ) (own : Own) (xs : List memory.Fixed) (x : memory.Fixed) → AreNames p xs → nth xs k ≡ Some x
-      → (fixed_view x ≡ fixed_of c) × ((d : Words) → d ≡ words_of (Seeded seed k a) → tree_with (data_of x.id) own d ≡ tree_in p seed k a own)
-  tree_some seed a own xs x h e = let n = some_names xs x h e in (n.2, λ d q. (λ j. tree_with (n.3 j) own (q j)) ∙ sym (tree_there seed a own n.0 n.1))
-
-  pub tree_none : (seed a : ℕ) (own : Own) (xs : List memory.Fixed) → AreNames p xs → nth xs k ≡ None → tree_in p seed k a own ≡ no_value
-  tree_none seed a own xs h e = tree_nowhere seed a own (no_names xs h e)
+  pub leaf_none : (own : Own) (xs : List memory.Fixed) → AreNames p xs → nth xs k ≡ None → (first d : Words) → leaf_of p first d k own ≡ no_value
+  leaf_none own xs h e first d = leaf_nowhere first d own (no_names xs h e)
 
 -- an instance that has none
-pub tree_without : (p : Program) (seed k a : ℕ) (own : Own) → nth p.codes.items k ≡ None → tree_in p seed k a own ≡ no_value
-tree_without p seed k a own h =
+pub leaf_without : (p : Program) (k : ℕ) (own : Own) → nth p.codes.items k ≡ None → (first d : Words) → leaf_of p first d k own ≡ no_value
+leaf_without p k own h first d =
     ap (λ o. limited (count_of p.bound.now) (on no_value o (λ c. on no_value (nth p.bound.now.instances k) (λ i. on no_value (steps_named (find pc own) c) (λ xs.
-    resume (attempt_with p.bound.now (id_of i)) (fixed_of c) (suc (length xs)) xs (start_of c own (words_of (Seeded seed k a)))))))) h
+    resume (attempt_with p.bound.now (id_of i)) (fixed_of c) (suc (length xs)) xs (start_of c own first d)))))) h

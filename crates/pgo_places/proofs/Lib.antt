@@ -3,6 +3,7 @@ mod Enough
 pub mod Evaluations
 mod FewerTurns
 mod FirstReads
+mod FirstWalks
 mod Identifiers
 mod InstanceNames
 mod Moves
@@ -13,8 +14,8 @@ mod PlaceLaws
 mod Puts
 mod Readiness
 mod LabelSections
-mod Settles
 pub mod Standing
 pub mod Starts
 mod Updates
+mod Walks
 pub mod FirstLeft

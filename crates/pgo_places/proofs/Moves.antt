@@ -2,41 +2,43 @@
 use Rattle.std.proofs.Common.{◌≡◌, ◌<◌, ◌+◌, ◌-◌, ℕ, zero, suc, Bool, true, false, List, [], ◌∷◌, None, refl, ap, sym, ◌∙◌, drop, arith}
 use Rattle.std.specs.Prelude.{if◌then◌else◌, nat_lt}
 use Rattle.pgo_base.specs.Data.{Data}
-use Rattle.pgo_workers.specs.Walk.{Walk, Stop, Touch, Again}
-use Rattle.pgo_resource.specs.Nexts.{LeadsOn, Tells}
+use Rattle.pgo_workers.specs.Tried.{LeafTree}
+use Rattle.pgo_workers.specs.Walk.{Stop, Touch, Again}
 use Rattle.pgo_resource.specs.declared.sections.NextEvent.TheVariants as events
 use Rattle.pgo_accesses.specs.Accesses.{Attempt, no_value}
 use Rattle.pgo_code.specs.Steps.{Step}
 use Rattle.pgo_model.specs.Options.{on}
+use Rattle.pgo_sections.specs.SectionRun.{ChoiceMade}
 use Rattle.pgo_places.specs.declared.place.Place.{Place}
 use Rattle.pgo_places.specs.Flows.{IsTouchOf}
+use Rattle.pgo_places.specs.LeafEvents.{LeafLeadsOn, LeafTells}
 use Rattle.pgo_places.specs.PlaceView.{stand_view}
 use Rattle.pgo_places.specs.PlaceWalk.{core_walk, stop_walk}
 use Rattle.pgo_places.specs.Stands.{Fixed, Stand, limited, resume}
 
-abbrev leave_of : Walk → Data → Data
+abbrev leave_of : LeafTree → Data → Data
 leave_of (Stop e) v = v
 leave_of (Touch r leave rest) v = leave v
 leave_of (Again w) v = v
 
-abbrev rest_of : Walk → Data → Walk
+abbrev rest_of : LeafTree → Data → LeafTree
 rest_of (Stop e) v = Stop e
 rest_of (Touch r leave rest) v = rest v
 rest_of (Again w) v = Again w
 
 -- an access leads on, also where it is limited
-pub leads_on : (m : ℕ) (w v : Walk) (r : ℕ) (leave : Data → Data) (rest : Data → Walk) (old new : Data) → w ≡ Touch r leave rest → new ≡ leave old → v ≡ rest old → LeadsOn (limited m w) (limited m v) old new
+pub leads_on : (m : ℕ) (w v : LeafTree) (r : ℕ) (leave : Data → Data) (rest : Data → LeafTree) (old new : Data) → w ≡ Touch r leave rest → new ≡ leave old → v ≡ rest old → LeafLeadsOn (limited m w) (limited m v) old new
 leads_on m w v r leave rest old new e n f = λ q l g h. go q l g (nat_lt r m) (sym (ap (limited m) e) ∙ h)
   where
-    go : (q : ℕ) (l : Data → Data) (g : Data → Walk) (b : Bool) → (if b then Touch r leave (λ x. limited m (rest x)) else no_value) ≡ Touch q l g → (new ≡ l old) × (limited m v ≡ g old)
+    go : (q : ℕ) (l : Data → Data) (g : Data → LeafTree) (b : Bool) → (if b then Touch r leave (λ x. limited m (rest x)) else no_value) ≡ Touch q l g → (new ≡ l old) × (limited m v ≡ g old)
     go q l g true h = (n ∙ ap (λ x. leave_of x old) h, ap (limited m) f ∙ ap (λ x. rest_of x old) h)
     go q l g false h = absurd (cc)
 
 -- of a resource that there is
-pub touch_tells : (m r : ℕ) (w : Walk) → IsTouchOf r w → r < m → Tells (limited m w) (events.Access r)
-touch_tells m r w t h = go (nat_lt r m) refl
+pub touch_tells : (cs : List ChoiceMade) (m r : ℕ) (w : LeafTree) → IsTouchOf r w → r < m → LeafTells cs (limited m w) (events.Access r)
+touch_tells cs m r w t h = go (nat_lt r m) refl
   where
-    go : (b : Bool) → nat_lt r m ≡ b → Tells (limited m w) (events.Access r)
+    go : (b : Bool) → nat_lt r m ≡ b → LeafTells cs (limited m w) (events.Access r)
     go true e = (t.0, λ v. limited m (t.1 v), ap (limited m) t.2 ∙ ap (λ c. if c then Touch r t.0 (λ v. limited m (t.1 v)) else no_value) e)
     go false e = absurd (grind (arith, e, h))
 

@@ -9,9 +9,10 @@ use Rattle.pgo_sections.specs.BoundValues.{value_under}
 use Rattle.pgo_sections.specs.Code.{Code}
 use Rattle.pgo_sections.specs.Context.{index_value}
 use Rattle.pgo_sections.specs.Exec.{MacroEnd, Stops}
+use Rattle.pgo_sections.specs.SectionRun.{ChoiceMade}
 use Rattle.pgo_workers.specs.Operations.{part_of}
 use Rattle.pgo_workers.specs.Walk.{Touch}
-use Rattle.pgo_accesses.specs.Accesses.{Attempt, becoming, choices, with_value, left_by_write, behind_write, write_here}
+use Rattle.pgo_accesses.specs.Accesses.{Attempt, becoming, with_value, left_by_write, behind_write, write_here}
 use Rattle.pgo_code.specs.Steps.{Unmapped, Evaluation, Resource, Content, Step, Assign, Set, Write}
 use Rattle.pgo_places.specs.declared.flow.Flow.{Flow}
 use Rattle.pgo_places.specs.declared.flow.Flow.TheVariants as flows
@@ -54,10 +55,10 @@ looks a k i s t x o xs r v h q e = λ n is. (
   ap (λ u. resume a k (suc n) (i ∷ is) u) (sym e),
 )
 
-abbrev nothing_with : ℕ → MacroEnd Data
-nothing_with u = Stops NoValue (choices u)
+abbrev nothing_with : List ChoiceMade → MacroEnd Data
+nothing_with u = Stops NoValue u
 
-no_write : (a : Attempt) (block : Code) (at : Option Data) (u : ℕ) (v : Data) → write_here a block at None u v ≡ nothing_with u
+no_write : (a : Attempt) (block : Code) (at : Option Data) (u : List ChoiceMade) (v : Data) → write_here a block at None u v ≡ nothing_with u
 no_write a block at u v = go (part_of at v)
   where
     go : (o : Option Data) → on (nothing_with u) o (λ old. nothing_with u) ≡ nothing_with u
@@ -67,8 +68,8 @@ no_write a block at u v = go (part_of at v)
 pub writes_nothing : (a : Attempt) (k : Fixed) (c : Content) (i : Option Name) (w : Name) (s : Stand) (j : Option Data) (r : ℕ) (old : Data)
     → index_value i s.env ≡ Some j → resource_at a c j ≡ Some r → value_under w s.env ≡ None → Performs a k (Write c i w) s (flows.Noted kinds.NoValue) s old old
 writes_nothing a k c i w s j r old e g u =
-    let none : write_here (with_words s.words a) c.writes (part_index c j) (value_under w s.env) s.progress.used old ≡ nothing_with s.progress.used =
-    ap (λ o. write_here (with_words s.words a) c.writes (part_index c j) o s.progress.used old) u ∙ no_write (with_words s.words a) c.writes (part_index c j) s.progress.used old in
-    performs_write a k c i w s s.words s.progress j r (flows.Noted kinds.NoValue) s old old e g refl
+    let none : write_here (with_words s.words a) c.writes (part_index c j) (value_under w s.env) s.progress.points old ≡ nothing_with s.progress.points =
+    ap (λ o. write_here (with_words s.words a) c.writes (part_index c j) o s.progress.points old) u ∙ no_write (with_words s.words a) c.writes (part_index c j) s.progress.points old in
+    performs_write a k c i w s s.first s.words s.progress j r (flows.Noted kinds.NoValue) s old old e g refl refl
     (sym (ap (left_by_write old) none))
     (λ n is. ap (λ m. behind_write c.is_element r s.progress m (λ q. resume a k n is (going q (onward s)))) none)

@@ -4,13 +4,16 @@ use Rattle.std.specs.Prelude.{if◌then◌else◌, ◌&&◌, get_or, IfSome, IsS
 use Rattle.pgo_base.specs.Data.{Data}
 use Rattle.pgo_base.specs.Lookup.{Name}
 use Rattle.pgo_model.specs.Options.{on}
+use Rattle.pgo_model.specs.Outcome.{Kind, Blocked, NoValue, AssertFails, Many}
+use Rattle.pgo_syntax.specs.RecordView.{kind_view}
+use Rattle.pgo_sections.specs.SectionRun.{ChoiceMade}
 use Rattle.pgo_sections.specs.BoundValues.{value_under}
 use Rattle.pgo_sections.specs.Context.{index_value}
-use Rattle.pgo_workers.specs.Walk.{Walk, Stop, Touch, Again, Goes}
-use Rattle.pgo_resource.specs.Nexts.{IsTouch, StopsWith, Tells}
+use Rattle.pgo_workers.specs.Tried.{Leads, Blocks, LeafTree}
+use Rattle.pgo_workers.specs.Walk.{Stop, Touch, Again, Goes, Sticks}
 use Rattle.pgo_resource.specs.declared.sections.NextEvent.{NextEvent}
 use Rattle.pgo_resource.specs.declared.sections.NextEvent.TheVariants as events
-use Rattle.pgo_accesses.specs.Accesses.{Attempt, no_value, with_value, is_empty, all_shallow}
+use Rattle.pgo_accesses.specs.Accesses.{Attempt, no_value, stuck, with_value, is_empty, all_shallow}
 use Rattle.pgo_code.specs.Steps.{Unmapped, Evaluation, Target, Resource, Own, Content, Step, Bind, Pick, Unbind, Assign, Set, Await, Assert, Print, Branch, Choose, Jump, End, Read, Write, Fail}
 use Rattle.pgo_code.specs.See.{step_of}
 use Rattle.pgo_code.specs.declared.instruction.Instruction.{Instruction}
@@ -18,28 +21,29 @@ use Rattle.pgo_code.specs.declared.program.Program.{Program}
 use Rattle.pgo_places.specs.declared.place.Place.{Place}
 use Rattle.pgo_places.specs.Flows.{evaluation_in, left_of, resource_at, access_to, IsTouchOf, StandsAt}
 use Rattle.pgo_places.specs.PlaceView.{stand_view, fixed_view, attempt_view}
-use Rattle.pgo_places.specs.PlaceWalk.{instructions_in, steps_at, walk_in}
+use Rattle.pgo_places.specs.LeafEvents.{IsLeafEnd, IsLeafTouch, LeafTells}
+use Rattle.pgo_places.specs.PlaceWalk.{instructions_in, steps_at, leaf_in}
 use Rattle.pgo_places.specs.Ready.{IsAccess, IsAccessEvent, IsReady, is_access_kind}
 use Rattle.pgo_places.specs.Stands.{Fixed, Stand, labelled, onward, putting, resume}
 use Rattle.pgo_places.proofs.PlaceLaws.{instruction_here}
 use Rattle.pgo_places.proofs.Standing.{read_stands, mapped_read, mapped_write}
 
-abbrev is_touch : Walk → Bool
+abbrev is_touch : LeafTree → Bool
 is_touch (Stop e) = false
 is_touch (Touch r leave rest) = true
 is_touch (Again w) = false
 
-abbrev resource_of : Walk → ℕ
+abbrev resource_of : LeafTree → ℕ
 resource_of (Stop e) = 0
 resource_of (Touch r leave rest) = r
 resource_of (Again w) = 0
 
 -- a touch is no end
-no_end : (r : ℕ) (w v : Walk) → IsTouchOf r w → w ≡ v → is_touch v ≡ false → ⊥
+no_end : (r : ℕ) (w v : LeafTree) → IsTouchOf r w → w ≡ v → is_touch v ≡ false → ⊥
 no_end r w v t e f = let h : true ≡ false = ap is_touch (sym t.2) ∙ ap is_touch e ∙ f in cc
 
 -- it is of one resource
-one_touch : (q r : ℕ) (w : Walk) → IsTouchOf q w → IsTouchOf r w → q ≡ r
+one_touch : (q r : ℕ) (w : LeafTree) → IsTouchOf q w → IsTouchOf r w → q ≡ r
 one_touch q r w t u = ap resource_of (sym t.2 ∙ u.2)
 
 pub some_ready : (p : Program) (q : Place) (o : Option NextEvent) → IfSome o (λ e. (p : Program) → IsReady p q e) → IfSome o (λ e. IsReady p q e)
@@ -47,19 +51,28 @@ some_ready p q None h = h
 some_ready p q (Some e) h = h p
 
 -- what is told of a touch is an access
-pub tells_access : (w : Walk) (e : NextEvent) → IsTouch w → Tells w e → IsAccessEvent e
-tells_access w (events.Access r) t h = tt
-tells_access w events.Commit t h = no_end t.0 w _ (t.1, t.2, t.3) h.2 refl
-tells_access w (events.Note kind) t h = no_end t.0 w _ (t.1, t.2, t.3) h refl
+pub tells_access : (cs : List ChoiceMade) (w : LeafTree) (e : NextEvent) → IsLeafTouch w → LeafTells cs w e → IsAccessEvent e
+tells_access cs w (events.Access r) t h = tt
+tells_access cs w events.Commit t h = no_end t.0 w _ (t.1, t.2, t.3) h.2 refl
+tells_access cs w (events.Note kind) t h = no_end t.0 w _ (t.1, t.2, t.3) h refl
 
-abbrev is_end : Walk → Bool
-is_end (Stop (Goes own prints)) = true
-is_end w = false
+abbrev is_end : LeafTree → Bool
+is_end (Stop (Leads (Goes own prints))) = true
+is_end (Stop (Leads (Sticks kind))) = false
+is_end (Stop (Blocks points)) = false
+is_end (Touch r leave rest) = false
+is_end (Again w) = false
 
-pub ready_end : (p : Program) (q : Place) (e : NextEvent) → StopsWith (walk_in p q) → Tells (walk_in p q) e → IsReady p q e → IsReady p q events.Commit
-ready_end p q (events.Access m) t h g = absurd (let z : true ≡ false = sym (ap is_end t.2) ∙ ap is_end h.2 in cc)
-ready_end p q events.Commit t h g = g
-ready_end p q (events.Note kind) t h g = absurd (let z : true ≡ false = sym (ap is_end t.2) ∙ ap is_end h in cc)
+stuck_is : (kind : Kind) (cs : List ChoiceMade) → is_end (Stop (stuck kind cs)) ≡ false
+stuck_is Blocked cs = refl
+stuck_is NoValue cs = refl
+stuck_is AssertFails cs = refl
+stuck_is Many cs = refl
+
+pub ready_end : (cs : List ChoiceMade) (p : Program) (q : Place) (e : NextEvent) → IsLeafEnd (leaf_in p q) → LeafTells cs (leaf_in p q) e → IsReady p q e → IsReady p q events.Commit
+ready_end cs p q (events.Access m) t h g = absurd (let z : true ≡ false = sym (ap is_end t.2) ∙ ap is_end h.2 in cc)
+ready_end cs p q events.Commit t h g = g
+ready_end cs p q (events.Note kind) t h g = absurd (let z : true ≡ false = sym (ap is_end t.2) ∙ ap is_end h ∙ stuck_is (kind_view kind) cs in cc)
 
 some_none : {A : Type 0} (x : A) → Some x ≡ None → ⊥
 some_none x h = cc
@@ -121,7 +134,7 @@ no_access a k r (Choose js) s n t f = no_end r _ _ t.0 refl refl
 no_access a k r (Jump j) s n t f = no_end r _ _ t.0 refl refl
 no_access a k r (End l) s n t f = go (is_empty s.progress.too_deep && all_shallow (labelled l s.own)) t.0
   where
-    go : (b : Bool) → IsTouchOf r (if b then Stop (Goes (labelled l s.own) s.progress.prints) else no_value) → ⊥
+    go : (b : Bool) → IsTouchOf r (if b then Stop (Leads (Goes (labelled l s.own) s.progress.prints)) else no_value) → ⊥
     go true h = no_end r _ _ h refl refl
     go false h = no_end r _ _ h refl refl
 no_access a k r (Read w c i) s n t f = cc

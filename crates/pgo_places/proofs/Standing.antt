@@ -7,18 +7,19 @@ use Rattle.pgo_model.specs.Core.{number_among}
 use Rattle.pgo_model.specs.Options.{on}
 use Rattle.pgo_sections.specs.BoundValues.{value_under}
 use Rattle.pgo_sections.specs.Context.{index_value}
-use Rattle.pgo_workers.specs.Walk.{Walk, Touch}
+use Rattle.pgo_workers.specs.Tried.{LeafTree}
+use Rattle.pgo_workers.specs.Walk.{Touch}
 use Rattle.pgo_accesses.specs.Accesses.{Attempt, with_value, no_value, left_by_read, left_by_write, behind_read, behind_write, read_here, write_here}
 use Rattle.pgo_code.specs.Steps.{Unmapped, Evaluation, Target, Resource, Content, Step, Assign, Set, Read, Write, accessing, reading, writing}
 use Rattle.pgo_places.specs.Flows.{evaluation_in, left_of, resource_at, part_index, access_to, StandsAt}
 use Rattle.pgo_places.specs.Stands.{Fixed, Stand, binding, going, onward, looked, putting, with_words, resume}
 use Rattle.pgo_places.proofs.Evaluations.{resume_waits}
 
-pub with_none : {A : Type 0} (o : Option A) (f : A → Walk) → with_value o f ≡ on no_value o f
+pub with_none : {A : Type 0} (o : Option A) (f : A → LeafTree) → with_value o f ≡ on no_value o f
 with_none None f = refl
 with_none (Some x) f = refl
 
-pub accessing_is : (a : Attempt) (c : Content) (j : Option Data) (f : ℕ → Option Data → Walk) → accessing a c j f ≡ on no_value (resource_at a c j) (λ r. f r (part_index c j))
+pub accessing_is : (a : Attempt) (c : Content) (j : Option Data) (f : ℕ → Option Data → LeafTree) → accessing a c j f ≡ on no_value (resource_at a c j) (λ r. f r (part_index c j))
 accessing_is a c j f = go c.is_element j
   where
     go : (b : Bool) (j : Option Data)
@@ -58,30 +59,30 @@ set_stands a k s r e v h =
 pub read_is : (a : Attempt) (k : Fixed) (w : Name) (c : Content) (i : Option Name) (s : Stand) (j : Option Data) → index_value i s.env ≡ Some j → (n : ℕ) (is : List Step)
     → resume a k (suc n) (Read w c i ∷ is) s
     ≡ on no_value (resource_at a c j) (λ r.
-    Touch r (λ v. left_by_read v (read_here (with_words s.words a) c.reads (part_index c j) s.progress.used v))
-    (λ v. behind_read c.is_element r s.progress (read_here (with_words s.words a) c.reads (part_index c j) s.progress.used v) (λ x q. resume a k n is (binding w x (going q (onward s))))))
+    Touch r (λ v. left_by_read v (read_here (with_words s.words a) c.reads (part_index c j) s.progress.points v))
+    (λ v. behind_read c.is_element r s.progress (read_here (with_words s.words a) c.reads (part_index c j) s.progress.points v) (λ x q. resume a k n is (binding w x (going q (onward s))))))
 read_is a k w c i s j h n is =
     ap (λ o. with_value o (λ j. accessing (with_words s.words a) c j (λ r at.
-    Touch r (λ v. left_by_read v (read_here (with_words s.words a) c.reads at s.progress.used v))
-    (λ v. behind_read c.is_element r s.progress (read_here (with_words s.words a) c.reads at s.progress.used v) (λ x q. resume a k n is (binding w x (going q (onward s)))))))) h
+    Touch r (λ v. left_by_read v (read_here (with_words s.words a) c.reads at s.progress.points v))
+    (λ v. behind_read c.is_element r s.progress (read_here (with_words s.words a) c.reads at s.progress.points v) (λ x q. resume a k n is (binding w x (going q (onward s)))))))) h
     ∙ accessing_is (with_words s.words a) c j (λ r at.
-    Touch r (λ v. left_by_read v (read_here (with_words s.words a) c.reads at s.progress.used v))
-    (λ v. behind_read c.is_element r s.progress (read_here (with_words s.words a) c.reads at s.progress.used v) (λ x q. resume a k n is (binding w x (going q (onward s))))))
+    Touch r (λ v. left_by_read v (read_here (with_words s.words a) c.reads at s.progress.points v))
+    (λ v. behind_read c.is_element r s.progress (read_here (with_words s.words a) c.reads at s.progress.points v) (λ x q. resume a k n is (binding w x (going q (onward s))))))
 
 pub write_is : (a : Attempt) (k : Fixed) (c : Content) (i : Option Name) (w : Name) (s : Stand) (j : Option Data) → index_value i s.env ≡ Some j → (n : ℕ) (is : List Step)
     → resume a k (suc n) (Write c i w ∷ is) s
     ≡ on no_value (resource_at a c j) (λ r.
-    Touch r (λ v. left_by_write v (write_here (with_words s.words a) c.writes (part_index c j) (value_under w s.env) s.progress.used v))
-    (λ v. behind_write c.is_element r s.progress (write_here (with_words s.words a) c.writes (part_index c j) (value_under w s.env) s.progress.used v) (λ q. resume a k n is (going q (onward s)))))
+    Touch r (λ v. left_by_write v (write_here (with_words s.words a) c.writes (part_index c j) (value_under w s.env) s.progress.points v))
+    (λ v. behind_write c.is_element r s.progress (write_here (with_words s.words a) c.writes (part_index c j) (value_under w s.env) s.progress.points v) (λ q. resume a k n is (going q (onward s)))))
 write_is a k c i w s j h n is =
     ap (λ o. with_value o (λ j. accessing (with_words s.words a) c j (λ r at.
-    Touch r (λ v. left_by_write v (write_here (with_words s.words a) c.writes at (value_under w s.env) s.progress.used v))
-    (λ v. behind_write c.is_element r s.progress (write_here (with_words s.words a) c.writes at (value_under w s.env) s.progress.used v) (λ q. resume a k n is (going q (onward s))))))) h
+    Touch r (λ v. left_by_write v (write_here (with_words s.words a) c.writes at (value_under w s.env) s.progress.points v))
+    (λ v. behind_write c.is_element r s.progress (write_here (with_words s.words a) c.writes at (value_under w s.env) s.progress.points v) (λ q. resume a k n is (going q (onward s))))))) h
     ∙ accessing_is (with_words s.words a) c j (λ r at.
-    Touch r (λ v. left_by_write v (write_here (with_words s.words a) c.writes at (value_under w s.env) s.progress.used v))
-    (λ v. behind_write c.is_element r s.progress (write_here (with_words s.words a) c.writes at (value_under w s.env) s.progress.used v) (λ q. resume a k n is (going q (onward s)))))
+    Touch r (λ v. left_by_write v (write_here (with_words s.words a) c.writes at (value_under w s.env) s.progress.points v))
+    (λ v. behind_write c.is_element r s.progress (write_here (with_words s.words a) c.writes at (value_under w s.env) s.progress.points v) (λ q. resume a k n is (going q (onward s)))))
 
-mapped_stands : (a : Attempt) (k : Fixed) (i : Step) (s : Stand) (o : Option ℕ) (leave : ℕ → Data → Data) (rest : ℕ → List Step → ℕ → Data → Walk)
+mapped_stands : (a : Attempt) (k : Fixed) (i : Step) (s : Stand) (o : Option ℕ) (leave : ℕ → Data → Data) (rest : ℕ → List Step → ℕ → Data → LeafTree)
     → ((n : ℕ) (is : List Step) → resume a k (suc n) (i ∷ is) s ≡ on no_value o (λ r. Touch r (leave r) (rest n is r))) → evaluation_in i s.value ≡ None → StandsAt a k i s (access_to o)
 mapped_stands a k i s None leave rest h e = h
 mapped_stands a k i s (Some r) leave rest h e = (λ n is. (leave r, rest n is r, h n is), λ _. e)

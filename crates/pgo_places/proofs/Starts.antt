@@ -6,26 +6,27 @@ use Rattle.pgo_base.specs.BindingsView.{onto}
 use Rattle.pgo_base.specs.Data.{Data, string}
 use Rattle.pgo_base.specs.Lookup.{Name, Names, Vars, find, same_name}
 use Rattle.pgo_base.specs.Tree.{Tree}
-use Rattle.pgo_model.specs.Choice.{pick}
 use Rattle.pgo_model.specs.Operators.{members_of, truth_of}
 use Rattle.pgo_model.specs.Options.{on}
-use Rattle.pgo_model.specs.Outcome.{Blocked, AssertFails}
+use Rattle.pgo_model.specs.System.{Words}
 use Rattle.pgo_model.specs.Val.{val}
 use Rattle.pgo_model.specs.Written.{pc, self_name}
 use Rattle.pgo_sections.specs.BoundValues.{bindable, value_under}
 use Rattle.pgo_sections.specs.Code.{Place, Whole, Own}
 use Rattle.pgo_sections.specs.Context.{index_value}
 use Rattle.pgo_sections.specs.Exec.{MacroEnd, Gives, Stops}
+use Rattle.pgo_sections.specs.SectionRun.{ChoiceMade}
 use Rattle.pgo_workers.specs.Walk as walks
-use Rattle.pgo_workers.specs.Walk.{Walk, Stop, Touch, Goes, Sticks}
+use Rattle.pgo_workers.specs.Tried.{Leads, LeafTree}
+use Rattle.pgo_workers.specs.Walk.{Stop, Touch, Goes}
 use Rattle.pgo_accesses.specs.Accesses as accesses
-use Rattle.pgo_accesses.specs.Accesses.{Attempt, Progress, begun, printing, using_word, becoming, no_value, with_value, if_true, with_member, is_empty, all_shallow, own_next, can_stand, is_too_deep, marked, behind_read, behind_write, left_by_read, left_by_write, read_here, write_here}
+use Rattle.pgo_accesses.specs.Accesses.{Attempt, Progress, begun, printing, picked_number, choosing, becoming, no_value, fails, waits, with_value, if_true, with_member, is_empty, all_shallow, own_next, can_stand, is_too_deep, marked, behind_read, behind_write, left_by_read, left_by_write, read_here, write_here}
 use Rattle.pgo_code.specs.Steps as steps
 use Rattle.pgo_code.specs.declared.program.Code.{Code}
 use Rattle.pgo_code.specs.declared.program.Variable.{Variable}
 use Rattle.pgo_code.specs.Steps.{Unmapped, Evaluation, Target, Resource, Own as OwnTarget, Content, Step, Bind, Pick, Unbind, Assign, Set, Await, Assert, Print, Branch, Choose, Jump, End, Read, Write, Fail, accessing, reading, writing, unbound}
+use Rattle.pgo_places.specs.FirstStands.{fixed_of, start_of, variable_of}
 use Rattle.pgo_places.specs.Stands.{Fixed, Stand, updated, is_global, is_global_named, is_own_named, own_put, labelled, cleared, assigned, going, binding, reads_then, evaluating, value_in, putting, ended, with_words, resume}
-use Rattle.pgo_places.specs.Trees.{fixed_of, start_of, variable_of}
 use Rattle.pgo_places.proofs.Evaluations.{same_function}
 use Rattle.pgo_places.proofs.Names.{onto_reverse}
 
@@ -58,13 +59,14 @@ abbrev pub own_now : Vars → walks.Own → walks.Own
 own_now ch [] = []
 own_now ch (p ∷ o) = (p.0, on p.1 (find p.0 ch) (λ v. v)) ∷ own_now ch o
 
-abbrev pub stand_at : Attempt → Names → Progress → Stand
-stand_at a env p = record {
+abbrev pub stand_at : Words → Attempt → Names → Progress → Stand
+stand_at first a env p = record {
   done = 0;
   value = None;
   env = env;
   variables = entries a [] p.changes;
   own = own_now p.changes a.own;
+  first = first;
   words = a.words;
   progress = record p { changes = [] };
 }
@@ -100,16 +102,16 @@ put_entry a ch y v n (Own z) = ap (λ o. (n, o)) (go (same_name z y))
     go true = refl
     go false = refl
 
-module _ (a : Attempt) where
+module _ (a : Attempt) (first : Words) where
   abbrev K : Fixed
   K = fixed_at a
 
   sees : (seen ch : Vars) (x : Name) (v : Data) → updated (is_global_named x) (Some v) K.owners (entries a seen ch) ≡ entries a ((x, v) ∷ seen) ch
   sees seen ch x v = updated_map (is_global_named x) (Some v) owner_of (entry a seen ch) (entry a ((x, v) ∷ seen) ch) (λ q. see_entry a seen ch x v q.0 q.1) (reverse a.places)
 
-  clears : (env : Names) (p : Progress) → cleared K (stand_at a env p) ≡ stand_at a env p
+  clears : (env : Names) (p : Progress) → cleared K (stand_at first a env p) ≡ stand_at first a env p
   clears env p =
-      ap (λ vs. record (stand_at a env p) { variables = vs })
+      ap (λ vs. record (stand_at first a env p) { variables = vs })
       (updated_map is_global None owner_of (entry a [] p.changes) (entry a [] p.changes) (λ q. clear_entry a [] p.changes q.0 q.1) (reverse a.places))
 
   own_puts : (y : Name) (v : Data) (ch : Vars) (o : walks.Own) → own_put y v (own_now ch o) ≡ own_now ((y, v) ∷ ch) o
@@ -120,8 +122,8 @@ module _ (a : Attempt) where
       go true = refl
       go false = refl
 
-  assigns : (env : Names) (p : Progress) (y : Name) (v : Data) → assigned K y v (stand_at a env p) ≡ stand_at a env (record p { changes = (y, v) ∷ p.changes })
-  assigns env p y v = λ i. record (stand_at a env p) {
+  assigns : (env : Names) (p : Progress) (y : Name) (v : Data) → assigned K y v (stand_at first a env p) ≡ stand_at first a env (record p { changes = (y, v) ∷ p.changes })
+  assigns env p y v = λ i. record (stand_at first a env p) {
     variables = updated_map (is_own_named y) (Some v) owner_of (entry a [] p.changes) (entry a [] ((y, v) ∷ p.changes)) (λ q. put_entry a p.changes y v q.0 q.1) (reverse a.places) i;
     own = own_puts y v p.changes a.own i;
   }
@@ -135,35 +137,35 @@ module _ (a : Attempt) where
       ap (λ ns. val e (record { names = env ++ ns; part = None; now = []; next = None; defs = a.defs }))
       (views seen ch a.places ∙ sym (onto_map (entry a seen ch) a.places ((self_name, Some a.id) ∷ [])))
 
-  reads : (us : List Unmapped) (seen ch : Vars) (f : Vars → Walk) (g : Names → Walk) → ((ss : Vars) → f ss ≡ g (entries a ss ch)) → steps.reads_then us seen f ≡ reads_then K us (entries a seen ch) g
+  reads : (us : List Unmapped) (seen ch : Vars) (f : Vars → LeafTree) (g : Names → LeafTree) → ((ss : Vars) → f ss ≡ g (entries a ss ch)) → steps.reads_then us seen f ≡ reads_then K us (entries a seen ch) g
   reads [] seen ch f g h = h seen
   reads (u ∷ us) seen ch f g h =
-      ap (λ (F : Data → Walk). with_value u.1 (λ r. Touch r (λ v. v) F))
+      ap (λ (F : Data → LeafTree). with_value u.1 (λ r. Touch r (λ v. v) F))
       (same_function (λ v. steps.reads_then us ((u.0, v) ∷ seen) f) (λ v. reads_then K us (updated (is_global_named u.0) (Some v) K.owners (entries a seen ch)) g)
       (λ v. reads us ((u.0, v) ∷ seen) ch f g h ∙ ap (λ vs. reads_then K us vs g) (sym (sees seen ch u.0 v))))
 
-  evaluates : (e : Evaluation) (env : Names) (p : Progress) (f g : Option Data → Walk) → ((o : Option Data) → f o ≡ g o)
-      → steps.evaluating a e env p f ≡ evaluating (bare a) K e (stand_at a env p) g
+  evaluates : (e : Evaluation) (env : Names) (p : Progress) (f g : Option Data → LeafTree) → ((o : Option Data) → f o ≡ g o)
+      → steps.evaluating a e env p f ≡ evaluating (bare a) K e (stand_at first a env p) g
   evaluates e env p f g h =
       reads e.reads [] p.changes (λ seen. f (accesses.value_of a e.expression env seen p.changes)) (λ vs. g (value_in (bare a) K e.expression env vs))
       (λ seen. ap f (values e.expression env seen p.changes) ∙ h (value_in (bare a) K e.expression env (entries a seen p.changes)))
 
-  with_same : {A : Type 0} (o : Option A) (f g : A → Walk) → ((v : A) → f v ≡ g v) → with_value o f ≡ with_value o g
+  with_same : {A : Type 0} (o : Option A) (f g : A → LeafTree) → ((v : A) → f v ≡ g v) → with_value o f ≡ with_value o g
   with_same None f g h = refl
   with_same (Some v) f g h = h v
 
-  if_same : (o : Option Bool) (w x y z : Walk) → w ≡ x → y ≡ z → if_true o w y ≡ if_true o x z
+  if_same : (o : Option Bool) (w x y z : LeafTree) → w ≡ x → y ≡ z → if_true o w y ≡ if_true o x z
   if_same o w x y z h g = λ i. if_true o (h i) (g i)
 
-  member_same : (ms : List Data) (p : Progress) (f g : Data → Progress → Walk) → ((v : Data) → f v (using_word p) ≡ g v (using_word (record p { changes = [] })))
+  member_same : (ms : List Data) (p : Progress) (f g : Data → Progress → LeafTree) → ((v : Data) (n i : ℕ) → f v (choosing n i p) ≡ g v (choosing n i (record p { changes = [] })))
       → with_member a ms p f ≡ with_member (with_words a.words (bare a)) ms (record p { changes = [] }) g
   member_same [] p f g h = refl
-  member_same (m ∷ ms) p f g h = h (get_or (m ∷ ms) (pick (a.words p.used) (length (m ∷ ms))) m)
+  member_same (m ∷ ms) p f g h = let n = length (m ∷ ms) in let i = picked_number a p n in h (get_or (m ∷ ms) i m) n i
 
-  putting_same : (t : Target) (v : Data) (env : Names) (p : Progress) (f : Progress → Walk) (g : Stand → Walk) → ((q : Progress) → f q ≡ g (stand_at a env q))
-      → steps.putting t v p f ≡ putting K t v (stand_at a env p) g
+  putting_same : (t : Target) (v : Data) (env : Names) (p : Progress) (f : Progress → LeafTree) (g : Stand → LeafTree) → ((q : Progress) → f q ≡ g (stand_at first a env q))
+      → steps.putting t v p f ≡ putting K t v (stand_at first a env p) g
   putting_same (Resource r) v env p f g h =
-      with_same r (λ n. Touch n (λ old. v) (λ old. f (becoming false n v p))) (λ n. Touch n (λ old. v) (λ old. g (going (becoming false n v (record p { changes = [] })) (stand_at a env p))))
+      with_same r (λ n. Touch n (λ old. v) (λ old. f (becoming false n v p))) (λ n. Touch n (λ old. v) (λ old. g (going (becoming false n v (record p { changes = [] })) (stand_at first a env p))))
       (λ n. ap (λ w. Touch n (λ old. v) (λ old. w)) (h (becoming false n v p)))
   putting_same (OwnTarget y) v env p f g h = h (record p { changes = (y, v) ∷ p.changes }) ∙ ap g (sym (assigns env p y v))
 
@@ -171,91 +173,91 @@ module _ (a : Attempt) where
   labels l ch [] = refl
   labels l ch (p ∷ o) = ap (λ os. (p.0, if same_name p.0 pc then string l else on p.1 (find p.0 ch) (λ v. v)) ∷ os) (labels l ch o)
 
-  ended_same : (l : Name) (env : Names) (p : Progress) → accesses.ended a l p ≡ ended l (stand_at a env p)
-  ended_same l env p = ap (λ o. if is_empty p.too_deep && all_shallow o then Stop (Goes o p.prints) else no_value) (labels l p.changes a.own)
+  ended_same : (l : Name) (env : Names) (p : Progress) → accesses.ended a l p ≡ ended l (stand_at first a env p)
+  ended_same l env p = ap (λ o. if is_empty p.too_deep && all_shallow o then Stop (Leads (Goes o p.prints)) else no_value) (labels l p.changes a.own)
 
-  read_same : (e : Bool) (r : ℕ) (p : Progress) (m : MacroEnd (Data × Data)) (f g : Data → Progress → Walk)
-      → ((v : Data) (d : List ℕ) (u : ℕ) → f v (record p { too_deep = d; used = u }) ≡ g v (record p { changes = []; too_deep = d; used = u }))
+  read_same : (e : Bool) (r : ℕ) (p : Progress) (m : MacroEnd (Data × Data)) (f g : Data → Progress → LeafTree)
+      → ((v : Data) (d : List ℕ) (u : List ChoiceMade) → f v (record p { too_deep = d; points = u }) ≡ g v (record p { changes = []; too_deep = d; points = u }))
       → behind_read e r p m f ≡ behind_read e r (record p { changes = [] }) m g
-  read_same e r p (Gives x cs) f g h = ap (λ w. if can_stand e x.1 then w else no_value) (h x.0 (marked (is_too_deep e x.1) r p.too_deep) (length cs))
+  read_same e r p (Gives x cs) f g h = ap (λ w. if can_stand e x.1 then w else no_value) (h x.0 (marked (is_too_deep e x.1) r p.too_deep) cs)
   read_same e r p (Stops kind cs) f g h = refl
 
-  write_same : (e : Bool) (r : ℕ) (p : Progress) (m : MacroEnd Data) (f g : Progress → Walk)
-      → ((d : List ℕ) (u : ℕ) → f (record p { too_deep = d; used = u }) ≡ g (record p { changes = []; too_deep = d; used = u }))
+  write_same : (e : Bool) (r : ℕ) (p : Progress) (m : MacroEnd Data) (f g : Progress → LeafTree)
+      → ((d : List ℕ) (u : List ChoiceMade) → f (record p { too_deep = d; points = u }) ≡ g (record p { changes = []; too_deep = d; points = u }))
       → behind_write e r p m f ≡ behind_write e r (record p { changes = [] }) m g
-  write_same e r p (Gives x cs) f g h = ap (λ w. if can_stand e x then w else no_value) (h (marked (is_too_deep e x) r p.too_deep) (length cs))
+  write_same e r p (Gives x cs) f g h = ap (λ w. if can_stand e x then w else no_value) (h (marked (is_too_deep e x) r p.too_deep) cs)
   write_same e r p (Stops kind cs) f g h = refl
 
-  reading_same : (c : Content) (j : Option Data) (p : Progress) (f g : Data → Progress → Walk)
-      → ((v : Data) (d : List ℕ) (u : ℕ) → f v (record p { too_deep = d; used = u }) ≡ g v (record p { changes = []; too_deep = d; used = u }))
+  reading_same : (c : Content) (j : Option Data) (p : Progress) (f g : Data → Progress → LeafTree)
+      → ((v : Data) (d : List ℕ) (u : List ChoiceMade) → f v (record p { too_deep = d; points = u }) ≡ g v (record p { changes = []; too_deep = d; points = u }))
       → reading a c j p f ≡ reading (with_words a.words (bare a)) c j (record p { changes = [] }) g
   reading_same c j p f g h =
-      let q : (λ (r : ℕ) (at : Option Data). Touch r (λ v. left_by_read v (read_here a c.reads at p.used v)) (λ v. behind_read c.is_element r p (read_here a c.reads at p.used v) f))
-      ≡ (λ (r : ℕ) (at : Option Data). Touch r (λ v. left_by_read v (read_here a c.reads at p.used v)) (λ v. behind_read c.is_element r (record p { changes = [] }) (read_here a c.reads at p.used v) g)) =
-      λ i r at. Touch r (λ v. left_by_read v (read_here a c.reads at p.used v)) (λ v. read_same c.is_element r p (read_here a c.reads at p.used v) f g h i) in
+      let q : (λ (r : ℕ) (at : Option Data). Touch r (λ v. left_by_read v (read_here a c.reads at p.points v)) (λ v. behind_read c.is_element r p (read_here a c.reads at p.points v) f))
+      ≡ (λ (r : ℕ) (at : Option Data). Touch r (λ v. left_by_read v (read_here a c.reads at p.points v)) (λ v. behind_read c.is_element r (record p { changes = [] }) (read_here a c.reads at p.points v) g)) =
+      λ i r at. Touch r (λ v. left_by_read v (read_here a c.reads at p.points v)) (λ v. read_same c.is_element r p (read_here a c.reads at p.points v) f g h i) in
       ap (λ F. accessing a c j F) q
 
-  writing_same : (c : Content) (j o : Option Data) (p : Progress) (f g : Progress → Walk)
-      → ((d : List ℕ) (u : ℕ) → f (record p { too_deep = d; used = u }) ≡ g (record p { changes = []; too_deep = d; used = u }))
+  writing_same : (c : Content) (j o : Option Data) (p : Progress) (f g : Progress → LeafTree)
+      → ((d : List ℕ) (u : List ChoiceMade) → f (record p { too_deep = d; points = u }) ≡ g (record p { changes = []; too_deep = d; points = u }))
       → writing a c j o p f ≡ writing (with_words a.words (bare a)) c j o (record p { changes = [] }) g
   writing_same c j o p f g h =
-      let q : (λ (r : ℕ) (at : Option Data). Touch r (λ v. left_by_write v (write_here a c.writes at o p.used v)) (λ v. behind_write c.is_element r p (write_here a c.writes at o p.used v) f))
-      ≡ (λ (r : ℕ) (at : Option Data). Touch r (λ v. left_by_write v (write_here a c.writes at o p.used v)) (λ v. behind_write c.is_element r (record p { changes = [] }) (write_here a c.writes at o p.used v) g)) =
-      λ i r at. Touch r (λ v. left_by_write v (write_here a c.writes at o p.used v)) (λ v. write_same c.is_element r p (write_here a c.writes at o p.used v) f g h i) in
+      let q : (λ (r : ℕ) (at : Option Data). Touch r (λ v. left_by_write v (write_here a c.writes at o p.points v)) (λ v. behind_write c.is_element r p (write_here a c.writes at o p.points v) f))
+      ≡ (λ (r : ℕ) (at : Option Data). Touch r (λ v. left_by_write v (write_here a c.writes at o p.points v)) (λ v. behind_write c.is_element r (record p { changes = [] }) (write_here a c.writes at o p.points v) g)) =
+      λ i r at. Touch r (λ v. left_by_write v (write_here a c.writes at o p.points v)) (λ v. write_same c.is_element r p (write_here a c.writes at o p.points v) f g h i) in
       ap (λ F. accessing a c j F) q
 
   -- from each point on
-  pub same_walk : (n : ℕ) (is : List Step) (env : Names) (p : Progress) → steps.steps n a is env p ≡ resume (bare a) K n is (stand_at a env p)
+  pub same_walk : (n : ℕ) (is : List Step) (env : Names) (p : Progress) → steps.steps n a is env p ≡ resume (bare a) K n is (stand_at first a env p)
   same_walk zero is env p = refl
   same_walk (suc n) [] env p = refl
   same_walk (suc n) (Bind w e ∷ is) env p =
-      evaluates e env p (λ o. with_value (bindable o) (λ v. steps.steps n a is ((w, Some v) ∷ env) p)) (λ o. with_value (bindable o) (λ v. resume (bare a) K n is (binding w v (cleared K (stand_at a env p)))))
-      (λ o. with_same (bindable o) (λ v. steps.steps n a is ((w, Some v) ∷ env) p) (λ v. resume (bare a) K n is (binding w v (cleared K (stand_at a env p))))
+      evaluates e env p (λ o. with_value (bindable o) (λ v. steps.steps n a is ((w, Some v) ∷ env) p)) (λ o. with_value (bindable o) (λ v. resume (bare a) K n is (binding w v (cleared K (stand_at first a env p)))))
+      (λ o. with_same (bindable o) (λ v. steps.steps n a is ((w, Some v) ∷ env) p) (λ v. resume (bare a) K n is (binding w v (cleared K (stand_at first a env p))))
       (λ v. same_walk n is ((w, Some v) ∷ env) p ∙ ap (λ t. resume (bare a) K n is (binding w v t)) (sym (clears env p))))
   same_walk (suc n) (Pick w e ∷ is) env p =
       evaluates e env p (λ o. with_value (option_and_then members_of o) (λ ms. with_member a ms p (λ v q. steps.steps n a is ((w, Some v) ∷ env) q)))
-      (λ o. with_value (option_and_then members_of o) (λ ms. with_member (with_words a.words (bare a)) ms (record p { changes = [] }) (λ v q. resume (bare a) K n is (binding w v (going q (cleared K (stand_at a env p)))))))
+      (λ o. with_value (option_and_then members_of o) (λ ms. with_member (with_words a.words (bare a)) ms (record p { changes = [] }) (λ v q. resume (bare a) K n is (binding w v (going q (cleared K (stand_at first a env p)))))))
       (λ o. with_same (option_and_then members_of o) (λ ms. with_member a ms p (λ v q. steps.steps n a is ((w, Some v) ∷ env) q))
-      (λ ms. with_member (with_words a.words (bare a)) ms (record p { changes = [] }) (λ v q. resume (bare a) K n is (binding w v (going q (cleared K (stand_at a env p))))))
-      (λ ms. member_same ms p (λ v q. steps.steps n a is ((w, Some v) ∷ env) q) (λ v q. resume (bare a) K n is (binding w v (going q (cleared K (stand_at a env p)))))
-      (λ v. same_walk n is ((w, Some v) ∷ env) (using_word p) ∙ ap (λ t. resume (bare a) K n is (binding w v (going (using_word (record p { changes = [] })) t))) (sym (clears env p)))))
+      (λ ms. with_member (with_words a.words (bare a)) ms (record p { changes = [] }) (λ v q. resume (bare a) K n is (binding w v (going q (cleared K (stand_at first a env p))))))
+      (λ ms. member_same ms p (λ v q. steps.steps n a is ((w, Some v) ∷ env) q) (λ v q. resume (bare a) K n is (binding w v (going q (cleared K (stand_at first a env p)))))
+      (λ v m i. same_walk n is ((w, Some v) ∷ env) (choosing m i p) ∙ ap (λ t. resume (bare a) K n is (binding w v (going (choosing m i (record p { changes = [] })) t))) (sym (clears env p)))))
   same_walk (suc n) (Unbind ∷ is) env p = same_walk n is (unbound env) p
   same_walk (suc n) (Assign t w ∷ is) env p =
-      with_same (value_under w env) (λ v. steps.putting t v p (steps.steps n a is env)) (λ v. putting K t v (stand_at a env p) (resume (bare a) K n is))
+      with_same (value_under w env) (λ v. steps.putting t v p (steps.steps n a is env)) (λ v. putting K t v (stand_at first a env p) (resume (bare a) K n is))
       (λ v. putting_same t v env p (steps.steps n a is env) (resume (bare a) K n is) (λ q. same_walk n is env q))
   same_walk (suc n) (Set t e ∷ is) env p =
-      evaluates e env p (λ o. with_value (bindable o) (λ v. steps.putting t v p (steps.steps n a is env))) (λ o. with_value (bindable o) (λ v. putting K t v (cleared K (stand_at a env p)) (resume (bare a) K n is)))
-      (λ o. with_same (bindable o) (λ v. steps.putting t v p (steps.steps n a is env)) (λ v. putting K t v (cleared K (stand_at a env p)) (resume (bare a) K n is))
+      evaluates e env p (λ o. with_value (bindable o) (λ v. steps.putting t v p (steps.steps n a is env))) (λ o. with_value (bindable o) (λ v. putting K t v (cleared K (stand_at first a env p)) (resume (bare a) K n is)))
+      (λ o. with_same (bindable o) (λ v. steps.putting t v p (steps.steps n a is env)) (λ v. putting K t v (cleared K (stand_at first a env p)) (resume (bare a) K n is))
       (λ v. putting_same t v env p (steps.steps n a is env) (resume (bare a) K n is) (λ q. same_walk n is env q) ∙ ap (λ s. putting K t v s (resume (bare a) K n is)) (sym (clears env p))))
   same_walk (suc n) (Await e ∷ is) env p =
-      evaluates e env p (λ o. if_true (truth_of o) (steps.steps n a is env p) (Stop (Sticks Blocked))) (λ o. if_true (truth_of o) (resume (bare a) K n is (cleared K (stand_at a env p))) (Stop (Sticks Blocked)))
-      (λ o. ap (λ w. if_true (truth_of o) w (Stop (Sticks Blocked))) (same_walk n is env p ∙ ap (λ t. resume (bare a) K n is t) (sym (clears env p))))
+      evaluates e env p (λ o. if_true (truth_of o) (steps.steps n a is env p) (waits p)) (λ o. if_true (truth_of o) (resume (bare a) K n is (cleared K (stand_at first a env p))) (waits p))
+      (λ o. ap (λ w. if_true (truth_of o) w (waits p)) (same_walk n is env p ∙ ap (λ t. resume (bare a) K n is t) (sym (clears env p))))
   same_walk (suc n) (Assert e ∷ is) env p =
-      evaluates e env p (λ o. if_true (truth_of o) (steps.steps n a is env p) (Stop (Sticks AssertFails))) (λ o. if_true (truth_of o) (resume (bare a) K n is (cleared K (stand_at a env p))) (Stop (Sticks AssertFails)))
-      (λ o. ap (λ w. if_true (truth_of o) w (Stop (Sticks AssertFails))) (same_walk n is env p ∙ ap (λ t. resume (bare a) K n is t) (sym (clears env p))))
+      evaluates e env p (λ o. if_true (truth_of o) (steps.steps n a is env p) fails) (λ o. if_true (truth_of o) (resume (bare a) K n is (cleared K (stand_at first a env p))) fails)
+      (λ o. ap (λ w. if_true (truth_of o) w fails) (same_walk n is env p ∙ ap (λ t. resume (bare a) K n is t) (sym (clears env p))))
   same_walk (suc n) (Print e ∷ is) env p =
-      evaluates e env p (λ o. with_value o (λ v. steps.steps n a is env (printing v p))) (λ o. with_value o (λ v. resume (bare a) K n is (going (printing v (record p { changes = [] })) (cleared K (stand_at a env p)))))
-      (λ o. with_same o (λ v. steps.steps n a is env (printing v p)) (λ v. resume (bare a) K n is (going (printing v (record p { changes = [] })) (cleared K (stand_at a env p))))
+      evaluates e env p (λ o. with_value o (λ v. steps.steps n a is env (printing v p))) (λ o. with_value o (λ v. resume (bare a) K n is (going (printing v (record p { changes = [] })) (cleared K (stand_at first a env p)))))
+      (λ o. with_same o (λ v. steps.steps n a is env (printing v p)) (λ v. resume (bare a) K n is (going (printing v (record p { changes = [] })) (cleared K (stand_at first a env p))))
       (λ v. same_walk n is env (printing v p) ∙ ap (λ t. resume (bare a) K n is (going (printing v (record p { changes = [] })) t)) (sym (clears env p))))
   same_walk (suc n) (Branch e j ∷ is) env p =
       evaluates e env p (λ o. if_true (truth_of o) (steps.steps n a is env p) (steps.steps n a (drop j is) env p))
-      (λ o. if_true (truth_of o) (resume (bare a) K n is (cleared K (stand_at a env p))) (resume (bare a) K n (drop j is) (cleared K (stand_at a env p))))
-      (λ o. if_same (truth_of o) (steps.steps n a is env p) (resume (bare a) K n is (cleared K (stand_at a env p))) (steps.steps n a (drop j is) env p) (resume (bare a) K n (drop j is) (cleared K (stand_at a env p)))
+      (λ o. if_true (truth_of o) (resume (bare a) K n is (cleared K (stand_at first a env p))) (resume (bare a) K n (drop j is) (cleared K (stand_at first a env p))))
+      (λ o. if_same (truth_of o) (steps.steps n a is env p) (resume (bare a) K n is (cleared K (stand_at first a env p))) (steps.steps n a (drop j is) env p) (resume (bare a) K n (drop j is) (cleared K (stand_at first a env p)))
       (same_walk n is env p ∙ ap (λ t. resume (bare a) K n is t) (sym (clears env p)))
       (same_walk n (drop j is) env p ∙ ap (λ t. resume (bare a) K n (drop j is) t) (sym (clears env p))))
-  same_walk (suc n) (Choose js ∷ is) env p = same_walk n (drop (get_or js (pick (a.words p.used) (length js)) 0) is) env (using_word p)
+  same_walk (suc n) (Choose js ∷ is) env p = let m = length js in let i = picked_number a p m in same_walk n (drop (get_or js i 0) is) env (choosing m i p)
   same_walk (suc n) (Jump j ∷ is) env p = same_walk n (drop j is) env p
   same_walk (suc n) (End l ∷ is) env p = ended_same l env p
   same_walk (suc n) (Read w c i ∷ is) env p =
       with_same (index_value i env) (λ j. reading a c j p (λ v q. steps.steps n a is ((w, Some v) ∷ env) q))
-      (λ j. reading (with_words a.words (bare a)) c j (record p { changes = [] }) (λ v q. resume (bare a) K n is (binding w v (going q (stand_at a env p)))))
-      (λ j. reading_same c j p (λ v q. steps.steps n a is ((w, Some v) ∷ env) q) (λ v q. resume (bare a) K n is (binding w v (going q (stand_at a env p))))
-      (λ v d u. same_walk n is ((w, Some v) ∷ env) (record p { too_deep = d; used = u })))
+      (λ j. reading (with_words a.words (bare a)) c j (record p { changes = [] }) (λ v q. resume (bare a) K n is (binding w v (going q (stand_at first a env p)))))
+      (λ j. reading_same c j p (λ v q. steps.steps n a is ((w, Some v) ∷ env) q) (λ v q. resume (bare a) K n is (binding w v (going q (stand_at first a env p))))
+      (λ v d u. same_walk n is ((w, Some v) ∷ env) (record p { too_deep = d; points = u })))
   same_walk (suc n) (Write c i w ∷ is) env p =
       with_same (index_value i env) (λ j. writing a c j (value_under w env) p (steps.steps n a is env))
-      (λ j. writing (with_words a.words (bare a)) c j (value_under w env) (record p { changes = [] }) (λ q. resume (bare a) K n is (going q (stand_at a env p))))
-      (λ j. writing_same c j (value_under w env) p (steps.steps n a is env) (λ q. resume (bare a) K n is (going q (stand_at a env p)))
-      (λ d u. same_walk n is env (record p { too_deep = d; used = u })))
+      (λ j. writing (with_words a.words (bare a)) c j (value_under w env) (record p { changes = [] }) (λ q. resume (bare a) K n is (going q (stand_at first a env p))))
+      (λ j. writing_same c j (value_under w env) p (steps.steps n a is env) (λ q. resume (bare a) K n is (going q (stand_at first a env p)))
+      (λ d u. same_walk n is env (record p { too_deep = d; points = u })))
   same_walk (suc n) (Fail ∷ is) env p = refl
 
 map_twice : {A B C : Type 0} (f : A → B) (g : B → C) (xs : List A) → map g (map f xs) ≡ map (λ x. g (f x)) xs
@@ -284,16 +286,16 @@ map_same f g h [] = refl
 map_same f g h (x ∷ xs) = λ i. h x i ∷ map_same f g h xs i
 
 -- the section of a program, where its variables are the places of the attempt
-pub starts : (a : Attempt) (c : Code) (xs : List Step) → map named c.variables.items ≡ map placed a.places
-    → resume (bare a) (fixed_of c) (suc (length xs)) xs (start_of c a.own a.words) ≡ steps.steps_of a xs
-starts a c xs h =
+pub starts : (a : Attempt) (first : Words) (c : Code) (xs : List Step) → map named c.variables.items ≡ map placed a.places
+    → resume (bare a) (fixed_of c) (suc (length xs)) xs (start_of c a.own first a.words) ≡ steps.steps_of a xs
+starts a first c xs h =
     let owners : reverse (map (λ v. v.own) c.variables.items) ≡ map owner_of (reverse a.places) =
     ap reverse (sym (map_twice named (λ n. n.1) c.variables.items) ∙ ap (map (λ n. n.1)) h ∙ map_twice placed (λ n. n.1) a.places) ∙ sym (map_reverse owner_of a.places) in
     let variables : reverse (map (variable_of a.own) c.variables.items) ≡ entries a [] [] =
     ap reverse (sym (map_twice named (valued a.own) c.variables.items) ∙ ap (map (valued a.own)) h ∙ map_twice placed (valued a.own) a.places
     ∙ map_same (λ q. valued a.own (placed q)) (entry a [] []) (λ q. entry_is a q.0 q.1) a.places)
     ∙ sym (map_reverse (entry a [] []) a.places) in
-    ap (λ os. resume (bare a) (record { identity = self_name; owners = os }) (suc (length xs)) xs (start_of c a.own a.words)) owners
-    ∙ ap (λ vs. resume (bare a) (fixed_at a) (suc (length xs)) xs (record (start_of c a.own a.words) { variables = vs })) variables
-    ∙ ap (λ o. resume (bare a) (fixed_at a) (suc (length xs)) xs (record (stand_at a [] begun) { own = o })) (sym (unchanged a.own))
-    ∙ sym (same_walk a (suc (length xs)) xs [] begun)
+    ap (λ os. resume (bare a) (record { identity = self_name; owners = os }) (suc (length xs)) xs (start_of c a.own first a.words)) owners
+    ∙ ap (λ vs. resume (bare a) (fixed_at a) (suc (length xs)) xs (record (start_of c a.own first a.words) { variables = vs })) variables
+    ∙ ap (λ o. resume (bare a) (fixed_at a) (suc (length xs)) xs (record (stand_at first a [] begun) { own = o })) (sym (unchanged a.own))
+    ∙ sym (same_walk a first (suc (length xs)) xs [] begun)

@@ -11,7 +11,7 @@ use Rattle.pgo_code.specs.declared.program.Program.{Program}
 use Rattle.pgo_places.specs.declared.stand.Fixed as memory
 use Rattle.pgo_places.specs.PlaceView.{fixed_view}
 use Rattle.pgo_places.specs.Stands.{Fixed}
-use Rattle.pgo_places.specs.Trees.{fixed_of}
+use Rattle.pgo_places.specs.FirstStands.{fixed_of}
 
 -- the names of an instance, and its identifier
 abbrev pub seen : memory.Fixed → Fixed × Data

@@ -5,11 +5,11 @@ use Rattle.pgo_base.specs.Lookup.{Name}
 use Rattle.pgo_model.specs.Core.{number_among}
 use Rattle.pgo_model.specs.Operators.{members_of, truth_of}
 use Rattle.pgo_model.specs.Options.{on}
-use Rattle.pgo_model.specs.Outcome.{Blocked, AssertFails}
 use Rattle.pgo_syntax.specs.RecordView.{kind_view}
 use Rattle.pgo_sections.specs.BoundValues.{bindable}
-use Rattle.pgo_workers.specs.Walk.{Walk, Stop, Touch, Goes, Sticks}
-use Rattle.pgo_accesses.specs.Accesses.{Attempt, printing, no_value, with_value, if_true, with_member}
+use Rattle.pgo_workers.specs.Tried.{Leads, LeafTree}
+use Rattle.pgo_workers.specs.Walk.{Stop, Touch, Goes}
+use Rattle.pgo_accesses.specs.Accesses.{Attempt, printing, no_value, fails, waits, stuck, with_value, if_true, with_member}
 use Rattle.pgo_code.specs.Steps.{Unmapped, Evaluation, Target, Resource, Own, Content, Step, Bind, Pick, Unbind, Assign, Set, Await, Assert, Print, Branch, Choose, Jump, End, Fail}
 use Rattle.pgo_code.specs.See.{unmapped_view}
 use Rattle.pgo_code.specs.declared.instruction.Unmapped as memory
@@ -26,12 +26,12 @@ label_of (End l) = l
 label_of i = []
 
 -- what is done from there on, behind the instruction i
-abbrev pub flow_walk : Attempt → Fixed → (n : ℕ) → Step → List Step → Flow → Stand → Walk
+abbrev pub flow_walk : Attempt → Fixed → (n : ℕ) → Step → List Step → Flow → Stand → LeafTree
 flow_walk a k n i is flows.On s = resume a k n is s
 flow_walk a k n i is (flows.Over j) s = resume a k n (drop j is) s
 flow_walk a k n i is flows.Again s = resume a k (suc n) (i ∷ is) s
-flow_walk a k n i is flows.Ended s = Stop (Goes (labelled (label_of i) s.own) s.progress.prints)
-flow_walk a k n i is (flows.Noted kind) s = Stop (Sticks (kind_view kind))
+flow_walk a k n i is flows.Ended s = Stop (Leads (Goes (labelled (label_of i) s.own) s.progress.prints))
+flow_walk a k n i is (flows.Noted kind) s = Stop (stuck (kind_view kind) s.progress.points)
 
 -- what instruction i does from s is what is done from there on
 abbrev pub LeadsTo : Attempt → Fixed → Step → Stand → Flow → Stand → Type 0
@@ -49,12 +49,12 @@ evaluation_in (Branch e j) o = Some e
 evaluation_in i o = None
 
 -- what is done behind an evaluation that gives o, where no global is seen any more
-abbrev pub after : Attempt → Fixed → ℕ → List Step → Step → Stand → Option Data → Walk
+abbrev pub after : Attempt → Fixed → ℕ → List Step → Step → Stand → Option Data → LeafTree
 after a k n is (Bind w e) s o = with_value (bindable o) (λ v. resume a k n is (binding w v s))
 after a k n is (Pick w e) s o = with_value (option_and_then members_of o) (λ ms. with_member (with_words s.words a) ms s.progress (λ v q. resume a k n is (binding w v (going q s))))
 after a k n is (Set t e) s o = with_value (bindable o) (λ v. putting k t v (onward s) (resume a k n is))
-after a k n is (Await e) s o = if_true (truth_of o) (resume a k n is s) (Stop (Sticks Blocked))
-after a k n is (Assert e) s o = if_true (truth_of o) (resume a k n is s) (Stop (Sticks AssertFails))
+after a k n is (Await e) s o = if_true (truth_of o) (resume a k n is s) (waits s.progress)
+after a k n is (Assert e) s o = if_true (truth_of o) (resume a k n is s) fails
 after a k n is (Print e) s o = with_value o (λ v. resume a k n is (going (printing v s.progress) s))
 after a k n is (Branch e j) s o = if_true (truth_of o) (resume a k n is s) (resume a k n (drop j is) s)
 after a k n is i s o = no_value
@@ -82,8 +82,8 @@ abbrev pub access_to : Option ℕ → Access
 access_to None = accesses.Nothing
 access_to (Some r) = accesses.Of r
 
-abbrev pub IsTouchOf : ℕ → Walk → Type 0
-IsTouchOf r w = (leave : Data → Data) × (rest : Data → Walk) × (w ≡ Touch r leave rest)
+abbrev pub IsTouchOf : ℕ → LeafTree → Type 0
+IsTouchOf r w = (leave : Data → Data) × (rest : Data → LeafTree) × (w ≡ Touch r leave rest)
 
 -- where the reads of the instruction are done, it has nothing to evaluate
 abbrev pub IsKnown : Step → Stand → Type 0

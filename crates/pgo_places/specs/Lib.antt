@@ -1,6 +1,8 @@
 pub mod AllNames
+pub mod FirstStands
 pub mod Flows
 pub mod Inside
+pub mod LeafEvents
 pub mod Meant
 pub mod Performs
 pub mod Picked
@@ -9,4 +11,5 @@ pub mod PlaceWalk
 pub mod Ready
 pub mod Stands
 pub mod Trees
+pub mod Turned
 pub mod Turns

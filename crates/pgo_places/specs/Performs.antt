@@ -1,5 +1,5 @@
 -- What an access does, and where it leads.
-use Rattle.std.specs.Prelude.{◌≡◌, ℕ, suc, false, List, ◌∷◌, length, Option, Some, Result, Ok, Err}
+use Rattle.std.specs.Prelude.{◌≡◌, ℕ, suc, false, List, ◌∷◌, Option, Some, Result, Ok, Err}
 use Rattle.pgo_base.specs.Data.{Data}
 use Rattle.pgo_base.specs.View.{data_of}
 use Rattle.pgo_base.specs.declared.value.Value.{Value}
@@ -8,7 +8,8 @@ use Rattle.pgo_sections.specs.Exec.{MacroEnd, Gives, Stops}
 use Rattle.pgo_sections.specs.SectionRun.{ChoiceMade}
 use Rattle.pgo_syntax.specs.declared.records.NoteKind.TheVariants as kinds
 use Rattle.pgo_workers.specs.View.{Shown}
-use Rattle.pgo_workers.specs.Walk.{Walk, Touch}
+use Rattle.pgo_workers.specs.Tried.{LeafTree}
+use Rattle.pgo_workers.specs.Walk.{Touch}
 use Rattle.pgo_accesses.specs.Accesses.{Attempt, Progress, becoming}
 use Rattle.pgo_code.specs.Steps.{Step}
 use Rattle.pgo_resource.specs.declared.resource.OpStop.{OpStop}
@@ -22,7 +23,7 @@ use Rattle.pgo_places.specs.Stands.{Fixed, Stand, going, onward, resume}
 abbrev pub Performs : Attempt → Fixed → Step → Stand → Flow → Stand → (old new : Data) → Type 0
 Performs a k i s f t old new =
     (n : ℕ) (is : List Step)
-    → (r : ℕ) × (leave : Data → Data) × (rest : Data → Walk)
+    → (r : ℕ) × (leave : Data → Data) × (rest : Data → LeafTree)
     × (resume a k (suc n) (i ∷ is) s ≡ Touch r leave rest) × (new ≡ leave old) × (rest old ≡ flow_walk a k n i is f t)
 
 -- a resource has become v
@@ -40,21 +41,21 @@ NotesAs stops.NoValue f = f ≡ flows.Noted kinds.NoValue
 NotesAs stops.AssertFails f = f ≡ flows.Noted kinds.AssertFails
 NotesAs stops.NoMemory f = ⊥
 
--- what a block found in place of a value
-abbrev pub StopsSo : {A : Type 0} → OpStop → MacroEnd A → Type 0
-StopsSo stops.Blocked m = (cs : List ChoiceMade) × (m ≡ Stops outcome.Blocked cs)
-StopsSo stops.NoValue m = (cs : List ChoiceMade) × (m ≡ Stops outcome.NoValue cs)
-StopsSo stops.AssertFails m = (cs : List ChoiceMade) × (m ≡ Stops outcome.AssertFails cs)
-StopsSo stops.NoMemory m = Unit {0}
+-- what a block found in place of a value, behind the choices cs
+abbrev pub StopsSo : {A : Type 0} → OpStop → (cs : List ChoiceMade) → MacroEnd A → Type 0
+StopsSo stops.Blocked cs m = m ≡ Stops outcome.Blocked cs
+StopsSo stops.NoValue cs m = m ≡ Stops outcome.NoValue cs
+StopsSo stops.AssertFails cs m = m ≡ Stops outcome.AssertFails cs
+StopsSo stops.NoMemory cs m = Unit {0}
 
--- the block of a read ended as the answer says, behind so many words as are used now
+-- the block of a read ended as the answer says, behind the choices that are made now
 abbrev pub ReadAnswers : Result Value OpStop → (new : Data) → (now before : Progress) → MacroEnd (Data × Data) → Type 0
-ReadAnswers (Ok v) new now p m = (cs : List ChoiceMade) × (m ≡ Gives (data_of v, new) cs) × (record p { used = length cs } ≡ now)
-ReadAnswers (Err x) new now p m = StopsSo x m
+ReadAnswers (Ok v) new now p m = (m ≡ Gives (data_of v, new) now.points) × (record p { points = now.points } ≡ now)
+ReadAnswers (Err x) new now p m = StopsSo x now.points m
 
 abbrev pub WriteAnswers : Result Unit OpStop → (new : Data) → (now before : Progress) → MacroEnd Data → Type 0
-WriteAnswers (Ok u) new now p m = (cs : List ChoiceMade) × (m ≡ Gives new cs) × (record p { used = length cs } ≡ now)
-WriteAnswers (Err x) new now p m = StopsSo x m
+WriteAnswers (Ok u) new now p m = (m ≡ Gives new now.points) × (record p { points = now.points } ≡ now)
+WriteAnswers (Err x) new now p m = StopsSo x now.points m
 
 -- nothing but want of memory stopped it
 abbrev pub IsNoMemory : OpStop → Type 0

@@ -1,13 +1,12 @@
 -- Stands in memory, as the stands that they are.
-use Rattle.std.specs.Prelude.{ℕ, false, [], map, length, option_map, reverse, None}
+use Rattle.std.specs.Prelude.{false, [], map, option_map, reverse, None}
 use Rattle.pgo_base.specs.BindingsView.{named_view}
 use Rattle.pgo_base.specs.View.{data_of}
 use Rattle.pgo_model.specs.ModuleView.{defined_view}
 use Rattle.pgo_model.specs.Val.{meanings}
 use Rattle.pgo_syntax.specs.declared.bound.Bound.{Bound}
 use Rattle.pgo_meaning.specs.System.{resource_of}
-use Rattle.pgo_resource.specs.Picked.{words_of, choices_of}
-use Rattle.pgo_resource.specs.declared.picks.Picks.{Picks}
+use Rattle.pgo_resource.specs.Picked.{attempt_words, words_of, choices_of}
 use Rattle.pgo_accesses.specs.Accesses.{Attempt, Progress}
 use Rattle.pgo_places.specs.declared.stand.Fixed as memory_fixed
 use Rattle.pgo_places.specs.declared.stand.Stand as memory_stand
@@ -16,12 +15,8 @@ use Rattle.pgo_places.specs.Stands.{Fixed, Stand}
 abbrev pub fixed_view : memory_fixed.Fixed → Fixed
 fixed_view x = record { identity = x.identity; owners = x.owners.items }
 
--- how many words are used: one for each choice that was made
-abbrev pub used_of : Picks → ℕ
-used_of p = length (choices_of p)
-
 abbrev pub progress_view : memory_stand.Stand → Progress
-progress_view s = record { changes = []; too_deep = s.too_deep.items; used = used_of s.picks; prints = map data_of s.prints.items }
+progress_view s = record { changes = []; too_deep = s.too_deep.items; points = choices_of s.picks; prints = map data_of s.prints.items }
 
 abbrev pub stand_view : memory_stand.Stand → Stand
 stand_view s = record {
@@ -30,6 +25,7 @@ stand_view s = record {
   env = reverse (map named_view s.env.items);
   variables = map named_view s.variables.items;
   own = s.own;
+  first = attempt_words s.picks;
   words = words_of s.picks;
   progress = progress_view s;
 }

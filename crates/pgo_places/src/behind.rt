@@ -53,6 +53,7 @@ fn bound(
 ) -> Result<Flow, AllocError>
     ensures walk { IfOk result (λ f. (a : Attempt) (k : Fixed) (n : ℕ) (i : Step) (is : List Step) → with_value (bindable (option_map data_of value)) (λ v. resume a k n is (binding name.now v (stand_view stand.old))) ≡ flow_walk a k n i is f (stand_view stand.new)) }
     ensures goes { IfOk result (λ f. GoesOn f) }
+    ensures first { IfOk result (λ _. (stand_view stand.new).first ≡ (stand_view stand.old).first) }
 {
     match bindable_value(value) {
         Some(v) => {
@@ -88,6 +89,7 @@ fn picked_from(
 ) -> Result<Flow, AllocError>
     ensures walk { IfOk result (λ f. (a : Attempt) (k : Fixed) (n : ℕ) (i : Step) (is : List Step) → with_member (with_words (stand_view stand.old).words a) (map data_of members.now) (stand_view stand.old).progress (λ v q. resume a k n is (binding name.now v (going q (stand_view stand.old)))) ≡ flow_walk a k n i is f (stand_view stand.new)) }
     ensures goes { IfOk result (λ f. GoesOn f) }
+    ensures first { IfOk result (λ _. (stand_view stand.new).first ≡ (stand_view stand.old).first) }
 {
     let found = member(alloc, members, stand)?;
     match found {
@@ -108,6 +110,7 @@ fn picked_member(
 ) -> Result<Flow, AllocError>
     ensures walk { IfOk result (λ f. (a : Attempt) (k : Fixed) (n : ℕ) (i : Step) (is : List Step) → with_value (option_and_then members_of (option_map data_of value)) (λ ms. with_member (with_words (stand_view stand.old).words a) ms (stand_view stand.old).progress (λ v q. resume a k n is (binding name.now v (going q (stand_view stand.old))))) ≡ flow_walk a k n i is f (stand_view stand.new)) }
     ensures goes { IfOk result (λ f. GoesOn f) }
+    ensures first { IfOk result (λ _. (stand_view stand.new).first ≡ (stand_view stand.old).first) }
 {
     match value {
         Some(Value::Set(set)) => picked_from(alloc, name, set.members(), stand),
@@ -125,6 +128,7 @@ fn put(
 ) -> Result<Flow, AllocError>
     ensures walk { IfOk result (λ f. (a : Attempt) (n : ℕ) (e : Evaluation) (is : List Step) → putting (fixed_view frame.entry.fixed.now) (target_view target.now) (data_of value) (onward (stand_view stand.old)) (resume a (fixed_view frame.entry.fixed.now) n is) ≡ flow_walk a (fixed_view frame.entry.fixed.now) n (Set (target_view target.now) e) is f (stand_view stand.new)) }
     ensures again { IfOk result (λ f. IsReadied f None (stand_view stand.new).value) }
+    ensures first { IfOk result (λ _. (stand_view stand.new).first ≡ (stand_view stand.old).first) }
 {
     stand.onward();
     match target {
@@ -149,6 +153,7 @@ fn assigned(
 ) -> Result<Flow, AllocError>
     ensures walk { IfOk result (λ f. (a : Attempt) (n : ℕ) (e : Evaluation) (is : List Step) → with_value (bindable (option_map data_of value)) (λ v. putting (fixed_view frame.entry.fixed.now) (target_view target.now) v (onward (stand_view stand.old)) (resume a (fixed_view frame.entry.fixed.now) n is)) ≡ flow_walk a (fixed_view frame.entry.fixed.now) n (Set (target_view target.now) e) is f (stand_view stand.new)) }
     ensures again { IfOk result (λ f. IsReadied f None (stand_view stand.new).value) }
+    ensures first { IfOk result (λ _. (stand_view stand.new).first ≡ (stand_view stand.old).first) }
 {
     match bindable_value(value) {
         Some(v) => put(alloc, frame, target, v, stand),
@@ -160,6 +165,7 @@ fn assigned(
 fn printed(value: Option<Value>, stand: &mut Stand) -> Result<Flow, AllocError>
     ensures walk { IfOk result (λ f. (a : Attempt) (k : Fixed) (n : ℕ) (i : Step) (is : List Step) → with_value (option_map data_of value) (λ v. resume a k n is (going (printing v (stand_view stand.old).progress) (stand_view stand.old))) ≡ flow_walk a k n i is f (stand_view stand.new)) }
     ensures goes { IfOk result (λ f. GoesOn f) }
+    ensures first { IfOk result (λ _. (stand_view stand.new).first ≡ (stand_view stand.old).first) }
 {
     match value {
         Some(v) => {
@@ -180,6 +186,7 @@ pub fn behind(
 ) -> Result<Flow, AllocError>
     ensures walk { IfOk result (λ f. (n : ℕ) (is : List Step) → after (attempt_view frame.entry.bound.now frame.entry.fixed.now) (fixed_view frame.entry.fixed.now) n is (step_of instruction.now) (stand_view stand.old) (option_map data_of value) ≡ flow_walk (attempt_view frame.entry.bound.now frame.entry.fixed.now) (fixed_view frame.entry.fixed.now) n (step_of instruction.now) is f (stand_view stand.new)) }
     ensures again { IfOk result (λ f. (o : Option Data) (e : Evaluation) → evaluation_in (step_of instruction.now) o ≡ Some e → IsReadied f o (stand_view stand.new).value) }
+    ensures first { IfOk result (λ _. (stand_view stand.new).first ≡ (stand_view stand.old).first) }
 {
     match instruction {
         Instruction::Bind { name, .. } => bound(alloc, name, value, stand),

@@ -2,6 +2,7 @@
 #![tactic(auto)]
 
 pub mod access;
+pub mod attempt;
 pub mod behind;
 pub mod evaluated;
 pub mod flow;

@@ -48,7 +48,8 @@ fn look<R: Resource>(
 ) -> Result<Flow, AllocError>
     requires there { IsSome unmapped.now.resource }
     requires below { stand.old.done < 18446744073709551615 }
-    ensures { IfOk result (λ f. (a : Attempt) (i : Step) (xs : List UnmappedStep) → left_of (evaluation_in i (stand_view stand.old).value) (stand_view stand.old) ≡ unmapped_view unmapped.now ∷ xs → Performs a (fixed_view frame.entry.fixed.now) i (stand_view stand.old) f (stand_view stand.new) (R.shows content.now).current (R.shows content.now).current) }
+    ensures performs { IfOk result (λ f. (a : Attempt) (i : Step) (xs : List UnmappedStep) → left_of (evaluation_in i (stand_view stand.old).value) (stand_view stand.old) ≡ unmapped_view unmapped.now ∷ xs → Performs a (fixed_view frame.entry.fixed.now) i (stand_view stand.old) f (stand_view stand.new) (R.shows content.now).current (R.shows content.now).current) }
+    ensures first { IfOk result (λ _. (stand_view stand.new).first ≡ (stand_view stand.old).first) }
 {
     let value = content.value(alloc)?;
     stand.look(alloc, frame.fixed, &unmapped.name, &value)?;
@@ -129,6 +130,7 @@ fn settle<R: Resource>(
 ) -> Result<bool, AllocError>
     ensures stands { IfOk result (λ b. b ≡ can_stand is_element (R.shows content.now).current) }
     ensures stand { IfOk result (λ b. IsTrue b → stand_view stand.new ≡ onward (going (becoming is_element resource (R.shows content.now).current (stand_view stand.old).progress) (stand_view stand.old))) }
+    ensures first { IfOk result (λ _. (stand_view stand.new).first ≡ (stand_view stand.old).first) }
 {
     let (state, set) = limits(is_element);
     if content.is_deeper(set) {
@@ -166,7 +168,8 @@ fn gave<R: Resource>(
     stand: &mut Stand,
     content: &R,
 ) -> Result<Flow, AllocError>
-    ensures { IfOk result (λ f. (a : Attempt) (k : Fixed) (n : ℕ) (i : Step) (is : List Step) (p : Progress) (cs : List ChoiceMade) → record p { used = length cs } ≡ (stand_view stand.old).progress → behind_block is_element resource (R.shows content.now).current cs p (λ q. resume a k n is (going q (onward (stand_view stand.old)))) ≡ flow_walk a k n i is f (stand_view stand.new)) }
+    ensures walk { IfOk result (λ f. (a : Attempt) (k : Fixed) (n : ℕ) (i : Step) (is : List Step) (p : Progress) (cs : List ChoiceMade) → record p { points = cs } ≡ (stand_view stand.old).progress → behind_block is_element resource (R.shows content.now).current cs p (λ q. resume a k n is (going q (onward (stand_view stand.old)))) ≡ flow_walk a k n i is f (stand_view stand.new)) }
+    ensures first { IfOk result (λ _. (stand_view stand.new).first ≡ (stand_view stand.old).first) }
 {
     if settle(alloc, is_element, resource, stand, content)? {
         Ok(Flow::On)
@@ -184,7 +187,8 @@ fn read_end<R: Resource>(
     stand: &mut Stand,
     content: &R,
 ) -> Result<Flow, AllocError>
-    ensures { IfOk result (λ f. IsTold answer × ((a : Attempt) (k : Fixed) (n : ℕ) (i : Step) (is : List Step) (p : Progress) (m : MacroEnd (Data × Data)) → ReadAnswers answer (R.shows content.now).current (stand_view stand.old).progress p m → behind_read resource.0 resource.1 p m (λ x q. resume a k n is (binding name.now x (going q (onward (stand_view stand.old))))) ≡ flow_walk a k n i is f (stand_view stand.new))) }
+    ensures walk { IfOk result (λ f. IsTold answer × ((a : Attempt) (k : Fixed) (n : ℕ) (i : Step) (is : List Step) (p : Progress) (m : MacroEnd (Data × Data)) → ReadAnswers answer (R.shows content.now).current (stand_view stand.old).progress p m → behind_read resource.0 resource.1 p m (λ x q. resume a k n is (binding name.now x (going q (onward (stand_view stand.old))))) ≡ flow_walk a k n i is f (stand_view stand.new))) }
+    ensures first { IfOk result (λ _. (stand_view stand.new).first ≡ (stand_view stand.old).first) }
 {
     match answer {
         Ok(v) => {
@@ -207,7 +211,8 @@ fn write_end<R: Resource>(
     stand: &mut Stand,
     content: &R,
 ) -> Result<Flow, AllocError>
-    ensures { IfOk result (λ f. IsTold answer × ((a : Attempt) (k : Fixed) (n : ℕ) (i : Step) (is : List Step) (p : Progress) (m : MacroEnd Data) → WriteAnswers answer (R.shows content.now).current (stand_view stand.old).progress p m → behind_write resource.0 resource.1 p m (λ q. resume a k n is (going q (onward (stand_view stand.old)))) ≡ flow_walk a k n i is f (stand_view stand.new))) }
+    ensures walk { IfOk result (λ f. IsTold answer × ((a : Attempt) (k : Fixed) (n : ℕ) (i : Step) (is : List Step) (p : Progress) (m : MacroEnd Data) → WriteAnswers answer (R.shows content.now).current (stand_view stand.old).progress p m → behind_write resource.0 resource.1 p m (λ q. resume a k n is (going q (onward (stand_view stand.old)))) ≡ flow_walk a k n i is f (stand_view stand.new))) }
+    ensures first { IfOk result (λ _. (stand_view stand.new).first ≡ (stand_view stand.old).first) }
 {
     match answer {
         Ok(()) => gave(alloc, resource.0, resource.1, stand, content),
@@ -249,6 +254,7 @@ fn mapped_read<R: Resource>(
     requires { option_and_then (λ j. resource_at (attempt_view frame.bound.now frame.fixed.now) (content_view read.1.now) j) (index_value read.2.now (stand_view stand.old).env) ≡ Some resource }
     ensures performs { IfOk result (λ f. Performs (attempt_view frame.entry.bound.now frame.entry.fixed.now) (fixed_view frame.entry.fixed.now) (ReadStep read.entry.0.now (content_view read.entry.1.now) read.entry.2.now) (stand_view stand.old) f (stand_view stand.new) (R.shows content.old).current (R.shows content.new).current) }
     ensures content { Keeps (R.shows content.old) (R.shows content.new) }
+    ensures first { IfOk result (λ _. (stand_view stand.new).first ≡ (stand_view stand.old).first) }
 {
     let (name, c, index) = read;
     let j = index_there(index, &stand.env);
@@ -279,6 +285,7 @@ fn mapped_write<R: Resource>(
     requires { option_and_then (λ j. resource_at (attempt_view frame.bound.now frame.fixed.now) (content_view write.0.now) j) (index_value write.1.now (stand_view stand.old).env) ≡ Some resource }
     ensures performs { IfOk result (λ f. Performs (attempt_view frame.entry.bound.now frame.entry.fixed.now) (fixed_view frame.entry.fixed.now) (WriteStep (content_view write.entry.0.now) write.entry.1.now write.entry.2.now) (stand_view stand.old) f (stand_view stand.new) (R.shows content.old).current (R.shows content.new).current) }
     ensures content { Keeps (R.shows content.old) (R.shows content.new) }
+    ensures first { IfOk result (λ _. (stand_view stand.new).first ≡ (stand_view stand.old).first) }
 {
     let (c, index, name) = write;
     let j = index_there(index, &stand.env);
@@ -313,6 +320,7 @@ fn put_named<R: Resource>(
     requires { IsSome (value_under name.now (stand_view stand.old).env) }
     ensures performs { IfOk result (λ f. (a : Attempt) → Performs a (fixed_view frame.entry.fixed.now) (AssignStep (TargetView (Some resource)) name.now) (stand_view stand.old) f (stand_view stand.new) (R.shows content.old).current (R.shows content.new).current) }
     ensures content { Keeps (R.shows content.old) (R.shows content.new) }
+    ensures first { IfOk result (λ _. (stand_view stand.new).first ≡ (stand_view stand.old).first) }
 {
     let value = value_there(&stand.env, name).copy(alloc)?;
     put(alloc, frame, resource, value, stand, content)
@@ -329,6 +337,7 @@ fn put_value<R: Resource>(
     requires { IsSome (stand_view stand.old).value }
     ensures performs { IfOk result (λ f. (a : Attempt) (e : Evaluation) → Performs a (fixed_view frame.entry.fixed.now) (SetStep (TargetView (Some resource)) e) (stand_view stand.old) f (stand_view stand.new) (R.shows content.old).current (R.shows content.new).current) }
     ensures content { Keeps (R.shows content.old) (R.shows content.new) }
+    ensures first { IfOk result (λ _. (stand_view stand.new).first ≡ (stand_view stand.old).first) }
 {
     let Some(value) = replace(&mut stand.value, None) else {
         unreachable!()
@@ -349,6 +358,7 @@ fn performed<R: Resource>(
     requires access { IsAccess (attempt_view frame.bound.now frame.fixed.now) (fixed_view frame.fixed.now) resource (step_of instruction.now) (stand_view stand.old) }
     ensures performs { IfOk result (λ f. Performs (attempt_view frame.entry.bound.now frame.entry.fixed.now) (fixed_view frame.entry.fixed.now) (step_of instruction.now) (stand_view stand.old) f (stand_view stand.new) (R.shows content.old).current (R.shows content.new).current) }
     ensures content { Keeps (R.shows content.old) (R.shows content.new) }
+    ensures first { IfOk result (λ _. (stand_view stand.new).first ≡ (stand_view stand.old).first) }
 {
     match instruction {
         Instruction::Assign { name, .. } => {
@@ -382,6 +392,7 @@ pub fn perform<R: Resource>(
     requires { IsAccess (attempt_view frame.bound.now frame.fixed.now) (fixed_view frame.fixed.now) resource (step_of instruction.now) (stand_view stand.old) }
     ensures performs { IfOk result (λ f. Performs (attempt_view frame.entry.bound.now frame.entry.fixed.now) (fixed_view frame.entry.fixed.now) (step_of instruction.now) (stand_view stand.old) f (stand_view stand.new) (R.shows content.old).current (R.shows content.new).current) }
     ensures content { Keeps (R.shows content.old) (R.shows content.new) }
+    ensures first { IfOk result (λ _. (stand_view stand.new).first ≡ (stand_view stand.old).first) }
 {
     match next_read(instruction, stand) {
         Some(u) => look(alloc, frame, u, stand, content),

@@ -1,15 +1,14 @@
 // A place in a section: what is left there, and the next event.
 ghost use Rattle.std.specs.Prelude.{◌≡◌, ◌<◌, ◌-◌, ℕ, suc, List, ◌∷◌, [], drop, length, map, option_map, Option, Some, None, OnOk, IfOk, IfSome, MatchOption};
 ghost use Rattle.pgo_model.specs.Machine.{nth};
-ghost use Rattle.pgo_workers.specs.Walk.{Walk};
 ghost use Rattle.pgo_accesses.specs.Accesses.{Attempt, no_value};
 ghost use Rattle.pgo_code.specs.Steps.{Step};
 ghost use Rattle.pgo_code.specs.declared.program.Program.{Program as ProgramView};
 ghost use Rattle.pgo_code.specs.See.{step_of};
-ghost use Rattle.pgo_resource.specs.Nexts.{Tells};
 ghost use Rattle.pgo_places.specs.Flows.{flow_walk, label_of, IsTouchOf};
+ghost use Rattle.pgo_places.specs.LeafEvents.{points_at, LeafTells, Kept};
 ghost use Rattle.pgo_places.specs.Ready.{IsReady};
-ghost use Rattle.pgo_places.specs.PlaceWalk.{core_walk, instructions_in, stop_walk, walk_in, steps_at};
+ghost use Rattle.pgo_places.specs.PlaceWalk.{core_walk, instructions_in, stop_walk, leaf_in, steps_at};
 ghost use Rattle.pgo_places.specs.PlaceView.{stand_view, fixed_view, attempt_view};
 ghost use Rattle.pgo_places.specs.declared.place.Place.{Place as PlaceInMemory};
 ghost use Rattle.pgo_resource.specs.declared.sections.NextEvent.TheVariants.{Access as AccessEvent};
@@ -126,7 +125,7 @@ pub fn moved(
     ensures stand { place.new.stand ≡ place.old.stand }
     ensures moved { IfOk result (λ o. IsMoved flow o place.old.left place.new.left) }
     ensures walk { IfOk result (λ _. (a : Attempt) (k : FixedView) (xs : List Step) (n : ℕ) (is : List Step) → length xs ≡ count → place.old.left ≡ suc n → drop place.old.position xs ≡ step_of instruction.now ∷ is → core_walk a k xs place.new ≡ flow_walk a k n (step_of instruction.now) is flow (stand_view place.old.stand)) }
-    ensures tells { IfOk result (λ o. IfSome o (λ e. (a : Attempt) (k : FixedView) (xs : List Step) (m : ℕ) → Tells (limited m (core_walk a k xs place.new)) e)) }
+    ensures tells { IfOk result (λ o. IfSome o (λ e. (a : Attempt) (k : FixedView) (xs : List Step) (m : ℕ) → LeafTells (points_at place.new) (limited m (core_walk a k xs place.new)) e)) }
     ensures ready { IfOk result (λ o. IfSome o (λ e. (p : ProgramView) → IsReady p place.new e)) }
 {
     match flow {
@@ -148,7 +147,7 @@ pub fn moved(
 /// Where the access is of one of so many resources, it is the next event; else there is no value.
 fn reached(place: &mut Place, resource: u32, resources: usize) -> NextEvent
     ensures frame { place.new ≡ record place.old { stopped = place.new.stopped } }
-    ensures tells { (a : Attempt) (k : FixedView) (xs : List Step) → IsTouchOf resource (core_walk a k xs place.old) → Tells (limited resources (core_walk a k xs place.new)) result }
+    ensures tells { (a : Attempt) (k : FixedView) (xs : List Step) → IsTouchOf resource (core_walk a k xs place.old) → LeafTells (points_at place.new) (limited resources (core_walk a k xs place.new)) result }
     ensures same { (a : Attempt) (k : FixedView) (xs : List Step) → IsTouchOf resource (core_walk a k xs place.old) → limited resources (core_walk a k xs place.new) ≡ limited resources (core_walk a k xs place.old) }
     ensures ready { (p : ProgramView) → IsReady p place.old (AccessEvent resource) → IsReady p place.new result }
 {
@@ -163,7 +162,7 @@ fn reached(place: &mut Place, resource: u32, resources: usize) -> NextEvent
 fn fail(place: &mut Place) -> NextEvent
     ensures frame { place.new ≡ record place.old { stopped = place.new.stopped } }
     ensures same { (a : Attempt) (k : FixedView) (xs : List Step) → core_walk a k xs place.new ≡ no_value }
-    ensures tells { (a : Attempt) (k : FixedView) (xs : List Step) (m : ℕ) → Tells (limited m (core_walk a k xs place.new)) result }
+    ensures tells { (a : Attempt) (k : FixedView) (xs : List Step) (m : ℕ) → LeafTells (points_at place.new) (limited m (core_walk a k xs place.new)) result }
     ensures ready { (p : ProgramView) → IsReady p place.new result }
 {
     place.stopped = Some(Finish::Noted(NoteKind::NoValue));
@@ -172,7 +171,7 @@ fn fail(place: &mut Place) -> NextEvent
 
 /// The event of a place that has come to its end.
 fn stopped_event(stop: &Finish) -> NextEvent
-    ensures tells { (s : StandView) (m : ℕ) → Tells (limited m (stop_walk stop.now s)) result }
+    ensures tells { (s : StandView) (m : ℕ) → LeafTells s.progress.points (limited m (stop_walk stop.now s)) result }
     ensures ready { (p : ProgramView) (q : PlaceInMemory) → q.stopped ≡ Some stop.now → IsReady p q result }
 {
     match stop {
@@ -194,10 +193,11 @@ fn turn_at(
     requires runs { place.old.stopped ≡ None }
     requires count { length (steps_at program.now place.old) ≡ count }
     requires here { drop place.old.position (steps_at program.now place.old) ≡ step_of instruction.now ∷ drop (suc place.old.position) (steps_at program.now place.old) }
-    ensures same { OnOk result (walk_in program.now place.new ≡ walk_in program.now place.old) }
-    ensures tells { IfOk result (λ o. IfSome o (λ e. Tells (walk_in program.now place.new) e)) }
+    ensures same { OnOk result (leaf_in program.now place.new ≡ leaf_in program.now place.old) }
+    ensures tells { IfOk result (λ o. IfSome o (λ e. LeafTells (points_at place.new) (leaf_in program.now place.new) e)) }
     ensures ready { IfOk result (λ o. IfSome o (λ e. IsReady program.now place.new e)) }
     ensures fewer { IfOk result (λ o. IsFewer o (turns_at place.old) (turns_at place.new)) }
+    ensures kept { OnOk result (Kept place.old place.new) }
 {
     let frame = Frame {
         bound: program.bound,
@@ -221,10 +221,11 @@ pub fn turn(
     program: &Program<'_>,
     place: &mut Place,
 ) -> Result<Option<NextEvent>, AllocError>
-    ensures same { OnOk result (walk_in program.now place.new ≡ walk_in program.now place.old) }
-    ensures tells { IfOk result (λ o. IfSome o (λ e. Tells (walk_in program.now place.new) e)) }
+    ensures same { OnOk result (leaf_in program.now place.new ≡ leaf_in program.now place.old) }
+    ensures tells { IfOk result (λ o. IfSome o (λ e. LeafTells (points_at place.new) (leaf_in program.now place.new) e)) }
     ensures ready { IfOk result (λ o. IfSome o (λ e. IsReady program.now place.new e)) }
     ensures fewer { IfOk result (λ o. IsFewer o (turns_at place.old) (turns_at place.new)) }
+    ensures kept { OnOk result (Kept place.old place.new) }
 {
     if let Some(stop) = &place.stopped {
         return Ok(Some(stopped_event(stop)));
@@ -247,9 +248,10 @@ pub fn next_event(
     program: &Program<'_>,
     place: &mut Place,
 ) -> Result<NextEvent, AllocError>
-    ensures same { OnOk result (walk_in program.now place.new ≡ walk_in program.now place.old) }
-    ensures tells { IfOk result (λ e. Tells (walk_in program.now place.new) e) }
+    ensures same { OnOk result (leaf_in program.now place.new ≡ leaf_in program.now place.old) }
+    ensures tells { IfOk result (λ e. LeafTells (points_at place.new) (leaf_in program.now place.new) e) }
     ensures ready { IfOk result (λ e. IsReady program.now place.new e) }
+    ensures kept { OnOk result (Kept place.old place.new) }
 {
     loop {
         if let Some(event) = turn(alloc, program, place)? {

@@ -1,5 +1,5 @@
 // The sections of a program.
-ghost use Rattle.std.specs.Prelude.{◌≡◌, ◌<◌, ◌∷◌, suc, drop, length, map, option_map, Some, None, OnOk, IfOk};
+ghost use Rattle.std.specs.Prelude.{◌≡◌, ◌<◌, ◌∷◌, suc, drop, length, false, map, option_map, Some, None, OnOk, IfOk};
 ghost use Rattle.std.specs.Arc.{arc_value};
 ghost use Rattle.pgo_base.specs.View.{data_of};
 ghost use Rattle.pgo_model.specs.LogView.{component_view};
@@ -7,21 +7,25 @@ ghost use Rattle.pgo_model.specs.Machine.{nth};
 ghost use Rattle.pgo_bound.specs.Sound.{index_in};
 ghost use Rattle.pgo_code.specs.See.{step_of};
 ghost use Rattle.pgo_meaning.specs.System.{resource_of, system_of};
-ghost use Rattle.pgo_resource.specs.Nexts.{IsTouch, LeadsOn, StopsWith};
+ghost use Rattle.pgo_resource.specs.Nexts.{IsTouch, LeadsOn, StopsWith, Tells};
 ghost use Rattle.pgo_resource.specs.declared.sections.NextEvent.TheVariants.{Access as AccessEvent};
-ghost use Rattle.pgo_workers.specs.Walk.{Stop, Goes};
+ghost use Rattle.pgo_workers.specs.Tried.{Leads};
+ghost use Rattle.pgo_workers.specs.Walk.{Stop, Goes, goes_back};
 ghost use Rattle.pgo_workers.specs.Worlds.{component_of, layout_of};
 ghost use Rattle.pgo_places.specs.AllNames.{AreNames, are_names_prop};
 ghost use Rattle.pgo_places.specs.PlaceView.{stand_view, fixed_view, attempt_view};
-ghost use Rattle.pgo_places.specs.PlaceWalk.{walk_in, steps_at};
+ghost use Rattle.pgo_places.specs.LeafEvents.{IsLeafTouch, IsLeafEnd, LeafLeadsOn, Kept};
+ghost use Rattle.pgo_places.specs.PlaceWalk.{leaf_in, walk_in, steps_at};
 ghost use Rattle.pgo_places.specs.Ready.{IsAccess, IsAccessEvent};
 ghost use Rattle.pgo_places.specs.Stands.{labelled};
+ghost use Rattle.pgo_places.specs.Trees.{tree_in};
 
+use crate::attempt::{Attempt, settle};
 use crate::evaluated::Frame;
 use crate::perform::perform;
 use crate::place::{Finish, Place, instructions, moved, next_event};
 use crate::stand::{Fixed, Stand};
-use crate::start::{all_names, first_place};
+use crate::start::{all_names, first_attempt};
 use crate::variables::put_own;
 use pgo_base::log::{Component, Owner, Values};
 use pgo_base::scope::State;
@@ -36,9 +40,26 @@ use std::alloc::{AllocError, Global};
 use std::sync::Arc;
 
 /// What a section that has ended leaves of the own components, and what it printed.
-fn end_of(alloc: Global, program: &Program<'_>, place: Place) -> Result<(State, Values), AllocError>
-    requires { StopsWith (walk_in program.now place) }
-    ensures { IfOk result (λ e. walk_in program.now place ≡ Stop (Goes e.0 e.1)) }
+fn end_of(
+    alloc: Global,
+    program: &Program<'_>,
+    attempt: Attempt,
+) -> Result<(State, Values), AllocError>
+    requires { StopsWith (walk_in program.now attempt) }
+    ensures { IfOk result (λ e. walk_in program.now attempt ≡ Stop (Goes e.0 e.1)) }
+{
+    let Attempt { place, .. } = attempt;
+    leaf_end(alloc, program, place)
+}
+
+/// The same of a leaf.
+fn leaf_end(
+    alloc: Global,
+    program: &Program<'_>,
+    place: Place,
+) -> Result<(State, Values), AllocError>
+    requires { IsLeafEnd (leaf_in program.now place) }
+    ensures { IfOk result (λ e. leaf_in program.now place ≡ Stop (Leads (Goes e.0 e.1))) }
 {
     let mut place = place;
     next_event(alloc, program, &mut place)?;
@@ -105,8 +126,9 @@ fn operated<R: Resource>(
     place: &mut Place,
     content: &mut R,
 ) -> Result<(), AllocError>
-    requires { IsTouch (walk_in program.now place.old) }
-    ensures on { OnOk result (LeadsOn (walk_in program.now place.old) (walk_in program.now place.new) (R.shows content.old).current (R.shows content.new).current) }
+    requires { IsLeafTouch (leaf_in program.now place.old) }
+    ensures on { OnOk result (LeafLeadsOn (leaf_in program.now place.old) (leaf_in program.now place.new) (R.shows content.old).current (R.shows content.new).current) }
+    ensures kept { OnOk result (Kept place.old place.new) }
     ensures content { R.shows content.new ≡ record (R.shows content.old) { current = (R.shows content.new).current } }
 {
     let event = next_event(alloc, program, place)?;
@@ -141,7 +163,8 @@ fn operate_at<R: Resource>(
     requires count { length (steps_at program.now place.old) ≡ count }
     requires here { drop place.old.position (steps_at program.now place.old) ≡ step_of instruction.now ∷ drop (suc place.old.position) (steps_at program.now place.old) }
     requires access { IsAccess (attempt_view program.now.bound.now (arc_value place.old.fixed)) (fixed_view (arc_value place.old.fixed)) resource (step_of instruction.now) (stand_view place.old.stand) }
-    ensures on { OnOk result (LeadsOn (walk_in program.now place.old) (walk_in program.now place.new) (R.shows content.old).current (R.shows content.new).current) }
+    ensures on { OnOk result (LeafLeadsOn (leaf_in program.now place.old) (leaf_in program.now place.new) (R.shows content.old).current (R.shows content.new).current) }
+    ensures kept { OnOk result (Kept place.old place.new) }
     ensures content { R.shows content.new ≡ record (R.shows content.old) { current = (R.shows content.new).current } }
 {
     let frame = Frame {
@@ -198,16 +221,61 @@ impl<'a> Runnable<'a> {
     }
 }
 
-/// The place, where moving it is cheap.
-fn boxed(alloc: Global, place: Place) -> Result<Box<Place>, AllocError>
-    ensures { IfOk result (λ b. b.value ≡ place) }
+/// An attempt, at its first event.
+fn begun(
+    alloc: Global,
+    program: &Program<'_>,
+    names: &[Arc<Fixed>],
+    seed: u64,
+    instance: u32,
+    number: u32,
+    own: &State,
+) -> Result<Attempt, AllocError>
+    requires { AreNames program.now (map arc_value names.now) }
+    ensures { IfOk result (λ q. walk_in program.now q ≡ tree_in program.now seed instance number own.now) }
 {
-    Ok(Box::new(alloc, place)?)
+    let mut attempt = first_attempt(alloc, program, names, seed, instance, number, own)?;
+    settle(alloc, program, &mut attempt)?;
+    Ok(attempt)
+}
+
+/// The next event of an attempt, which is that of its leaf: where that is blocked, no other leaf is left.
+fn event_of(
+    alloc: Global,
+    program: &Program<'_>,
+    attempt: &mut Attempt,
+) -> Result<NextEvent, AllocError>
+    requires { goes_back (walk_in program.now attempt.old) ≡ false }
+    ensures same { OnOk result (walk_in program.now attempt.new ≡ walk_in program.now attempt.old) }
+    ensures tells { IfOk result (λ n. Tells (walk_in program.now attempt.new) n) }
+{
+    next_event(alloc, program, &mut attempt.place)
+}
+
+/// Does the access that comes next on a content.
+fn operated_on<R: Resource>(
+    alloc: Global,
+    program: &Program<'_>,
+    attempt: &mut Attempt,
+    content: &mut R,
+) -> Result<(), AllocError>
+    requires { IsTouch (walk_in program.now attempt.old) }
+    ensures on { OnOk result (LeadsOn (walk_in program.now attempt.old) (walk_in program.now attempt.new) (R.shows content.old).current (R.shows content.new).current) }
+    ensures content { R.shows content.new ≡ record (R.shows content.old) { current = (R.shows content.new).current } }
+{
+    operated(alloc, program, &mut attempt.place, content)
+}
+
+/// The attempt, where moving it is cheap.
+fn boxed(alloc: Global, attempt: Attempt) -> Result<Box<Attempt>, AllocError>
+    ensures { IfOk result (λ b. b.value ≡ attempt) }
+{
+    Ok(Box::new(alloc, attempt)?)
 }
 
 impl<'a> Sections for Runnable<'a> {
-    /// A place is several hundred bytes, and a worker moves it in each turn.
-    type Place = Box<Place>;
+    /// An attempt is several hundred bytes, and a worker moves it in each turn.
+    type Place = Box<Attempt>;
 
     ghost use Rattle.pgo_meaning.specs.System.{system_of};
     ghost use Rattle.pgo_places.specs.Inside.{tree_inside};
@@ -227,8 +295,8 @@ impl<'a> Sections for Runnable<'a> {
         instance: u32,
         attempt: u32,
         own: &State,
-    ) -> Result<Box<Place>, AllocError> {
-        let place = first_place(
+    ) -> Result<Box<Attempt>, AllocError> {
+        let begun = begun(
             alloc,
             &self.program,
             &self.names,
@@ -237,28 +305,27 @@ impl<'a> Sections for Runnable<'a> {
             attempt,
             own,
         )?;
-        boxed(alloc, place)
+        boxed(alloc, begun)
     }
 
-    fn next(&self, alloc: Global, place: &mut Box<Place>) -> Result<NextEvent, AllocError> {
-        next_event(alloc, &self.program, place)
+    fn next(&self, alloc: Global, place: &mut Box<Attempt>) -> Result<NextEvent, AllocError> {
+        event_of(alloc, &self.program, place)
     }
 
     fn operate<R: Resource>(
         &self,
         alloc: Global,
-        place: &mut Box<Place>,
+        place: &mut Box<Attempt>,
         content: &mut R,
     ) -> Result<(), AllocError> {
-        operated(alloc, &self.program, place, content)
+        operated_on(alloc, &self.program, place, content)
     }
 
-    /// No choices are tried but the first.
-    fn settle(&self, alloc: Global, place: &mut Box<Place>) -> Result<bool, AllocError> {
-        Ok(false)
+    fn settle(&self, alloc: Global, place: &mut Box<Attempt>) -> Result<bool, AllocError> {
+        settle(alloc, &self.program, place)
     }
 
-    fn end(&self, alloc: Global, place: Box<Place>) -> Result<(State, Values), AllocError> {
+    fn end(&self, alloc: Global, place: Box<Attempt>) -> Result<(State, Values), AllocError> {
         end_of(alloc, &self.program, Box::into_inner(place))
     }
 

@@ -62,6 +62,7 @@ fn ended(stand: &Stand) -> Flow
 fn chosen(arms: &[usize], stand: &mut Stand) -> Result<Flow, AllocError>
     ensures walk { IfOk result (λ f. (a : Attempt) (k : Fixed) → LeadsTo a k (Choose arms.now) (stand_view stand.old) f (stand_view stand.new)) }
     ensures goes { IfOk result (λ f. GoesOn f) }
+    ensures first { IfOk result (λ _. (stand_view stand.new).first ≡ (stand_view stand.old).first) }
 {
     stand.onward();
     let count = arms.len();
@@ -97,6 +98,7 @@ fn assign(
 ) -> Result<Flow, AllocError>
     ensures walk { IfOk result (λ f. (a : Attempt) → LeadsTo a (fixed_view frame.entry.fixed.now) (Assign (OwnTarget own.now) name.now) (stand_view stand.old) f (stand_view stand.new)) }
     ensures goes { IfOk result (λ f. GoesOn f) }
+    ensures first { IfOk result (λ _. (stand_view stand.new).first ≡ (stand_view stand.old).first) }
 {
     let value = match under(&stand.env, name) {
         Some(v) => v.copy(alloc)?,
@@ -117,6 +119,7 @@ fn assign_ready(
     requires { IsSome (stand_view stand.old).value }
     ensures walk { IfOk result (λ f. (a : Attempt) (e : Evaluation) → LeadsTo a (fixed_view frame.entry.fixed.now) (Set (OwnTarget own.now) e) (stand_view stand.old) f (stand_view stand.new)) }
     ensures goes { IfOk result (λ f. GoesOn f) }
+    ensures first { IfOk result (λ _. (stand_view stand.new).first ≡ (stand_view stand.old).first) }
 {
     let Some(value) = replace(&mut stand.value, None) else {
         unreachable!()
@@ -137,6 +140,7 @@ fn plain(
     requires plain { is_plain (step_of instruction.now) ≡ true }
     ensures walk { IfOk result (λ f. LeadsTo (attempt_view frame.entry.bound.now frame.entry.fixed.now) (fixed_view frame.entry.fixed.now) (step_of instruction.now) (stand_view stand.old) f (stand_view stand.new)) }
     ensures goes { IfOk result (λ f. GoesOn f) }
+    ensures first { IfOk result (λ _. (stand_view stand.new).first ≡ (stand_view stand.old).first) }
 {
     match instruction {
         Instruction::Unbind => {
@@ -168,6 +172,7 @@ pub fn run(
     requires plain { IsPlain (step_of instruction.now) (stand_view stand.old) }
     ensures walk { IfOk result (λ f. LeadsTo (attempt_view frame.entry.bound.now frame.entry.fixed.now) (fixed_view frame.entry.fixed.now) (step_of instruction.now) (stand_view stand.old) f (stand_view stand.new)) }
     ensures again { IfOk result (λ f. IsReadied f (stand_view stand.old).value (stand_view stand.new).value) }
+    ensures first { IfOk result (λ _. (stand_view stand.new).first ≡ (stand_view stand.old).first) }
 {
     match evaluation(instruction, &stand.value) {
         Some(e) => {

@@ -2,9 +2,8 @@
 ghost use Rattle.std.specs.Prelude.{◌≡◌, ◌<◌, map, option_map, reverse, IfOk};
 ghost use Rattle.pgo_base.specs.BindingsView.{named_view};
 ghost use Rattle.pgo_base.specs.View.{data_of};
-ghost use Rattle.pgo_model.specs.Choice.{pick};
 ghost use Rattle.pgo_sections.specs.BoundValues.{value_under};
-ghost use Rattle.pgo_accesses.specs.Accesses.{printing, using_word, marked};
+ghost use Rattle.pgo_accesses.specs.Accesses.{printing, choosing, marked};
 ghost use Rattle.pgo_code.specs.Steps.{unbound};
 
 use crate::variables::{Meant, put_own, update};
@@ -44,7 +43,7 @@ pub struct Stand {
 }
 
 impl Stand {
-    ghost use Rattle.pgo_places.specs.Stands.{onward, cleared, looked, binding, assigned, going};
+    ghost use Rattle.pgo_places.specs.Stands.{picked_at, onward, cleared, looked, binding, assigned, going};
     ghost use Rattle.pgo_places.specs.PlaceView.{stand_view, fixed_view, progress_view};
 
     /// Goes on to the next instruction.
@@ -141,8 +140,8 @@ impl Stand {
     /// The number below n that the next word picks; the choice is made then.
     pub fn pick(&mut self, n: u32) -> Result<u32, AllocError>
         requires { 0 < n }
-        ensures picked { IfOk result (λ i. i ≡ pick ((stand_view self.old).words (progress_view self.old).used) n) }
-        ensures uses { IfOk result (λ _. stand_view self.new ≡ going (using_word (progress_view self.old)) (stand_view self.old)) }
+        ensures picked { IfOk result (λ i. i ≡ picked_at (stand_view self.old) n) }
+        ensures makes { IfOk result (λ i. stand_view self.new ≡ going (choosing n i (progress_view self.old)) (stand_view self.old)) }
     {
         self.picks.next(n)
     }

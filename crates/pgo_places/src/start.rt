@@ -8,15 +8,19 @@ ghost use Rattle.pgo_base.specs.View.{data_of};
 ghost use Rattle.pgo_model.specs.Written.{pc};
 ghost use Rattle.pgo_code.specs.See.{section_view};
 ghost use Rattle.pgo_code.specs.declared.program.Program.{Program as ProgramView};
-ghost use Rattle.pgo_model.specs.Options.{on};
-ghost use Rattle.pgo_resource.specs.Picked.{words_of, points_of};
-ghost use Rattle.pgo_accesses.specs.Accesses.{no_value};
+ghost use Rattle.pgo_model.specs.Outcome.{NoValue, most_leaves};
+ghost use Rattle.pgo_model.specs.System.{Words};
+ghost use Rattle.pgo_tries.specs.Sections.{along};
+ghost use Rattle.pgo_workers.specs.Tried.{trying};
+ghost use Rattle.pgo_workers.specs.Walk.{Stop, Sticks};
+ghost use Rattle.pgo_resource.specs.Picked.{attempt_words, words_of, points_of};
 ghost use Rattle.pgo_places.specs.AllNames.{AreNames, names_from, seen};
 ghost use Rattle.pgo_places.specs.PlaceView.{stand_view, fixed_view};
-ghost use Rattle.pgo_places.specs.PlaceWalk.{count_of, instructions_in, walk_in};
-ghost use Rattle.pgo_places.specs.Stands.{limited, resume};
-ghost use Rattle.pgo_places.specs.Trees.{attempt_with, fixed_of, start_of, steps_named, variable_of, tree_in};
+ghost use Rattle.pgo_places.specs.FirstStands.{fixed_of, start_of, steps_named, variable_of};
+ghost use Rattle.pgo_places.specs.PlaceWalk.{instructions_in, leaf_in, leaf_from, walk_in};
+ghost use Rattle.pgo_places.specs.Trees.{leaf_named, tries_in};
 
+use crate::attempt::Attempt;
 use crate::place::{Finish, Place, at, instructions};
 use crate::stand::{Fixed, Stand};
 use pgo_base::bindings::NamedValue;
@@ -112,7 +116,7 @@ fn start_value(
 }
 
 /// The variables with what they have at the start, the last one first.
-fn start_values(
+pub fn start_values(
     alloc: Global,
     variables: &[Variable],
     own: &State,
@@ -196,7 +200,7 @@ pub fn all_names(alloc: Global, program: &Program<'_>) -> Result<Vec<Arc<Fixed>>
 /// Where an attempt stands first.
 fn stand(alloc: Global, code: &Code<'_>, own: &State, picks: Picks) -> Result<Stand, AllocError>
     requires { points_of picks ≡ [] }
-    ensures { IfOk result (λ s. stand_view s ≡ start_of code.now own.now (words_of picks)) }
+    ensures { IfOk result (λ s. stand_view s ≡ start_of code.now own.now (attempt_words picks) (words_of picks)) }
 {
     let variables = start_values(alloc, &code.variables, own)?;
     let own = own.copy(alloc)?;
@@ -212,9 +216,9 @@ fn stand(alloc: Global, code: &Code<'_>, own: &State, picks: Picks) -> Result<St
     })
 }
 
-/// A place at which there is no value.
-fn nowhere(alloc: Global, picks: Picks) -> Result<Place, AllocError>
-    ensures { IfOk result (λ q. (p : ProgramView) → walk_in p q ≡ no_value) }
+/// An attempt without a value.
+fn nowhere(alloc: Global, picks: Picks) -> Result<Attempt, AllocError>
+    ensures { IfOk result (λ q. (p : ProgramView) → walk_in p q ≡ Stop (Sticks NoValue)) }
 {
     let fixed = shared(
         alloc,
@@ -224,7 +228,7 @@ fn nowhere(alloc: Global, picks: Picks) -> Result<Place, AllocError>
             owners: Vec::new(alloc),
         },
     )?;
-    Ok(Place {
+    let place = Place {
         instance: 0,
         section: 0,
         position: 0,
@@ -241,11 +245,16 @@ fn nowhere(alloc: Global, picks: Picks) -> Result<Place, AllocError>
             picks,
             prints: Vec::new(alloc),
         },
+    };
+    Ok(Attempt {
+        place,
+        start: State::from_vec(Vec::new(alloc)),
+        left: 0,
     })
 }
 
 /// How many instructions a section has.
-fn count_in(program: &Program<'_>, instance: usize, section: usize) -> usize
+pub fn count_in(program: &Program<'_>, instance: usize, section: usize) -> usize
     ensures { result ≡ length (instructions_in program.now.codes.items instance section) }
 {
     match instructions(&program.codes, instance, section) {
@@ -254,29 +263,29 @@ fn count_in(program: &Program<'_>, instance: usize, section: usize) -> usize
     }
 }
 
-/// The first place in the section at which the own components are.
-fn first_in(
+/// The first place in a section, which is that at which the own components are.
+fn place_in(
     alloc: Global,
     program: &Program<'_>,
     code: &Code<'_>,
     fixed: &Arc<Fixed>,
-    instance: usize,
+    at: (usize, usize),
     own: &State,
     picks: Picks,
 ) -> Result<Place, AllocError>
-    requires code { nth program.now.codes.items instance ≡ Some code.now }
+    requires code { nth program.now.codes.items at.0 ≡ Some code.now }
     requires names { fixed_view (arc_value fixed.now) ≡ fixed_of code.now }
     requires fresh { points_of picks ≡ [] }
-    ensures { IfOk result (λ p. walk_in program.now p ≡ limited (count_of program.now.bound.now) (on no_value (steps_named (find pc own.now) code.now) (λ xs. resume (attempt_with program.now.bound.now (data_of (arc_value fixed.now).id)) (fixed_of code.now) (suc (length xs)) xs (start_of code.now own.now (words_of picks))))) }
+    requires section { option_map (λ s. (section_view s).1) (nth code.now.sections.items at.1) ≡ steps_named (find pc own.now) code.now }
+    ensures first { IfOk result (λ q. attempt_words q.stand.picks ≡ attempt_words picks) }
+    ensures leaf { IfOk result (λ q. leaf_in program.now q ≡ leaf_named program.now code.now (data_of (arc_value fixed.now).id) own.now (attempt_words picks) (words_of picks)) }
+    ensures again { IfOk result (λ q. (d : Words) → leaf_from program.now q own.now d ≡ leaf_named program.now code.now (data_of (arc_value fixed.now).id) own.now (attempt_words picks) d) }
 {
-    let Some(section) = section_at(code, own) else {
-        return nowhere(alloc, picks);
-    };
-    let left = count_in(program, instance, section);
+    let left = count_in(program, at.0, at.1);
     let (fixed, stand) = both(Arc::try_clone(fixed), stand(alloc, code, own, picks))?;
     Ok(Place {
-        instance,
-        section,
+        instance: at.0,
+        section: at.1,
         position: 0,
         left,
         stopped: None,
@@ -285,8 +294,36 @@ fn first_in(
     })
 }
 
-/// The first place of an attempt.
-pub fn first_place(
+/// An attempt at the section at which the own components are.
+fn first_in(
+    alloc: Global,
+    program: &Program<'_>,
+    code: &Code<'_>,
+    fixed: &Arc<Fixed>,
+    instance: usize,
+    own: &State,
+    picks: Picks,
+) -> Result<Attempt, AllocError>
+    requires code { nth program.now.codes.items instance ≡ Some code.now }
+    requires names { fixed_view (arc_value fixed.now) ≡ fixed_of code.now }
+    requires fresh { points_of picks ≡ [] }
+    requires start { words_of picks ≡ attempt_words picks }
+    ensures { IfOk result (λ q. walk_in program.now q ≡ trying (λ path. leaf_named program.now code.now (data_of (arc_value fixed.now).id) own.now (attempt_words picks) (along 0 path (attempt_words picks))) (attempt_words picks) most_leaves []) }
+{
+    let Some(section) = section_at(code, own) else {
+        return nowhere(alloc, picks);
+    };
+    let place = place_in(alloc, program, code, fixed, (instance, section), own, picks);
+    let (place, start) = both(place, own.copy(alloc))?;
+    Ok(Attempt {
+        place,
+        start,
+        left: 65_535,
+    })
+}
+
+/// An attempt before its first event.
+pub fn first_attempt(
     alloc: Global,
     program: &Program<'_>,
     names: &[Arc<Fixed>],
@@ -294,9 +331,9 @@ pub fn first_place(
     instance: u32,
     attempt: u32,
     own: &State,
-) -> Result<Place, AllocError>
+) -> Result<Attempt, AllocError>
     requires { AreNames program.now (map arc_value names.now) }
-    ensures { IfOk result (λ p. walk_in program.now p ≡ tree_in program.now seed instance attempt own.now) }
+    ensures { IfOk result (λ q. walk_in program.now q ≡ tries_in program.now seed instance attempt own.now) }
 {
     let picks = Picks::of_seed(alloc, seed, instance, attempt);
     let k = instance as usize;

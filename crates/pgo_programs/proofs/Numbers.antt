@@ -15,8 +15,9 @@ use Rattle.pgo_meaning.specs.System.{resource_of, system_of}
 use Rattle.pgo_sections.specs.Code.{Place, Whole, Own, Code, Empty, Skip, Let, Pick, Become, Set, Await, Assert, Print, If, Either, Seq, Goto, Yield, Read, Write, Codes, no_codes, more_codes}
 use Rattle.pgo_sections.specs.Domains.{Uses, AllUse}
 use Rattle.pgo_model.specs.System.{Words}
+use Rattle.pgo_workers.specs.Tried.{LeafTree, LeafLeaves}
 use Rattle.pgo_workers.specs.Walk as walks
-use Rattle.pgo_workers.specs.Walk.{Walk, Stop, Touch, Again, StraightWithin}
+use Rattle.pgo_workers.specs.Walk.{Stop, Touch, Again, StraightWithin}
 use Rattle.pgo_accesses.specs.Accesses.{accesses_of, begun, no_value}
 use Rattle.pgo_accesses.specs.Programs.{attempt_of}
 use Rattle.pgo_accesses.proofs.Reached.{InReach, PlaceInReach, within}
@@ -73,7 +74,7 @@ abbrev Anything : walks.Own → Type 0
 Anything o = Unit {0}
 
 -- what a section accesses
-section_below : (b : Bound) → IsNumbered b → (i : Instance) (own : walks.Own) (d : Words) (c : Code) → StraightWithin (λ r. r < count_of b) Anything (accesses_of (attempt_of b i own d) c)
+section_below : (b : Bound) → IsNumbered b → (i : Instance) (own : walks.Own) (d : Words) (c : Code) → StraightWithin (λ r. r < count_of b) (LeafLeaves Anything) (accesses_of (attempt_of b i own d) c)
 section_below b n i own d c =
     let a = attempt_of b i own d in
     let reach : (g : Name) → InReach a (λ r. r < count_of b) Anything (λ l ch. tt) g = λ g j r e. number_below b n (g, j) r e in
@@ -86,7 +87,7 @@ section_below b n i own d c =
     place (Own x) = tt
 
 -- nothing is left out
-limited_same : (m : ℕ) (w : Walk) → StraightWithin (λ r. r < m) Anything w → limited m w ≡ w
+limited_same : (m : ℕ) (w : LeafTree) → StraightWithin (λ r. r < m) (LeafLeaves Anything) w → limited m w ≡ w
 limited_same m (Stop e) h = refl
 limited_same m (Again w) h = absurd h
 limited_same m (Touch r leave rest) h = go (nat_lt r m) refl (λ v. limited_same m (rest v) (h.1 v))

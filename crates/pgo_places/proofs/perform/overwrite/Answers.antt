@@ -14,7 +14,7 @@ returns-in-Ok-clause-stand g c =
     let b : bindable (Some x) ≡ Some x = search rules in
     let h = identity_written c.args.frame.definitions.now (data_of c.args.frame.fixed.now.id) x (g.R.Resource.shows c.args.content.now).current (words_of p) (choices_of p) (choices_of q)
     (g.R.Resource.shows c.write.new.self).current b c.in-Ok.ensures.2 in
-    λ i. record s { words = c.in-Ok.ensures.1.0 i; progress = record s.progress { used = h.1 i } }
+    λ i. record s { first = c.in-Ok.ensures.1.1 i; words = c.in-Ok.ensures.1.0 i; progress = record s.progress { points = h.1 i } }
 
 pub returns-in-Ok-clause-value : goal.returns-in-Ok-clause-value
 returns-in-Ok-clause-value g c =

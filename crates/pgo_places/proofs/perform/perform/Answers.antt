@@ -9,7 +9,7 @@ pub returns-in-Some-clause-performs : goal.returns-in-Some-clause-performs
 returns-in-Some-clause-performs g c =
     IfOk-weaker c.look.result _ _
     (λ f h. h (attempt_view c.args.frame.bound.now c.args.frame.fixed.now) (step_of c.args.instruction.now) c.in-Some.ensures.first.0 c.in-Some.ensures.first.1)
-    c.look.ensures
+    c.look.ensures.performs
 
 pub look-requires-clause-there : goal.look-requires-clause-there
 look-requires-clause-there g c =

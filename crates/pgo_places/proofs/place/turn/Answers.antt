@@ -1,17 +1,18 @@
 -- Where a place has no instruction left.
 use Rattle.std.proofs.Common.{◌≡◌, drop, map, suc, ◌∷◌, [], ap, sym, ◌∙◌, subst, arith}
-use Rattle.pgo_workers.specs.Walk.{Walk}
-use Rattle.pgo_resource.specs.Nexts.{Tells}
+use Rattle.pgo_workers.specs.Tried.{LeafTree}
 use Rattle.pgo_code.specs.See.{step_of}
+use Rattle.pgo_places.specs.LeafEvents.{points_at, LeafTells}
 use Rattle.pgo_places.specs.PlaceView.{stand_view, fixed_view, attempt_view}
 use Rattle.pgo_places.specs.PlaceWalk.{count_of, instructions_in, steps_at}
 use Rattle.pgo_places.proofs.PlaceLaws.{fails_same, fails_tells, nothing_left, no_more_left, stopped_walk, drop_all, drop_all_steps, instruction_here}
+use Rattle.pgo_places.proofs.Walks.{kept_stopped}
 use Rattle.pgo_places.proofs.place.turn.Goals as goal
 
 pub returns-in-Some-clause-tells : goal.returns-in-Some-clause-tells
 returns-in-Some-clause-tells c =
     let p = c.args.place.now in
-    subst (λ (w : Walk). Tells w c.stopped_event.result) (sym (stopped_walk c.args.program.now p c.in-Some.stop c.in-Some.is))
+    subst (λ (w : LeafTree). LeafTells (points_at p) w c.stopped_event.result) (sym (stopped_walk c.args.program.now p c.in-Some.stop c.in-Some.is))
     (c.stopped_event.ensures.tells (stand_view p.stand) (count_of c.args.program.now.bound.now))
 
 pub returns-in_default-instructions-clause-same : goal.returns-in_default-instructions-clause-same
@@ -68,3 +69,12 @@ returns-then-place-eq0-clause-ready c = c.fail-then-place-eq0.ensures.ready c.ar
 
 pub returns-then-place-list-clause-ready : goal.returns-then-place-list-clause-ready
 returns-then-place-list-clause-ready c = c.fail-then-place-list.ensures.ready c.args.program.now
+
+pub returns-in_default-instructions-clause-kept : goal.returns-in_default-instructions-clause-kept
+returns-in_default-instructions-clause-kept c = kept_stopped c.args.place.now c.fail.new.place c.fail.ensures.frame
+
+pub returns-then-place-eq0-clause-kept : goal.returns-then-place-eq0-clause-kept
+returns-then-place-eq0-clause-kept c = kept_stopped c.args.place.now c.fail-then-place-eq0.new.place c.fail-then-place-eq0.ensures.frame
+
+pub returns-then-place-list-clause-kept : goal.returns-then-place-list-clause-kept
+returns-then-place-list-clause-kept c = kept_stopped c.args.place.now c.fail-then-place-list.new.place c.fail-then-place-list.ensures.frame

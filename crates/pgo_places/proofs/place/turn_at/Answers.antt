@@ -3,11 +3,12 @@ use Rattle.std.proofs.Common.{◌≡◌, suc, ◌-◌, [], ◌∷◌, drop, leng
 use Rattle.std.proofs.lemmas.List.{length-map}
 use Rattle.std.proofs.lemmas.Result.{IfOk-weaker}
 use Rattle.pgo_base.specs.View.{data_of}
-use Rattle.pgo_workers.specs.Walk.{Walk}
+use Rattle.pgo_workers.specs.Tried.{LeafTree}
 use Rattle.pgo_meaning.specs.System.{resource_of}
-use Rattle.pgo_resource.specs.Nexts.{Tells}
+use Rattle.pgo_resource.specs.Picked.{attempt_words}
 use Rattle.pgo_code.specs.See.{step_of}
 use Rattle.pgo_places.specs.Flows.{IsTouchOf, LeadsTo}
+use Rattle.pgo_places.specs.LeafEvents.{points_at, LeafTells}
 use Rattle.pgo_places.specs.PlaceView.{stand_view, fixed_view, attempt_view}
 use Rattle.pgo_places.specs.PlaceWalk.{core_walk, count_of, steps_at}
 use Rattle.pgo_places.specs.Stands.{limited, resume}
@@ -17,6 +18,7 @@ use Rattle.pgo_places.specs.Turns.{IsFewer, turns, turns_at}
 use Rattle.pgo_places.specs.declared.stand.Stand as memory_stand
 use Rattle.pgo_places.proofs.FewerTurns.{fewer_turns}
 use Rattle.pgo_places.proofs.Readiness.{some_ready}
+use Rattle.pgo_places.proofs.Walks.{on_ok, kept_stopped}
 use Rattle.pgo_places.proofs.place.turn_at.Goals as goal
 
 pub returns-in-Of-clause-same : goal.returns-in-Of-clause-same
@@ -38,8 +40,8 @@ returns-in-Of-clause-tells c =
     let touch : IsTouchOf c.in-Of.r (core_walk a k xs p) =
     subst (IsTouchOf c.in-Of.r) (sym (at_instruction a k xs p (step_of c.args.instruction.now) is c.requires.runs c.requires.more c.requires.here)) (subst (λ (x : memory.Fixed). IsTouchOf c.in-Of.r (resume (attempt_view b x) (fixed_view x) (suc (p.left - 1)) (step_of c.args.instruction.now ∷ is) (stand_view p.stand))) c.deref.ensures (c.in-Of.ensures.0 (p.left - 1) is)) in
     let m : length c.as_slice.result.now ≡ count_of b = ap (λ rs. length rs) c.as_slice.ensures ∙ sym (length-map b.resources resource_of) in
-    subst (λ (w : Walk). Tells w c.reached.result) (sym (frame_walk c.args.program.now p c.reached.new.place c.reached.ensures.frame))
-    (subst (λ n. Tells (limited n (core_walk a k xs c.reached.new.place)) c.reached.result) m (c.reached.ensures.tells a k xs touch))
+    subst (λ (w : LeafTree). LeafTells (points_at c.reached.new.place) w c.reached.result) (sym (frame_walk c.args.program.now p c.reached.new.place c.reached.ensures.frame))
+    (subst (λ n. LeafTells (points_at c.reached.new.place) (limited n (core_walk a k xs c.reached.new.place)) c.reached.result) m (c.reached.ensures.tells a k xs touch))
 
 pub returns-in-Nothing-clause-same : goal.returns-in-Nothing-clause-same
 returns-in-Nothing-clause-same c =
@@ -94,3 +96,14 @@ run-requires-clause-reads c = c.in-No.ensures.0
 
 pub run-requires-clause-plain : goal.run-requires-clause-plain
 run-requires-clause-plain c = c.in-No.ensures.1
+
+pub returns-in-Of-clause-kept : goal.returns-in-Of-clause-kept
+returns-in-Of-clause-kept c = kept_stopped c.args.place.now c.reached.new.place c.reached.ensures.frame
+
+pub returns-in-Nothing-clause-kept : goal.returns-in-Nothing-clause-kept
+returns-in-Nothing-clause-kept c = kept_stopped c.args.place.now c.fail.new.place c.fail.ensures.frame
+
+pub returns-in_ok-flow-in-No-clause-kept : goal.returns-in_ok-flow-in-No-clause-kept
+returns-in_ok-flow-in-No-clause-kept c =
+    on_ok c.moved.result _
+    (c.moved.ensures.frame, c.moved.ensures.section, c.moved.ensures.fixed, ap (λ (s : memory_stand.Stand). attempt_words s.picks) c.moved.ensures.stand ∙ c.in_ok-flow-in-No.ensures.first)

@@ -1,11 +1,13 @@
 -- Where the access leads.
-use Rattle.std.proofs.Common.{◌≡◌, suc, ◌-◌, drop, sym, subst, arith}
+use Rattle.std.proofs.Common.{◌≡◌, suc, ◌-◌, drop, ap, sym, ◌∙◌, subst, arith}
 use Rattle.pgo_code.specs.See.{step_of}
 use Rattle.pgo_places.specs.PlaceView.{stand_view, fixed_view, attempt_view}
 use Rattle.pgo_places.specs.Performs.{Performs}
 use Rattle.pgo_places.specs.PlaceWalk.{steps_at}
 use Rattle.pgo_places.specs.Ready.{IsAccess}
 use Rattle.pgo_places.specs.declared.stand.Fixed as memory
+use Rattle.pgo_places.specs.declared.stand.Stand as memory_stand
+use Rattle.pgo_resource.specs.Picked.{attempt_words}
 use Rattle.pgo_places.proofs.PlaceLaws.{access_leads}
 use Rattle.pgo_places.proofs.program.operate_at.Goals as goal
 
@@ -24,3 +26,7 @@ pub perform-requires : goal.perform-requires
 perform-requires g c =
     let b = c.args.program.now.bound.now in let p = c.args.place.now in
     subst (λ (x : memory.Fixed). IsAccess (attempt_view b x) (fixed_view x) c.args.resource (step_of c.args.instruction.now) (stand_view p.stand)) (sym c.deref.ensures) c.requires.access
+
+pub returns-clause-kept : goal.returns-clause-kept
+returns-clause-kept g c =
+    (c.moved.ensures.frame, c.moved.ensures.section, c.moved.ensures.fixed, ap (λ (s : memory_stand.Stand). attempt_words s.picks) c.moved.ensures.stand ∙ c.in_ok-flow.ensures.first)

@@ -3,7 +3,7 @@ use Rattle.std.proofs.Common.{◌<◌, ◌≤◌, ◌+◌, [], ◌∷◌, ◌++�
 use Rattle.std.specs.Arc.{arc_value}
 use Rattle.pgo_bound.specs.State.{id_of}
 use Rattle.pgo_places.specs.AllNames.{names_from, seen}
-use Rattle.pgo_places.specs.Trees.{fixed_of}
+use Rattle.pgo_places.specs.FirstStands.{fixed_of}
 use Rattle.pgo_places.proofs.InstanceNames.{names_more, no_instances, no_code}
 use Rattle.pgo_places.proofs.start.names_of.Goals as goal
 

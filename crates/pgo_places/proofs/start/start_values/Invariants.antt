@@ -1,7 +1,7 @@
 -- What was made, and what is left.
 use Rattle.std.proofs.Common.{◌≡◌, ◌++◌, length, map, reverse}
 use Rattle.pgo_base.specs.BindingsView.{named_view}
-use Rattle.pgo_places.specs.Trees.{variable_of}
+use Rattle.pgo_places.specs.FirstStands.{variable_of}
 use Rattle.pgo_places.proofs.start.start_values.Given as goal
 
 abbrev pub invariant-loop-last : goal.invariant-loop-last
