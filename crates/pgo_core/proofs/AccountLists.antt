@@ -4,6 +4,7 @@ use Rattle.std.proofs.lemmas.List.{take_more}
 use Rattle.std.specs.Prelude.{nat_le}
 use Rattle.pgo_model.specs.Machine as machine
 use Rattle.pgo_model.specs.Machine.{nth, is_empty}
+use Rattle.pgo_syntax.specs.ManyLeaves.{results_in}
 use Rattle.pgo_syntax.specs.RecordView.{record_view, result_view}
 use Rattle.pgo_syntax.specs.declared.records.AttemptResult.{AttemptResult}
 use Rattle.pgo_syntax.specs.declared.records.Record.{Record}
@@ -36,6 +37,10 @@ one_numbered results i room new r d items old inside number is =
     ∙ (λ j. old j ++ (((number ∙ count) j, result_view (is j)) ∷ []))
     ∙ sym (from_end 1 (map result_view (take i results)) (result_view (get_or results i d)))
     ∙ ap (attempts_from 1) (sym (map_end result_view (take i results) (get_or results i d)) ∙ ap (map result_view) (sym (take_more results i d inside)))
+
+pub one_result : (results : List AttemptResult) (i : ℕ) (room new : List Record) (r : Record) (d : AttemptResult) → new ≡ room ++ (r ∷ []) → results_in room ≡ take i results → i < length results → r.result ≡ get_or results i d
+    → results_in new ≡ take (i + 1) results
+one_result results i room new r d items old inside is = ap results_in items ∙ map_end (λ (r : Record). r.result) room r ∙ (λ j. old j ++ (is j ∷ [])) ∙ sym (take_more results i d inside)
 
 -- the first list is empty and has room
 pub first_room : {A B : Type 0} (n : ℕ) (v : Vec A B) (vs : List (Vec A B)) → all_roomy n (v ∷ vs) ≡ true → (length v.items ≡ 0) × (n ≤ vec_capacity v) × (all_roomy n vs ≡ true)

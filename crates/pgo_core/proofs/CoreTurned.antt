@@ -184,8 +184,8 @@ module _ {C : Type 0} (y : System) (tree : Trees) (walk : C → Walk) (settings 
       → Turned W P (see walk w) b (see walk v) c (spec_of t) × (v.out_of_memory ≡ false)
   turned_so w v b c turns.Went same awake has x = (subst (λ s. Turned W (program_of y tree s) (see walk w) b (see walk v) c spec.Went) same x.2, x.1 ∙ awake)
   turned_so w v b c (turns.Committed n) same awake has x = (subst (λ s. Turned W (program_of y tree s) (see walk w) b (see walk v) c (spec.Committed n)) same x.2, x.1 ∙ awake)
-  turned_so w v b c (turns.Noted kind n) same awake has x = (subst (λ s. Turned W (program_of y tree s) (see walk w) b (see walk v) c (spec.HasNoted (kind_view kind) n)) same x.2, x.1 ∙ awake)
-  turned_so w v b c (turns.Refused r) same awake has x = (subst (λ s. Turned W (program_of y tree s) (see walk w) b (see walk v) c (refusal_turn r)) same x.2, x.1 ∙ awake)
+  turned_so w v b c (turns.Noted kind n) same awake has x = (subst (λ s. Turned W (program_of y tree s) (see walk w) b (see walk v) c (spec.HasNoted (kind_view kind) n)) same x.2.turned, x.1 ∙ awake)
+  turned_so w v b c (turns.Refused r) same awake has x = (subst (λ s. Turned W (program_of y tree s) (see walk w) b (see walk v) c (refusal_turn r)) same x.2.turned, x.1 ∙ awake)
   turned_so w v b c (turns.Idle e) same awake has x = (TIdle (ended_so w e same awake x.0) (ap (see walk) x.1) x.2 refl, ap (λ (w : Worker C). w.out_of_memory) x.1 ∙ awake)
   turned_so w v b c turns.NoMemory same awake has x = absurd (grind (arith, has))
 

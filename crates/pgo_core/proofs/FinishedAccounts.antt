@@ -1,11 +1,13 @@
 -- The accounts of stopped workers are those of the machine.
 use Rattle.std.proofs.Common.{◌≡◌, ◌≤◌, ◌<◌, ℕ, zero, suc, true, List, [], ◌∷◌, length, Some, refl, sym, ap, ◌∙◌, subst, arith, lt-ltb}
+use Rattle.std.specs.List.{list_all}
 use Rattle.std.specs.Prelude.{nat_lt}
 use Rattle.pgo_model.specs.Core.{Settings, Core}
 use Rattle.pgo_model.specs.Log.{Effect}
 use Rattle.pgo_model.specs.Machine.{nth, finished_of}
 use Rattle.pgo_model.specs.System.{System}
 use Rattle.pgo_journal.specs.declared.finished.Account.{Account}
+use Rattle.pgo_syntax.specs.ManyLeaves.{tells_many}
 use Rattle.pgo_syntax.specs.RecordView.{result_view}
 use Rattle.pgo_workers.specs.View.{View}
 use Rattle.pgo_workers.specs.Walk.{Walk}
@@ -42,6 +44,7 @@ module _ {C : Type 0} (y : System) (tree : Trees) (walk : C → Walk) (settings 
         let seat = safe.seats k v here in
         record {
           told_are = is.told_are ∙ ap (attempts_from 1) (sym (stop_records y tree walk settings fits turns made k ws s st old.0 v (t.view k) old.1 there rests seat.number seat.settings_are seat.met));
+          many = ap (list_all tells_many) is.results ∙ seat.met.fits.told;
           end_is = is.end_is ∙ stop_end y tree walk settings fits turns made k ws s st old.0 v (t.view k) old.1 there rests seat.number seat.settings_are seat.met;
         }
 

@@ -26,7 +26,7 @@ module _ {C : Type 0} (y : System) (tree : Trees) (walk : C → Walk) where
   W = world_of (layout_of y)
 
   renewed_met : (w : Worker C) (b c : View Effect) → (runs : RunsSystem y tree (settings_view w.settings)) → Renews W (program_at y tree w) (Reaches y) (IsGood y) runs b c → length c.entries ≤ c.steps → Met y tree walk w b → Met y tree walk w c
-  renewed_met w b c runs r room m = record { meets = renewed_meets W (program_at y tree w) (Reaches y) (IsGood y) runs (see walk w) b c r room m.meets; fits = m.fits }
+  renewed_met w b c runs r room m = record { meets = renewed_meets W (program_at y tree w) (Reaches y) (IsGood y) runs (see walk w) b c r room m.meets; fits = m.fits; settles = m.settles }
 
   unlast_met : (w : Worker C) (b : View Effect) → RunsSystem y tree (settings_view w.settings) → length b.entries ≤ b.steps → Met y tree walk w b → Met y tree walk w (record b { last = None })
   unlast_met w b runs room m =

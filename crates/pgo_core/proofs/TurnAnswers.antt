@@ -14,7 +14,7 @@ use Rattle.pgo_workers.specs.Walk.{Walk}
 use Rattle.pgo_workers.specs.Worker.{has_ended}
 use Rattle.pgo_workers.specs.Worlds.{layout_of, world_of}
 use Rattle.pgo_section.specs.Programs.{Trees, program_of}
-use Rattle.pgo_section.specs.Sight.{see, ended, end_of, end_between}
+use Rattle.pgo_section.specs.Sight.{see, ended, end_of, end_between, answer_tells_many}
 use Rattle.pgo_section.specs.Turns.{TurnedBy}
 use Rattle.pgo_section.specs.declared.worker.Turn.{Turn}
 use Rattle.pgo_section.specs.declared.worker.Turn.TheVariants as turns
@@ -24,6 +24,15 @@ use Rattle.pgo_core.specs.Cores.{CoreFits, StandsWith, IsSafe, IsAnswer, Rested,
 use Rattle.pgo_core.proofs.CoreTurned.{ended_so}
 use Rattle.pgo_core.proofs.RoundTurns.{there, as_worker, goes_so}
 use Rattle.pgo_core.proofs.Stopped.{stop_end}
+
+-- what a worker's turn answers tells Many as it should
+pub turn_tells : {C : Type 0} (y : System) (tree : Trees) (walk : C → Walk) (w v : Worker C) (b c : View Effect) (t : Turn) → TurnedBy y tree walk w b v c t → answer_tells_many t ≡ true
+turn_tells y tree walk w v b c turns.Went x = refl
+turn_tells y tree walk w v b c (turns.Committed n) x = refl
+turn_tells y tree walk w v b c (turns.Noted kind n) x = x.2.many
+turn_tells y tree walk w v b c (turns.Refused r) x = x.2.many
+turn_tells y tree walk w v b c (turns.Idle e) x = refl
+turn_tells y tree walk w v b c turns.NoMemory x = refl
 
 not_both : (b : Bool) → b ≡ true → b ≡ false → ⊥
 not_both b t f = grind (arith, t, f)

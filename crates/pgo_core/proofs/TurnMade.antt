@@ -6,6 +6,7 @@ use Rattle.pgo_base.specs.Data.{Data}
 use Rattle.pgo_model.specs.Outcome.{Kind}
 use Rattle.pgo_model.specs.Machine.{Entry, Note, Step, Noted, Held, Down, Full, Machine, among, nth, last_state, step, pre_committing}
 use Rattle.pgo_model.specs.MachineAccounts.{equal_or, append_none}
+pub use Rattle.pgo_workers.specs.Settles.{Settled, settled_finished}
 use Rattle.pgo_workers.specs.Walk.{Walk, Stop, Touch, Again, Goes, Sticks, Own, Agrees, settled, goes_back, settled_stays}
 use Rattle.pgo_workers.specs.View.{Shown, raised, Hold, Refusal, IsHeld, IsFull, Taking, Told, View, World, EachHold, Grows, StandsAt, untold, answers, refuses, hold_at, without, with_content, aborted, committed, renewed, values_of, passing, own_seen, positioned}
 use Rattle.pgo_workers.specs.Worker.{Program, Worker, Phase, Resting, Walking, Giving, Turn, Went, Committed, HasNoted, Refused, IsDown, Idle, Turned, TIdle, TGave, TTook, THeld, TOperated, TReadied, TDown, TCommitted, TFull, TNoted, is_giving, with_held, counted, finished, walks_on, put_back, attempt, fails_at, entry, note, has_ended, rest_of, readied_of, Goes_on}
@@ -25,16 +26,6 @@ some_hold a b e = grind arith
 -- a content says that it is the resource's
 abbrev pub Numbered : Hold → Type 0
 Numbered h = h.content.number ≡ Some h.resource
-
--- the place is an access or an end
-abbrev pub Settled : Phase → Type 0
-Settled Resting = Unit {0}
-Settled (Walking x j) = goes_back x ≡ false
-Settled Giving = Unit {0}
-
-settled_finished : (b : Bool) → Settled (if b then Resting else Giving)
-settled_finished true = tt
-settled_finished false = tt
 
 -- where contents are put back
 back_numbers : (x : Walk) (hs : List Hold) → EachHold Numbered hs → EachHold Numbered (put_back x hs)

@@ -6,6 +6,8 @@ use Rattle.pgo_model.specs.Machine.{nth}
 use Rattle.pgo_model.specs.System.{System}
 use Rattle.pgo_syntax.specs.RecordView.{settings_view}
 use Rattle.pgo_workers.specs.Sentences.{Meets, Place}
+use Rattle.pgo_workers.specs.Settles.{Settled}
+use Rattle.pgo_workers.specs.Worker as spec
 use Rattle.pgo_workers.specs.View.{View, resources_of}
 use Rattle.pgo_workers.specs.Walk.{Walk}
 use Rattle.pgo_workers.specs.Worlds.{layout_of, world_of}
@@ -54,7 +56,7 @@ module _ {C : Type 0} (y : System) (tree : Trees) where
       place = λ runs. no_place w (fresh_view k 0 settings.steps settings.attempts) refl (meets (fresh_view k 0 settings.steps settings.attempts) runs fresh);
       meets = λ b runs f.
           let m = meets b runs f in
-          record { meets = subst (λ v. Meets (world_of (layout_of y)) (program_at y tree w) (Reaches y) (IsGood y) v b) (same_see w (no_place w b f.held m)) m.meets; fits = m.fits };
+          record { meets = subst (λ v. Meets (world_of (layout_of y)) (program_at y tree w) (Reaches y) (IsGood y) v b) (same_see w (no_place w b f.held m)) m.meets; fits = m.fits; settles = subst (λ (v : spec.Worker). Settled v.phase) (same_see w (no_place w b f.held m)) m.settles };
     }
       where
         fresh : IsFresh y settings k (fresh_view k 0 settings.steps settings.attempts)

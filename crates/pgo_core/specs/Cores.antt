@@ -6,6 +6,7 @@ use Rattle.pgo_model.specs.Log.{Effect}
 use Rattle.pgo_model.specs.Machine.{Machine, Record, Step, Noted, Finished, nth, is_empty, last_state, opened, after_turns, has_ended, finished_of}
 use Rattle.pgo_model.specs.System.{System, Member}
 use Rattle.pgo_journal.specs.declared.finished.Account.{Account}
+use Rattle.pgo_syntax.specs.ManyLeaves.{results_in, all_tell_many}
 use Rattle.pgo_syntax.specs.RecordView.{kind_view, refusal_view, record_view, result_view, settings_view}
 use Rattle.pgo_syntax.specs.declared.records.End as declared
 use Rattle.pgo_syntax.specs.declared.records.End.TheVariants as ends
@@ -194,15 +195,17 @@ EachEnds y settings f = (k : ℕ) (i : Member) → nth y.members k ≡ Some i �
 -- the account of a worker
 pub record IsAccountOf {C : Type 0} (w : Worker C) (a : Account) : Type 0 where
   pub told_are : map record_view a.records ≡ attempts_from 1 (map result_view w.records.items)
+  pub results : results_in a.records ≡ w.records.items
   pub end_is : a.end ≡ sight.end_of w
 
 -- the account of each worker up to some, in order
 abbrev pub AreAccountsOf : {C : Type 0} → List (Worker C) → List Account → Type 0
 AreAccountsOf {C} ws accounts = (k : ℕ) (a : Account) → nth accounts k ≡ Some a → (w : Worker C) × (nth ws k ≡ Some w) × IsAccountOf w a
 
--- the account of instance k in what a run leaves
+-- the account of instance k in what a run leaves; attempts that found Many are there as this refusal, with how many leaves they tried
 pub record IsAccount (y : System) (settings : Settings) (f : Finished Effect) (k : ℕ) (a : Account) : Type 0 where
   pub told_are : map record_view a.records ≡ attempts_from 1 (f.records k)
+  pub many : all_tell_many a.records ≡ true
   pub end_is : a.end ≡ option_map ended (end_of y settings f k)
 
 -- one account an instance, in order

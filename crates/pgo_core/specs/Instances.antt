@@ -11,6 +11,7 @@ use Rattle.pgo_journal.specs.declared.finished.Account.{Account}
 use Rattle.pgo_syntax.specs.RecordView.{settings_view}
 use Rattle.pgo_syntax.specs.declared.records.End.{End}
 use Rattle.pgo_workers.specs.Worlds.{layout_of}
+use Rattle.pgo_section.specs.Sight.{answer_tells_many}
 use Rattle.pgo_section.specs.declared.worker.Turn.{Turn}
 use Rattle.pgo_section.specs.declared.worker.Turn.TheVariants as turns
 use Rattle.pgo_section.specs.declared.worker.Worker.{Worker}
@@ -51,11 +52,12 @@ module _ {S R P : Type 0} {s : sections.Ghosts S P} {g : Ghosts R} where
     pub settings : d.settings ≡ c.settings
 
   -- a turn of k that memory wasn't wanting for is a turn of the machine; its answer is the record that the machine adds, and tells
-  -- whether k is an instance and how it had ended
+  -- whether k is an instance and how it had ended; of an attempt that found Many it is the refusal, with how many leaves were tried
   pub record Turns (k : ℕ) (t : Turn) (c d : Core S R P s g) : Type 0 where
     pub same : IsSame c d
     pub stands : has_turned t ≡ true → (turns : List ℕ) → StandsAt turns c → StandsAt (turns ++ (k ∷ [])) d
     pub told_is : has_turned t ≡ true → (turns : List ℕ) → StandsAt turns c → FitsCore c → ((turned (system_of c) (settings_of c) (turns ++ (k ∷ []))).workers k).records ≡ ((turned (system_of c) (settings_of c) turns).workers k).records ++ told t
+    pub many : answer_tells_many t ≡ true
     pub answer : has_turned t ≡ true → (turns : List ℕ) → StandsAt turns c → FitsCore c → IsAnswer (system_of c) (settings_of c) (turned (system_of c) (settings_of c) turns) k t
 
   abbrev pub workers_in : Core S R P s g → List (Worker P)

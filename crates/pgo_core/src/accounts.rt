@@ -1,6 +1,7 @@
 // The accounts of workers, in room that was taken before.
 ghost use Rattle.std.specs.Prelude.{◌≡◌, ◌≤◌, ◌<◌, ℕ, List, true, length, map, Some, vec_len, vec_capacity, IfOk};
 ghost use Rattle.pgo_model.specs.Machine.{nth};
+ghost use Rattle.pgo_syntax.specs.ManyLeaves.{results_in};
 ghost use Rattle.pgo_syntax.specs.RecordView.{record_view, result_view};
 ghost use Rattle.pgo_core.specs.Cores.{all_roomy, attempts_from, IsAccountOf, AreAccountsOf};
 
@@ -28,7 +29,8 @@ fn numbered(results: &[AttemptResult], mut room: Vec<Record>) -> Vec<Record>
     requires empty { length room.items ≡ 0 }
     requires fits { length results.now ≤ vec_capacity room }
     requires few { length results.now < 4294967296 }
-    ensures { map record_view result.items ≡ attempts_from 1 (map result_view results.now) }
+    ensures told { map record_view result.items ≡ attempts_from 1 (map result_view results.now) }
+    ensures same { results_in result.items ≡ results.now }
 {
     for told in results {
         let attempt = room.len() as u32 + 1;

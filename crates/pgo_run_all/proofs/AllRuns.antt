@@ -38,6 +38,7 @@ module _ {C R : Type 0} {g : Ghosts R} (y : System) (tree : Trees) (walk : C →
       subst (IsAtRest settings) (q.2 d) (record {
         settings_are = ap settings_view worked.same.settings ∙ (have.new k d near).settings_are;
         awake = run.awake;
+        told = worked.met.fits.told;
         says = run.says;
       })
 

@@ -1,5 +1,6 @@
 -- The accounts of workers that have ended are those of what the run leaves.
 use Rattle.std.proofs.Common.{◌≡◌, ◌≤◌, ◌<◌, ℕ, zero, suc, Bool, true, false, List, [], ◌∷◌, length, map, Option, Some, None, refl, sym, ap, ◌∙◌, subst, arith, lt-ltb}
+use Rattle.std.specs.List.{list_all}
 use Rattle.std.specs.Prelude.{if◌then◌else◌, nat_eq, nat_lt, option_map}
 use Rattle.std.proofs.lemmas.List.{length-map}
 use Rattle.std.proofs.lemmas.Option.{same_Some}
@@ -13,6 +14,7 @@ use Rattle.pgo_model.specs.Log.{Effect}
 use Rattle.pgo_model.specs.Machine.{Entry, Note, nth}
 use Rattle.pgo_model.specs.System.{System}
 use Rattle.pgo_model.specs.Written.{done, pc}
+use Rattle.pgo_syntax.specs.ManyLeaves.{tells_many}
 use Rattle.pgo_syntax.specs.RecordView.{ended, result_view}
 use Rattle.pgo_syntax.specs.declared.records.End.TheVariants as ends
 use Rattle.pgo_workers.specs.Walk.{Walk}
@@ -72,6 +74,7 @@ module _ {C : Type 0} (y : System) (tree : Trees) (settings : Settings) (walk : 
       let at = worker_at walk ws k w here in
       record {
         told_are = is.told_are ∙ ap (attempts_from 1) (sym (if_true (nat_lt k (length y.members)) (workers_of walk ws k).records [] (lt-ltb k (length y.members) near) ∙ ap (λ (v : spec.Worker). v.records) at));
+        many = ap (list_all tells_many) is.results ∙ (each k w here).told;
         end_is = is.end_is ∙ end_is_seen walk settings w (each k w here) ∙ ap (option_map ended) (sym (law k near ∙ ap (end_seen settings) at));
       }
 

@@ -1,4 +1,5 @@
 -- What a run of all instances on threads leaves in memory.
+use Rattle.std.specs.List.{list_all}
 use Rattle.std.specs.Prelude.{◌≡◌, ℕ, List, true, false, length, Some}
 use Rattle.pgo_core.specs.Cores.{AreAccounts}
 use Rattle.pgo_journal.specs.Journal.{JournalView}
@@ -9,6 +10,7 @@ use Rattle.pgo_model.specs.Log.{Effect}
 use Rattle.pgo_model.specs.Machine as machine
 use Rattle.pgo_model.specs.Machine.{nth}
 use Rattle.pgo_model.specs.System.{System}
+use Rattle.pgo_syntax.specs.ManyLeaves.{tells_many}
 use Rattle.pgo_syntax.specs.RecordView.{settings_view}
 use Rattle.pgo_syntax.specs.declared.records.End.{End}
 use Rattle.pgo_workers.specs.View.{Told, View}
@@ -30,10 +32,11 @@ module _ (y : System) (tree : Trees) (settings : Settings) where
     pub start : f.journal.start ≡ y.start
     pub accounts : AreAccounts y settings (left y tree settings f.journal.entries f.journal.notes workers) f.accounts
 
--- a worker at rest that has ended, with these settings
+-- a worker at rest that has ended, with these settings; its records tell Many as they should
 pub record IsAtRest {C : Type 0} (settings : Settings) (w : declared.Worker C) : Type 0 where
   pub settings_are : settings_view w.settings ≡ settings
   pub awake : w.out_of_memory ≡ false
+  pub told : list_all tells_many w.records.items ≡ true
   pub says : (e : End) × (end_of w ≡ Some e)
 
 -- a closed journal and the workers of all instances, by number: each has ended over its board

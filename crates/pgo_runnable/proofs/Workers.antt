@@ -19,7 +19,8 @@ use Rattle.pgo_bound.specs.Sound.{IsLabel, IsAtLabel}
 use Rattle.pgo_bound.specs.State.{id_of}
 use Rattle.pgo_sections.specs.Code.{Code}
 use Rattle.pgo_sections.specs.Section.{section}
-use Rattle.pgo_meaning.specs.Sect.{Sect, code_at, context_of, nothing}
+use Rattle.pgo_meaning.specs.Attempt.{SectTry, try_nowhere}
+use Rattle.pgo_meaning.specs.Sect.{code_at, context_of, nothing}
 use Rattle.pgo_meaning.specs.System.{member_of, system_of}
 use Rattle.pgo_meaning.specs.TreesAgree.{sections_at}
 use Rattle.pgo_meaning.proofs.LabelSections.{section_label}
@@ -83,10 +84,11 @@ module _ (b : Bound) (R : Runnable b) (s : Vars) where
         ∙ ap (is_place done) (same_place (find pc s))
 
     -- without code there is no section
-    none_here : (d : Words) → code_at b i (value_in s pc (id_of i)) ≡ None → (Sect b k s d).end ≡ Nowhere
+    none_here : (d : Words) → code_at b i (value_in s pc (id_of i)) ≡ None → (SectTry b k s d).end ≡ Nowhere
     none_here d e =
-        ap (λ o. (on nothing o (λ i. on nothing (code_at b i (value_in s pc (id_of i))) (λ c. section (context_of b i s) c d))).end) at_k
-        ∙ ap (λ o. (on nothing o (λ c. section (context_of b i s) c d)).end) e
+        try_nowhere b k s d
+        (ap (λ o. (on nothing o (λ i. on nothing (code_at b i (value_in s pc (id_of i))) (λ c. section (context_of b i s) c d))).end) at_k
+        ∙ ap (λ o. (on nothing o (λ c. section (context_of b i s) c d)).end) e)
 
     -- what has code is a label
     label_at : (o : Option Data) → (code_at b i o ≡ None → ⊥) → (l : Name) × (o ≡ Some (string l)) × IsLabel i l
@@ -112,7 +114,7 @@ module _ (b : Bound) (R : Runnable b) (s : Vars) where
             (l.0, l.1, inr l.2)
 
     -- with code there is an end, as the tree has one
-    some_end : (good : IsRunState b s) (d : Words) (c : Code) → code_at b i (value_in s pc (id_of i)) ≡ Some c → (Sect b k s d).end ≡ Nowhere → ⊥
+    some_end : (good : IsRunState b s) (d : Words) (c : Code) → code_at b i (value_in s pc (id_of i)) ≡ Some c → (SectTry b k s d).end ≡ Nowhere → ⊥
     some_end good d c e none = go (ending (tree_with b d k (own_in (layout_of (system_of b)) s k)) (worlds.value_in (layout_of (system_of b)) s)) refl
       where
         go : (z : walks.End) → ending (tree_with b d k (own_in (layout_of (system_of b)) s k)) (worlds.value_in (layout_of (system_of b)) s) ≡ z → ⊥

@@ -7,8 +7,10 @@ use Rattle.pgo_section.specs.Programs.{IsGood}
 use Rattle.pgo_syntax.specs.RecordView.{result_view, settings_view}
 use Rattle.pgo_workers.specs.Kept as laws
 use Rattle.pgo_workers.specs.Sentences.{Meets}
+use Rattle.pgo_workers.specs.Settles.{Settled}
 use Rattle.pgo_workers.specs.View.{View}
 use Rattle.pgo_workers.specs.Walk.{Walk}
+use Rattle.pgo_workers.specs.Worker as spec
 use Rattle.pgo_workers.specs.Worker.{Walking, Goes_on, is_giving}
 use Rattle.pgo_section.specs.Programs.{Trees, RunsSystem}
 use Rattle.pgo_section.specs.Sight.{see, phase_at, placed, program_at, end_of}
@@ -34,7 +36,9 @@ module _ {C : Type 0} (y : System) (tree : Trees) (walk : C → Walk) (w : Worke
     begun_met b runs m = record {
       meets = subst (λ v. Meets (world y) (program_at y tree w) (Reaches y) (IsGood y) v b) (sym begun_is)
           (begun_meets (world y) (program_at y tree w) (Reaches y) (IsGood y) runs (see walk w) b (rests w walk going none) (not_ended w walk going none y tree on) m.meets);
-      fits = record { instance = m.fits.instance; records = m.fits.records; taken = m.fits.taken; listed = m.fits.listed };
+      settles = subst (λ (v : spec.Worker). Settled v.phase) (sym begun_is)
+          (runs.settles w.number (suc (length (map result_view w.records.items))) w.own (laws.own_is (world y) (program_at y tree w) (Reaches y) (IsGood y) runs (see walk w) b m.meets));
+      fits = record { instance = m.fits.instance; records = m.fits.records; taken = m.fits.taken; told = m.fits.told; listed = m.fits.listed };
     }
 
     pub begun_ran : (b c : View Effect) (v : Worker C) (t : Turn) → Ran y tree walk (placed (record w { readied = 0 }) p) b v c t → Ran y tree walk w b v c t

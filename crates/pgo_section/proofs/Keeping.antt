@@ -12,6 +12,7 @@ use Rattle.pgo_syntax.specs.declared.records.Refusal.TheVariants as refusals
 use Rattle.pgo_syntax.specs.declared.records.Settings.{Settings}
 use Rattle.pgo_workers.specs.Grown.{refused_last}
 use Rattle.pgo_workers.specs.Sentences.{Meets}
+use Rattle.pgo_workers.specs.Settles.{Settled, settled_kept}
 use Rattle.pgo_workers.specs.Stops.{gives_up, given_up}
 use Rattle.pgo_workers.specs.Turns.{kept}
 use Rattle.pgo_workers.specs.View.{Hold, View, IsHeld, IsFull, resources_of, aborted}
@@ -36,6 +37,7 @@ same_both u v w s t = record {
   settings = t.settings ∙ s.settings;
   records_room = t.records_room ∙ s.records_room;
   taken_room = t.taken_room ∙ s.taken_room;
+  told = λ h. t.told (s.told h);
 }
 
 pub keeps_both : {C : Type 0} (u v w : Worker C) → Keeps u v → Keeps v w → Keeps u w
@@ -46,6 +48,7 @@ fits_still y w v s f = record {
   instance = subst (λ k. k < length y.members) (sym s.number) f.instance;
   records = let a = ap (λ (x : Settings). x.attempts) s.settings in let b = s.records_room in let c = f.records in grind (arith, a, b, c);
   taken = let b = s.taken_room in let c = f.taken in grind (arith, b, c);
+  told = s.told f.told;
   listed = subst (λ (x : Settings). (r n : ℕ) → is_listed x.down r n ≡ true → n < 18446744073709551615) (sym s.settings) f.listed;
 }
 
@@ -68,7 +71,7 @@ end_same w o e h = sym (ap (λ o. end_of (record w { place = o })) e) ∙ h
 -- where nothing was done yet, and memory is wanting
 pub wants_none : {C : Type 0} (w : Worker C) (b c : View Effect) → c ≡ b → Wants w b w c
 wants_none w b c e = record {
-  keeps = record { same = record { number = refl; settings = refl; records_room = refl; taken_room = refl }; out = refl };
+  keeps = record { same = record { number = refl; settings = refl; records_room = refl; taken_room = refl; told = λ h. h }; out = refl };
   records = refl;
   own = refl;
   taken = refl;
@@ -78,7 +81,7 @@ wants_none w b c e = record {
 
 -- another place, or count of pre-commits, is no matter
 pub keeps_from : {C : Type 0} (w v : Worker C) (o : Option C) (j : ℕ) → Keeps (record w { place = o; readied = j }) v → Keeps w v
-keeps_from w v o j k = record { same = record { number = k.same.number; settings = k.same.settings; records_room = k.same.records_room; taken_room = k.same.taken_room }; out = k.out }
+keeps_from w v o j k = record { same = record { number = k.same.number; settings = k.same.settings; records_room = k.same.records_room; taken_room = k.same.taken_room; told = k.same.told }; out = k.out }
 
 pub wants_from : {C : Type 0} (w v : Worker C) (o : Option C) (j : ℕ) (b c : View Effect) → Wants (record w { place = o; readied = j }) b v c → Wants w b v c
 wants_from w v o j b c x = record { keeps = keeps_from w v o j x.keeps; records = x.records; own = x.own; taken = x.taken; dropped = x.dropped; board = x.board }
@@ -113,6 +116,7 @@ module _ {C : Type 0} (y : System) (tree : Trees) (walk : C → Walk) where
   pub met_seen : (w u : Worker C) (b : View Effect) → Same w u → see walk w ≡ see walk u → Met y tree walk w b → Met y tree walk u b
   met_seen w u b same seen m = record {
     meets = subst (λ s. Meets (world y) (program_of y tree (settings_view s)) (Reaches y) (IsGood y) (see walk u) b) (sym same.settings) (subst (λ v. Meets (world y) (program_at y tree w) (Reaches y) (IsGood y) v b) seen m.meets);
+    settles = subst (λ (v : spec.Worker). Settled v.phase) seen m.settles;
     fits = fits_still y w u same m.fits;
   }
 
@@ -123,8 +127,8 @@ module _ {C : Type 0} (y : System) (tree : Trees) (walk : C → Walk) where
   pub ran_by : (w u : Worker C) (b c : View Effect) (v : Worker C) → ((t : spec.Turn) → TurnedSo y tree walk w b v c t → TurnedSo y tree walk u b v c t) → (t : Turn) → Ran y tree walk w b v c t → Ran y tree walk u b v c t
   ran_by w u b c v f turns.Went h = f _ h
   ran_by w u b c v f (turns.Committed n) h = f _ h
-  ran_by w u b c v f (turns.Noted kind n) h = f _ h
-  ran_by w u b c v f (turns.Refused x) h = f _ h
+  ran_by w u b c v f (turns.Noted kind n) h = record { turned = f _ h.turned; many = h.many }
+  ran_by w u b c v f (turns.Refused x) h = record { turned = f _ h.turned; many = h.many }
   ran_by w u b c v f (turns.Idle e) h = absurd h
   ran_by w u b c v f turns.NoMemory h = absurd h
 
@@ -143,20 +147,21 @@ module _ {C : Type 0} (y : System) (tree : Trees) (walk : C → Walk) where
   met_kept w v b c t runs same room after turned m = record {
     meets = subst (λ s. Meets (world y) (program_of y tree (settings_view s)) (Reaches y) (IsGood y) (see walk v) c) (sym same.settings)
         (kept (world y) (program_at y tree w) (Reaches y) (IsGood y) runs m.fits.listed (see walk w) b (see walk v) c t room after turned m.meets);
+    settles = settled_kept (world y) (program_at y tree w) (see walk w) b (see walk v) c t turned m.settles;
     fits = fits_still y w v same m.fits;
   }
 
   pub ran_turned : (w v : Worker C) (b c : View Effect) (t : Turn) → Ran y tree walk w b v c t → (u : spec.Turn) × TurnedSo y tree walk w b v c u
   ran_turned w v b c turns.Went h = (_, h)
   ran_turned w v b c (turns.Committed n) h = (_, h)
-  ran_turned w v b c (turns.Noted kind n) h = (_, h)
-  ran_turned w v b c (turns.Refused x) h = (_, h)
+  ran_turned w v b c (turns.Noted kind n) h = (_, h.turned)
+  ran_turned w v b c (turns.Refused x) h = (_, h.turned)
   ran_turned w v b c (turns.Idle e) h = absurd h
   ran_turned w v b c turns.NoMemory h = absurd h
 
   pub is_last : (w v : Worker C) (b c : View Effect) (t : Turn) → RunsSystem y tree (settings_view w.settings) → Ran y tree walk w b v c t → IsLast t c
-  is_last w v b c (turns.Refused (refusals.Held r q)) runs h = refused_last (world y) (program_at y tree w) (Reaches y) (IsGood y) runs (see walk w) b (see walk v) c _ (IsHeld r q) h refl
-  is_last w v b c (turns.Refused (refusals.Full n)) runs h = refused_last (world y) (program_at y tree w) (Reaches y) (IsGood y) runs (see walk w) b (see walk v) c _ (IsFull n) h refl
+  is_last w v b c (turns.Refused (refusals.Held r q)) runs h = refused_last (world y) (program_at y tree w) (Reaches y) (IsGood y) runs (see walk w) b (see walk v) c _ (IsHeld r q) h.turned refl
+  is_last w v b c (turns.Refused (refusals.Full n)) runs h = refused_last (world y) (program_at y tree w) (Reaches y) (IsGood y) runs (see walk w) b (see walk v) c _ (IsFull n) h.turned refl
   is_last w v b c (turns.Refused (refusals.Down r o)) runs h = tt
   is_last w v b c (turns.Refused (refusals.Many leaves n)) runs h = tt
   is_last w v b c turns.Went runs h = tt

@@ -3,9 +3,12 @@ pub mod Boards
 pub mod Values
 pub mod Counting
 pub mod Events
+pub mod ManyTold
 pub mod Gives
 pub mod Ends
 pub mod Keeping
 pub mod Begins
 pub mod Listed
 pub mod Opens
+pub mod Quiets
+pub mod Standing

@@ -7,6 +7,7 @@ use Rattle.pgo_section.specs.Programs.{IsGood}
 use Rattle.pgo_syntax.specs.RecordView.{result_view, settings_view}
 use Rattle.pgo_workers.specs.Grown as laws
 use Rattle.pgo_workers.specs.Sentences.{Meets}
+use Rattle.pgo_workers.specs.Settles.{Settled}
 use Rattle.pgo_workers.specs.View.{View}
 use Rattle.pgo_workers.specs.Walk.{Walk}
 use Rattle.pgo_workers.specs.Worlds.{layout_of, own_in}
@@ -24,5 +25,6 @@ module _ {C : Type 0} (y : System) (tree : Trees) (walk : C → Walk) where
         (λ i. record { number = w.number; records = map result_view (sym records i); own = sym own i; phase = phase_at walk (sym giving i) (sym place i) w.readied; taken = sym taken i; dropped = sym dropped i })
         (laws.opened_meets (world y) (program_at y tree w) (Reaches y) (IsGood y) runs w.number b
         (record { number = fits.instance; instance = f.instance; steps = f.steps; share = f.share; held = f.held; others = f.others; other_notes = f.other_notes; told = f.told }) f.room);
+    settles = subst Settled (λ i. phase_at walk (sym giving i) (sym place i) w.readied) tt;
     fits = fits;
   }

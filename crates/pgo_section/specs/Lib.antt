@@ -1,4 +1,5 @@
 pub mod Folds
 pub mod Programs
+pub mod Quiet
 pub mod Sight
 pub mod Turns

@@ -10,12 +10,17 @@ pub use Rattle.pgo_syntax.specs.RecordView.{ended}
 use Rattle.pgo_syntax.specs.RecordView.{result_view, settings_view}
 use Rattle.pgo_syntax.specs.declared.records.End.{End}
 use Rattle.pgo_syntax.specs.declared.records.End.TheVariants as ends
+use Rattle.pgo_syntax.specs.ManyLeaves.{is_noted, counts_leaves}
+use Rattle.pgo_syntax.specs.declared.records.AttemptResult.{AttemptResult}
+use Rattle.pgo_syntax.specs.declared.records.AttemptResult.TheVariants as results
 use Rattle.pgo_syntax.specs.declared.records.Refusal.{Refusal}
 use Rattle.pgo_syntax.specs.declared.records.Refusal.TheVariants as refusals
 use Rattle.pgo_workers.specs.View as view
 use Rattle.pgo_workers.specs.Walk.{Walk}
 use Rattle.pgo_workers.specs.Worker as spec
 use Rattle.pgo_section.specs.Programs.{Trees, program_of}
+use Rattle.pgo_section.specs.declared.worker.Turn.{Turn}
+use Rattle.pgo_section.specs.declared.worker.Turn.TheVariants as turns
 use Rattle.pgo_section.specs.declared.worker.Worker.{Worker}
 
 abbrev pub phase_at : {C : Type 0} → (C → Walk) → Bool → Option C → ℕ → spec.Phase
@@ -46,6 +51,21 @@ refusal_turn (refusals.Held r h) = spec.Refused (view.IsHeld r h)
 refusal_turn (refusals.Down r o) = spec.IsDown r o
 refusal_turn (refusals.Full n) = spec.Refused (view.IsFull n)
 refusal_turn (refusals.Many leaves n) = spec.HasNoted outcome.Many n
+
+-- the turn by which this becomes of an attempt
+abbrev pub turn_of : AttemptResult → Turn
+turn_of (results.Step n) = turns.Committed n
+turn_of (results.Noted kind n) = turns.Noted kind n
+turn_of (results.Refused x) = turns.Refused x
+
+-- what a turn answers tells Many as it should
+abbrev pub answer_tells_many : Turn → Bool
+answer_tells_many turns.Went = true
+answer_tells_many (turns.Committed n) = true
+answer_tells_many (turns.Noted kind n) = is_noted kind
+answer_tells_many (turns.Refused x) = counts_leaves x
+answer_tells_many (turns.Idle e) = true
+answer_tells_many turns.NoMemory = true
 
 -- how an instance without an attempt has ended; none where it makes another
 abbrev pub end_at_rest : {C : Type 0} → Worker C → Option End

@@ -1,5 +1,6 @@
 -- A turn in code, as the turn that it is.
-use Rattle.std.specs.Prelude.{◌≡◌, ◌≤◌, ◌<◌, ◌++◌, ℕ, suc, true, false, List, [], length, map, vec_capacity, Some, None}
+use Rattle.std.specs.List.{list_all}
+use Rattle.std.specs.Prelude.{◌≡◌, ◌≤◌, ◌<◌, ◌++◌, ℕ, suc, Bool, true, false, List, [], length, map, vec_capacity, Some, None}
 use Rattle.pgo_base.specs.Data.{Data}
 use Rattle.pgo_model.specs.Core.{Settings, Reaches, is_listed}
 use Rattle.pgo_model.specs.Log.{Effect}
@@ -7,9 +8,11 @@ use Rattle.pgo_model.specs.Machine.{Entry, nth}
 use Rattle.pgo_model.specs.Options.{on}
 use Rattle.pgo_model.specs.System.{System}
 use Rattle.pgo_section.specs.Programs.{IsGood}
+use Rattle.pgo_syntax.specs.ManyLeaves.{is_noted, counts_leaves, tells_many}
 use Rattle.pgo_syntax.specs.RecordView.{kind_view, result_view}
 use Rattle.pgo_syntax.specs.declared.records.Refusal.TheVariants as refusals
 use Rattle.pgo_workers.specs.Sentences.{Meets}
+use Rattle.pgo_workers.specs.Settles.{Settled}
 use Rattle.pgo_workers.specs.Stops.{gives_up}
 use Rattle.pgo_workers.specs.View.{View, Told, IsHeld, IsFull, Others, OtherNotes, aborted}
 use Rattle.pgo_workers.specs.Walk.{At, Own, Walk, Stop, Goes}
@@ -22,18 +25,21 @@ use Rattle.pgo_section.specs.declared.worker.Turn.{Turn}
 use Rattle.pgo_section.specs.declared.worker.Turn.TheVariants as turns
 use Rattle.pgo_section.specs.declared.worker.Worker.{Worker}
 
--- what no turn changes
+-- what no turn changes; and if the records tell Many as they should, they do so afterwards
 pub record Same {C : Type 0} (w v : Worker C) : Type 0 where
   pub number : v.number ≡ w.number
   pub settings : v.settings ≡ w.settings
   pub records_room : vec_capacity v.records ≡ vec_capacity w.records
   pub taken_room : vec_capacity v.taken ≡ vec_capacity w.taken
+  pub told : list_all tells_many w.records.items ≡ true → list_all tells_many v.records.items ≡ true
 
--- it is an instance's, has room for what it records and takes, and the listed pre-commits have numbers below the last value of 64 bits
+-- it is an instance's, has room for what it records and takes, its records tell Many as they should, and the listed pre-commits have numbers
+-- below the last value of 64 bits
 pub record Fits {C : Type 0} (y : System) (w : Worker C) : Type 0 where
   pub instance : w.number < length y.members
   pub records : w.settings.attempts ≤ vec_capacity w.records
   pub taken : length y.resources ≤ vec_capacity w.taken
+  pub told : list_all tells_many w.records.items ≡ true
   pub listed : (r n : ℕ) → is_listed w.settings.down r n ≡ true → n < 18446744073709551615
 
 abbrev pub MeetsAt : {C : Type 0} → System → Trees → (C → Walk) → Worker C → View Effect → Type 0
@@ -42,17 +48,23 @@ MeetsAt y tree walk w b = Meets (world_of (layout_of y)) (program_at y tree w) (
 -- a worker and its board
 pub record Met {C : Type 0} (y : System) (tree : Trees) (walk : C → Walk) (w : Worker C) (b : View Effect) : Type 0 where
   pub meets : MeetsAt y tree walk w b
+  pub settles : Settled (see walk w).phase
   pub fits : Fits y w
 
 abbrev pub TurnedSo : {C : Type 0} → System → Trees → (C → Walk) → Worker C → View Effect → Worker C → View Effect → spec.Turn → Type 0
 TurnedSo y tree walk w b v c t = Turned (world_of (layout_of y)) (program_at y tree w) (see walk w) b (see walk v) c t
 
--- one event
+-- a turn whose answer tells Many as it should
+pub record TurnTold {C : Type 0} (y : System) (tree : Trees) (walk : C → Walk) (w : Worker C) (b : View Effect) (v : Worker C) (c : View Effect) (t : spec.Turn) (tells : Bool) : Type 0 where
+  pub turned : TurnedSo y tree walk w b v c t
+  pub many : tells ≡ true
+
+-- one event; what is answered of an attempt that found Many is the refusal, with how many leaves were tried
 abbrev pub Ran : {C : Type 0} → System → Trees → (C → Walk) → Worker C → View Effect → Worker C → View Effect → Turn → Type 0
 Ran y tree walk w b v c turns.Went = TurnedSo y tree walk w b v c spec.Went
 Ran y tree walk w b v c (turns.Committed n) = TurnedSo y tree walk w b v c (spec.Committed n)
-Ran y tree walk w b v c (turns.Noted kind n) = TurnedSo y tree walk w b v c (spec.HasNoted (kind_view kind) n)
-Ran y tree walk w b v c (turns.Refused x) = TurnedSo y tree walk w b v c (refusal_turn x)
+Ran y tree walk w b v c (turns.Noted kind n) = TurnTold y tree walk w b v c (spec.HasNoted (kind_view kind) n) (is_noted kind)
+Ran y tree walk w b v c (turns.Refused x) = TurnTold y tree walk w b v c (refusal_turn x) (counts_leaves x)
 Ran y tree walk w b v c (turns.Idle e) = ⊥
 Ran y tree walk w b v c turns.NoMemory = ⊥
 

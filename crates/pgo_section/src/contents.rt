@@ -19,7 +19,7 @@ pub fn abort_all<B: Board>(taken: &Vec<u32>, board: &mut B)
     }
 }
 
-/// Puts back what was written, if so it is told. It takes no memory.
+/// Puts back what was written, where `back` says so. It takes no memory.
 pub fn put_back<B: Board>(back: bool, taken: &Vec<u32>, board: &mut B)
     requires held { taken.now.items ≡ resources_of (B.shows board.old).held }
     requires once { Once taken.now.items }

@@ -4,4 +4,5 @@
 mod changes;
 mod contents;
 mod own;
+pub mod quiet;
 pub mod worker;

@@ -7,7 +7,7 @@ ghost use Rattle.pgo_syntax.specs.RecordView.{result_view, settings_view};
 ghost use Rattle.pgo_workers.specs.View.{View};
 ghost use Rattle.pgo_workers.specs.Worlds.{layout_of, own_in};
 ghost use Rattle.pgo_section.specs.Programs.{RunsSystem};
-ghost use Rattle.pgo_section.specs.Sight.{ended, end_at_rest, end_of};
+ghost use Rattle.pgo_section.specs.Sight.{ended, end_at_rest, end_of, turn_of};
 ghost use Rattle.pgo_section.specs.Turns.{Met, IsFresh};
 
 use crate::own::is_done;
@@ -28,14 +28,27 @@ pub enum Turn {
     Went,
     /// the attempt is entry n of the journal, from 1
     Committed { n: u32 },
-    /// the attempt found no end, with n entries before it
+    /// the attempt found no end, with n entries before it; of no kind Many
     Noted { kind: NoteKind, n: u32 },
-    /// the attempt was refused
+    /// the attempt was refused, or it has a note of kind Many
     Refused { refusal: Refusal },
     /// the instance had ended
     Idle { end: End },
     /// memory was wanting: the attempt is dropped, and nothing is held
     NoMemory,
+}
+
+impl Turn {
+    /// The turn by which this becomes of an attempt.
+    fn of_result(told: AttemptResult) -> Turn
+        ensures { result ≡ turn_of told }
+    {
+        match told {
+            AttemptResult::Step { n } => Turn::Committed { n },
+            AttemptResult::Noted { kind, n } => Turn::Noted { kind, n },
+            AttemptResult::Refused { refusal } => Turn::Refused { refusal },
+        }
+    }
 }
 
 /// An instance at work. `readied` counts the taken resources that are pre-committed; where `giving`, the attempt is

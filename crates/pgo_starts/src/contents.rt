@@ -1,4 +1,4 @@
-// The contents of resources at the start of a run.
+// The contents of resources at the start of a run, and in a state.
 ghost use Rattle.std.specs.Prelude.{◌≡◌, ◌&&◌, ℕ, length, map, option_map, is_some, vec_len, Some, IfOk};
 ghost use Rattle.pgo_base.specs.Data.{Data};
 ghost use Rattle.pgo_base.specs.NameMaps.{has_name};
@@ -10,9 +10,9 @@ ghost use Rattle.pgo_model.specs.Log.{content};
 ghost use Rattle.pgo_model.specs.Sequences.{elements};
 ghost use Rattle.pgo_resource.specs.PlainRows.{FitsStart};
 ghost use Rattle.pgo_workers.specs.Worlds.{component_of, layout_of};
-ghost use Rattle.pgo_starts.specs.Contents.{cell_of};
+ghost use Rattle.pgo_starts.specs.Contents.{cell_of, starting_in};
 ghost use Rattle.pgo_starts.specs.ContentView.{content_shown};
-ghost use Rattle.pgo_starts.specs.Mailboxes.{is_mailbox, is_boxed, is_boxed_in};
+ghost use Rattle.pgo_starts.specs.Mailboxes.{is_mailbox, is_boxed, is_boxed_in, some_by_channel};
 
 use crate::content::Content;
 use crate::kinds::{kind_of, kinds};
@@ -95,14 +95,23 @@ fn all_contents(
     Ok(list)
 }
 
-/// The contents of all resources as a run starts, in order: a mailbox where every binding of the resource's global maps it by
-/// element, some binding by a reliable channel, and the value at the start is a sequence; else a cell.
+/// The contents of all resources in a state, in order: a mailbox where every binding of the resource's global maps it by
+/// element, some binding by a reliable channel, and the value in the state is a sequence; else a cell.
+pub fn contents_in(alloc: Global, bound: &Bound, s: &State) -> Result<Vec<Content>, AllocError>
+    ensures as_many { IfOk result (λ v. vec_len v ≡ length bound.now.resources) }
+    ensures fit { IfOk result (λ v. FitsStart content_shown (starting_in s.now (layout_of (system_of bound.now))) v.items) }
+    ensures mailboxes { IfOk result (λ v. map is_mailbox v.items ≡ map (is_boxed_in s.now (λ g. some_by_channel g bound.now.instances)) bound.now.resources) }
+{
+    let resources = bound.resources.as_slice();
+    let kinds = kinds(alloc, bound.instances.as_slice())?;
+    all_contents(alloc, s, resources, &kinds)
+}
+
+/// The contents of all resources as a run starts (`contents_in`).
 pub fn contents(alloc: Global, bound: &Bound) -> Result<Vec<Content>, AllocError>
     ensures as_many { IfOk result (λ v. vec_len v ≡ length bound.now.resources) }
     ensures fit { IfOk result (λ v. FitsStart content_shown (layout_of (system_of bound.now)) v.items) }
     ensures mailboxes { IfOk result (λ v. map is_mailbox v.items ≡ map (is_boxed bound.now) bound.now.resources) }
 {
-    let resources = bound.resources.as_slice();
-    let kinds = kinds(alloc, bound.instances.as_slice())?;
-    all_contents(alloc, &bound.start, resources, &kinds)
+    contents_in(alloc, bound, &bound.start)
 }

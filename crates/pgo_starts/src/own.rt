@@ -123,12 +123,12 @@ pub fn own_at_start(alloc: Global, layout: &BoardLayout, k: usize) -> Result<Sta
     own_of(alloc, layout, &start, k)
 }
 
-/// Those of all instances of a layout, in order.
-fn all_own(alloc: Global, layout: &BoardLayout) -> Result<Vec<State>, AllocError>
+/// Those of all instances of a layout in a state, in order.
+fn all_own(alloc: Global, layout: &BoardLayout, s: &State) -> Result<Vec<State>, AllocError>
     ensures many { IfOk result (λ v. length v.items ≡ length (layout_view layout.now).ids) }
-    ensures owns { IfOk result (λ v. (k : ℕ) (o : Vars) → nth v.items k ≡ Some o → o ≡ own_in (layout_view layout.now) (layout_view layout.now).start k) }
+    ensures owns { IfOk result (λ v. (k : ℕ) (o : Vars) → nth v.items k ≡ Some o → o ≡ own_in (layout_view layout.now) s.now k) }
 {
-    let start = IndexedState::new(alloc, &layout.start)?;
+    let start = IndexedState::new(alloc, s)?;
     let count = layout.members.as_slice().len();
     let mut list = Vec::new(alloc);
     for k in 0..count {
@@ -137,11 +137,19 @@ fn all_own(alloc: Global, layout: &BoardLayout) -> Result<Vec<State>, AllocError
     Ok(list)
 }
 
+/// The own components of all instances in a state, in order.
+pub fn all_own_in(alloc: Global, bound: &Bound, s: &State) -> Result<Vec<State>, AllocError>
+    ensures as_many { IfOk result (λ v. length v.items ≡ length bound.now.instances) }
+    ensures owns { IfOk result (λ v. (k : ℕ) (o : Vars) → nth v.items k ≡ Some o → o ≡ own_in (layout_of (system_of bound.now)) s.now k) }
+{
+    let layout = BoardLayout::of(alloc, bound)?;
+    all_own(alloc, &layout, s)
+}
+
 /// The own components of all instances as a run starts, in order.
 pub fn all_own_at_start(alloc: Global, bound: &Bound) -> Result<Vec<State>, AllocError>
     ensures as_many { IfOk result (λ v. length v.items ≡ length bound.now.instances) }
     ensures owns { IfOk result (λ v. (k : ℕ) (o : Vars) → nth v.items k ≡ Some o → o ≡ own_in (layout_of (system_of bound.now)) (system_of bound.now).start k) }
 {
-    let layout = BoardLayout::of(alloc, bound)?;
-    all_own(alloc, &layout)
+    all_own_in(alloc, bound, &bound.start)
 }

@@ -149,7 +149,7 @@ module _ {C : Type 0} (y : System) (tree : Trees) (walk : C → Walk) where
     pub keeps : KeepsOn y tree walk w b v c
 
   pub begins : (w : Worker C) (b : View Effect) → IsUnused w → SoFar w b w b
-  begins w b u = record { same = record { number = refl; settings = refl; records_room = refl; taken_room = refl }; awake = u.awake; whole = u.dropped; keeps = λ _ s. s }
+  begins w b u = record { same = record { number = refl; settings = refl; records_room = refl; taken_room = refl; told = λ h. h }; awake = u.awake; whole = u.dropped; keeps = λ _ s. s }
 
   one_more : (w : Worker C) (b : View Effect) (v : Worker C) (c : View Effect) (u : Worker C) (d : View Effect) (t : spec.Turn) → Same v u → u.out_of_memory ≡ v.out_of_memory → TurnedSo y tree walk v c u d t → Met y tree walk v c → SoFar w b v c → SoFar w b u d
   one_more w b v c u d t same awake turned met far = record {
@@ -158,6 +158,7 @@ module _ {C : Type 0} (y : System) (tree : Trees) (walk : C → Walk) where
       settings = same.settings ∙ far.same.settings;
       records_room = same.records_room ∙ far.same.records_room;
       taken_room = same.taken_room ∙ far.same.taken_room;
+      told = λ h. same.told (far.same.told h);
     };
     awake = awake ∙ far.awake;
     whole = turned_whole (world_of (layout_of y)) (program_at y tree v) (see walk v) c (see walk u) d t turned ∙ far.whole;
@@ -169,8 +170,8 @@ module _ {C : Type 0} (y : System) (tree : Trees) (walk : C → Walk) where
       → ((e : declared.End) → t ≡ turns.Idle e → ⊥) → (t ≡ turns.NoMemory → ⊥) → SoFar w b u d
   goes_on w b v c u d turns.Went same x met far a z = one_more w b v c u d spec.Went same x.1 x.2 met far
   goes_on w b v c u d (turns.Committed n) same x met far a z = one_more w b v c u d (spec.Committed n) same x.1 x.2 met far
-  goes_on w b v c u d (turns.Noted kind n) same x met far a z = one_more w b v c u d (spec.HasNoted (kind_view kind) n) same x.1 x.2 met far
-  goes_on w b v c u d (turns.Refused r) same x met far a z = one_more w b v c u d (refusal_turn r) same x.1 x.2 met far
+  goes_on w b v c u d (turns.Noted kind n) same x met far a z = one_more w b v c u d (spec.HasNoted (kind_view kind) n) same x.1 x.2.turned met far
+  goes_on w b v c u d (turns.Refused r) same x met far a z = one_more w b v c u d (refusal_turn r) same x.1 x.2.turned met far
   goes_on w b v c u d (turns.Idle e) same x met far a z = absurd (a e refl)
   goes_on w b v c u d turns.NoMemory same x met far a z = absurd (z refl)
 

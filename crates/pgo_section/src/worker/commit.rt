@@ -169,7 +169,7 @@ impl<P: Drop> Worker<P> {
         }
     }
 
-    /// Notes that the attempt found no end, or is refused. It takes no memory.
+    /// Notes that the attempt found no end, or is refused. With a note of kind Many it answers that refusal. It takes no memory.
     pub(super) fn note<S: Sections<Place = P>, B: Board>(
         &mut self,
         sections: &S,
@@ -196,8 +196,9 @@ impl<P: Drop> Worker<P> {
         };
         match board.note(note) {
             Ok(n) => {
-                self.finish(AttemptResult::Noted { kind, n });
-                Turn::Noted { kind, n }
+                let told = AttemptResult::of_note(kind, n);
+                self.finish(told);
+                Turn::of_result(told)
             }
             Err(refused) => {
                 let refusal = refused.refusal;

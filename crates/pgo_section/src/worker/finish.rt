@@ -1,6 +1,7 @@
 // How an attempt is finished, and what is held is given back.
 ghost use Rattle.std.specs.Prelude.{◌≡◌, ◌<◌, suc, length, true, false, [], map, vec_capacity};
 ghost use Rattle.pgo_model.specs.Machine.{among};
+ghost use Rattle.pgo_syntax.specs.ManyLeaves.{tells_many};
 ghost use Rattle.pgo_syntax.specs.RecordView.{result_view, settings_view};
 ghost use Rattle.pgo_workers.specs.Walk.{Walk};
 ghost use Rattle.pgo_workers.specs.Worker.{finished};
@@ -44,7 +45,8 @@ impl<P: Drop> Worker<P> {
 
     /// The attempt ends with this record; what is held is still to be given. It takes no memory.
     pub(super) fn finish(&mut self, told: AttemptResult)
-        requires { length self.old.records.items < vec_capacity self.old.records }
+        requires room { length self.old.records.items < vec_capacity self.old.records }
+        requires many { tells_many told ≡ true }
         ensures keeps { Keeps self.old self.new }
         ensures seen { (walk : P → Walk) → see walk self.new ≡ finished (result_view told) (see walk self.old) }
     {

@@ -7,4 +7,4 @@ use Rattle.pgo_starts.proofs.own.all_own.Given as goal
 
 abbrev pub invariant-loop-k : goal.invariant-loop-k
 invariant-loop-k l =
-    (length l.list.items ≡ l.k) × ((k : ℕ) (o : Vars) → nth l.list.items k ≡ Some o → o ≡ own_in (layout_view l.layout) (layout_view l.layout).start k)
+    (length l.list.items ≡ l.k) × ((k : ℕ) (o : Vars) → nth l.list.items k ≡ Some o → o ≡ own_in (layout_view l.layout) l.s k)

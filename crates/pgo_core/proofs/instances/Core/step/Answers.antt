@@ -6,7 +6,7 @@ use Rattle.pgo_core.specs.Instances.{system_of, settings_of}
 use Rattle.pgo_workers.specs.Worlds.{layout_of}
 use Rattle.pgo_core.proofs.CoreTurned.{stands_after, told_after}
 use Rattle.pgo_core.proofs.SafeKept.{safe_kept}
-use Rattle.pgo_core.proofs.TurnAnswers.{turn_answers}
+use Rattle.pgo_core.proofs.TurnAnswers.{turn_answers, turn_tells}
 use Rattle.pgo_core.proofs.StepMade.{neither, board_at, runs_of, met_of, turn_at, idle_keeps}
 use Rattle.pgo_core.proofs.instances.Core.step.Goals as goal
 
@@ -67,6 +67,7 @@ returns-else-is_mixed-clause-turns g c =
           subst (λ n. StandsWith y tree walk (settings_of a) fits (turns ++ (k ∷ [])) n vs t) one
           (stands_after y tree walk (settings_of a) turns a.made k ws vs s u t answer c.requires.safe.seats became old before after c.turn_of-turn.ensures.stays x has unmixed c.requires.made fits (st fits));
       told_is = λ has turns st fits. told_after y tree walk (settings_of a) turns a.made k ws vs s u t answer c.requires.safe.seats became old before after c.turn_of-turn.ensures.stays x has unmixed c.requires.made fits (st fits);
+      many = turn_tells y tree walk x.worker x.after (u.view k) (t.view k) answer x.turned;
       answer = λ has turns st fits. turn_answers y tree walk (settings_of a) fits turns a.made k ws s (st fits) c.requires.safe.seats x.worker x.there x.after (u.view k) (t.view k) answer has x.turned;
     }
 

@@ -19,6 +19,7 @@ returns-then-k-len-clause-turns g c =
       same = record { sections = refl; settings = refl };
       stands = λ has turns st fits. nobody_stands y (settings_of a) turns c.args.k none tree walk a.made a.workers.items (views_of a.board) fits (st fits);
       told_is = λ has turns st fits. nobody_records y (settings_of a) turns c.args.k none;
+      many = refl;
       answer = λ has turns st fits. nobody_answers y (settings_of a) (turned y (settings_of a) turns) c.args.k none;
     }
 

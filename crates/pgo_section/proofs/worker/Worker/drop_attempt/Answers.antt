@@ -1,8 +1,10 @@
 use Rattle.std.proofs.Common.{◌∙◌, true, sym, subst}
 use Rattle.pgo_model.specs.Core.{Reaches}
+use Rattle.pgo_model.specs.Machine.{is_empty}
 use Rattle.pgo_section.specs.Programs.{IsGood}
 use Rattle.pgo_workers.specs.Holds as holds
 use Rattle.pgo_workers.specs.Sentences.{Meets}
+use Rattle.pgo_workers.specs.Settles.{Settled, settled_finished}
 use Rattle.pgo_section.specs.Sight.{see, program_at}
 use Rattle.pgo_section.proofs.Events.{world}
 use Rattle.pgo_section.proofs.Gives.{phase_of}
@@ -21,5 +23,6 @@ returns-clause-met g c =
       meets = subst (λ u. Meets (world y) (program_at y tree a) (Reaches y) (IsGood y) u (g.B.Board.shows c.abort_all.new.board))
           (λ i. record w { phase = sym (phase_of walk 0 a.taken.items _ _ (sym a.taken.ok.0) c.is_empty.ensures) i; dropped = true })
           (subst (Meets (world y) (program_at y tree a) (Reaches y) (IsGood y) (Rattle.pgo_workers.specs.Stops.gives_up w)) (sym c.abort_all.ensures.shows) c.requires.drops.meets);
-      fits = record { instance = c.requires.drops.fits.instance; records = c.requires.drops.fits.records; taken = c.requires.drops.fits.taken; listed = c.requires.drops.fits.listed };
+      settles = subst Settled (sym (phase_of walk 0 a.taken.items _ _ (sym a.taken.ok.0) c.is_empty.ensures)) (settled_finished (is_empty a.taken.items));
+      fits = record { instance = c.requires.drops.fits.instance; records = c.requires.drops.fits.records; taken = c.requires.drops.fits.taken; told = c.requires.drops.fits.told; listed = c.requires.drops.fits.listed };
     }

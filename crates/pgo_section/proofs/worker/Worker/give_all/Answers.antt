@@ -7,7 +7,7 @@ use Rattle.pgo_section.proofs.worker.Worker.give_all.Goals as goal
 
 pub loop-self-init : goal.loop-self-init
 loop-self-init g c = record {
-  keeps = record { same = record { number = refl; settings = refl; records_room = refl; taken_room = refl }; out = refl };
+  keeps = record { same = record { number = refl; settings = refl; records_room = refl; taken_room = refl; told = λ h. h }; out = refl };
   layout = refl;
   stays = g.met.B.Board.stays_same c.args.board.now;
   records = refl;

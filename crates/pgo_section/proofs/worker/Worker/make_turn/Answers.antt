@@ -7,7 +7,7 @@ use Rattle.pgo_section.proofs.worker.Worker.make_turn.Goals as goal
 pub event-requires-clause-met : goal.event-requires-clause-met
 event-requires-clause-met g c =
     let a = c.args.self.now in let y = g.S.Sections.system c.args.sections.now in let tree = g.S.Sections.tree c.args.sections.now in let walk = g.S.Sections.walk c.args.sections.now in let b = g.B.Board.shows c.args.board.now in let p = c.in-Some.place in
-    met_seen y tree walk a (placed a p) b (record { number = refl; settings = refl; records_room = refl; taken_room = refl }) (see_put y tree walk a p (sym c.take.ensures.value ∙ c.in-Some.is)) c.requires.met
+    met_seen y tree walk a (placed a p) b (record { number = refl; settings = refl; records_room = refl; taken_room = refl; told = λ h. h }) (see_put y tree walk a p (sym c.take.ensures.value ∙ c.in-Some.is)) c.requires.met
 
 pub returns-in-Some-clause-keeps : goal.returns-in-Some-clause-keeps
 returns-in-Some-clause-keeps g c = on_both c.event.result _ (Keeps c.args.self.now c.event.new.self) (λ k. keeps_from c.args.self.now c.event.new.self c.take.new.self c.args.self.now.readied k) c.event.ensures.keeps
@@ -31,7 +31,7 @@ begin-requires-clause-on g c = end_same c.args.self.now c.take.new.self (sym c.t
 pub begin-requires-clause-met : goal.begin-requires-clause-met
 begin-requires-clause-met g c =
     let a = c.args.self.now in let y = g.S.Sections.system c.args.sections.now in let tree = g.S.Sections.tree c.args.sections.now in let walk = g.S.Sections.walk c.args.sections.now in let b = g.B.Board.shows c.args.board.now in
-    met_seen y tree walk a (record a { place = c.take.new.self }) b (record { number = refl; settings = refl; records_room = refl; taken_room = refl }) (see_place y tree walk a c.take.new.self (sym c.take.ensures.value ∙ c.in-None.is ∙ sym c.take.ensures.after)) c.requires.met
+    met_seen y tree walk a (record a { place = c.take.new.self }) b (record { number = refl; settings = refl; records_room = refl; taken_room = refl; told = λ h. h }) (see_place y tree walk a c.take.new.self (sym c.take.ensures.value ∙ c.in-None.is ∙ sym c.take.ensures.after)) c.requires.met
 
 pub returns-in-None-clause-keeps : goal.returns-in-None-clause-keeps
 returns-in-None-clause-keeps g c = on_both c.begin.result _ (Keeps c.args.self.now c.begin.new.self) (λ k. keeps_from c.args.self.now c.begin.new.self c.take.new.self c.args.self.now.readied k) c.begin.ensures.keeps

@@ -1,5 +1,7 @@
-use Rattle.std.proofs.Common.{◌≤◌, refl, sym, subst}
+use Rattle.std.proofs.Common.{◌≤◌, refl, sym, ap, subst}
+use Rattle.std.specs.List.{list_all}
 use Rattle.std.specs.Prelude.{vec_capacity}
+use Rattle.pgo_syntax.specs.ManyLeaves.{tells_many}
 use Rattle.pgo_syntax.specs.RecordView.{settings_view}
 use Rattle.pgo_section.specs.Programs.{RunsSystem}
 use Rattle.pgo_section.specs.Turns.{IsFresh}
@@ -12,4 +14,4 @@ returns-clause-meets g c =
     let same = c.in_ok-settings.ensures.same in
     λ b runs fresh. opens y tree walk _ b c.in_ok-records.ensures.items c.in_ok-taken.ensures.items c.requires.own refl refl refl
     (subst (λ s. RunsSystem y tree (settings_view s)) (sym same) runs) (subst (λ s. IsFresh y (settings_view s) c.args.instance b) (sym same) fresh)
-    (record { instance = c.requires.instance; records = c.in_ok-records.ensures.capacity; taken = subst (λ n. n ≤ vec_capacity c.in_ok-taken.taken) c.requires.resources c.in_ok-taken.ensures.capacity; listed = c.in_ok-settings.ensures.listed })
+    (record { instance = c.requires.instance; records = c.in_ok-records.ensures.capacity; taken = subst (λ n. n ≤ vec_capacity c.in_ok-taken.taken) c.requires.resources c.in_ok-taken.ensures.capacity; told = ap (list_all tells_many) c.in_ok-records.ensures.items; listed = c.in_ok-settings.ensures.listed })

@@ -36,7 +36,7 @@ returns-in_err-operate-clause-wants g c =
     let h = some_is _ there in
     let is = law.shown c.args.board.now c.args.r c.content.result.now h.0 c.content.ensures.value h.1 in
     any_err c.from_residual.result _ (record {
-      keeps = record { same = record { number = refl; settings = refl; records_room = refl; taken_room = refl }; out = refl };
+      keeps = record { same = record { number = refl; settings = refl; records_room = refl; taken_room = refl; told = λ h. h }; out = refl };
       records = refl;
       own = refl;
       taken = refl;
@@ -59,7 +59,7 @@ returns-in_err-back-clause-wants g c =
     let h = some_is _ there in
     let is = law.shown c.args.board.now c.args.r c.content.result.now h.0 c.content.ensures.value h.1 in
     any_err c.from_residual-in_err-back.result _ (record {
-      keeps = record { same = record { number = refl; settings = refl; records_room = refl; taken_room = refl }; out = refl };
+      keeps = record { same = record { number = refl; settings = refl; records_room = refl; taken_room = refl; told = λ h. h }; out = refl };
       records = refl;
       own = refl;
       taken = refl;

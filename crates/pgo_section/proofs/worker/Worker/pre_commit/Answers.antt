@@ -19,8 +19,8 @@ abort_all-requires-clause-held g c =
 pub abort_all-requires-clause-once : goal.abort_all-requires-clause-once
 abort_all-requires-clause-once g c = c.requires.met.meets.once
 
-pub finish-requires : goal.finish-requires
-finish-requires g c =
+pub finish-requires-clause-room : goal.finish-requires-clause-room
+finish-requires-clause-room g c =
     let a = c.args.self.now in let y = g.S.Sections.system c.args.sections.now in let tree = g.S.Sections.tree c.args.sections.now in let walk = g.S.Sections.walk c.args.sections.now in let b = g.B.Board.shows c.args.board.now in let p = c.args.place in
     has_record_room y tree walk a p c.requires.going b c.requires.met.meets c.requires.met.fits
 
@@ -39,8 +39,11 @@ returns-in-Err-clause-turned g c =
     let there = is_held b.held a.taken.items r (sym c.requires.met.meets.taken) (at_among a.taken.items a.readied r c.requires.left c.index-resource.ensures) in
     let h = some_is _ there in
     let is = law.shown c.args.board.now r c.content.result.now h.0 c.content.ensures.value h.1 in
-    was_down y tree walk a p c.requires.going b _ _ _ r c.in-Err.down.operation c.requires.next (nth_is a.taken.items a.readied r c.requires.left c.index-resource.ensures) h.0 h.1 (M c.content.result.now) (M c.pre_commit.new.self) is c.pre_commit.ensures.counts c.in-Err.ensures.down.0 c.in-Err.ensures.down.1
-    (law.puts c.args.board.now r c.pre_commit.new.self there) c.abort_all.ensures.shows (c.finish.ensures.seen walk)
+    record {
+      turned = was_down y tree walk a p c.requires.going b _ _ _ r c.in-Err.down.operation c.requires.next (nth_is a.taken.items a.readied r c.requires.left c.index-resource.ensures) h.0 h.1 (M c.content.result.now) (M c.pre_commit.new.self) is c.pre_commit.ensures.counts c.in-Err.ensures.down.0 c.in-Err.ensures.down.1
+          (law.puts c.args.board.now r c.pre_commit.new.self there) c.abort_all.ensures.shows (c.finish.ensures.seen walk);
+      many = refl;
+    }
 
 pub returns-in-Ok-clause-stays : goal.returns-in-Ok-clause-stays
 returns-in-Ok-clause-stays g c =
