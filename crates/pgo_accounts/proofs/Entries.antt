@@ -14,7 +14,8 @@ use Rattle.pgo_model.specs.MachineLists.{nth_below}
 use Rattle.pgo_model.specs.Module.{Module}
 use Rattle.pgo_model.specs.Operators.{apply}
 use Rattle.pgo_model.specs.Options.{on}
-use Rattle.pgo_model.specs.System.{Member, System, ids_of}
+use Rattle.pgo_model.specs.Outcome.{Next}
+use Rattle.pgo_model.specs.System.{Member, System, Words, ids_of}
 use Rattle.pgo_model.specs.Variables.{place_of}
 use Rattle.pgo_model.specs.Written.{pc}
 use Rattle.pgo_syntax.specs.declared.bound.Bound.{Bound}
@@ -26,6 +27,8 @@ use Rattle.pgo_bound.specs.BoundOf.{bound_of}
 use Rattle.pgo_bound.specs.Declares.{value_in}
 use Rattle.pgo_bound.specs.Sound.{IsLabel}
 use Rattle.pgo_bound.specs.State.{IsState, id_of}
+use Rattle.pgo_meaning.specs.Attempt.{next_of_try}
+use Rattle.pgo_meaning.specs.Sect.{Sect}
 use Rattle.pgo_meaning.specs.System.{member_of, system_of}
 use Rattle.pgo_meaning.proofs.SystemStates.{states_same}
 use Rattle.pgo_systems.specs.Premises.{IsGoodState, KeepsStates}
@@ -93,17 +96,20 @@ module _ (s : Spec) (consts : List (Name × Data)) (accepted : IsAccepted s cons
       by : EntryMade R f p e
       by = made p e h
 
-      x : Leads b e.instance (at p) (at (suc p)) (words_of (Seeded settings.seed e.instance e.attempt)) by.prints
-      x = leads_from b e.instance (at p) (at (suc p)) (words_of (Seeded settings.seed e.instance e.attempt)) by.prints by.outcome
+      -- the attempt ends as its section does with some words
+      led : (v : Words) × ((Sect b e.instance (at p) v).end ≡ Next (at (suc p)) by.prints)
+      led = next_of_try b e.instance (at p) (words_of (Seeded settings.seed e.instance e.attempt)) (at (suc p)) by.prints by.outcome
+
+      x : Leads b e.instance (at p) (at (suc p)) led.0 by.prints
+      x = leads_from b e.instance (at p) (at (suc p)) led.0 by.prints led.1
 
       is_its_label : IsLabel x.instance x.label
-      is_its_label =
-          is_label b e.instance (at p) (at (suc p)) (words_of (Seeded settings.seed e.instance e.attempt)) by.prints x (premises.unlabelled s consts accepted) (premises.none_done s consts accepted e.instance x.instance x.there)
+      is_its_label = is_label b e.instance (at p) (at (suc p)) led.0 by.prints x (premises.unlabelled s consts accepted) (premises.none_done s consts accepted e.instance x.instance x.there)
 
       acts : Acts m (constants_with s consts) x.label (id_of x.instance) (at p) (at (suc p))
       acts =
           (agrees.steps e.instance x.instance x.label (at p) (at (suc p)) x.there is_its_label (is_state p low) (is_state (suc p) low_next)).1
-          (x.at_label, allows b e.instance (at p) (at (suc p)) (words_of (Seeded settings.seed e.instance e.attempt)) by.prints x)
+          (x.at_label, allows b e.instance (at p) (at (suc p)) led.0 by.prints x)
 
       label_is : e.change.label ≡ x.label
       label_is = ap (λ c. c.label) by.change ∙ label_at b e.instance x.instance (at p) x.label x.there x.at_label

@@ -4,6 +4,7 @@ use Rattle.std.specs.Prelude.{◌⊎◌}
 use Rattle.pgo_base.specs.Data.{Data, string}
 use Rattle.pgo_base.specs.Lookup.{Vars, find}
 use Rattle.pgo_model.specs.Accounts.{Fits}
+use Rattle.pgo_model.specs.Choice.{Seeded, words_of}
 use Rattle.pgo_model.specs.Core.{Core, Reaches, Settings, is_at_done, is_place, rules_of, status_of}
 use Rattle.pgo_model.specs.Log.{Effect}
 use Rattle.pgo_model.specs.Machine.{Finished, Rules, finished_of, last_ends, last_state, nth, state_at}
@@ -20,6 +21,7 @@ use Rattle.pgo_bound.specs.Declares.{value_in}
 use Rattle.pgo_bound.specs.Lookups.{same_of}
 use Rattle.pgo_bound.specs.Sound.{IsLabel}
 use Rattle.pgo_bound.specs.State.{IsState, id_of, identifiers}
+use Rattle.pgo_meaning.specs.Attempt.{next_of_try}
 use Rattle.pgo_meaning.specs.Sect.{context_of, Sect}
 use Rattle.pgo_meaning.specs.System.{member_of, system_of}
 use Rattle.pgo_meaning.proofs.SystemStates.{states_same}
@@ -75,7 +77,7 @@ module _ (b : Bound) (keeps : KeepsStates b) (settings : Settings) where
             done_at j n t q ∙ ap (is_place done) (stays l.instance l.there j n q ne) ∙ sym (done_at j n s q) ∙ h
 
   leaves : LeavesOthers R (IsGoodState b)
-  leaves k a s t prints good e j ne h = at_done_stays k s t _ prints good e j ne h
+  leaves k a s t prints good e j ne h = let q = next_of_try b k s (words_of (Seeded settings.seed k a)) t prints e in at_done_stays k s t q.0 prints good q.1 j ne h
 
   -- the status is 0 exactly where each instance is at Done in the last state, if none is that its last record ends
   pub fine_by : (f : Finished Effect) → ((k : ℕ) → last_ends (f.records k) ≡ true → is_at_done y k (state_at R y.start f.entries (length f.entries)) ≡ false)

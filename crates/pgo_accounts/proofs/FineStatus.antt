@@ -4,7 +4,7 @@ use Rattle.std.specs.Prelude.{if◌then◌else◌}
 use Rattle.std.proofs.lemmas.Bool.{and_parts, and_from}
 use Rattle.pgo_base.specs.Data.{string}
 use Rattle.pgo_base.specs.Lookup.{Vars}
-use Rattle.pgo_model.specs.Core.{Settings, End, are_at_done, end_by, has_full, has_stopped, is_at_done, is_place, last_ends_from, rules_of, status_of}
+use Rattle.pgo_model.specs.Core.{Settings, End, are_at_done, are_blocked, end_by, has_full, has_stopped, is_at_done, is_place, last_ends_from, rules_of, status_of}
 use Rattle.pgo_model.specs.Log.{Effect}
 use Rattle.pgo_model.specs.Machine.{Finished, Record, Step, Noted, Held, Down, Full, last_ends, nth, state_at}
 use Rattle.pgo_model.specs.Names.{same_name-self}
@@ -47,21 +47,22 @@ passes : (o : Option End) (es : List (Option End)) → o ≡ None → (has_stopp
 passes None es e = (refl, refl)
 passes (Some x) es e = absurd (grind (arith, e))
 
--- the status, by whether an instance has stopped, one found the journal full, and all are at Done
-abbrev status_by : Bool → Bool → Bool → ℕ
-status_by a b c = if a then 20 else if b then 23 else if c then 0 else 21
+-- the status, by whether an instance has stopped, one found the journal full, all are at Done, and all others are blocked
+abbrev status_by : Bool → Bool → Bool → Bool → ℕ
+status_by a b c d = if a then 20 else if b then 23 else if c then 0 else if d then 22 else 21
 
-zero_status : (a b c : Bool) → status_by a b c ≡ 0 → c ≡ true
-zero_status true b c h = absurd (omega (arith, h))
-zero_status false true c h = absurd (omega (arith, h))
-zero_status false false true h = refl
-zero_status false false false h = absurd (omega (arith, h))
+zero_status : (a b c d : Bool) → status_by a b c d ≡ 0 → c ≡ true
+zero_status true b c d h = absurd (omega (arith, h))
+zero_status false true c d h = absurd (omega (arith, h))
+zero_status false false true d h = refl
+zero_status false false false true h = absurd (omega (arith, h))
+zero_status false false false false h = absurd (omega (arith, h))
 
-status_zero : (a b c : Bool) → a ≡ false → b ≡ false → c ≡ true → status_by a b c ≡ 0
-status_zero true b c p q r = absurd (grind (arith, p))
-status_zero false true c p q r = absurd (grind (arith, q))
-status_zero false false true p q r = refl
-status_zero false false false p q r = absurd (grind (arith, r))
+status_zero : (a b c d : Bool) → a ≡ false → b ≡ false → c ≡ true → status_by a b c d ≡ 0
+status_zero true b c d p q r = absurd (grind (arith, p))
+status_zero false true c d p q r = absurd (grind (arith, q))
+status_zero false false true d p q r = refl
+status_zero false false false d p q r = absurd (grind (arith, r))
 
 module _ (y : System) (settings : Settings) (f : Finished Effect) where
   abbrev last : Vars
@@ -93,14 +94,14 @@ module _ (y : System) (settings : Settings) (f : Finished Effect) where
   -- of the status 0 each instance is at Done
   pub zero_is_done : status_of y settings f ≡ 0 → (n : ℕ) (i : Member) → nth y.members n ≡ Some i → place_of i.id last ≡ Some (string done)
   zero_is_done h n i e =
-      let all = zero_status (has_stopped (last_ends_from f 0 y.members)) (has_full (last_ends_from f 0 y.members)) (are_at_done y last 0 y.members) h in
+      let all = zero_status (has_stopped (last_ends_from f 0 y.members)) (has_full (last_ends_from f 0 y.members)) (are_at_done y last 0 y.members) (are_blocked y last 0 y.members) h in
       at_done (place_of i.id last) (sym (here n i e) ∙ each_done 0 y.members all n n i e (omega arith))
 
   -- where each is at Done, and no instance whose last record ends it is, the status is 0
   pub done_is_zero : ((k : ℕ) → last_ends (f.records k) ≡ true → is_at_done y k last ≡ false) → ((n : ℕ) (i : Member) → nth y.members n ≡ Some i → place_of i.id last ≡ Some (string done)) → status_of y settings f ≡ 0
   done_is_zero undone all =
       let ends = none_ends 0 y.members (λ n j i e at. no_end (f.records j) (goes_on n j i e at (last_ends (f.records j)) refl)) in
-      status_zero (has_stopped (last_ends_from f 0 y.members)) (has_full (last_ends_from f 0 y.members)) (are_at_done y last 0 y.members) ends.0 ends.1 (all_done 0 y.members there)
+      status_zero (has_stopped (last_ends_from f 0 y.members)) (has_full (last_ends_from f 0 y.members)) (are_at_done y last 0 y.members) (are_blocked y last 0 y.members) ends.0 ends.1 (all_done 0 y.members there)
     where
       there : (n j : ℕ) (i : Member) → nth y.members n ≡ Some i → j ≡ n + 0 → is_at_done y j last ≡ true
       there n j i e at =

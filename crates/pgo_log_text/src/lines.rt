@@ -55,7 +55,7 @@ fn start(alloc: Global, cursor: &mut Cursor<'_>, names: &[Text]) -> Result<State
 fn is_run_status(status: u32) -> bool
     ensures { result ≡ bundle_parts.is_run_status status }
 {
-    status == 0 || status == 20 || status == 21 || status == 23
+    status == 0 || status == 20 || status == 21 || status == 22 || status == 23
 }
 
 /// A status of a run.

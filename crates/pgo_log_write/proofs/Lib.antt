@@ -1,3 +1,4 @@
 mod Joined
+mod LeavesWritten
 mod Matching
 mod Ends

@@ -1,5 +1,5 @@
 -- The accounts in memory against those of the machine.
-use Rattle.std.proofs.Common.{◌≡◌, ◌+◌, ℕ, suc, ◌||◌, ◌&&◌, List, [], ◌∷◌, ◌++◌, length, map, Option, Some, None, refl, ap, sym, ◌∙◌, arith}
+use Rattle.std.proofs.Common.{◌≡◌, ◌+◌, ℕ, suc, ◌||◌, ◌&&◌, false, List, [], ◌∷◌, ◌++◌, length, map, Option, Some, None, refl, ap, sym, ◌∙◌, arith}
 use Rattle.std.proofs.lemmas.List.{length-map}
 use Rattle.std.specs.Prelude.{codes, decimal, option_map, nat_eq, if◌then◌else◌}
 use Rattle.pgo_model.specs.Bundle.{fields, end_text, record_lines, accounts_lines}
@@ -118,7 +118,7 @@ module _ (y : System) (settings : core.Settings) (g : Finished Effect) where
       in
       λ j. here j && done_are (suc k) is list m.2 j
 
-  pub status_is : (f : code.Finished) → IsFinished y settings g f → status_at f.accounts ≡ core.status_of y settings g
+  pub status_is : (f : code.Finished) → IsFinished y settings g f → status_at f.accounts ≡ core.status_where false y settings g
   status_is f h =
       let m = all_match f y.members h h.count in
       let stopped = stopped_are 0 y.members f.accounts m in

@@ -1,4 +1,5 @@
 pub mod Fields
 pub mod IsFinished
+pub mod Leaves
 pub mod Lines
 pub mod Status

@@ -1,6 +1,6 @@
 // The status of a run.
-ghost use Rattle.std.specs.Prelude.{◌≡◌, map, option_map};
-ghost use Rattle.pgo_model.specs.Core.{Settings, end_by, status_of};
+ghost use Rattle.std.specs.Prelude.{◌≡◌, false, map, option_map};
+ghost use Rattle.pgo_model.specs.Core.{Settings, end_by, status_where};
 ghost use Rattle.pgo_model.specs.Log.{Effect};
 ghost use Rattle.pgo_model.specs.Machine as machine;
 ghost use Rattle.pgo_model.specs.System.{System};
@@ -91,12 +91,13 @@ fn status_at(accounts: &[Account]) -> u8
     }
 }
 
-/// The status of a run that has ended: 20 where the last record of some instance is a note that no retry can mend; else 23
-/// where that of some instance is the refusal Full; else 0 where all instances have ended at "Done"; else 21.
+/// The status of a run that has ended, as its accounts tell it: 20 where the last record of some instance is a note that no retry
+/// can mend; else 23 where that of some instance is the refusal Full; else 0 where all instances have ended at "Done"; else 21.
+/// Whether it is 22 in place of 21 the last state tells.
 ///
 /// Source: this project's choice.
 pub fn run_status(f: &Finished) -> u8
-    ensures { (y : System) (settings : Settings) (g : machine.Finished Effect) → IsFinished y settings g f.now → result ≡ status_of y settings g }
+    ensures { (y : System) (settings : Settings) (g : machine.Finished Effect) → IsFinished y settings g f.now → result ≡ status_where false y settings g }
 {
     status_at(f.accounts.as_slice())
 }

@@ -21,6 +21,7 @@ use Rattle.pgo_bound.specs.Lookups.{data_from}
 use Rattle.pgo_bound.specs.Runs.{runs_of}
 use Rattle.pgo_bound.specs.State.{IsState, id_of}
 use Rattle.pgo_bound.specs.Values.{defs_of}
+use Rattle.pgo_meaning.specs.Attempt.{next_of_try}
 use Rattle.pgo_meaning.specs.System.{system_of}
 use Rattle.pgo_meaning.proofs.SystemStates.{states_same}
 use Rattle.pgo_systems.specs.Premises.{AllAtLabels, IsGoodState, KeepsStates}
@@ -82,8 +83,9 @@ module _ (s : Spec) (consts : List (Name × Data)) (text : IsOfText s) (literals
       all_spellable (suc n) le =
           let e = nth_there entries n le in
           let by = made n e.0 e.1 in
-          let words = words_of (Seeded settings.seed e.0.instance e.0.attempt) in
-          let x : Leads b e.0.instance (at n) (at (suc n)) words by.prints = leads_from b e.0.instance (at n) (at (suc n)) words by.prints by.outcome in
+          let led = next_of_try b e.0.instance (at n) (words_of (Seeded settings.seed e.0.instance e.0.attempt)) (at (suc n)) by.prints by.outcome in
+          let words = led.0 in
+          let x : Leads b e.0.instance (at n) (at (suc n)) words by.prints = leads_from b e.0.instance (at n) (at (suc n)) words by.prints led.1 in
           let low : n ≤ length entries = omega (arith, le) in
           sect_within spellable b e.0.instance x.instance (at n) words (at (suc n)) by.prints x.there (written_in e.0.instance x.instance x.there) (is_state n low) (all_spellable n low)
-          (inr (places (at (suc n)) (is_state (suc n) le) (good (suc n) le).labels)) by.outcome
+          (inr (places (at (suc n)) (is_state (suc n) le) (good (suc n) le).labels)) led.1

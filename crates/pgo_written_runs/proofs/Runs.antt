@@ -9,7 +9,7 @@ use Rattle.pgo_base.specs.Lookup.{Name, Vars}
 use Rattle.pgo_base.specs.Size.{depth}
 use Rattle.pgo_model.specs.Accounts.{Accounts, EntriesMade, EntryMade, JointAccounts, Told, journal}
 use Rattle.pgo_model.specs.Choice.{Seeded, words_of}
-use Rattle.pgo_model.specs.Core.{Reaches, Settings, are_at_done, has_full, has_stopped, last_ends_from, rules_of, status_of}
+use Rattle.pgo_model.specs.Core.{Reaches, Settings, are_at_done, are_blocked, has_full, has_stopped, last_ends_from, rules_of, state_behind, status_of}
 use Rattle.pgo_model.specs.BundleParts.{is_read_name, is_run_status}
 use Rattle.pgo_model.specs.Log as log
 use Rattle.pgo_model.specs.Log.{Change, Component, Effect, changes_between, components_of, own_components, resource_components}
@@ -17,7 +17,8 @@ use Rattle.pgo_model.specs.Machine.{Entry, Finished, Record, Step, Noted, Held, 
 use Rattle.pgo_model.specs.MachineLists.{nth_below}
 use Rattle.pgo_model.specs.ModuleText.{Text}
 use Rattle.pgo_model.specs.State.{is_shallow}
-use Rattle.pgo_model.specs.System.{Member, Resource, System}
+use Rattle.pgo_model.specs.Outcome.{Next}
+use Rattle.pgo_model.specs.System.{Member, Resource, System, Words}
 use Rattle.pgo_model.specs.ValueText.{value_text}
 use Rattle.pgo_model.specs.Written.{done, pc}
 use Rattle.pgo_syntax.specs.declared.bound.Bound.{Bound}
@@ -28,6 +29,8 @@ use Rattle.pgo_bound.specs.Among.{IsAmong, among_append, among_nth, from_map, nt
 use Rattle.pgo_bound.specs.BoundOf.{bound_of}
 use Rattle.pgo_bound.specs.Sound.{IsLabel, index_in}
 use Rattle.pgo_bound.specs.State.{id_of}
+use Rattle.pgo_meaning.specs.Attempt.{next_of_try}
+use Rattle.pgo_meaning.specs.Sect.{Sect}
 use Rattle.pgo_meaning.specs.System.{member_of, resource_of, system_of}
 use Rattle.pgo_meaning.proofs.SystemStates.{states_same}
 use Rattle.pgo_module_spells.specs.Spells.{SpellsModule}
@@ -55,16 +58,17 @@ use Rattle.pgo_written_runs.proofs.OwnCounts.{own_most, process_few}
 use Rattle.pgo_written_runs.proofs.Parts.{IsLow, changes_few, content_low, found_low, key_low}
 use Rattle.pgo_written_runs.proofs.TextLengths.{constants_short, variables_short}
 
--- 0, 20, 21 or 23
+-- 0, 20, 21, 22 or 23
 pub one_status : (y : System) (settings : Settings) (f : Finished Effect) → IsTrue (is_run_status (status_of y settings f))
 one_status y settings f =
-    go (has_stopped (last_ends_from f 0 y.members)) (has_full (last_ends_from f 0 y.members)) (are_at_done y (state_at (rules_of y settings) y.start f.entries (length f.entries)) 0 y.members)
+    go (has_stopped (last_ends_from f 0 y.members)) (has_full (last_ends_from f 0 y.members)) (are_at_done y (state_behind y settings f) 0 y.members) (are_blocked y (state_behind y settings f) 0 y.members)
   where
-    go : (a b c : Bool) → IsTrue (is_run_status (if a then 20 else if b then 23 else if c then 0 else 21))
-    go true b c = refl
-    go false true c = refl
-    go false false true = refl
-    go false false false = refl
+    go : (a b c d : Bool) → IsTrue (is_run_status (if a then 20 else if b then 23 else if c then 0 else if d then 22 else 21))
+    go true b c d = refl
+    go false true c d = refl
+    go false false true d = refl
+    go false false false true = refl
+    go false false false false = refl
 
 module _ (s : Spec) (consts : List (Name × Data)) (accepted : IsAccepted s consts) (w : IsWritten (module_of s)) (canonical : (v : Data) → IsSpellable v → depth v ≤ most_depth → IsValueText (value_text v) v) (keeps : KeepsStates (bound_of s consts)) (short : length (Text (module_of s)) ≤ 4294967295) (counts : AllByRecursion (λ a. length a.params + length a.locals ≤ 524288) s.archetypes) (starts : AllSpellable (bound_of s consts).start) where
   abbrev b : Bound
@@ -178,12 +182,15 @@ module _ (s : Spec) (consts : List (Name × Data)) (accepted : IsAccepted s cons
         by : EntryMade R f p e
         by = made p e h
 
-        x : Leads b e.instance (at p) (at (suc p)) (words_of (Seeded settings.seed e.instance e.attempt)) by.prints
-        x = leads_from b e.instance (at p) (at (suc p)) (words_of (Seeded settings.seed e.instance e.attempt)) by.prints by.outcome
+        v : (v : Words) × ((Sect b e.instance (at p) v).end ≡ Next (at (suc p)) by.prints)
+        v = next_of_try b e.instance (at p) (words_of (Seeded settings.seed e.instance e.attempt)) (at (suc p)) by.prints by.outcome
+
+        x : Leads b e.instance (at p) (at (suc p)) v.0 by.prints
+        x = leads_from b e.instance (at p) (at (suc p)) v.0 by.prints v.1
 
         label_written : IsTrue (is_read_name e.change.label)
         label_written =
-            let l = is_label b e.instance (at p) (at (suc p)) (words_of (Seeded settings.seed e.instance e.attempt)) by.prints x (premises.unlabelled s consts accepted) (premises.none_done s consts accepted e.instance x.instance x.there) in
+            let l = is_label b e.instance (at p) (at (suc p)) v.0 by.prints x (premises.unlabelled s consts accepted) (premises.none_done s consts accepted e.instance x.instance x.there) in
             let named : e.change.label ≡ x.label = ap (λ c. c.label) by.change ∙ label_at b e.instance x.instance (at p) x.label x.there x.at_label in
             subst (λ z. IsTrue (is_read_name z)) (sym named) (label_name s w consts accepted e.instance x.instance x.there x.label l)
 
