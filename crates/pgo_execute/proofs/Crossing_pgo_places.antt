@@ -5,6 +5,7 @@ use denote.Param.Send.{IsSend, IsSync, struct_send, struct_sync, recorded_send, 
 use Rattle.std.proofs.Crossing.{Vec-send, Vec-sync, Arc-send, Arc-sync}
 use Rattle.pgo_base.proofs.text.Text.TheSendSync as text_kit
 use Rattle.pgo_places.proofs.place.Finish.TheSendSync as finish_kit
+use Rattle.pgo_places.specs.contracts.attempt.Attempt as attempt
 use Rattle.pgo_places.specs.contracts.place.Place as place
 use Rattle.pgo_places.specs.contracts.program.Runnable as runnable
 use Rattle.pgo_places.specs.contracts.stand.Fixed as fixed
@@ -43,3 +44,9 @@ place_field_send = struct_send (shape place.the_type) (usize_send, (usize_send, 
 
 pub place_send : IsSend place.the_row
 place_send = recorded_send _ _ _ place.the_type.to_one place_field_send
+
+pub attempt_field_send : IsSend (attempt.the_field).row
+attempt_field_send = struct_send (shape attempt.the_type) (place_field_send, (state_send, (u32_send, tt)))
+
+pub attempt_send : IsSend attempt.the_row
+attempt_send = recorded_send _ _ _ attempt.the_type.to_one attempt_field_send

@@ -7,5 +7,6 @@ pub mod Crossing_pgo_syntax
 pub mod Left
 pub mod LeftOnThreads
 pub mod Opened
+pub mod QuietStatus
 pub mod RanGiven
 pub mod ReadRuns

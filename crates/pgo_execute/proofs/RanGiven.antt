@@ -1,14 +1,14 @@
 -- What is said of a run, from what its parts give.
-use Rattle.std.proofs.Common.{◌≡◌, inl, inr, ℕ, Bool, true, false, List, [], length, refl, ap, ◌∙◌}
+use Rattle.std.proofs.Common.{◌≡◌, inl, inr, ℕ, Bool, true, false, List, [], refl, ap, ◌∙◌}
 use Rattle.std.specs.Prelude.{if◌then◌else◌}
 use Rattle.pgo_base.specs.Data.{Data}
 use Rattle.pgo_base.specs.Lookup.{Name}
 use Rattle.pgo_bound.specs.BoundOf.{bound_of}
 use Rattle.pgo_meaning.specs.System.{system_of}
 use Rattle.pgo_model.specs.Bundle.{Bundle}
-use Rattle.pgo_model.specs.Core.{Core, Settings, rules_of, status_of, last_ends_from, has_stopped, has_full, are_at_done}
+use Rattle.pgo_model.specs.Core.{Core, Settings, state_behind, status_of, last_ends_from, has_stopped, has_full, are_at_done, are_blocked}
 use Rattle.pgo_model.specs.Log.{Effect}
-use Rattle.pgo_model.specs.Machine.{Finished, finished_of, state_at}
+use Rattle.pgo_model.specs.Machine.{Finished, finished_of}
 use Rattle.pgo_model.specs.Module.{Module}
 use Rattle.pgo_model.specs.System.{System}
 use Rattle.pgo_syntax.specs.declared.bound.Bound.{Bound}
@@ -31,16 +31,17 @@ pub status_is : (s : Spec) (consts : List (Name × Data)) (b : Bound) (settings 
     → status ≡ status_of (system_of (bound_of s consts)) settings (finished_of (Core (system_of (bound_of s consts)) settings turns))
 status_is s consts b settings turns status e h = h ∙ (λ i. status_of (system_of (e i)) settings (finished_of (Core (system_of (e i)) settings turns)))
 
--- it is one of four
-pub one_of_four : (y : System) (settings : Settings) (f : Finished Effect) → IsRunStatus (status_of y settings f)
-one_of_four y settings f =
-    go (has_stopped (last_ends_from f 0 y.members)) (has_full (last_ends_from f 0 y.members)) (are_at_done y (state_at (rules_of y settings) y.start f.entries (length f.entries)) 0 y.members)
+-- it is one of five
+pub one_of_five : (y : System) (settings : Settings) (f : Finished Effect) → IsRunStatus (status_of y settings f)
+one_of_five y settings f =
+    go (has_stopped (last_ends_from f 0 y.members)) (has_full (last_ends_from f 0 y.members)) (are_at_done y (state_behind y settings f) 0 y.members) (are_blocked y (state_behind y settings f) 0 y.members)
   where
-    go : (a b c : Bool) → IsRunStatus (if a then 20 else if b then 23 else if c then 0 else 21)
-    go true b c = inr (inl refl)
-    go false true c = inr (inr (inr refl))
-    go false false true = inl refl
-    go false false false = inr (inr (inl refl))
+    go : (a b c d : Bool) → IsRunStatus (if a then 20 else if b then 23 else if c then 0 else if d then 22 else 21)
+    go true b c d = inr (inl refl)
+    go false true c d = inr (inr (inr (inr refl)))
+    go false false true d = inl refl
+    go false false false true = inr (inr (inr (inl refl)))
+    go false false false false = inr (inr (inl refl))
 
 -- a schedule that turns belong to is on one thread
 pub on_one : (schedule : Schedule) (turns : List ℕ) → TurnsOf schedule turns → on_threads schedule ≡ false

@@ -22,9 +22,9 @@ TurnsOf (Turns ts) turns = turns ≡ ts
 TurnsOf Rounds turns = Unit {0}
 TurnsOf Threads turns = ⊥
 
--- 0, 20, 21 or 23
+-- 0, 20, 21, 22 or 23
 abbrev pub IsRunStatus : ℕ → Type 0
-IsRunStatus n = (n ≡ 0) ⊎ ((n ≡ 20) ⊎ ((n ≡ 21) ⊎ (n ≡ 23)))
+IsRunStatus n = (n ≡ 0) ⊎ ((n ≡ 20) ⊎ ((n ≡ 21) ⊎ ((n ≡ 22) ⊎ (n ≡ 23))))
 
 -- what a run of a system on one thread, under the schedule, leaves in memory
 pub record Leaves (y : System) (settings : Settings) (schedule : Schedule) (f : Finished) : Type 0 where

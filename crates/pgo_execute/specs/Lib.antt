@@ -1,4 +1,5 @@
 pub mod Accepts
+pub mod AnySettings
 pub mod Executes
 pub mod Follows
 pub mod Gives

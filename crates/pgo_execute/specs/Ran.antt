@@ -5,11 +5,13 @@ use Rattle.pgo_base.specs.Data.{Data, string}
 use Rattle.pgo_base.specs.Lookup.{Name, Vars}
 use Rattle.pgo_model.specs.Accounts.{Accounts, JointAccounts, at}
 use Rattle.pgo_model.specs.Bundle.{Bundle}
+use Rattle.pgo_model.specs.Choice.{Seeded, words_of}
 use Rattle.pgo_model.specs.Core.{Core, Settings, Reaches, rules_of, status_of}
 use Rattle.pgo_model.specs.IsRun.{IsRun}
 use Rattle.pgo_model.specs.Log.{Effect, StateAt}
-use Rattle.pgo_model.specs.Machine.{Entry, Finished, finished_of, nth}
+use Rattle.pgo_model.specs.Machine.{Entry, Finished, Noted, finished_of, nth}
 use Rattle.pgo_model.specs.ModuleText.{Text}
+use Rattle.pgo_model.specs.Outcome.{Kind}
 use Rattle.pgo_model.specs.System.{System, Member, ids_of}
 use Rattle.pgo_model.specs.Variables.{place_of}
 use Rattle.pgo_model.specs.Written.{done}
@@ -17,6 +19,8 @@ use Rattle.pgo_syntax.specs.declared.spec.Spec.{Spec}
 use Rattle.pgo_bound.specs.BoundOf.{bound_of}
 use Rattle.pgo_bound.specs.Declares.{Declares}
 use Rattle.pgo_bound.specs.Sound.{Sound}
+use Rattle.pgo_meaning.specs.NoteTells.{LeavesTell}
+use Rattle.pgo_meaning.specs.Quiet.{Quiet}
 use Rattle.pgo_meaning.specs.System.{system_of}
 use Rattle.pgo_systems.specs.Failures.{DownsReached}
 use Rattle.pgo_core.specs.Cores.{EachEnds}
@@ -72,6 +76,9 @@ module _ (s : Spec) (consts : List (Name × Data)) where
     -- another instance that is bound to the resource, by a pre-commit that is set to fail, or by a full journal; on threads at
     -- the journal, too
     pub accounts : (k : ℕ) → Accounts (rules_of system settings) (Reaches system) threads f k
+    -- each record that is a note says of the leaves of its section, on the state at its position: Blocked, that all are Blocked, of which there are at
+    -- most 65,536; no value or a failed assertion, that the first leaf that isn't Blocked ends so; Many, that the first 65,536 are Blocked, and there are more
+    pub notes : (k i p : ℕ) (kind : Kind) → nth (f.records k) i ≡ Some (Noted kind p) → LeavesTell (bound_of s consts) k (at (rules_of system settings) f p) (words_of (Seeded settings.seed k (suc i))) kind
     -- over all instances no failing pre-commit is answered twice, and a full journal has as many entries as the refusal says; and
     -- where the run went on until each instance had ended, each refusal has its cause among the recorded attempts
     pub joint : JointAccounts (rules_of system settings) all f
@@ -82,6 +89,11 @@ module _ (s : Spec) (consts : List (Name × Data)) where
     -- the status is that of the records and the last state: 0 exactly where every instance is at Done
     pub status_is : status ≡ status_of system settings f
     pub fine : (status ≡ 0) ↔ AllDone (at (rules_of system settings) f (length f.entries))
+    -- 22 exactly where it is neither 20 nor 23, some instance isn't at Done in the last state, and each such one has at most 65,536
+    -- leaves there, all Blocked
+    pub quiet : (status ≡ 22) ↔ ((status ≡ 20 → ⊥) × (status ≡ 23 → ⊥) × Quiet (bound_of s consts) (at (rules_of system settings) f (length f.entries)))
+    -- and 21 exactly where it is none of 20, 22 and 23, and some instance isn't at Done in the last state
+    pub left_over : (status ≡ 21) ↔ ((status ≡ 20 → ⊥) × (status ≡ 22 → ⊥) × (status ≡ 23 → ⊥) × (AllDone (at (rules_of system settings) f (length f.entries)) → ⊥))
 
   -- what a run under a schedule left: on one thread what the core machine leaves after the turns of the list, or after those of rounds,
   -- stopped. On threads nothing is said here: in which order the turns came, or on how many threads

@@ -25,7 +25,7 @@ use pgo_accounts::{closed_boards_are_runs, made_entries_are_runs, texts_keep_sta
 use pgo_agrees::{modules_agree, texts_are_accepted};
 use pgo_log_text::bundle_reader::one_bundle;
 use pgo_run_values::spellable_values_are_read_back;
-use pgo_systems::pre_commits_are_of_bound_resources;
+use pgo_systems::{notes_tell_of_leaves, pre_commits_are_of_bound_resources};
 use pgo_written::modules_are_read_back;
 use pgo_written_runs::{read_values_are_canonical, runs_are_read_back};
 
@@ -50,6 +50,7 @@ pub fn closed_boards_ran()
     made_entries_are_runs();
     closed_boards_are_runs();
     pre_commits_are_of_bound_resources();
+    notes_tell_of_leaves();
     runs_are_read_back();
     one_bundle();
 }

@@ -24,7 +24,7 @@ use std::alloc::Global;
 use std::sync::Wait;
 use std::thread::Threads;
 
-/// What a run writes, and its status: 0, 20, 21 or 23.
+/// What a run writes, and its status: 0, 20, 21, 22 or 23.
 #[derive(Drop)]
 pub struct Executed {
     pub text: Text,

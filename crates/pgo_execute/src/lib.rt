@@ -6,4 +6,5 @@ mod constants;
 pub mod execute;
 mod run;
 pub mod schedule;
+mod status;
 mod threads;

@@ -24,6 +24,7 @@ ghost use Rattle.pgo_written_runs.specs.Failures.{DownsShort};
 use crate::constants::declared_constants;
 use crate::execute::Executed;
 use crate::schedule::Schedule;
+use crate::status::status_of_run;
 use pgo_accounts::{
     statuses_are_fine, texts_keep_states, texts_run_as_written, workers_follow_machines,
 };
@@ -36,7 +37,6 @@ use pgo_journal::finished::Finished;
 use pgo_links::link::Link;
 use pgo_links::linked::linked;
 use pgo_log_text::bundle_reader::one_bundle;
-use pgo_log_write::status::run_status;
 use pgo_log_write::write::write_bundle;
 use pgo_lower::lower::lower;
 use pgo_places::program::Runnable;
@@ -45,12 +45,13 @@ use pgo_programs::programs_run;
 use pgo_resource::resource::Resource;
 use pgo_resource::sections::Sections;
 use pgo_run_values::spellable_values_are_read_back;
+use pgo_runnable::accepted_runs;
 use pgo_starts::content::Content;
 use pgo_starts::contents::contents;
 use pgo_starts::own::all_own_at_start;
 use pgo_syntax::bound::Bound;
 use pgo_syntax::records::{Down, Settings};
-use pgo_systems::pre_commits_are_of_bound_resources;
+use pgo_systems::{notes_tell_of_leaves, pre_commits_are_of_bound_resources};
 use pgo_translate::translate::translate;
 use pgo_written::modules_are_read_back;
 use pgo_written_runs::{read_values_are_canonical, runs_are_read_back};
@@ -175,15 +176,17 @@ pub fn expanded_run(
     texts_run_as_written();
     workers_follow_machines();
     pre_commits_are_of_bound_resources();
+    notes_tell_of_leaves();
     modules_agree();
     modules_are_read_back();
     runs_are_read_back();
     one_bundle();
     statuses_are_fine();
+    accepted_runs();
     let made = translate(alloc, expanded)?;
     let constants = declared_constants(alloc, &bound.spec, consts)?;
     let finished = finished_under(alloc, bound, settings, schedule)?;
-    let status = run_status(&finished);
+    let status = status_of_run(alloc, bound, &finished)?;
     let text = write_bundle(alloc, &made, &constants, bound, &finished, status)?;
     Ok(Executed { text, status })
 }

@@ -20,19 +20,22 @@ use crate::closed::closed_boards_ran;
 use crate::constants::declared_constants;
 use crate::execute::Executed;
 use crate::run::{counts_are_short, sections};
-use pgo_accounts::{closed_boards_are_runs, texts_keep_states, workers_follow_machines};
+use crate::status::status_of_run;
+use pgo_accounts::{
+    closed_boards_are_runs, made_entries_are_runs, texts_keep_states, workers_follow_machines,
+};
 use pgo_agrees::{premises_hold, texts_are_accepted};
 use pgo_base::consts::Consts;
 use pgo_base::results::both;
 use pgo_journal::finished::Finished;
 use pgo_links::linked::linked;
-use pgo_log_write::status::run_status;
 use pgo_log_write::write::write_bundle;
 use pgo_pluscal::pluscal::PlusCal;
 use pgo_programs::programs_run;
 use pgo_run_all::run_all::run_all;
 use pgo_run_all::run_parked::run_parked;
 use pgo_run_values::spellable_values_are_read_back;
+use pgo_runnable::accepted_runs;
 use pgo_starts::contents::contents;
 use pgo_starts::own::all_own_at_start;
 use pgo_syntax::bound::Bound;
@@ -95,10 +98,12 @@ pub fn expanded_on_threads<T: Threads + Wait + Sync, G: Gate + Sync>(
     workers_follow_machines();
     closed_boards_are_runs();
     closed_boards_ran();
+    made_entries_are_runs();
+    accepted_runs();
     let made = translate(alloc, expanded)?;
     let constants = declared_constants(alloc, &bound.spec, consts)?;
     let finished = finished_on_threads(rt, alloc, bound, settings, gate)?;
-    let status = run_status(&finished);
+    let status = status_of_run(alloc, bound, &finished)?;
     let text = write_bundle(alloc, &made, &constants, bound, &finished, status)?;
     Ok(Executed { text, status })
 }

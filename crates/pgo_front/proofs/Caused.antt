@@ -37,6 +37,7 @@ module _ (words : List (List ℕ)) (input : Option (List ℕ)) (before now : ℕ
     pub fine : s ≡ status.Fine → EndsWell words input old new
     pub halted : s ≡ status.Stopped → WritesBundle words input 20 old new
     pub spent : s ≡ status.Spent → WritesBundle words input 21 old new
+    pub quiet : s ≡ status.Quiet → WritesBundle words input 22 old new
     pub full : s ≡ status.Full → WritesBundle words input 23 old new
     pub not_a_run : s ≡ status.NotARun → WritesVerdict words input IsBadVerdict old new
     pub stopped : IsRefusal s → Stops words input before now s
@@ -78,6 +79,7 @@ module _ (words : List (List ℕ)) (input : Option (List ℕ)) (before now : ℕ
       long_asks (inr (inr h)) = inl (inr (inr h.0))
   usage_comes status.Stopped h nothing = absurd (not_nothing words (inl (inl (h.halted refl).0)) nothing)
   usage_comes status.Spent h nothing = absurd (not_nothing words (inl (inl (h.spent refl).0)) nothing)
+  usage_comes status.Quiet h nothing = absurd (not_nothing words (inl (inl (h.quiet refl).0)) nothing)
   usage_comes status.Full h nothing = absurd (not_nothing words (inl (inl (h.full refl).0)) nothing)
   usage_comes status.NotARun h nothing = absurd (not_nothing words (inl (inr (inl (h.not_a_run refl).0))) nothing)
   usage_comes status.BadBundle h nothing = absurd (not_nothing words (inl (inr (inl (h.stopped tt).0))) nothing)
@@ -138,6 +140,7 @@ module _ (words : List (List ℕ)) (input : Option (List ℕ)) (before now : ℕ
     too_long_bundle_comes status.TooLong h long = inl refl
     too_long_bundle_comes status.Stopped h long = no_run (h.halted refl).0
     too_long_bundle_comes status.Spent h long = no_run (h.spent refl).0
+    too_long_bundle_comes status.Quiet h long = no_run (h.quiet refl).0
     too_long_bundle_comes status.Full h long = no_run (h.full refl).0
     too_long_bundle_comes status.NotARun h long = absurd (not_short_bundle long (found IsBadVerdict (h.not_a_run refl)).2.0)
     too_long_bundle_comes status.BadBundle h long = absurd (not_short_bundle long (refused_bundle (h.stopped tt)).0)
@@ -153,6 +156,7 @@ module _ (words : List (List ℕ)) (input : Option (List ℕ)) (before now : ℕ
     no_bundle_comes status.TooLong h short nothing = absurd (not_short_bundle (long_bundle (h.stopped tt)) short)
     no_bundle_comes status.Stopped h short nothing = no_run (h.halted refl).0
     no_bundle_comes status.Spent h short nothing = no_run (h.spent refl).0
+    no_bundle_comes status.Quiet h short nothing = no_run (h.quiet refl).0
     no_bundle_comes status.Full h short nothing = no_run (h.full refl).0
     no_bundle_comes status.NotARun h short nothing = absurd (is_some_bundle (found IsBadVerdict (h.not_a_run refl)).2 nothing)
     no_bundle_comes status.BadBundle h short nothing = inl refl
@@ -169,6 +173,7 @@ module _ (words : List (List ℕ)) (input : Option (List ℕ)) (before now : ℕ
       is_run_comes status.TooLong h run = absurd (not_short_bundle (long_bundle (h.stopped tt)) short)
       is_run_comes status.Stopped h run = no_run (h.halted refl).0
       is_run_comes status.Spent h run = no_run (h.spent refl).0
+      is_run_comes status.Quiet h run = no_run (h.quiet refl).0
       is_run_comes status.Full h run = no_run (h.full refl).0
       is_run_comes status.NotARun h run = let f = found IsBadVerdict (h.not_a_run refl) in absurd (run_is_not_bad text m consts l bundle run f.0 f.2.1 f.1)
       is_run_comes status.BadBundle h run = absurd ((refused_bundle (h.stopped tt)).1 m consts l bundle)
@@ -184,6 +189,7 @@ module _ (words : List (List ℕ)) (input : Option (List ℕ)) (before now : ℕ
       is_no_run_comes status.TooLong h none = absurd (not_short_bundle (long_bundle (h.stopped tt)) short)
       is_no_run_comes status.Stopped h none = no_run (h.halted refl).0
       is_no_run_comes status.Spent h none = no_run (h.spent refl).0
+      is_no_run_comes status.Quiet h none = no_run (h.quiet refl).0
       is_no_run_comes status.Full h none = no_run (h.full refl).0
       is_no_run_comes status.NotARun h none = inl refl
       is_no_run_comes status.BadBundle h none = absurd ((refused_bundle (h.stopped tt)).1 m consts l bundle)

@@ -77,6 +77,7 @@ module _ (words : List (List ℕ)) (input : Option (List ℕ)) (before now : ℕ
   too_long_comes status.TooLong h long = inl refl
   too_long_comes status.Stopped h long = absurd (not_short long (made 20 (h.halted refl)).2.short)
   too_long_comes status.Spent h long = absurd (not_short long (made 21 (h.spent refl)).2.short)
+  too_long_comes status.Quiet h long = absurd (not_short long (made 22 (h.quiet refl)).2.short)
   too_long_comes status.Full h long = absurd (not_short long (made 23 (h.full refl)).2.short)
   too_long_comes status.NotARun h long = no_check (h.not_a_run refl).0
   too_long_comes status.BadBundle h long = no_check (h.stopped tt).0
@@ -93,6 +94,7 @@ module _ (words : List (List ℕ)) (input : Option (List ℕ)) (before now : ℕ
   refused_comes status.TooLong h short none = absurd (not_short (long_text (h.stopped tt)) short)
   refused_comes status.Stopped h short none = absurd (none (was_expandable (made 20 (h.halted refl))))
   refused_comes status.Spent h short none = absurd (none (was_expandable (made 21 (h.spent refl))))
+  refused_comes status.Quiet h short none = absurd (none (was_expandable (made 22 (h.quiet refl))))
   refused_comes status.Full h short none = absurd (none (was_expandable (made 23 (h.full refl))))
   refused_comes status.NotARun h short none = no_check (h.not_a_run refl).0
   refused_comes status.BadBundle h short none = no_check (h.stopped tt).0
@@ -109,7 +111,8 @@ module _ (words : List (List ℕ)) (input : Option (List ℕ)) (before now : ℕ
   run_comes status.TooLong h wrote short x = absurd (not_short (long_text (h.stopped tt)) short)
   run_comes status.Stopped h wrote short x = inr (inl refl)
   run_comes status.Spent h wrote short x = inr (inr (inl refl))
-  run_comes status.Full h wrote short x = inr (inr (inr (inl refl)))
+  run_comes status.Quiet h wrote short x = inr (inr (inr (inl refl)))
+  run_comes status.Full h wrote short x = inr (inr (inr (inr (inl refl))))
   run_comes status.NotARun h wrote short x = no_check (h.not_a_run refl).0
   run_comes status.BadBundle h wrote short x = no_check (h.stopped tt).0
-  run_comes status.NoMemory h wrote short x = inr (inr (inr (inr refl)))
+  run_comes status.NoMemory h wrote short x = inr (inr (inr (inr (inr refl))))

@@ -74,6 +74,7 @@ module _ (words : List (List ℕ)) (input : Option (List ℕ)) (before now : ℕ
   loads_comes status.TooLong h wrote x = not_long (h.stopped tt)
   loads_comes status.Stopped h wrote x = no_run (h.halted refl).0
   loads_comes status.Spent h wrote x = no_run (h.spent refl).0
+  loads_comes status.Quiet h wrote x = no_run (h.quiet refl).0
   loads_comes status.Full h wrote x = no_run (h.full refl).0
   loads_comes status.NotARun h wrote x = no_check (h.not_a_run refl).0
   loads_comes status.BadBundle h wrote x = no_check (h.stopped tt).0
@@ -89,6 +90,7 @@ module _ (words : List (List ℕ)) (input : Option (List ℕ)) (before now : ℕ
   load_refused_comes status.TooLong h none = not_long (h.stopped tt)
   load_refused_comes status.Stopped h none = no_run (h.halted refl).0
   load_refused_comes status.Spent h none = no_run (h.spent refl).0
+  load_refused_comes status.Quiet h none = no_run (h.quiet refl).0
   load_refused_comes status.Full h none = no_run (h.full refl).0
   load_refused_comes status.NotARun h none = no_check (h.not_a_run refl).0
   load_refused_comes status.BadBundle h none = no_check (h.stopped tt).0

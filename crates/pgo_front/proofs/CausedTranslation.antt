@@ -79,6 +79,7 @@ module _ (words : List (List ℕ)) (input : Option (List ℕ)) (before now : ℕ
   too_long_to_translate_comes status.TooLong h long = inl refl
   too_long_to_translate_comes status.Stopped h long = no_run (h.halted refl).0
   too_long_to_translate_comes status.Spent h long = no_run (h.spent refl).0
+  too_long_to_translate_comes status.Quiet h long = no_run (h.quiet refl).0
   too_long_to_translate_comes status.Full h long = no_run (h.full refl).0
   too_long_to_translate_comes status.NotARun h long = no_check (h.not_a_run refl).0
   too_long_to_translate_comes status.BadBundle h long = no_check (h.stopped tt).0
@@ -95,6 +96,7 @@ module _ (words : List (List ℕ)) (input : Option (List ℕ)) (before now : ℕ
   not_translated_comes status.TooLong h short none = absurd (not_short (long_text (h.stopped tt)) short)
   not_translated_comes status.Stopped h short none = no_run (h.halted refl).0
   not_translated_comes status.Spent h short none = no_run (h.spent refl).0
+  not_translated_comes status.Quiet h short none = no_run (h.quiet refl).0
   not_translated_comes status.Full h short none = no_run (h.full refl).0
   not_translated_comes status.NotARun h short none = no_check (h.not_a_run refl).0
   not_translated_comes status.BadBundle h short none = no_check (h.stopped tt).0
@@ -111,6 +113,7 @@ module _ (words : List (List ℕ)) (input : Option (List ℕ)) (before now : ℕ
   translates_comes status.TooLong h wrote short x = absurd (not_short (long_text (h.stopped tt)) short)
   translates_comes status.Stopped h wrote short x = no_run (h.halted refl).0
   translates_comes status.Spent h wrote short x = no_run (h.spent refl).0
+  translates_comes status.Quiet h wrote short x = no_run (h.quiet refl).0
   translates_comes status.Full h wrote short x = no_run (h.full refl).0
   translates_comes status.NotARun h wrote short x = no_check (h.not_a_run refl).0
   translates_comes status.BadBundle h wrote short x = no_check (h.stopped tt).0

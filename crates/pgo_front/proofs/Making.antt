@@ -208,6 +208,10 @@ pub spent_to : (words : List (List ℕ)) (input old new : Option (List ℕ)) (m 
     → MakesAsked words input m → Grows old new (bytes_of m.written) → WritesBundle words input 21 old new
 spent_to words input old new m e h g = bundle_to words input old new m status.Spent e (λ n. omega (arith, n)) (λ n. omega (arith, n)) h g
 
+pub quiet_to : (words : List (List ℕ)) (input old new : Option (List ℕ)) (m : Output) → m.status ≡ status.Quiet
+    → MakesAsked words input m → Grows old new (bytes_of m.written) → WritesBundle words input 22 old new
+quiet_to words input old new m e h g = bundle_to words input old new m status.Quiet e (λ n. omega (arith, n)) (λ n. omega (arith, n)) h g
+
 pub full_to : (words : List (List ℕ)) (input old new : Option (List ℕ)) (m : Output) → m.status ≡ status.Full
     → MakesAsked words input m → Grows old new (bytes_of m.written) → WritesBundle words input 23 old new
 full_to words input old new m e h g = bundle_to words input old new m status.Full e (λ n. omega (arith, n)) (λ n. omega (arith, n)) h g
@@ -220,7 +224,8 @@ not_a_run_to words input old new m e (inl h) g = absurd (none h.1)
     none (inl f) = fine_no_run m f e
     none (inr (inl f)) = let n : 20 ≡ 30 = numbered f e in omega (arith, n)
     none (inr (inr (inl f))) = let n : 21 ≡ 30 = numbered f e in omega (arith, n)
-    none (inr (inr (inr f))) = let n : 23 ≡ 30 = numbered f e in omega (arith, n)
+    none (inr (inr (inr (inl f)))) = let n : 22 ≡ 30 = numbered f e in omega (arith, n)
+    none (inr (inr (inr (inr f)))) = let n : 23 ≡ 30 = numbered f e in omega (arith, n)
 not_a_run_to words input old new m e (inr (inr (inl h))) g = absurd (fine_no_run m h.1 e)
 not_a_run_to words input old new m e (inr (inr (inr h))) g = absurd (fine_no_run m h.0 e)
 not_a_run_to words None old new m e (inr (inl h)) g = (h.0, tt)
@@ -235,7 +240,8 @@ made_no_fault words input m (inl h) e = ran h.1
     ran (inl f) = let n : 0 ≡ 13 = numbered f e in omega (arith, n)
     ran (inr (inl f)) = let n : 20 ≡ 13 = numbered f e in omega (arith, n)
     ran (inr (inr (inl f))) = let n : 21 ≡ 13 = numbered f e in omega (arith, n)
-    ran (inr (inr (inr f))) = let n : 23 ≡ 13 = numbered f e in omega (arith, n)
+    ran (inr (inr (inr (inl f)))) = let n : 22 ≡ 13 = numbered f e in omega (arith, n)
+    ran (inr (inr (inr (inr f)))) = let n : 23 ≡ 13 = numbered f e in omega (arith, n)
 made_no_fault words input m (inr (inl h)) e = judged h.1
   where
     judged : IsVerdictStatus m → ⊥
@@ -252,7 +258,8 @@ made_no_refusal words input m (inl h) r = ran h.1
     ran (inl f) = subst IsRefusal f r
     ran (inr (inl f)) = subst IsRefusal f r
     ran (inr (inr (inl f))) = subst IsRefusal f r
-    ran (inr (inr (inr f))) = subst IsRefusal f r
+    ran (inr (inr (inr (inl f)))) = subst IsRefusal f r
+    ran (inr (inr (inr (inr f)))) = subst IsRefusal f r
 made_no_refusal words input m (inr (inl h)) r = judged h.1
   where
     judged : IsVerdictStatus m → ⊥
@@ -311,7 +318,8 @@ made_line words input Q s line m e none h = made h
     ran (inl f) = no_line input Q s line 0 (ap number_of (e ∙ f)) (λ n. omega (arith, n)) (λ n. omega (arith, n)) none
     ran (inr (inl f)) = no_line input Q s line 20 (ap number_of (e ∙ f)) (λ n. omega (arith, n)) (λ n. omega (arith, n)) none
     ran (inr (inr (inl f))) = no_line input Q s line 21 (ap number_of (e ∙ f)) (λ n. omega (arith, n)) (λ n. omega (arith, n)) none
-    ran (inr (inr (inr f))) = no_line input Q s line 23 (ap number_of (e ∙ f)) (λ n. omega (arith, n)) (λ n. omega (arith, n)) none
+    ran (inr (inr (inr (inl f)))) = no_line input Q s line 22 (ap number_of (e ∙ f)) (λ n. omega (arith, n)) (λ n. omega (arith, n)) none
+    ran (inr (inr (inr (inr f)))) = no_line input Q s line 23 (ap number_of (e ∙ f)) (λ n. omega (arith, n)) (λ n. omega (arith, n)) none
 
     judged : IsVerdictStatus m → HasOwnLine input Q s line
     judged (inl f) = no_line input Q s line 0 (ap number_of (e ∙ f)) (λ n. omega (arith, n)) (λ n. omega (arith, n)) none
@@ -389,6 +397,7 @@ pub silent_status : (s : Status) → IsSilent s → line_of s ≡ None
 silent_status status.Fine h = refl
 silent_status status.Stopped h = refl
 silent_status status.Spent h = refl
+silent_status status.Quiet h = refl
 silent_status status.Full h = refl
 silent_status status.NotARun h = refl
 silent_status status.Usage h = absurd h

@@ -10,7 +10,7 @@ use Rattle.pgo_front.specs.Answers.{AsksSomeLoad, ReadsNothing, RefusesSpec, Sto
 use Rattle.pgo_front.specs.Streams.{Stream, before, after, Failed}
 use Rattle.pgo_front.specs.Headline.{Headline}
 use Rattle.pgo_front.specs.Makes.{MakesAsked, HasOwnLine, IsWritten, IsCutShort, EndsAs}
-use Rattle.pgo_front.proofs.Making.{numbered, into_fault, fine_to, halted_to, spent_to, full_to, not_a_run_to, made_line, no_line, made_no_fault, made_no_refusal, said_refusal, said_bundle, silent_status, silent_line}
+use Rattle.pgo_front.proofs.Making.{numbered, into_fault, fine_to, halted_to, spent_to, quiet_to, full_to, not_a_run_to, made_line, no_line, made_no_fault, made_no_refusal, said_refusal, said_bundle, silent_status, silent_line}
 use Rattle.pgo_front.proofs.Caused.{Says, usage_comes, too_long_bundle_comes, no_bundle_comes, is_run_comes, is_no_run_comes}
 use Rattle.pgo_front.proofs.CausedExecution.{too_long_comes, refused_comes, run_comes}
 use Rattle.pgo_front.proofs.CausedTranslation.{too_long_to_translate_comes, not_translated_comes, translates_comes}
@@ -33,6 +33,7 @@ module _ {S O E : Type 0} (words : List (List ℕ)) (input : Stream S) (out : St
     fine = λ e. fine_to words (before input) _ _ m (sym w.status_is ∙ e) h w.all;
     halted = λ e. halted_to words (before input) _ _ m (sym w.status_is ∙ e) h w.all;
     spent = λ e. spent_to words (before input) _ _ m (sym w.status_is ∙ e) h w.all;
+    quiet = λ e. quiet_to words (before input) _ _ m (sym w.status_is ∙ e) h w.all;
     full = λ e. full_to words (before input) _ _ m (sym w.status_is ∙ e) h w.all;
     not_a_run = λ e. not_a_run_to words (before input) _ _ m (sym w.status_is ∙ e) h w.all;
     stopped = λ r. absurd (made_no_refusal words (before input) m h (subst IsRefusal w.status_is r));
@@ -46,6 +47,7 @@ module _ {S O E : Type 0} (words : List (List ℕ)) (input : Stream S) (out : St
     fine = λ e. absurd (let n : 13 ≡ 0 = numbered c.status_is e in omega (arith, n));
     halted = λ e. absurd (let n : 13 ≡ 20 = numbered c.status_is e in omega (arith, n));
     spent = λ e. absurd (let n : 13 ≡ 21 = numbered c.status_is e in omega (arith, n));
+    quiet = λ e. absurd (let n : 13 ≡ 22 = numbered c.status_is e in omega (arith, n));
     full = λ e. absurd (let n : 13 ≡ 23 = numbered c.status_is e in omega (arith, n));
     not_a_run = λ e. absurd (let n : 13 ≡ 30 = numbered c.status_is e in omega (arith, n));
     stopped = λ r. absurd (subst IsRefusal c.status_is r);
@@ -59,6 +61,7 @@ module _ {S O E : Type 0} (words : List (List ℕ)) (input : Stream S) (out : St
     fine = λ e. absurd (subst IsRefusal e r);
     halted = λ e. absurd (subst IsRefusal e r);
     spent = λ e. absurd (subst IsRefusal e r);
+    quiet = λ e. absurd (subst IsRefusal e r);
     full = λ e. absurd (subst IsRefusal e r);
     not_a_run = λ e. absurd (subst IsRefusal e r);
     stopped = λ _. stops;
@@ -125,6 +128,7 @@ module _ {S O E : Type 0} (words : List (List ℕ)) (input : Stream S) (out : St
         fine = of_status.fine;
         halted = of_status.halted;
         spent = of_status.spent;
+        quiet = of_status.quiet;
         full = of_status.full;
         runs = λ schedule settings text consts told read wrote short x. run_comes words (before input) _ _ _ _ _ _ schedule settings text consts told read e.status of_status wrote short x;
         translates = λ target text consts told read wrote short x. translates_comes words (before input) _ _ _ _ _ _ target text consts told read e.status of_status wrote short x;

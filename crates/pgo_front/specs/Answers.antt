@@ -171,6 +171,7 @@ Stops words input before now status.Fine = ⊥
 Stops words input before now status.WriteFault = ⊥
 Stops words input before now status.Stopped = ⊥
 Stops words input before now status.Spent = ⊥
+Stops words input before now status.Quiet = ⊥
 Stops words input before now status.Full = ⊥
 Stops words input before now status.NotARun = ⊥
 
@@ -179,6 +180,7 @@ abbrev pub IsRefusal : Status → Type 0
 IsRefusal status.Fine = ⊥
 IsRefusal status.Stopped = ⊥
 IsRefusal status.Spent = ⊥
+IsRefusal status.Quiet = ⊥
 IsRefusal status.Full = ⊥
 IsRefusal status.NotARun = ⊥
 IsRefusal status.WriteFault = ⊥
@@ -194,6 +196,7 @@ abbrev pub ReadsAll : Status → Type 0
 ReadsAll status.Fine = Unit {0}
 ReadsAll status.Stopped = Unit {0}
 ReadsAll status.Spent = Unit {0}
+ReadsAll status.Quiet = Unit {0}
 ReadsAll status.Full = Unit {0}
 ReadsAll status.NotARun = Unit {0}
 ReadsAll status.WriteFault = Unit {0}
@@ -214,7 +217,7 @@ OrNoMemory s expected = (s ≡ expected) ⊎ (s ≡ status.NoMemory)
 
 -- the status of a run, or want of memory, which is free
 abbrev pub IsRunOrNoMemory : Status → Type 0
-IsRunOrNoMemory s = (s ≡ status.Fine) ⊎ ((s ≡ status.Stopped) ⊎ ((s ≡ status.Spent) ⊎ OrNoMemory s status.Full))
+IsRunOrNoMemory s = (s ≡ status.Fine) ⊎ ((s ≡ status.Stopped) ⊎ ((s ≡ status.Spent) ⊎ ((s ≡ status.Quiet) ⊎ OrNoMemory s status.Full)))
 
 -- the error output has grown by the line of the status, where it has one
 abbrev pub SaysLine : Status → (old new : Option (List ℕ)) → Type 0

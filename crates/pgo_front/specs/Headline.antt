@@ -28,6 +28,7 @@ pub record Headline {S O E : Type 0} (words : List (List ℕ)) (input : Stream S
   -- Runs.
   pub halted : s ≡ status.Stopped → WritesBundle words (before input) 20 (before out) (after out)
   pub spent : s ≡ status.Spent → WritesBundle words (before input) 21 (before out) (after out)
+  pub quiet : s ≡ status.Quiet → WritesBundle words (before input) 22 (before out) (after out)
   pub full : s ≡ status.Full → WritesBundle words (before input) 23 (before out) (after out)
   pub runs : (schedule : Schedule) (settings : Settings) (text : List ℕ) (consts : List (Name × Data))
       → IsToldToExecute schedule settings words (before input) consts text → ¬ Failed input → ¬ Failed out

@@ -66,7 +66,7 @@ StopsReading limit input before now s =
 
 -- the command ran
 abbrev pub IsRunEnd : Status → Type 0
-IsRunEnd s = (s ≡ status.Fine) ⊎ ((s ≡ status.Stopped) ⊎ ((s ≡ status.Spent) ⊎ (s ≡ status.Full)))
+IsRunEnd s = (s ≡ status.Fine) ⊎ ((s ≡ status.Stopped) ⊎ ((s ≡ status.Spent) ⊎ ((s ≡ status.Quiet) ⊎ (s ≡ status.Full))))
 
 -- this is what the run of the text with these constants and settings under this schedule gives
 abbrev pub MakesRun : Schedule → Settings → (text : List ℕ) → List (Name × Data) → Output → Type 0

@@ -110,6 +110,7 @@ fn run_status(number: u8) -> Status
         0 => Status::Fine,
         20 => Status::Stopped,
         21 => Status::Spent,
+        22 => Status::Quiet,
         _ => Status::Full,
     }
 }

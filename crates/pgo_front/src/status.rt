@@ -20,8 +20,10 @@ pub enum Status {
     TooLong,
     /// Some instance came to a value that there isn't, or to an assertion that fails.
     Stopped,
-    /// Some instance isn't at Done, and none came to what stops it.
+    /// Some instance isn't at Done, none came to what stops it, and some instance that isn't at Done isn't blocked.
     Spent,
+    /// Some instance isn't at Done, none came to what stops it, and each that isn't at Done is blocked, whatever it chooses.
+    Quiet,
     /// Some instance's last attempt was refused because the journal was full.
     Full,
     /// The bundle's log is no run of its module.
@@ -34,7 +36,7 @@ pub enum Status {
 }
 
 impl Status {
-    /// The exit status: 0, 10, 11, 12, 13, 14, 20, 21, 23, 30, 31 or 40.
+    /// The exit status: 0, 10, 11, 12, 13, 14, 20, 21, 22, 23, 30, 31 or 40.
     pub fn number(self) -> u8
         ensures { result ≡ number_of self }
     {
@@ -47,6 +49,7 @@ impl Status {
             Status::TooLong => 14,
             Status::Stopped => 20,
             Status::Spent => 21,
+            Status::Quiet => 22,
             Status::Full => 23,
             Status::NotARun => 30,
             Status::BadBundle => 31,
@@ -63,6 +66,7 @@ impl Status {
             Status::Fine
             | Status::Stopped
             | Status::Spent
+            | Status::Quiet
             | Status::Full
             | Status::NotARun
             | Status::SpecRefused

@@ -13,8 +13,9 @@ nothing_done words input out err unread kept says = record {
   fine = λ e. absurd (let n : 40 ≡ 0 = ap number_of e in omega (arith, n));
   halted = λ e. absurd (let n : 40 ≡ 20 = ap number_of e in omega (arith, n));
   spent = λ e. absurd (let n : 40 ≡ 21 = ap number_of e in omega (arith, n));
+  quiet = λ e. absurd (let n : 40 ≡ 22 = ap number_of e in omega (arith, n));
   full = λ e. absurd (let n : 40 ≡ 23 = ap number_of e in omega (arith, n));
-  runs = λ schedule settings text consts told read wrote short x. inr (inr (inr (inr refl)));
+  runs = λ schedule settings text consts told read wrote short x. inr (inr (inr (inr (inr refl))));
   translates = λ target text consts told read wrote short x. inr refl;
   not_a_run = λ e. absurd (let n : 40 ≡ 30 = ap number_of e in omega (arith, n));
   is_run = λ text m consts l told read wrote short bundle run. inr refl;

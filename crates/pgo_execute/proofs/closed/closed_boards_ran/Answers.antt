@@ -10,6 +10,8 @@ use Rattle.pgo_systems.proofs.States.{counted_values}
 use Rattle.pgo_translate.specs.ModuleOf.{constants_with, module_of}
 use Rattle.pgo_log_text.specs.LogOf.{log_of}
 use Rattle.pgo_accounts.specs.ClosedTexts.{left_of}
+use Rattle.pgo_execute.proofs.QuietStatus.{left_status, quiet_status}
+use Rattle.pgo_execute.proofs.RanGiven.{one_of_five}
 use Rattle.pgo_execute.proofs.ReadRuns.{run_read}
 use Rattle.pgo_execute.proofs.closed.closed_boards_ran.Goals as goal
 
@@ -26,6 +28,7 @@ returns c text s consts settings entries notes ws bs told spells passes given sh
     let made = law.made text s consts settings entries notes ws bs told spells passes counted run in
     let accounts : (k : ℕ) → Accounts (rules_of y settings) (Reaches y) true f k = λ k. law.accounts text s consts settings entries notes ws bs told spells passes counted run k in
     let joint = law.joint text s consts settings entries notes ws bs told spells passes counted run in
+    let fine = law.fine text s consts settings entries notes ws bs told spells passes counted run in
     let is_run = c.made_entries_are_runs.ensures.run s consts (module_of s) settings f accepted keeps agrees made in
     let reached = c.pre_commits_are_of_bound_resources.ensures.contended b settings f keeps joint (c.made_entries_are_runs.ensures.good b settings f keeps made) in
     let is_read = c.runs_are_read_back.ensures.read_made text s consts settings true f status spells passes given short steps attempts downs (c.runs_are_read_back.ensures.status y settings f) made accounts joint reached in
@@ -41,9 +44,12 @@ returns c text s consts settings entries notes ws bs told spells passes given sh
       only = c.one_bundle.ensures (Bundle (module_of s) (constants_with s consts) y settings f status) (module_of s) (constants_with s consts) (log_of y f.entries) is_read;
       read_run = run_read (module_of s) (constants_with s consts) (ids_of y) b.start f.entries is_run;
       accounts = accounts;
+      notes = λ k i p kind e. c.notes_tell_of_leaves.ensures.record b settings true f k i p kind (accounts k) e;
       joint = joint;
       downs = reached;
       ended = λ _. law.ended text s consts settings entries notes ws bs told spells passes counted run;
       status_is = refl;
-      fine = law.fine text s consts settings entries notes ws bs told spells passes counted run;
+      quiet = quiet_status b settings f status refl;
+      left_over = left_status status _ (one_of_five y settings f) fine;
+      fine = fine;
     }

@@ -9,7 +9,7 @@ use Rattle.pgo_core.specs.Rounds.{AreRounds}
 use Rattle.pgo_meaning.specs.System.{system_of}
 use Rattle.pgo_translate.specs.ModuleOf.{constants_with, module_of, module_with}
 use Rattle.pgo_model.specs.Accounts.{Contended}
-use Rattle.pgo_model.specs.Core.{Core, rules_of}
+use Rattle.pgo_model.specs.Core.{Core, rules_of, state_behind}
 use Rattle.pgo_model.specs.BundleParts.{is_run_status}
 use Rattle.pgo_model.specs.Module.{Module}
 use Rattle.pgo_model.specs.ModuleText.{Text}
@@ -19,12 +19,15 @@ use Rattle.pgo_model.specs.Machine.{finished_of, last_state}
 use Rattle.pgo_model.specs.ModuleView.{module_view}
 use Rattle.pgo_pluscal.specs.PlusCalOf.{pluscal_of}
 use Rattle.pgo_systems.proofs.States.{counted_values}
+use Rattle.pgo_section.specs.Programs.{IsGood}
 use Rattle.pgo_syntax.specs.RecordView.{settings_view}
 use Rattle.pgo_syntax.specs.declared.bound.Bound.{Bound}
-use Rattle.pgo_execute.specs.Gives.{IsRunStatus}
+use Rattle.pgo_execute.specs.AnySettings.{RunsUnderAny}
+use Rattle.pgo_execute.specs.Gives.{IsRunStatus, Leaves}
 use Rattle.pgo_execute.specs.Ran.{AllDone, RanBy}
 use Rattle.pgo_execute.specs.Schedules.{ends_all, schedule_view}
-use Rattle.pgo_execute.proofs.RanGiven.{bundle_of, left_by, on_one, one_of_four, status_is}
+use Rattle.pgo_execute.proofs.QuietStatus.{good_state, itself, left_status, quiet_status}
+use Rattle.pgo_execute.proofs.RanGiven.{bundle_of, left_by, on_one, one_of_five, status_is}
 use Rattle.pgo_execute.proofs.ReadRuns.{run_read}
 use Rattle.pgo_model.specs.System.{ids_of}
 use Rattle.pgo_execute.proofs.run.expanded_run.Goals as goal
@@ -60,27 +63,51 @@ finished_under-requires-clause-fits c =
       few = law.few a.text s consts a.spells n counted;
     })
 
+pub status_of_run-requires-clause-macros : goal.status_of_run-requires-clause-macros
+status_of_run-requires-clause-macros c =
+    let a = c.requires.accepts in let n = c.requires.passes in
+    c.premises_hold.ensures.macros c.args.bound.now.spec c.args.consts.now (c.texts_are_accepted.ensures.accepted a.text c.args.bound.now.spec c.args.consts.now a.spells n.names n.labels n.binding)
+
+pub status_of_run-requires-clause-sound : goal.status_of_run-requires-clause-sound
+status_of_run-requires-clause-sound c =
+    let a = c.requires.accepts in
+    subst Sound (sym a.bound_is) (c.texts_keep_states.ensures.sound a.text c.args.bound.now.spec c.args.consts.now a.spells c.requires.passes (c.spellable_values_are_read_back.ensures.all_counted c.args.consts.now (c.read_values_are_canonical.ensures.spellable c.args.consts.now c.requires.constants)))
+
+pub status_of_run-requires-clause-runs : goal.status_of_run-requires-clause-runs
+status_of_run-requires-clause-runs c =
+    let a = c.requires.accepts in
+    let counted = c.spellable_values_are_read_back.ensures.all_counted c.args.consts.now (c.read_values_are_canonical.ensures.spellable c.args.consts.now c.requires.constants) in
+    subst RunsUnderAny (sym a.bound_is) (record { under = λ settings. c.workers_follow_machines.ensures.workers a.text c.args.bound.now.spec c.args.consts.now settings a.spells c.requires.passes counted })
+
 pub returns : goal.returns
 returns c =
     let a = c.requires.accepts in let n = c.requires.passes in
     let b = c.args.bound.now in let s = c.args.bound.now.spec in let consts = c.args.consts.now in
     let counted = c.spellable_values_are_read_back.ensures.all_counted consts (c.read_values_are_canonical.ensures.spellable consts c.requires.constants) in
     let settings = settings_view c.args.settings.now in
-    let left = c.in_ok-finished.ensures in
+    let left : Leaves (system_of b) settings (schedule_view c.args.schedule.now) c.in_ok-finished.finished = c.in_ok-finished.ensures in
     let finished = finished_of (Core (system_of b) settings left.turns) in
     let law = c.texts_run_as_written.ensures in
-    let made : module_view c.in_ok-made.made ≡ module_of s = c.in_ok-made.ensures ∙ ap module_with c.requires.expanded in
-    let status = status_is s consts b settings left.turns c.run_status-status.result a.bound_is (c.run_status-status.ensures (system_of b) settings finished left.is) in
+    let accepted = c.texts_are_accepted.ensures.accepted a.text s consts a.spells n.names n.labels n.binding in
+    let sound = c.texts_keep_states.ensures.sound a.text s consts a.spells n counted in
     let own = finished_of (Core (system_of (bound_of s consts)) settings left.turns) in
+    let last = state_behind (system_of (bound_of s consts)) settings own in let count = length own.entries in
+    let good = subst (λ (b : Bound). IsGood (system_of b) (state_behind (system_of b) settings (finished_of (Core (system_of b) settings left.turns)))) (sym a.bound_is)
+    (good_state (bound_of s consts) last (c.accepted_runs.ensures.good s consts last accepted sound) (law.good a.text s consts settings left.turns count a.spells n counted (itself count))) in
+    let made : module_view c.in_ok-made.made ≡ module_of s = c.in_ok-made.ensures ∙ ap module_with c.requires.expanded in
+    let status = status_is s consts b settings left.turns c.in_ok-status.status a.bound_is (c.in_ok-status.ensures settings finished left.is good) in
     let short = subst (λ (m : Module). length (Text m) ≤ 4294967295) made c.in_ok-text.ensures.short in
     let is_status = subst (λ (n : ℕ). IsTrue (is_run_status n)) (sym status) (c.runs_are_read_back.ensures.status (system_of (bound_of s consts)) settings own) in
-    let bundle = bundle_of s consts b _ _ settings left.turns c.run_status-status.result c.in_ok-text.text a.bound_is made c.in_ok-constants.ensures (c.in_ok-text.ensures.text settings finished left.is) in
-    let read = c.runs_are_read_back.ensures.read a.text s consts settings left.turns c.run_status-status.result a.spells n c.requires.constants short c.counts_are_short.ensures.steps c.counts_are_short.ensures.attempts c.counts_are_short.ensures.failures is_status in
+    let bundle = bundle_of s consts b _ _ settings left.turns c.in_ok-status.status c.in_ok-text.text a.bound_is made c.in_ok-constants.ensures (c.in_ok-text.ensures.text settings finished left.is) in
+    let read = c.runs_are_read_back.ensures.read a.text s consts settings left.turns c.in_ok-status.status a.spells n c.requires.constants short c.counts_are_short.ensures.steps c.counts_are_short.ensures.attempts c.counts_are_short.ensures.failures is_status in
     let is_read = subst (λ (w : List ℕ). IsReadBundle w (module_of s) (constants_with s consts) (log_of (system_of (bound_of s consts)) own.entries)) (sym bundle) read in
     let joint = law.joint a.text s consts settings left.turns a.spells n counted in
     let schedule = schedule_view c.args.schedule.now in
-    let ran : RanBy s consts false (ends_all schedule) settings own c.run_status-status.result c.in_ok-text.text = record {
-      sound = c.texts_keep_states.ensures.sound a.text s consts a.spells n counted;
+    let either : IsRunStatus c.in_ok-status.status = subst IsRunStatus (sym status) (one_of_five (system_of (bound_of s consts)) settings own) in
+    let fine : (c.in_ok-status.status ≡ 0) ↔ AllDone s consts (last_state (rules_of (system_of (bound_of s consts)) settings) (Core (system_of (bound_of s consts)) settings left.turns)) =
+    subst (λ (m : ℕ). (m ≡ 0) ↔ AllDone s consts (last_state (rules_of (system_of (bound_of s consts)) settings) (Core (system_of (bound_of s consts)) settings left.turns))) (sym status) (c.statuses_are_fine.ensures.fine a.text s consts settings left.turns a.spells n counted) in
+    let ran : RanBy s consts false (ends_all schedule) settings own c.in_ok-status.status c.in_ok-text.text = record {
+      sound = sound;
       declared = subst (λ (b : Bound). Declares b b.start) a.bound_is a.declared;
       bundle = bundle;
       agrees = c.modules_agree.ensures a.text s consts (pluscal_of s) a.spells n (counted_values consts counted) refl;
@@ -91,6 +118,7 @@ returns c =
       only = c.one_bundle.ensures c.in_ok-text.text (module_of s) (constants_with s consts) (log_of (system_of (bound_of s consts)) own.entries) is_read;
       read_run = run_read (module_of s) (constants_with s consts) (ids_of (system_of (bound_of s consts))) (bound_of s consts).start own.entries (law.run a.text s consts settings left.turns a.spells n counted);
       accounts = λ k. law.accounts a.text s consts settings left.turns k a.spells n counted;
+      notes = λ k i p kind e. c.notes_tell_of_leaves.ensures.record (bound_of s consts) settings false own k i p kind (law.accounts a.text s consts settings left.turns k a.spells n counted) e;
       joint = record {
         once = joint.once;
         full = joint.full;
@@ -100,11 +128,13 @@ returns c =
       downs = c.pre_commits_are_of_bound_resources.ensures.machine (bound_of s consts) settings left.turns (c.texts_keep_states.ensures.kept a.text s consts a.spells n counted);
       ended = λ e. subst (λ (b : Bound). EachEnds (system_of b) settings (finished_of (Core (system_of b) settings left.turns))) a.bound_is (left.ended e);
       status_is = status;
-      fine = subst (λ (m : ℕ). (m ≡ 0) ↔ AllDone s consts (last_state (rules_of (system_of (bound_of s consts)) settings) (Core (system_of (bound_of s consts)) settings left.turns))) (sym status) (c.statuses_are_fine.ensures.fine a.text s consts settings left.turns a.spells n counted);
+      quiet = quiet_status (bound_of s consts) settings own c.in_ok-status.status status;
+      left_over = left_status c.in_ok-status.status _ either fine;
+      fine = fine;
     } in
     record {
       left = own;
       by = left_by s consts schedule settings left.turns left.turns_of (λ e. subst (λ (b : Bound). AreRounds (system_of b) settings [] left.turns) a.bound_is (left.rounds e));
-      ran = subst (λ t. RanBy s consts t (ends_all schedule) settings own c.run_status-status.result c.in_ok-text.text) (sym (on_one schedule left.turns left.turns_of)) ran;
-      either = subst IsRunStatus (sym status) (one_of_four (system_of (bound_of s consts)) settings own);
+      ran = subst (λ t. RanBy s consts t (ends_all schedule) settings own c.in_ok-status.status c.in_ok-text.text) (sym (on_one schedule left.turns left.turns_of)) ran;
+      either = either;
     }

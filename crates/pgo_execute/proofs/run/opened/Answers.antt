@@ -1,4 +1,4 @@
-use Rattle.std.proofs.Common.{IfOk, inl, ap, sym, subst}
+use Rattle.std.proofs.Common.{◌≡◌, IfOk, inl, ap, sym, subst}
 use Rattle.std.proofs.lemmas.Result.{IfOk-weaker}
 use Rattle.pgo_core.specs.Cores.{CoreFits}
 use Rattle.pgo_execute.proofs.Opened.{both_ok, fits_program}
@@ -35,3 +35,9 @@ open-requires-clause-fit c =
 
 pub open-requires-clause-numbers : goal.open-requires-clause-numbers
 open-requires-clause-numbers c r l h = inl (links_numbered content_shown _ c.in_ok-links.links.items c.in_ok-links.ensures.linked r l h)
+
+pub open-requires-clause-system : goal.open-requires-clause-system
+open-requires-clause-system c =
+    let p = c.in_ok-sections.sections.program in let b = c.args.bound.now in
+    let is : p.bound.now ≡ b = ap (λ r. r.now) c.in_ok-sections.ensures.bound in
+    ap system_of is

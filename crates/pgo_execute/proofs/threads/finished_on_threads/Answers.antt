@@ -4,7 +4,7 @@ use Rattle.std.proofs.Crossing.{Box-send}
 use Rattle.std.proofs.Common.{IfOk, ap, sym, subst}
 use Rattle.std.proofs.lemmas.Result.{IfOk-weaker}
 use Rattle.pgo_closed.specs.SystemRuns.{SystemPremises}
-use Rattle.pgo_execute.proofs.Crossing_pgo_places.{place_send, runnable_sync}
+use Rattle.pgo_execute.proofs.Crossing_pgo_places.{attempt_send, runnable_sync}
 use Rattle.pgo_execute.proofs.LeftOnThreads.{of_bound, of_program}
 use Rattle.pgo_meaning.specs.System.{system_of}
 use Rattle.pgo_links.proofs.Linking.{links_fit}
@@ -59,7 +59,7 @@ run_parked-requires-clause-premises g c κs within =
     of_program p b is (c.programs_run.ensures.trees b p is c.requires.sound.numbered c.in_ok-sections.ensures.codes) (λ y tree. SystemPremises y tree (settings_view c.args.settings.now)) c.requires.premises
 
 pub run_all-requires-send-P : goal.run_all-requires-send-P
-run_all-requires-send-P g c κs within = param_send 1 _ (arg_send _ no _ (Box-send _ place_send))
+run_all-requires-send-P g c κs within = param_send 1 _ (arg_send _ no _ (Box-send _ attempt_send))
 
 pub run_all-requires-send-R : goal.run_all-requires-send-R
 run_all-requires-send-R g c κs within = param_send 3 _ (arg_send _ no _ (link_kit.the_send _ content_row_send))
@@ -68,7 +68,7 @@ pub run_all-requires-sync-S : goal.run_all-requires-sync-S
 run_all-requires-sync-S g c κs within = param_sync 2 _ (arg_sync _ no _ (runnable_sync _))
 
 pub run_parked-requires-send-P : goal.run_parked-requires-send-P
-run_parked-requires-send-P g c κs within = param_send 1 _ (arg_send _ no _ (Box-send _ place_send))
+run_parked-requires-send-P g c κs within = param_send 1 _ (arg_send _ no _ (Box-send _ attempt_send))
 
 pub run_parked-requires-send-R : goal.run_parked-requires-send-R
 run_parked-requires-send-R g c κs within = param_send 3 _ (arg_send _ no _ (link_kit.the_send _ content_row_send))
