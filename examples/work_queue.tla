@@ -3,9 +3,9 @@
 \* NumWorkers, NumJobs: how many there are. NumGivenUp: how many jobs each worker may give up. CAPACITY: how many messages a queue
 \* holds, 1 or more.
 \*
-\* Look at both `either`: in the supervisor's an arm waits where nothing is to be handed out, or nothing was reported, and in the
-\* worker's where it has given up enough. Which arm an attempt takes hangs on the seed; an attempt that waits is made again, with
-\* another choice. The assert says that each job was done by one worker, whoever gave it up before.
+\* Look at both `either`: in the supervisor's an arm is blocked where nothing is to be handed out, or nothing was reported, and in
+\* the worker's where it has given up enough. Which arm an attempt tries first hangs on the seed; where that is blocked it tries the
+\* other one. The assert says that each job was done by one worker, whoever gave it up before.
 \*
 \*     ./pgo run --attempts 100000 NumWorkers=2 NumJobs=3 NumGivenUp=1 CAPACITY=2 < examples/work_queue.tla
 

@@ -87,7 +87,7 @@ function take_of_command(key, text) {
 # Whether a line says something of a bundle, for tools/command_rows.bundle.awk.
 function is_of_bundle(key, text, count, kind) {
   count = "[0-9]+(\\.\\.[0-9]*)?"
-  kind = "(step|held|down|blocked|novalue|assert|full)"
+  kind = "(step|held|down|blocked|novalue|assert|many|full)"
   if (key == "bundle") return text == ""
   if (key == "instances") return text ~ ("^" count "$")
   if (key == "entries") return text ~ ("^" count "( of ([0-9]+|\\*)( at [A-Za-z0-9_]+)?)?$")
@@ -98,16 +98,17 @@ function is_of_bundle(key, text, count, kind) {
   return key == "where" && text ~ /^[0-9]+$/
 }
 
-# `N of K`: the turns of N rounds of K instances.
+# `N of K`: the turns of N rounds of K instances. `N of LIST`: N times these turns, with a comma or a * among them.
 
 function are_rounds(text) {
-  return text ~ /^[1-9][0-9]* of [1-9][0-9]*$/
+  return text ~ /^[1-9][0-9]* of ([1-9][0-9]*|[0-9]+[,*][0-9,*]*)$/
 }
 
-function rounds(text, number, round, i) {
-  split(text, number, " of ")
-  for (i = 0; i < number[2]; i++) round = round "," i
-  return substr(repeated(round, number[1] + 0), 2)
+function rounds(text, part, round, i) {
+  split(text, part, " of ")
+  if (part[2] ~ /[,*]/) round = "," part[2]
+  else for (i = 0; i < part[2] + 0; i++) round = round "," i
+  return substr(repeated(round, part[1] + 0), 2)
 }
 
 function take_number(key, text) {

@@ -85,9 +85,10 @@ function judge_bundle(i, k, at) {
   if (status_at_end != status || status_of_ends() != status) wrong = "bundle: the status is " status ", at its end " status_at_end ", by its instances " status_of_ends()
 }
 
+# 21 and 22 differ in what sections do in the last state, which no bundle says.
 function status_of_ends(k, has, is_left) {
   for (k in end_of) { has[end_of[k]] = 1; if (end_of[k] != "done") is_left = 1 }
-  return ("stopped" in has) ? 20 : ("full" in has) ? 23 : is_left ? 21 : 0
+  return ("stopped" in has) ? 20 : ("full" in has) ? 23 : is_left ? (status == 22 ? 22 : 21) : 0
 }
 
 # entries N; entries N of K; entries N of K at L

@@ -3,25 +3,20 @@ ghost use Rattle.std.specs.Prelude.{◌≡◌, ◌<◌, length, [], None, IfOk};
 ghost use Rattle.pgo_model.specs.Core.{Settings as SettingsView};
 ghost use Rattle.pgo_bound.specs.State.{AreDifferent, variables_of};
 ghost use Rattle.pgo_meaning.specs.System.{system_of};
-ghost use Rattle.pgo_places.specs.PlaceWalk.{boxed_walk};
 ghost use Rattle.pgo_places.specs.Trees.{tree_in};
 ghost use Rattle.pgo_resource.specs.PlainBoards.{board_layout, shows_of};
 ghost use Rattle.pgo_section.specs.Programs.{RunsSystem};
-ghost use Rattle.pgo_section.specs.Turns.{Met};
 ghost use Rattle.pgo_turn_rows.specs.Runs.{Runs};
 ghost use Rattle.pgo_workers.specs.Worlds.{layout_of};
 
-use crate::told::told;
+use crate::steps::steps_on;
 use pgo_base::results::both;
 use pgo_definitions::sections::evaluated_for_sections;
 use pgo_lower::lower::lower;
-use pgo_places::place::Place;
 use pgo_places::program::Runnable;
 use pgo_programs::programs_run;
 use pgo_resource::layout::BoardLayout;
 use pgo_resource::plain_board::PlainBoard;
-use pgo_section::worker::Worker;
-use pgo_sheet::answers::push_word;
 use pgo_starts::content::Content;
 use pgo_starts::contents::contents;
 use pgo_starts::own::own_at_start;
@@ -32,7 +27,7 @@ use std::alloc::{AllocError, Global};
 /// The sections of what is bound, to be run.
 fn sections<'a>(alloc: Global, bound: &'a Bound) -> Result<Runnable<'a>, AllocError>
     requires { Runs bound.now }
-    ensures bound { IfOk result (λ p. p.program.bound ≡ bound.entry) }
+    ensures bound { IfOk result (λ p. p.program.bound.now ≡ bound.entry.now) }
     ensures runs { IfOk result (λ p. (s : SettingsView) → RunsSystem (system_of p.program.bound.now) (tree_in p.program) s) }
 {
     programs_run();
@@ -40,50 +35,6 @@ fn sections<'a>(alloc: Global, bound: &'a Bound) -> Result<Runnable<'a>, AllocEr
     let program = lower(alloc, bound, definitions)?;
     let runnable = Runnable::new(alloc, program)?;
     Ok(runnable)
-}
-
-/// What one step says: a turn, a stop, or how many entries or records there are.
-fn step(
-    alloc: Global,
-    sections: &Runnable<'_>,
-    board: &mut PlainBoard<Content>,
-    worker: &mut Worker<Box<Place>>,
-    word: &str,
-) -> Result<String, AllocError>
-    requires layout { board_layout board.old ≡ layout_of (system_of sections.now.program.bound.now) }
-    requires runs { (s : SettingsView) → RunsSystem (system_of sections.now.program.bound.now) (tree_in sections.now.program) s }
-    requires met { Met (system_of sections.now.program.bound.now) (tree_in sections.now.program) (boxed_walk sections.now.program) worker.old (shows_of board.old) }
-    ensures layout { board_layout board.new ≡ layout_of (system_of sections.now.program.bound.now) }
-    ensures met { Met (system_of sections.now.program.bound.now) (tree_in sections.now.program) (boxed_walk sections.now.program) worker.new (shows_of board.new) }
-{
-    if word == "turn" {
-        return told(alloc, worker.turn(alloc, sections, board));
-    }
-    if word == "stop" {
-        worker.stop(sections, board);
-    }
-    let (entries, records) = (board.entries().len(), worker.records().len());
-    format!(in alloc; "{entries} entries, {records} records")
-}
-
-/// What all steps say.
-fn steps(
-    alloc: Global,
-    sections: &Runnable<'_>,
-    board: &mut PlainBoard<Content>,
-    worker: &mut Worker<Box<Place>>,
-    words: &str,
-) -> Result<String, AllocError>
-    requires layout { board_layout board.old ≡ layout_of (system_of sections.now.program.bound.now) }
-    requires runs { (s : SettingsView) → RunsSystem (system_of sections.now.program.bound.now) (tree_in sections.now.program) s }
-    requires met { Met (system_of sections.now.program.bound.now) (tree_in sections.now.program) (boxed_walk sections.now.program) worker.old (shows_of board.old) }
-{
-    let mut answer = String::new(alloc);
-    for word in words.split("; ") {
-        let said = step(alloc, sections, board, worker, word)?;
-        push_word(&mut answer, "; ", said.as_str())?;
-    }
-    Ok(answer)
 }
 
 /// A board for an instance.
@@ -109,6 +60,29 @@ fn board(
     )
 }
 
+/// What these steps of an instance say, with the sections of what is bound.
+fn steps_in(
+    alloc: Global,
+    bound: &Bound,
+    sections: &Runnable<'_>,
+    instance: u32,
+    settings: &Settings,
+    words: &str,
+) -> Result<String, AllocError>
+    requires bound { sections.now.program.bound.now ≡ bound.now }
+    requires runs { Runs bound.now }
+    requires workers { (s : SettingsView) → RunsSystem (system_of sections.now.program.bound.now) (tree_in sections.now.program) s }
+    requires instance { instance < length bound.now.instances }
+{
+    let resources = bound.resources.as_slice().len() as u32;
+    let layout = BoardLayout::of(alloc, bound)?;
+    let own = own_at_start(alloc, &layout, instance as usize);
+    let (own, board) = both(own, board(alloc, bound, instance, settings))?;
+    steps_on(
+        alloc, sections, own, board, instance, resources, settings, words,
+    )
+}
+
 /// What these steps of an instance say.
 fn at_work(
     alloc: Global,
@@ -120,13 +94,8 @@ fn at_work(
     requires runs { Runs bound.now }
     requires instance { instance < length bound.now.instances }
 {
-    let resources = bound.resources.as_slice().len() as u32;
     let sections = sections(alloc, bound)?;
-    let layout = BoardLayout::of(alloc, bound)?;
-    let own = own_at_start(alloc, &layout, instance as usize)?;
-    let worker = Worker::open(alloc, &sections, own, resources, instance, settings);
-    let (mut worker, mut board) = both(worker, board(alloc, bound, instance, settings))?;
-    steps(alloc, &sections, &mut board, &mut worker, words)
+    steps_in(alloc, bound, &sections, instance, settings, words)
 }
 
 /// What these steps of an instance say, its board's journal empty before; none where no instance has the number.

@@ -3,6 +3,7 @@
 
 mod accepted;
 mod alone;
+mod steps;
 mod told;
 mod turns;
 

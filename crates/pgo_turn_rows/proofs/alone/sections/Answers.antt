@@ -6,7 +6,7 @@ use Rattle.pgo_section.specs.Programs.{RunsSystem}
 use Rattle.pgo_turn_rows.proofs.alone.sections.Goals as goal
 
 pub returns-clause-bound : goal.returns-clause-bound
-returns-clause-bound c = ap (λ (p : Program). p.bound) c.in_ok-runnable.ensures ∙ c.in_ok-program.ensures.bound
+returns-clause-bound c = ap (λ (p : Program). p.bound.now) c.in_ok-runnable.ensures ∙ ap (λ r. r.now) c.in_ok-program.ensures.bound
 
 pub returns-clause-runs : goal.returns-clause-runs
 returns-clause-runs c s =
