@@ -1,0 +1,12 @@
+pub mod TableLaws
+pub mod Items
+pub mod TiedLaws
+pub mod UntiedLaws
+pub mod RunTied
+pub mod RunChecked
+pub mod MigratedLaws
+pub mod PlaceLaws
+pub mod LineLaws
+pub mod NotedLaws
+pub mod PositionLaws
+pub mod Saturated

@@ -1,0 +1,14 @@
+pub mod Accounts
+pub mod BundleLog
+pub mod Lines
+pub mod Tied
+pub mod Untied
+pub mod View
+pub mod Tables
+pub mod ClaimView
+pub mod Places
+pub mod RunLog
+pub mod Migrated
+pub mod Noted
+pub mod Positions
+pub mod PositionView
