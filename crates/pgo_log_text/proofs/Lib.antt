@@ -8,10 +8,15 @@ pub mod LinesStart
 pub mod LinesChanges
 pub mod LinesParts
 pub mod LinesEntries
+pub mod LinesTold
+pub mod NoteTurns
+pub mod LinesVersions
 pub mod LinesAttempts
 pub mod LinesAccounts
 pub mod LinesLog
 pub mod LinesConstants
-pub mod LinesBundle
 pub mod BundleRead
+pub mod Ties
+pub mod LineCounts
+pub mod UntiedLines
 pub mod WrittenRuns

@@ -5,21 +5,22 @@ use Rattle.std.proofs.lemmas.List.{append-nil, length-map}
 use Rattle.std.proofs.lemmas.Bool.Decides.{nat_tests}
 use Rattle.pgo_base.specs.Data.{Data}
 use Rattle.pgo_base.specs.Lookup.{Name, Vars}
-use Rattle.pgo_model.specs.Machine.{Entry, is_empty}
-use Rattle.pgo_model.specs.Log.{Effect, Log}
+use Rattle.pgo_model.specs.Machine.{is_empty}
 use Rattle.pgo_model.specs.ModuleText.{Line, line, flatten}
-use Rattle.pgo_model.specs.Bundle.{value_line, entries_lines}
+use Rattle.pgo_model.specs.Bundle.{value_line}
 use Rattle.pgo_model.specs.BundleParts.{is_run_status}
+use Rattle.pgo_bundle.specs.Lines.{steps_lines}
 use Rattle.pgo_value_text.proofs.Steps.{if_some, cond_true, bind_then, then_at, some_pair}
 use Rattle.pgo_value_text.proofs.Runs.{expected, is_apart}
 use Rattle.pgo_log_text.specs.Bytes.{begins}
 use Rattle.pgo_log_text.specs.Lines.{most_parts, run_status, nothing_behind, finish, heading, log_and_end}
-use Rattle.pgo_log_text.specs.IsBundle.{AreCanonical, AreEntries, Account, read_accounts_lines, AreAccounts, log_lines, IsLogText}
+use Rattle.pgo_log_text.specs.IsBundle.{Version, BundleLog, AreCanonical, Account, read_accounts_lines, log_lines, IsLogText}
 use Rattle.pgo_log_text.proofs.BytesNumbers.{number_some, number_finds}
 use Rattle.pgo_log_text.proofs.LinesFields.{this_number_some, this_number_finds, this_field_some, this_field_finds}
 use Rattle.pgo_log_text.proofs.LinesStart.{start_some, start_finds}
-use Rattle.pgo_log_text.proofs.LinesEntries.{flatten_append, entries_some, entries_finds}
-use Rattle.pgo_log_text.proofs.LinesAccounts.{id_of, accounts_some, accounts_finds}
+use Rattle.pgo_log_text.proofs.LinesEntries.{flatten_append}
+use Rattle.pgo_log_text.proofs.LinesVersions.{steps_some, steps_finds}
+use Rattle.pgo_log_text.proofs.LinesAccounts.{accounts_some, accounts_finds}
 
 -- ---- the first line
 
@@ -108,17 +109,23 @@ last_nest : (n s : List ℕ) → line (codes "end " ++ n ++ codes " " ++ s) ++ [
 last_nest n s =
     ap (λ z. codes "end " ++ z) (append-nil (n ++ codes " " ++ s ++ 10 ∷ []) ∙ append_assoc (n ++ codes " ") s (10 ∷ []) ∙ append_assoc n (codes " ") (s ++ 10 ∷ []))
 
-abbrev log_text : Vars → List (Entry Effect) → List Line → ℕ → List ℕ
-log_text s es as' n =
-    codes "init " ++ (decimal (length s) ++ 10 ∷ (flatten (map value_line s) ++ (flatten (entries_lines 1 es) ++ (flatten as' ++ last_line (length es) n))))
+abbrev steps_text : BundleLog → List ℕ
+steps_text l = flatten (steps_lines l.version l.notes l.entries)
 
-log_nest : (s : Vars) (es : List (Entry Effect)) (as' : List Line) (n : ℕ) → flatten (log_lines s es as' n) ≡ log_text s es as' n
-log_nest s es as' n =
-    let end : Line = line (codes "end " ++ decimal (length es) ++ codes " " ++ decimal n) in
-    let behind : List ℕ = flatten (map value_line s ++ entries_lines 1 es ++ as' ++ end ∷ []) in
+abbrev log_text : BundleLog → List ℕ
+log_text l =
+    codes "init " ++ (decimal (length l.start) ++ 10 ∷ (flatten (map value_line l.start) ++ (steps_text l ++ (flatten (read_accounts_lines 0 l.accounts) ++ last_line (length l.entries) l.status))))
+
+log_nest : (l : BundleLog) → flatten (log_lines l) ≡ log_text l
+log_nest l =
+    let s : Vars = l.start in
+    let es : List Line = steps_lines l.version l.notes l.entries in
+    let cs : List Line = read_accounts_lines 0 l.accounts in
+    let end : Line = line (codes "end " ++ decimal (length l.entries) ++ codes " " ++ decimal l.status) in
+    let behind : List ℕ = flatten (map value_line s ++ es ++ cs ++ end ∷ []) in
     first_nest (decimal (length s)) behind
-    ∙ ap (λ z. codes "init " ++ (decimal (length s) ++ 10 ∷ z)) (lines_nest (map value_line s) (entries_lines 1 es) as' (end ∷ []))
-    ∙ ap (λ z. codes "init " ++ (decimal (length s) ++ 10 ∷ (flatten (map value_line s) ++ (flatten (entries_lines 1 es) ++ (flatten as' ++ z))))) (last_nest (decimal (length es)) (decimal n))
+    ∙ ap (λ z. codes "init " ++ (decimal (length s) ++ 10 ∷ z)) (lines_nest (map value_line s) es cs (end ∷ []))
+    ∙ ap (λ z. codes "init " ++ (decimal (length s) ++ 10 ∷ (flatten (map value_line s) ++ (flatten es ++ (flatten cs ++ z))))) (last_nest (decimal (length l.entries)) (decimal l.status))
 
 log_joined : (b0 b1 b2 b3 b4 n v e a l : List ℕ) → b0 ≡ codes "init " ++ (n ++ 10 ∷ b1) → b1 ≡ v ++ b2 → b2 ≡ e ++ b3 → b3 ≡ a ++ b4 → b4 ≡ l
     → b0 ≡ codes "init " ++ (n ++ 10 ∷ (v ++ (e ++ (a ++ l))))
@@ -133,68 +140,76 @@ most_below n h = omega arith
 abbrev name_of : Name × Data → Name
 name_of p = p.0
 
--- what is read is the text of a log
-pub log_some : (names : List Name) (bs : List ℕ) (l : Log) (r : List ℕ) → log_and_end names bs ≡ Some (l, r) → IsLogText bs names l × (r ≡ [])
+-- what is read is the text of a log of this version
+pub log_some : (v : Version) (names : List Name) (bs : List ℕ) (l : BundleLog) (r : List ℕ) → log_and_end v names bs ≡ Some (l, r) → IsLogText bs names l × (r ≡ []) × (l.version ≡ v)
 unfolding log_and_end
-log_some names bs l r h =
-    let G : Log → Type 0 = λ l. IsLogText bs names l × (r ≡ []) in
-    bind_then _ _ _ (G l) h (λ t b1 h0 h. bind_then _ _ _ (G l) h (λ s b2 h1 h. bind_then _ _ _ (G l) h (λ es b3 h2 h. bind_then _ _ _ (G l) h (λ is b4 h3 h.
-    bind_then _ _ _ (G l) h (λ n b5 h4 h.
+log_some v names bs l r h =
+    let G : BundleLog → Type 0 = λ l. IsLogText bs names l × (r ≡ []) × (l.version ≡ v) in
+    bind_then _ _ _ (G l) h (λ t b1 h0 h. bind_then _ _ _ (G l) h (λ s b2 h1 h. bind_then _ _ _ (G l) h (λ ns b3 h2 h. bind_then _ _ _ (G l) h (λ es b4 h3 h.
+    bind_then _ _ _ (G l) h (λ cs b5 h4 h. bind_then _ _ _ (G l) h (λ n b6 h5 h.
+    let made : BundleLog = record { version = v; start = s; notes = ns; entries = es; accounts = cs; status = n } in
     let e0 = heading_some (length names) bs t b1 h0 in
     let e1 = start_some names [] b1 s b2 h1 in
-    let e2 = entries_some most_parts 1 b2 es b3 h2 in
-    let e3 = accounts_some most_parts 0 b3 is b4 h3 in
-    let e4 = finish_some (length es) b4 n b5 h4 in
-    let same = some_pair {A = Log} (record { ids = is; start = s; entries = es }) l b5 r h in
+    let e2 = steps_some v most_parts b2 ns b3 es b4 h2 h3 in
+    let e3 = accounts_some most_parts 0 b4 cs b5 h4 in
+    let e4 = finish_some (length es) b5 n b6 h5 in
+    let same = some_pair {A = BundleLog} made l b6 r h in
     let vars : map name_of s ≡ names = ap (map name_of) e1.is_all ∙ e1.names_are in
     let many : length s ≡ length names = sym (length-map s name_of) ∙ ap length vars in
     subst G same.0 (
       record {
-        accounts = e3.made;
-        status = n;
         text_is =
-            log_joined bs b1 b2 b3 b4 (decimal (length s)) (flatten (map value_line s)) (flatten (entries_lines 1 es)) (flatten (read_accounts_lines 0 e3.made)) (last_line (length es) n)
+            log_joined bs b1 b2 b4 b5 (decimal (length s)) (flatten (map value_line s)) (steps_text made) (flatten (read_accounts_lines 0 cs)) (last_line (length es) n)
             (e0.0 ∙ ap (λ k. codes "init " ++ (decimal k ++ 10 ∷ b1)) (sym many))
             (e1.text_is ∙ ap (λ z. flatten (map value_line z) ++ b2) (sym e1.is_all)) e2.text_is e3.text_is e4.text_is
-            ∙ sym (log_nest s es (read_accounts_lines 0 e3.made) n);
+            ∙ sym (log_nest made);
         variables = vars;
-        ids = e3.ids;
         variable_count = subst (λ k. k < 2 ^ 32) (sym many) e0.1;
         entry_count = below_most (length es) e2.few;
-        instance_count = below_most (length e3.made) e3.few;
+        instance_count = below_most (length cs) e3.few;
         start = subst AreCanonical (sym e1.is_all) e1.read;
-        entries = e2.read;
-        are_accounts = e3.read;
+        notes = e2.notes;
+        entries = e2.entries;
+        told = e2.told;
+        accounts = e3.read;
         status_is = e4.status;
       },
       sym same.1 ∙ e4.none,
-    ))))))
+      refl,
+    )))))))
 
 no_step : (as' : List Account) (r : List ℕ) → begins (codes "step ") (flatten (read_accounts_lines 0 as') ++ (codes "end " ++ r)) ≡ false
 no_step [] r = refl
 no_step (a ∷ as') r = refl
 
-text_finds : (s : Vars) (es : List (Entry Effect)) (as' : List Account) (n : ℕ) → length s < 2 ^ 32 → length es < 2 ^ 32 → length as' < 2 ^ 32
-    → AreCanonical s → AreEntries es → AreAccounts as' → IsTrue (is_run_status n)
-    → log_and_end (map name_of s) (log_text s es (read_accounts_lines 0 as') n) ≡ Some (record { ids = map id_of as'; start = s; entries = es }, [])
+no_note : (as' : List Account) (r : List ℕ) → begins (codes "note ") (flatten (read_accounts_lines 0 as') ++ (codes "end " ++ r)) ≡ false
+no_note [] r = refl
+no_note (a ∷ as') r = refl
+
+text_finds : (names : List Name) (bs : List ℕ) (l : BundleLog) → IsLogText bs names l → log_and_end l.version (map name_of l.start) (log_text l) ≡ Some (l, [])
 unfolding log_and_end
-text_finds s es as' n few_s few_e few_a h e a st =
-    let b4 : List ℕ = last_line (length es) n in
-    let b3 : List ℕ = flatten (read_accounts_lines 0 as') ++ b4 in
-    let b2 : List ℕ = flatten (entries_lines 1 es) ++ b3 in
+text_finds names bs l h =
+    let s : Vars = l.start in
+    let n : ℕ = l.status in
+    let count : ℕ = length l.entries in
+    let b5 : List ℕ = last_line count n in
+    let b4 : List ℕ = flatten (read_accounts_lines 0 l.accounts) ++ b5 in
+    let b2 : List ℕ = steps_text l ++ b4 in
     let b1 : List ℕ = flatten (map value_line s) ++ b2 in
-    let room_e : 1 + length es ≤ 2 ^ 32 = omega arith in
-    let room_a : 0 + length as' ≤ 2 ^ 32 = omega arith in
-    then_at _ _ _ tt b1 (ap (λ k. heading k (codes "init " ++ (decimal (length s) ++ 10 ∷ b1))) (length-map s name_of) ∙ heading_finds (length s) b1 few_s)
-    (then_at _ _ _ s b2 (start_finds s [] b2 h)
-    (then_at _ _ _ es b3 (entries_finds most_parts 1 es b3 (most_below (length es) few_e) room_e e (no_step as' (decimal (length es) ++ 32 ∷ (decimal n ++ 10 ∷ []))))
-    (then_at _ _ _ (map id_of as') b4 (accounts_finds most_parts 0 as' b4 (most_below (length as') few_a) room_a a refl)
-    (then_at _ _ _ n [] (finish_finds (length es) n few_e st) refl))))
+    let few_e = h.entry_count in
+    let few_a = h.instance_count in
+    let room_e : 1 + count ≤ 2 ^ 32 = omega (arith, few_e) in
+    let room_a : 0 + length l.accounts ≤ 2 ^ 32 = omega (arith, few_a) in
+    let end : List ℕ = decimal count ++ 32 ∷ (decimal n ++ 10 ∷ []) in
+    let steps = steps_finds l.version most_parts l.notes l.entries b4 (most_below count few_e) room_e h.notes h.entries h.told (no_step l.accounts end) (no_note l.accounts end) in
+    then_at _ _ _ tt b1 (ap (λ k. heading k (codes "init " ++ (decimal (length s) ++ 10 ∷ b1))) (length-map s name_of) ∙ heading_finds (length s) b1 h.variable_count)
+    (then_at _ _ _ s b2 (start_finds s [] b2 h.start)
+    (then_at _ _ _ l.notes steps.behind steps.notes
+    (then_at _ _ _ l.entries b4 steps.entries
+    (then_at _ _ _ l.accounts b5 (accounts_finds most_parts 0 l.accounts b5 (most_below (length l.accounts) few_a) room_a h.accounts refl)
+    (then_at _ _ _ n [] (finish_finds count n few_e h.status_is) refl)))))
 
 -- the text of a log is read
-pub log_finds : (names : List Name) (bs : List ℕ) (l : Log) → IsLogText bs names l → log_and_end names bs ≡ Some (l, [])
+pub log_finds : (names : List Name) (bs : List ℕ) (l : BundleLog) → IsLogText bs names l → log_and_end l.version names bs ≡ Some (l, [])
 log_finds names bs l h =
-    let text = h.text_is ∙ log_nest l.start l.entries (read_accounts_lines 0 h.accounts) h.status in
-    ap (λ ns. log_and_end ns bs) (sym h.variables) ∙ ap (log_and_end (map name_of l.start)) text
-    ∙ text_finds l.start l.entries h.accounts h.status h.variable_count h.entry_count h.instance_count h.start h.entries h.are_accounts h.status_is
-    ∙ ap (λ is. Some (record { ids = is; start = l.start; entries = l.entries }, [])) (sym h.ids)
+    ap (λ ns. log_and_end l.version ns bs) (sym h.variables) ∙ ap (log_and_end l.version (map name_of l.start)) (h.text_is ∙ log_nest l) ∙ text_finds names bs l h

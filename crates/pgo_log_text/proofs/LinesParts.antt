@@ -1,5 +1,5 @@
 -- Parts while a word is next: what they read, and what is read by them.
-use Rattle.std.proofs.Common.{◌≡◌, ◌<◌, ◌≤◌, ◌+◌, ℕ, zero, suc, true, false, List, [], ◌∷◌, ◌++◌, length, map, Some, None, sym, ap, ◌∙◌, append_assoc, arith}
+use Rattle.std.proofs.Common.{◌≡◌, ◌<◌, ◌≤◌, ◌+◌, ℕ, zero, suc, true, false, List, [], ◌∷◌, ◌++◌, length, map, Some, None, sym, ap, subst, ◌∙◌, append_assoc, arith}
 use Rattle.std.proofs.lemmas.List.{append-nil}
 use Rattle.pgo_value_text.proofs.Steps.{if_some, cond_true, cond_false, bind_then, then_at, some_pair}
 use Rattle.pgo_log_text.specs.Parsers.{Outcome, Parser, and_then}
@@ -59,18 +59,24 @@ module _ {A B : Type 0} (word : List ℕ) (part : ℕ → Parser A) (see : B →
       (λ a j got e. one_more left i done bs all r a j (sound i bs a j got) (parts_some sound left (suc i) (done ++ a ∷ []) j all r e)))
       (λ _ e. ended (suc left) i done bs all r e)
 
-  -- each text begins with the word, and what stands behind them doesn't
-  pub parts_finds : (limit : ℕ)
+  -- what stands behind a part: more parts and then the rest
+  behind : (Before : List ℕ → Type 0) → ((i : ℕ) (b : B) (r : List ℕ) → Before (text i b ++ r)) → (i : ℕ) (xs : List B) (r : List ℕ) → Before r → Before (texts text i xs ++ r)
+  behind Before goes i [] r h = h
+  behind Before goes i (x ∷ xs) r h = subst Before (sym (append_assoc (text i x) (texts text (suc i) xs) r)) (goes i x (texts text (suc i) xs ++ r))
+
+  -- each text begins with the word, and what stands behind them doesn't; and what may stand behind a part stands behind each
+  pub parts_finds_before : (limit : ℕ) (Before : List ℕ → Type 0)
       → ((i : ℕ) (b : B) (r : List ℕ) → begins word (text i b ++ r) ≡ true)
-      → ((i : ℕ) (b : B) (r : List ℕ) → i < limit → V b → part i (text i b ++ r) ≡ Some (see b, r))
-      → (left i : ℕ) (done : List A) (bs : List B) (r : List ℕ) → length bs ≤ left → i + length bs ≤ limit → Each V bs → begins word r ≡ false
+      → ((i : ℕ) (b : B) (r : List ℕ) → Before (text i b ++ r))
+      → ((i : ℕ) (b : B) (r : List ℕ) → i < limit → V b → Before r → part i (text i b ++ r) ≡ Some (see b, r))
+      → (left i : ℕ) (done : List A) (bs : List B) (r : List ℕ) → length bs ≤ left → i + length bs ≤ limit → Each V bs → begins word r ≡ false → Before r
       → parts word part left i done (texts text i bs ++ r) ≡ Some (done ++ map see bs, r)
   unfolding parts
-  parts_finds limit starts finds zero i done [] r few room each b = cond_false (begins word r) None (Some (done, r)) b ∙ (λ k. Some (sym (append-nil done) k, r))
-  parts_finds limit starts finds (suc left) i done [] r few room each b =
+  parts_finds_before limit Before starts goes finds zero i done [] r few room each b h = cond_false (begins word r) None (Some (done, r)) b ∙ (λ k. Some (sym (append-nil done) k, r))
+  parts_finds_before limit Before starts goes finds (suc left) i done [] r few room each b h =
       cond_false (begins word r) (and_then (part i r) (λ a. parts word part left (suc i) (done ++ a ∷ []))) (Some (done, r)) b ∙ (λ k. Some (sym (append-nil done) k, r))
-  parts_finds limit starts finds zero i done (x ∷ xs) r few room each b = absurd (omega arith)
-  parts_finds limit starts finds (suc left) i done (x ∷ xs) r few room each b =
+  parts_finds_before limit Before starts goes finds zero i done (x ∷ xs) r few room each b h = absurd (omega arith)
+  parts_finds_before limit Before starts goes finds (suc left) i done (x ∷ xs) r few room each b h =
       let rest : List ℕ = texts text (suc i) xs ++ r in
       let whole : List ℕ = text i x ++ rest in
       let below : i < limit = omega arith in
@@ -78,6 +84,15 @@ module _ {A B : Type 0} (word : List ℕ) (part : ℕ → Parser A) (see : B →
       let rooms : suc i + length xs ≤ limit = omega arith in
       ap (parts word part (suc left) i done) (append_assoc (text i x) (texts text (suc i) xs) r)
       ∙ cond_true (begins word whole) (and_then (part i whole) (λ a. parts word part left (suc i) (done ++ a ∷ []))) (Some (done, whole)) (starts i x rest)
-      ∙ then_at (part i whole) (λ a. parts word part left (suc i) (done ++ a ∷ [])) (Some (done ++ see x ∷ [] ++ map see xs, r)) (see x) rest (finds i x rest below each.0)
-      (parts_finds limit starts finds left (suc i) (done ++ see x ∷ []) xs r fewer rooms each.1 b)
+      ∙ then_at (part i whole) (λ a. parts word part left (suc i) (done ++ a ∷ [])) (Some (done ++ see x ∷ [] ++ map see xs, r)) (see x) rest
+      (finds i x rest below each.0 (behind Before goes (suc i) xs r h))
+      (parts_finds_before limit Before starts goes finds left (suc i) (done ++ see x ∷ []) xs r fewer rooms each.1 b h)
       ∙ (λ k. Some (append_assoc done (see x ∷ []) (map see xs) k, r))
+
+  pub parts_finds : (limit : ℕ)
+      → ((i : ℕ) (b : B) (r : List ℕ) → begins word (text i b ++ r) ≡ true)
+      → ((i : ℕ) (b : B) (r : List ℕ) → i < limit → V b → part i (text i b ++ r) ≡ Some (see b, r))
+      → (left i : ℕ) (done : List A) (bs : List B) (r : List ℕ) → length bs ≤ left → i + length bs ≤ limit → Each V bs → begins word r ≡ false
+      → parts word part left i done (texts text i bs ++ r) ≡ Some (done ++ map see bs, r)
+  parts_finds limit starts finds left i done bs r few room each b =
+      parts_finds_before limit (λ r. Unit {0}) starts (λ i b r. tt) (λ i b r below v h. finds i b r below v) left i done bs r few room each b tt

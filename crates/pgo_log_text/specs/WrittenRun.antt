@@ -1,15 +1,18 @@
 -- Which runs are read back from their bundles.
-use Rattle.std.specs.Prelude.{◌≡◌, ◌<◌, ℕ, IsTrue, List, length, map, Some, ◌⊎◌}
+use Rattle.std.specs.Prelude.{◌≡◌, ◌<◌, ℕ, IsTrue, List, length, map, Some, None, ◌⊎◌}
 use Rattle.pgo_base.specs.Lookup.{Vars}
 use Rattle.pgo_model.specs.System.{System, Member, Resource}
-use Rattle.pgo_model.specs.Machine.{Entry, Record, Step, Noted, Held, Down, Full, Finished, nth}
+use Rattle.pgo_model.specs.Machine.{Entry, Note, Record, Step, Noted, Held, Down, Full, Finished, nth}
 use Rattle.pgo_model.specs.Accounts.{journal}
+use Rattle.pgo_model.specs.Core.{Settings}
 use Rattle.pgo_model.specs.Log.{Change, Effect}
 use Rattle.pgo_model.specs.Module.{Module}
 use Rattle.pgo_model.specs.ModuleText.{Text}
 use Rattle.pgo_model.specs.BundleParts.{count_limit, is_read_name, is_run_status}
 use Rattle.pgo_module_spells.specs.Spells.{SpellsModule}
-use Rattle.pgo_log_text.specs.IsBundle.{IsCanonicalValue, IsCanonicalIndex, AreCanonical, AreConstants}
+use Rattle.pgo_bundle.specs.RunLog.{run_log, told_prints}
+use Rattle.pgo_bundle.specs.Untied.{untied_at}
+use Rattle.pgo_log_text.specs.IsBundle.{IsCanonicalValue, IsCanonicalIndex, AreCanonical, AreConstants, ArePrints}
 
 pub record IsWrittenChange (c : Change) : Type 0 where
   pub variable : IsTrue (is_read_name c.component.variable)
@@ -23,6 +26,8 @@ pub record IsWrittenEntry (e : Entry Effect) : Type 0 where
   pub next : IsTrue (is_read_name e.change.next)
   pub count : length e.change.changes < count_limit
   pub changes : (j : ℕ) (c : Change) → nth e.change.changes j ≡ Some c → IsWrittenChange c
+  -- what was printed, where it is told
+  pub prints : ArePrints (told_prints e.change.prints)
 
 -- the number names a resource, whose variable and index can be written
 pub record IsWrittenResource (rs : List Resource) (r : ℕ) : Type 0 where
@@ -41,8 +46,8 @@ IsWrittenRecord rs (Full n) = n < count_limit
 
 -- what a run leaves can be written and read back: its module's text spells the module, constants and variables are the
 -- module's, in order, names are identifiers of at most 512 bytes, values can be written and read back, counts are below 2^32,
--- and the status is one of a run
-pub record IsWrittenRun (m : Module) (consts : Vars) (y : System) (f : Finished Effect) (status : ℕ) : Type 0 where
+-- the status is one of a run, and the records are tied to the entries and the notes
+pub record IsWrittenRun (m : Module) (consts : Vars) (y : System) (settings : Settings) (f : Finished Effect) (status : ℕ) : Type 0 where
   pub spells : SpellsModule (Text m) m
   pub module_count : length (Text m) < count_limit
   pub names : map (λ p. p.0) consts ≡ m.constants
@@ -53,8 +58,10 @@ pub record IsWrittenRun (m : Module) (consts : Vars) (y : System) (f : Finished 
   pub start : AreCanonical y.start
   pub entry_count : length f.entries < count_limit
   pub entries : (p : ℕ) (e : Entry Effect) → nth f.entries p ≡ Some e → IsWrittenEntry e
+  pub notes : (j : ℕ) (n : Note) → nth f.notes j ≡ Some n → (n.instance < count_limit) × (n.attempt < count_limit)
   pub instance_count : length y.members < count_limit
   pub members : (k : ℕ) (i : Member) → nth y.members k ≡ Some i → IsCanonicalValue i.id
   pub record_count : (k : ℕ) → length (f.records k) < count_limit
   pub records : (k i : ℕ) (x : Record) → nth (f.records k) i ≡ Some x → IsWrittenRecord y.resources x
   pub status_is : IsTrue (is_run_status status)
+  pub tied : untied_at (run_log y settings f status) ≡ None

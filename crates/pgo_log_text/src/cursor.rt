@@ -46,7 +46,9 @@ impl<'a> Cursor<'a> {
     }
 
     /// How many bytes are still to be read.
-    pub fn left(&self) -> usize {
+    pub fn left(&self) -> usize
+        ensures { result ≡ length self.now }
+    {
         self.rest.len()
     }
 

@@ -1,15 +1,18 @@
-// The entries of a log.
-ghost use Rattle.std.specs.Prelude.{[], map, option_map};
+// The changes of entries, and the entries of version 1.
+ghost use Rattle.std.specs.Prelude.{◌≡◌, [], map, option_map};
 ghost use Rattle.pgo_base.specs.View.{data_of};
 ghost use Rattle.pgo_model.specs.LogView.{change_view, entry_view};
 ghost use Rattle.pgo_log_text.specs.Lines as spec;
-ghost use Rattle.pgo_log_text.specs.Parsers.{ReadsAs};
+ghost use Rattle.pgo_bundle.specs.View.{logged_entry_view};
+ghost use Rattle.pgo_log_text.specs.Parsers.{Reads, ReadsAs};
 
 use crate::cursor::Cursor;
 use crate::errors::LineStop;
 use crate::field::{last_number, last_value, name_field, number_field, this_field};
-use pgo_base::log::{Change, Changes, Component, Entries, Entry, Owner, Values};
+use pgo_base::log::{Change, Changes, Component, Entry, Owner, Values};
+use pgo_base::text::Text;
 use pgo_base::value::Value;
+use pgo_bundle::log::{LoggedEntry, LoggedNotes};
 use std::alloc::Global;
 
 /// `[index]`.
@@ -57,7 +60,7 @@ fn change(alloc: Global, cursor: &mut Cursor<'_>) -> Result<Change, LineStop>
 }
 
 /// So many changes.
-fn changes(alloc: Global, cursor: &mut Cursor<'_>, count: u32) -> Result<Changes, LineStop>
+pub fn changes(alloc: Global, cursor: &mut Cursor<'_>, count: u32) -> Result<Changes, LineStop>
     ensures { ReadsAs (λ cs. map change_view cs) (spec.changes count [] cursor.old) result cursor.new }
 {
     let mut changes = Changes::new(alloc);
@@ -67,10 +70,14 @@ fn changes(alloc: Global, cursor: &mut Cursor<'_>, count: u32) -> Result<Changes
     Ok(changes)
 }
 
-/// The entry of this number.
-#[tactic(auto, unfolding(crate::specs::Lines::entry))]
-fn entry(alloc: Global, cursor: &mut Cursor<'_>, number: u32) -> Result<Entry, LineStop>
-    ensures { ReadsAs entry_view (spec.entry number cursor.old) result cursor.new }
+/// The front of the line of the entry of this number: its instance, its attempt and its labels.
+#[tactic(auto, unfolding(crate::specs::Lines::entry_front))]
+pub fn entry_front(
+    alloc: Global,
+    cursor: &mut Cursor<'_>,
+    number: u32,
+) -> Result<(u32, u32, Text, Text), LineStop>
+    ensures { Reads (spec.entry_front number cursor.old) result cursor.new }
 {
     cursor.expect(b"step ")?;
     this_field(cursor, number as usize)?;
@@ -78,30 +85,35 @@ fn entry(alloc: Global, cursor: &mut Cursor<'_>, number: u32) -> Result<Entry, L
     let attempt = number_field(cursor)?;
     let label = name_field(alloc, cursor)?;
     let next = name_field(alloc, cursor)?;
-    let count = last_number(cursor)?;
-    let changes = changes(alloc, cursor, count)?;
-    Ok(Entry {
+    Ok((instance, attempt, label, next))
+}
+
+/// The entry with this front and these changes.
+pub fn entry_made(alloc: Global, front: (u32, u32, Text, Text), changes: Changes) -> Entry
+    ensures { entry_view result ≡ spec.entry_made front (map change_view changes) }
+{
+    let (instance, attempt, label, next) = front;
+    Entry {
         instance,
         attempt,
         label,
         next,
         changes,
         prints: Values::new(alloc),
-    })
+    }
 }
 
-/// The entries, numbered from 1.
-pub fn entries(alloc: Global, cursor: &mut Cursor<'_>) -> Result<Entries, LineStop>
-    ensures { ReadsAs (λ es. map entry_view es) (spec.entries spec.most_parts 1 [] cursor.old) result cursor.new }
+/// The entry of this number in version 1.
+#[tactic(auto, unfolding(crate::specs::Lines::entry))]
+pub fn entry(alloc: Global, cursor: &mut Cursor<'_>, number: u32) -> Result<LoggedEntry, LineStop>
+    ensures { ReadsAs logged_entry_view (spec.entry number cursor.old) result cursor.new }
 {
-    let mut entries = Entries::new(alloc);
-    let mut count: u32 = 0;
-    'parts: while cursor.begins(b"step ") {
-        if count == u32::MAX {
-            return Err(LineStop::BadLine);
-        }
-        count += 1;
-        entries.push(entry(alloc, cursor, count)?)?;
-    }
-    Ok(entries)
+    let front = entry_front(alloc, cursor, number)?;
+    let count = last_number(cursor)?;
+    let changes = changes(alloc, cursor, count)?;
+    Ok(LoggedEntry {
+        entry: entry_made(alloc, front, changes),
+        prints: None,
+        notes: LoggedNotes::new(alloc),
+    })
 }

@@ -19,10 +19,11 @@ pub enum LogStop {
 }
 
 impl LogStop {
-    /// The same, at a line of this text.
+    /// The same, at a line of this text: at its own, where the text has it.
     pub fn within(self, text: &[u8]) -> LogStop
         ensures same { (other : List ℕ) → IsRefused other self → IsRefused other result }
         ensures line { NamesLineOf text.now result }
+        ensures kept { NamesLineOf text.now self → result ≡ self }
     {
         match self {
             LogStop::BadLog { line } => LogStop::BadLog {

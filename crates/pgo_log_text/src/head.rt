@@ -1,6 +1,7 @@
 // The head of a bundle: its constants, and the bytes of its module.
 ghost use Rattle.std.specs.Prelude.{[]};
 ghost use Rattle.pgo_base.specs.View.{named_data};
+ghost use Rattle.pgo_bundle.specs.View.{version_view};
 ghost use Rattle.pgo_log_text.specs.Lines as spec;
 ghost use Rattle.pgo_log_text.specs.Parsers.{Reads, ReadsAs};
 
@@ -10,6 +11,7 @@ use crate::field::{last_number, last_value};
 use pgo_base::consts::Consts;
 use pgo_base::text::Text;
 use pgo_base::value::Value;
+use pgo_bundle::log::Version;
 use std::alloc::Global;
 
 /// A constant's line: `name = value`.
@@ -34,15 +36,37 @@ fn constants(alloc: Global, cursor: &mut Cursor<'_>, count: u32) -> Result<Const
     Ok(Consts::from_vec(list))
 }
 
-/// The version and the constants.
+/// The line of the version.
+#[tactic(auto, unfolding(crate::specs::Lines::version, crate::specs::Lines::word_of))]
+fn version(cursor: &mut Cursor<'_>) -> Result<Version, LineStop>
+    ensures { ReadsAs version_view (spec.version cursor.old) result cursor.new }
+{
+    if cursor.begins(b"pgo 2\n") {
+        cursor.expect(b"pgo 2\n")?;
+        return Ok(Version::Two);
+    }
+    cursor.expect(b"pgo 1\n")?;
+    Ok(Version::One)
+}
+
+/// The constants.
 #[tactic(auto, unfolding(crate::specs::Lines::constants_part))]
-pub fn constants_part(alloc: Global, cursor: &mut Cursor<'_>) -> Result<Consts, LineStop>
+fn constants_part(alloc: Global, cursor: &mut Cursor<'_>) -> Result<Consts, LineStop>
     ensures { Reads (spec.constants_part cursor.old) result cursor.new }
 {
-    cursor.expect(b"pgo 1\n")?;
     cursor.expect(b"consts ")?;
     let count = last_number(cursor)?;
     constants(alloc, cursor, count)
+}
+
+/// The version and the constants.
+#[tactic(auto, unfolding(crate::specs::Lines::opening))]
+pub fn opening(alloc: Global, cursor: &mut Cursor<'_>) -> Result<(Version, Consts), LineStop>
+    ensures { ReadsAs (λ p. (version_view p.0, p.1)) (spec.opening cursor.old) result cursor.new }
+{
+    let version = version(cursor)?;
+    let consts = constants_part(alloc, cursor)?;
+    Ok((version, consts))
 }
 
 /// The bytes of the module.

@@ -27,7 +27,8 @@ fn newlines(text: &[u8]) -> usize
 
 /// The line of this number, or the first or the last of the text where it has none of that number.
 pub fn within(text: &[u8], line: usize) -> usize
-    ensures { spec.IsLineOf text.now result }
+    ensures there { spec.IsLineOf text.now result }
+    ensures kept { spec.IsLineOf text.now line → result ≡ line }
 {
     line.max(1).min(newlines(text).saturating_add(1))
 }

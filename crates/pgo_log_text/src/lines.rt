@@ -2,21 +2,21 @@
 ghost use Rattle.std.specs.Prelude.{◌≡◌, [], map};
 ghost use Rattle.pgo_model.specs.BundleParts as bundle_parts;
 ghost use Rattle.pgo_base.specs.View.{data_of, named_data};
-ghost use Rattle.pgo_model.specs.LogView.{log_view};
+ghost use Rattle.pgo_bundle.specs.View.{bundle_log_view, version_view};
 ghost use Rattle.pgo_log_text.specs.Lines as spec;
 ghost use Rattle.pgo_log_text.specs.Parsers.{Reads, ReadsAs};
 
 use crate::account::accounts;
 use crate::cursor::Cursor;
-use crate::entry::entries;
+use crate::entries::{entries, first_notes};
 use crate::errors::LineStop;
 use crate::field::{last_value, this_field, this_number};
 use pgo_base::consts::Consts;
-use pgo_base::log::Log;
 use pgo_base::module::Module;
 use pgo_base::scope::State;
 use pgo_base::text::Text;
 use pgo_base::value::Value;
+use pgo_bundle::log::{BundleLog, Version};
 use std::alloc::Global;
 
 /// The line `init` with the number of variables.
@@ -97,18 +97,27 @@ fn finish(cursor: &mut Cursor<'_>, steps: usize) -> Result<u32, LineStop>
 
 /// The log of a bundle from `init` on, with these variables.
 #[tactic(auto, unfolding(crate::specs::Lines::log_and_end))]
-fn log_and_end(alloc: Global, cursor: &mut Cursor<'_>, names: &[Text]) -> Result<Log, LineStop>
-    ensures { ReadsAs log_view (spec.log_and_end names.now cursor.old) result cursor.new }
+fn log_and_end(
+    alloc: Global,
+    cursor: &mut Cursor<'_>,
+    version: Version,
+    names: &[Text],
+) -> Result<BundleLog, LineStop>
+    ensures { ReadsAs bundle_log_view (spec.log_and_end (version_view version) names.now cursor.old) result cursor.new }
 {
     heading(cursor, names.len())?;
     let start = start(alloc, cursor, names)?;
-    let entries = entries(alloc, cursor)?;
-    let ids = accounts(alloc, cursor)?;
-    finish(cursor, entries.as_slice().len())?;
-    Ok(Log {
-        ids,
+    let notes = first_notes(alloc, cursor, version)?;
+    let entries = entries(alloc, cursor, version)?;
+    let accounts = accounts(alloc, cursor)?;
+    let status = finish(cursor, entries.as_slice().len())?;
+    Ok(BundleLog {
+        version,
         start,
+        notes,
         entries,
+        accounts,
+        status,
     })
 }
 
@@ -132,13 +141,14 @@ pub fn are_named(consts: &[(Text, Value)], names: &[Text]) -> bool
 pub fn log_of(
     alloc: Global,
     cursor: &mut Cursor<'_>,
+    version: Version,
     consts: &Consts,
     written: &Module,
-) -> Result<Log, LineStop>
-    ensures { ReadsAs log_view (spec.log_of consts.now written.now.constants written.now.variables cursor.old) result cursor.new }
+) -> Result<BundleLog, LineStop>
+    ensures { ReadsAs bundle_log_view (spec.log_of (version_view version) consts.now written.now.constants written.now.variables cursor.old) result cursor.new }
 {
     if are_named(consts.as_slice(), written.constants.as_slice()) {
-        log_and_end(alloc, cursor, written.variables.as_slice())
+        log_and_end(alloc, cursor, version, written.variables.as_slice())
     } else {
         Err(LineStop::BadLine)
     }

@@ -1,5 +1,5 @@
 -- Lines one behind the other, and fields of a line.
-use Rattle.std.proofs.Common.{◌≡◌, ◌<◌, ◌≤◌, ◌+◌, ◌-◌, min, ℕ, zero, suc, length, get_or, drop, List, [], ◌∷◌, ◌++◌, map, Some, refl, ap, sym, ◌∙◌, append_assoc, append-nil, add-one, arith}
+use Rattle.std.proofs.Common.{◌≡◌, ◌<◌, ◌≤◌, ◌+◌, min, ℕ, zero, suc, length, get_or, drop, List, [], ◌∷◌, ◌++◌, map, refl, ap, sym, ◌∙◌, append_assoc, append-nil, add-one, arith}
 use Rattle.std.proofs.lemmas.List.{length-map}
 use Rattle.std.specs.List.{flat_map}
 use Rattle.pgo_base.specs.declared.log.Change.{Change}
@@ -8,9 +8,7 @@ use Rattle.pgo_base.specs.Lookup.{Vars}
 use Rattle.pgo_base.specs.View.{named_data}
 use Rattle.pgo_model.specs.LogView.{change_view}
 use Rattle.std.specs.Prelude.{codes, decimal}
-use Rattle.pgo_model.specs.Bundle.{fields, value_line, change_line, entry_lines, entries_lines}
-use Rattle.pgo_model.specs.Log.{Effect}
-use Rattle.pgo_model.specs.Machine.{Entry, nth}
+use Rattle.pgo_model.specs.Bundle.{fields, value_line}
 use Rattle.pgo_model.specs.ModuleText.{Line, line, flatten}
 use Rattle.pgo_model.specs.System.{Resource}
 use Rattle.pgo_syntax.specs.declared.bound.Instance.{Instance}
@@ -47,21 +45,14 @@ lines_step : (a b whole : List ℕ) (ls more all : List Line) → b ≡ a ++ fla
 lines_step a b whole ls more all e h k =
     ap (λ t. t ++ flatten more) e ∙ append_assoc a (flatten ls) (flatten more) ∙ ap (λ t. a ++ t) (sym (flatten_more ls more) ∙ sym (ap flatten h)) ∙ k
 
--- ---- entries
-
-nth_drop : {A : Type 0} (xs : List A) (i : ℕ) (x : A) → nth xs i ≡ Some x → drop i xs ≡ x ∷ drop (suc i) xs
-nth_drop [] i x e = absurd (cc)
-nth_drop (y ∷ xs) zero x e = let s : y ≡ x = cc in ap (λ z. z ∷ xs) s
-nth_drop (y ∷ xs) (suc i) x e = nth_drop xs i x e
-
--- a loop over entries
-pub entry_step : (es : List (Entry Effect)) (i n : ℕ) (e : Entry Effect) (a b whole : List ℕ) → n ≡ i + 1 → nth es (n - 1) ≡ Some e → b ≡ a ++ flatten (entry_lines n e)
-    → a ++ flatten (entries_lines (suc i) (drop i es)) ≡ whole → b ++ flatten (entries_lines (suc (i + 1)) (drop (i + 1) es)) ≡ whole
-entry_step es i n e a b whole number is g k =
-    let before : n - 1 ≡ i = omega (arith, number) in
-    let next : n ≡ suc i = omega (arith, number) in
-    lines_step a b whole (entry_lines n e) (entries_lines (suc (i + 1)) (drop (i + 1) es)) _ g
-    (ap (entries_lines (suc i)) (nth_drop es i e (ap (nth es) (sym before) ∙ is)) ∙ (λ j. entry_lines (sym next j) e ++ entries_lines (suc (sym (add-one i) j)) (drop (sym (add-one i) j) es)))
+-- a loop over items, each with the lines of its number
+pub each_step : {A B : Type 0} (see : A → B) (own : ℕ → B → List Line) (all : ℕ → List B → List Line) → ((n : ℕ) (x : B) (xs : List B) → all n (x ∷ xs) ≡ own n x ++ all (suc n) xs)
+    → (xs : List A) (i n m : ℕ) (x : A) (a b whole : List ℕ) → i < length xs → x ≡ get_or xs i x → m ≡ suc n → b ≡ a ++ flatten (own n (see x))
+    → a ++ flatten (all n (map see (drop i xs))) ≡ whole
+    → b ++ flatten (all m (map see (drop (i + 1) xs))) ≡ whole
+each_step see own all law xs i n m x a b whole below is next g k =
+    lines_step a b whole (own n (see x)) (all m (map see (drop (i + 1) xs))) (all n (map see (drop i xs))) g
+    (ap (λ ys. all n (map see ys)) (drop_step xs i x below is) ∙ law n (see x) (map see (drop (i + 1) xs)) ∙ ap (λ q. own n (see x) ++ all q (map see (drop (i + 1) xs))) (sym next))
     k
 
 -- ---- accounts
@@ -99,29 +90,57 @@ values_are word values s e =
     let size : length values ≡ length s = sym (length-map values named_data) ∙ ap length e in
     λ j. flatten (line (fields (word ∷ decimal (size j) ∷ [])) ∷ map value_line (e j))
 
-pub entry_joined : (old b : List ℕ) (n instance attempt : ℕ) (label next label' next' : List ℕ) (cs cs' : List Change) → label ≡ label' → next ≡ next' → cs ≡ cs'
-    → b ≡ old ++ line (fields (codes "step" ∷ decimal n ∷ decimal instance ∷ decimal attempt ∷ label ∷ next ∷ decimal (length cs) ∷ []))
-    → b ++ flatten (map change_line (map change_view cs))
-    ≡ old ++ flatten (line (fields (codes "step" ∷ decimal n ∷ decimal instance ∷ decimal attempt ∷ label' ∷ next' ∷ decimal (length (map change_view cs')) ∷ [])) ∷ map change_line (map change_view cs'))
-entry_joined old b n instance attempt label next label' next' cs cs' el en ec h =
-    let size : length cs ≡ length (map change_view cs') = ap length ec ∙ sym (length-map cs' change_view) in
-    ap (λ t. t ++ flatten (map change_line (map change_view cs))) h
-    ∙ append_assoc old (line (fields (codes "step" ∷ decimal n ∷ decimal instance ∷ decimal attempt ∷ label ∷ next ∷ decimal (length cs) ∷ []))) (flatten (map change_line (map change_view cs)))
-    ∙ (λ j. old ++ (line (fields (codes "step" ∷ decimal n ∷ decimal instance ∷ decimal attempt ∷ el j ∷ en j ∷ decimal (size j) ∷ [])) ++ flatten (map change_line (map change_view (ec j)))))
+-- ---- entries
 
--- the parts of a bundle in their order
-pub whole : (b1 b2 b3 b4 b5 b6 b7 : List ℕ) (head consts : Line) (cs : List Line) (size : Line) (ms : List Line) (init : Line) (ss es accounts : List Line) (last : Line)
-    → b1 ≡ [] ++ head → b2 ≡ b1 ++ flatten (consts ∷ cs) → b3 ≡ b2 ++ size ++ flatten ms → b4 ≡ b3 ++ flatten (init ∷ ss) → b5 ≡ b4 ++ flatten es
-    → b6 ≡ b5 ++ flatten accounts → b7 ≡ b6 ++ last
-    → b7 ≡ flatten ((head ∷ consts ∷ []) ++ cs ++ (size ∷ []) ++ ms ++ (init ∷ []) ++ ss ++ es ++ accounts ++ (last ∷ []))
-whole b1 b2 b3 b4 b5 b6 b7 head consts cs size ms init ss es accounts last e1 e2 e3 e4 e5 e6 e7 =
-    let l2 = (head ∷ consts ∷ []) ++ cs in
-    let h2 : b2 ≡ [] ++ flatten l2 = e2 ∙ ap (λ t. t ++ flatten (consts ∷ cs)) e1 in
-    let hs : b2 ++ size ≡ [] ++ flatten (l2 ++ (size ∷ [])) = lines_joined [] b2 (b2 ++ size) l2 (size ∷ []) h2 (ap (λ t. b2 ++ t) (sym (append-nil size))) in
-    let h3 : b3 ≡ [] ++ flatten (l2 ++ (size ∷ []) ++ ms) = lines_joined [] (b2 ++ size) b3 (l2 ++ (size ∷ [])) ms hs e3 in
-    let l3 = l2 ++ (size ∷ []) ++ ms in
-    let h4 : b4 ≡ [] ++ flatten (l3 ++ (init ∷ []) ++ ss) = lines_joined [] b3 b4 l3 (init ∷ ss) h3 e4 ∙ ap flatten (sym (append_assoc l3 (init ∷ []) ss)) in
-    let l4 = l3 ++ (init ∷ []) ++ ss in
-    let h5 : b5 ≡ [] ++ flatten (l4 ++ es) = lines_joined [] b4 b5 l4 es h4 e5 in
-    let h6 : b6 ≡ [] ++ flatten (l4 ++ es ++ accounts) = lines_joined [] b5 b6 (l4 ++ es) accounts h5 e6 in
-    lines_joined [] b6 b7 (l4 ++ es ++ accounts) (last ∷ []) h6 (e7 ∙ ap (λ t. b6 ++ t) (sym (append-nil last)))
+pub step_joined : (n instance attempt : ℕ) (label next label' next' : List ℕ) (m : ℕ) (cs : List Change) (q q' : List ℕ) → label ≡ label' → next ≡ next' → m ≡ length cs → q ≡ q'
+    → line (fields (codes "step" ∷ decimal n ∷ decimal instance ∷ decimal attempt ∷ label ∷ next ∷ decimal m ∷ q ∷ []))
+    ≡ line (fields (codes "step" ∷ decimal n ∷ decimal instance ∷ decimal attempt ∷ label' ∷ next' ∷ decimal (length (map change_view cs)) ∷ q' ∷ []))
+step_joined n instance attempt label next label' next' m cs q q' el en em eq =
+    let size : m ≡ length (map change_view cs) = em ∙ sym (length-map cs change_view) in
+    λ j. line (fields (codes "step" ∷ decimal n ∷ decimal instance ∷ decimal attempt ∷ el j ∷ en j ∷ decimal (size j) ∷ eq j ∷ []))
+
+-- lines behind those that were written
+after : (a b : List ℕ) (ls ms : List Line) (c : List ℕ) → b ≡ a ++ flatten ls → c ≡ b ++ flatten ms → c ≡ a ++ flatten (ls ++ ms)
+after a b ls ms c h k = lines_joined a b c ls ms h k
+
+-- an entry's first line, its changes, its prints, and the notes behind it
+pub logged_joined : (old b1 b2 b3 : List ℕ) (first : Line) (changes prints notes : List Line) → b1 ≡ old ++ first → b2 ≡ b1 ++ flatten changes → b3 ≡ b2 ++ flatten prints
+    → b3 ++ flatten notes ≡ old ++ flatten (first ∷ (changes ++ (prints ++ notes)))
+logged_joined old b1 b2 b3 first changes prints notes h1 h2 h3 =
+    let s1 : b1 ≡ old ++ flatten (first ∷ []) = h1 ∙ ap (λ t. old ++ t) (sym (append-nil first)) in
+    let s2 : b2 ≡ old ++ flatten ((first ∷ []) ++ changes) = lines_joined old b1 b2 (first ∷ []) changes s1 h2 in
+    let s3 : b3 ≡ old ++ flatten ((first ∷ []) ++ changes ++ prints) = lines_joined old b2 b3 ((first ∷ []) ++ changes) prints s2 h3 in
+    lines_joined old b3 (b3 ++ flatten notes) ((first ∷ []) ++ changes ++ prints) notes s3 refl
+    ∙ ap (λ ls. old ++ flatten ls) (ap (λ ls. first ∷ ls) (append_assoc changes prints notes))
+
+-- ---- the whole
+
+-- the lines before the log
+pub head_joined : (old b1 b2 b3 : List ℕ) (version consts : Line) (cs : List Line) (size : Line) (text : List ℕ)
+    → b1 ≡ old ++ version → b2 ≡ b1 ++ flatten (consts ∷ cs) → b3 ≡ b2 ++ size ++ text → b3 ≡ old ++ (flatten ((version ∷ consts ∷ []) ++ cs ++ (size ∷ [])) ++ text)
+head_joined old b1 b2 b3 version consts cs size text e1 e2 e3 =
+    let l2 = (version ∷ consts ∷ []) ++ cs in
+    let h1 : b1 ≡ old ++ flatten (version ∷ []) = e1 ∙ ap (λ t. old ++ t) (sym (append-nil version)) in
+    let h2 : b2 ≡ old ++ flatten l2 = lines_joined old b1 b2 (version ∷ []) (consts ∷ cs) h1 e2 in
+    let h3 : b2 ++ size ≡ old ++ flatten (l2 ++ (size ∷ [])) = lines_joined old b2 (b2 ++ size) l2 (size ∷ []) h2 (ap (λ t. b2 ++ t) (sym (append-nil size))) in
+    e3 ∙ ap (λ t. t ++ text) h3 ∙ append_assoc old (flatten (l2 ++ (size ∷ []))) text
+
+-- the start, what stands before the entries, the entries, the accounts and the end
+pub log_joined : (old b1 b2 b3 b4 b5 : List ℕ) (init : Line) (ss notes es accounts : List Line) (last : Line)
+    → b1 ≡ old ++ flatten (init ∷ ss) → b2 ≡ b1 ++ flatten notes → b3 ≡ b2 ++ flatten es → b4 ≡ b3 ++ flatten accounts → b5 ≡ b4 ++ last
+    → b5 ≡ old ++ flatten ((init ∷ []) ++ ss ++ (notes ++ es) ++ accounts ++ (last ∷ []))
+log_joined old b1 b2 b3 b4 b5 init ss notes es accounts last e1 e2 e3 e4 e5 =
+    let h2 : b2 ≡ old ++ flatten ((init ∷ ss) ++ notes) = lines_joined old b1 b2 (init ∷ ss) notes e1 e2 in
+    let h3 : b3 ≡ old ++ flatten ((init ∷ ss) ++ notes ++ es) = lines_joined old b2 b3 ((init ∷ ss) ++ notes) es h2 e3 in
+    let h3 : b3 ≡ old ++ flatten ((init ∷ ss) ++ (notes ++ es)) = h3 ∙ ap (λ ls. old ++ flatten ls) (append_assoc (init ∷ ss) notes es) in
+    let h4 : b4 ≡ old ++ flatten ((init ∷ ss) ++ (notes ++ es) ++ accounts) = lines_joined old b3 b4 ((init ∷ ss) ++ (notes ++ es)) accounts h3 e4 in
+    lines_joined old b4 b5 ((init ∷ ss) ++ (notes ++ es) ++ accounts) (last ∷ []) h4 (e5 ∙ ap (λ t. b4 ++ t) (sym (append-nil last)))
+
+-- the head, the lines of the start, the notes before the entries, the entries, the accounts and the end
+pub whole_joined : (b1 b2 b3 b4 head : List ℕ) (first notes es accounts : List Line) (last : Line)
+    → b1 ≡ [] ++ head → b2 ≡ b1 ++ flatten (first ++ notes ++ es) → b3 ≡ b2 ++ flatten accounts → b4 ≡ b3 ++ last
+    → b4 ≡ head ++ flatten (first ++ (notes ++ es) ++ accounts ++ (last ∷ []))
+whole_joined b1 b2 b3 b4 head first notes es accounts last e1 e2 e3 e4 =
+    let h2 : b2 ≡ head ++ flatten (first ++ (notes ++ es)) = e2 ∙ ap (λ t. t ++ flatten (first ++ notes ++ es)) e1 ∙ ap (λ ls. head ++ flatten ls) (append_assoc first notes es) in
+    let h3 : b3 ≡ head ++ flatten (first ++ (notes ++ es) ++ accounts) = lines_joined head b2 b3 (first ++ (notes ++ es)) accounts h2 e3 in
+    lines_joined head b3 b4 (first ++ (notes ++ es) ++ accounts) (last ∷ []) h3 (e4 ∙ ap (λ t. b3 ++ t) (sym (append-nil last)))

@@ -2,3 +2,4 @@ mod Joined
 mod LeavesWritten
 mod Matching
 mod Ends
+mod RunLaws

@@ -1,14 +1,17 @@
 -- The accounts in memory against those of the machine.
-use Rattle.std.proofs.Common.{◌≡◌, ◌+◌, ℕ, suc, ◌||◌, ◌&&◌, false, List, [], ◌∷◌, ◌++◌, length, map, Option, Some, None, refl, ap, sym, ◌∙◌, arith}
+use Rattle.std.proofs.Common.{◌≡◌, ◌+◌, ℕ, suc, Bool, true, false, ◌||◌, ◌&&◌, List, [], ◌∷◌, ◌++◌, length, map, Option, Some, None, refl, ap, sym, ◌∙◌, arith}
 use Rattle.std.proofs.lemmas.List.{length-map}
 use Rattle.std.specs.Prelude.{codes, decimal, option_map, nat_eq, if◌then◌else◌}
-use Rattle.pgo_model.specs.Bundle.{fields, end_text, record_lines, accounts_lines}
+use Rattle.pgo_model.specs.Accounts.{journal}
+use Rattle.pgo_model.specs.Bundle.{fields, end_text, resource_text, record_fields, record_lines}
 use Rattle.pgo_model.specs.Core as core
 use Rattle.pgo_model.specs.Log.{Effect}
-use Rattle.pgo_model.specs.Machine.{Finished, nth, state_at}
+use Rattle.pgo_model.specs.Machine.{Finished, Record, Step, Noted, Held, Down, Full, nth, state_at}
 use Rattle.pgo_model.specs.ModuleText.{line}
-use Rattle.pgo_model.specs.System.{System, Member}
+use Rattle.pgo_model.specs.System.{System, Member, Resource}
 use Rattle.pgo_model.specs.ValueText.{value_text}
+use Rattle.pgo_bundle.specs.Accounts.{HeldLogLine, DownLine, attempt_fields, attempt_lines, read_accounts_lines}
+use Rattle.pgo_bundle.specs.RunLog.{attempt_of, held_by, down_at, accounts_from}
 use Rattle.pgo_meaning.specs.System.{member_of}
 use Rattle.pgo_bound.specs.State.{id_of}
 use Rattle.pgo_syntax.specs.declared.bound.Instance.{Instance}
@@ -25,6 +28,31 @@ end_back (Some core.Done) = refl
 end_back (Some core.Stopped) = refl
 end_back (Some core.JournalFull) = refl
 end_back (Some core.Spent) = refl
+
+-- a record's fields are those of its line
+held_same : (b : Bool) (h : ℕ) (o : Option Resource) → codes "held" ∷ decimal h ∷ (if b then codes "$log" else resource_text o) ∷ [] ≡ attempt_fields (if b then HeldLogLine h else held_by h o)
+held_same true h o = refl
+held_same false h None = refl
+held_same false h (Some q) = refl
+
+down_same : (b : Bool) (o : ℕ) (q : Option Resource) → codes "down" ∷ decimal o ∷ (if b then codes "$log" else resource_text q) ∷ [] ≡ attempt_fields (if b then DownLine o (codes "$log") None else down_at o q)
+down_same true o q = refl
+down_same false o None = refl
+down_same false o (Some q) = refl
+
+fields_same : (rs : List Resource) (x : Record) → record_fields rs x ≡ attempt_fields (attempt_of rs x)
+fields_same rs (Step n) = refl
+fields_same rs (Noted kind p) = refl
+fields_same rs (Held r h) = held_same (nat_eq r journal) h (nth rs r)
+fields_same rs (Down r o) = down_same (nat_eq r journal) o (nth rs r)
+fields_same rs (Full n) = refl
+
+records_are : (rs : List Resource) (a : ℕ) (xs : List Record) → record_lines rs a xs ≡ attempt_lines a (map (attempt_of rs) xs)
+records_are rs a [] = refl
+records_are rs a (x ∷ xs) =
+    let first = fields_same rs x in
+    let rest = records_are rs (suc a) xs in
+    λ i. line (fields (decimal a ∷ first i)) ∷ rest i
 
 module _ (y : System) (settings : core.Settings) (g : Finished Effect) where
   -- the accounts of the members from k on
@@ -62,16 +90,19 @@ module _ (y : System) (settings : core.Settings) (g : Finished Effect) where
 
   -- ---- the lines
 
-  pub accounts_are : (k : ℕ) (is : List Instance) (list : List Account) → Match k is list → accounts_rows y.resources k is list ≡ accounts_lines y settings g k (map member_of is)
+  pub accounts_are : (k : ℕ) (is : List Instance) (list : List Account) → Match k is list → accounts_rows y.resources k is list ≡ read_accounts_lines k (accounts_from y settings g k (map member_of is))
   accounts_are k [] [] m = refl
   accounts_are k [] (a ∷ list) m = absurd m
   accounts_are k (i ∷ is) [] m = absurd m
   accounts_are k (i ∷ is) (a ∷ list) m =
-      let size : length a.records ≡ length (g.records k) = sym (length-map a.records record_of) ∙ ap length m.0 in
+      let size : length a.records ≡ length (map (attempt_of y.resources) (g.records k))
+      = sym (length-map a.records record_of) ∙ ap length m.0 ∙ sym (length-map (g.records k) (attempt_of y.resources))
+      in
       let end : end_view a.end ≡ core.end_of y settings g k = ap end_view m.1 ∙ end_back (core.end_of y settings g k) in
+      let records : record_lines y.resources 1 (records_of a) ≡ attempt_lines 1 (map (attempt_of y.resources) (g.records k)) = ap (record_lines y.resources 1) m.0 ∙ records_are y.resources 1 (g.records k) in
       λ j.
       (line (fields (codes "inst" ∷ decimal k ∷ decimal (size j) ∷ end_text (end j) ∷ value_text (id_of i) ∷ []))
-      ∷ record_lines y.resources 1 (m.0 j))
+      ∷ records j)
       ++ accounts_are (suc k) is list m.2 j
 
   -- ---- the status

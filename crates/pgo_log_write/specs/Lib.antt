@@ -3,3 +3,7 @@ pub mod IsFinished
 pub mod Leaves
 pub mod Lines
 pub mod Status
+pub mod Told
+pub mod RunRows
+pub mod JournalRows
+pub mod LogRows

@@ -1,26 +1,14 @@
 -- The lines of accounts as they lie in memory.
-use Rattle.std.specs.Prelude.{ℕ, suc, List, [], ◌∷◌, ◌++◌, length, codes, decimal, Option, Some, None}
+use Rattle.std.specs.Prelude.{ℕ, suc, List, [], ◌∷◌, ◌++◌, length, codes, decimal}
 use Rattle.pgo_model.specs.Bundle.{fields, end_text, record_lines}
-use Rattle.pgo_model.specs.Core as core
 use Rattle.pgo_model.specs.ModuleText.{Line, line}
 use Rattle.pgo_model.specs.System.{Resource}
 use Rattle.pgo_model.specs.ValueText.{value_text}
 use Rattle.pgo_syntax.specs.declared.bound.Instance.{Instance}
-use Rattle.pgo_syntax.specs.declared.records.End.{End}
-use Rattle.pgo_syntax.specs.declared.records.End.TheVariants as ends
 use Rattle.pgo_bound.specs.State.{id_of}
 use Rattle.pgo_journal.specs.declared.finished.Account.{Account}
+pub use Rattle.pgo_bundle.specs.View.{end_view}
 use Rattle.pgo_log_write.specs.IsFinished.{records_of}
-
--- how an instance ended. Where memory was wanting, or nobody has the number, it has not
-abbrev pub end_view : Option End → Option core.End
-end_view (Some ends.Done) = Some core.Done
-end_view (Some ends.Stopped) = Some core.Stopped
-end_view (Some ends.Full) = Some core.JournalFull
-end_view (Some ends.Spent) = Some core.Spent
-end_view (Some ends.NoMemory) = None
-end_view (Some ends.Nobody) = None
-end_view None = None
 
 -- the line and the records of instance k
 abbrev pub account_rows : List Resource → ℕ → Instance → Account → List Line

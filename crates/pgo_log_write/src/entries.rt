@@ -1,17 +1,21 @@
-// Values by name, and entries.
+// Values by name, entries and notes.
 ghost use Rattle.std.specs.Prelude.{◌≡◌, ◌∷◌, ◌++◌, [], codes, decimal, length, map, IfOk};
 ghost use Rattle.pgo_base.specs.View.{data_of, named_data};
-ghost use Rattle.pgo_model.specs.Bundle.{change_line, entries_lines, entry_lines, fields, value_line};
+ghost use Rattle.pgo_bundle.specs.Lines.{logged_lines, note_line, print_line, prints_count, prints_lines, step_line};
+ghost use Rattle.pgo_bundle.specs.View.{logged_note_view};
+ghost use Rattle.pgo_log_write.specs.Fields.{field_text};
+ghost use Rattle.pgo_log_write.specs.Told.{logged_view, told_view};
+ghost use Rattle.pgo_model.specs.Bundle.{change_line, fields, value_line};
 ghost use Rattle.pgo_model.specs.LogView.{change_view, entry_view};
 ghost use Rattle.pgo_model.specs.ModuleText.{flatten, line};
 
 use crate::line::Field::{Number, Word};
-use crate::line::push_line;
-use crate::words::{indexed, written};
+use crate::line::{Field, push_line};
+use crate::words::{found_word, indexed, written};
 use pgo_base::log::{Change, Entry};
 use pgo_base::text::Text;
 use pgo_base::value::Value;
-use pgo_journal::journal::Journal;
+use pgo_bundle::log::LoggedNote;
 use std::alloc::{AllocError, Global};
 
 /// Adds the line of a name and its value.
@@ -76,33 +80,106 @@ fn push_changes(bytes: &mut Vec<u8>, alloc: Global, changes: &[Change]) -> Resul
     Ok(())
 }
 
-/// Adds the lines of entry number n.
-fn push_entry(bytes: &mut Vec<u8>, alloc: Global, n: u32, entry: &Entry) -> Result<(), AllocError>
-    ensures { IfOk result (λ _. bytes.new.items ≡ bytes.old.items ++ flatten (entry_lines n (entry_view entry.now))) }
+/// Adds the line of a value that was printed.
+fn push_print(bytes: &mut Vec<u8>, alloc: Global, value: &Value) -> Result<(), AllocError>
+    ensures { IfOk result (λ _. bytes.new.items ≡ bytes.old.items ++ print_line (data_of value.now)) }
 {
-    let changes = entry.changes.as_slice();
+    let text = written(alloc, value)?;
+    push_line(bytes, &[Word(b"print"), Word(text.as_bytes())])
+}
+
+/// Adds the lines of what was printed.
+fn push_prints(bytes: &mut Vec<u8>, alloc: Global, values: &[Value]) -> Result<(), AllocError>
+    ensures { IfOk result (λ _. bytes.new.items ≡ bytes.old.items ++ flatten (map print_line (map data_of values.now))) }
+{
+    for value in values {
+        push_print(bytes, alloc, value)?;
+    }
+    Ok(())
+}
+
+/// Adds the lines of what was printed, where it is told.
+fn push_told(bytes: &mut Vec<u8>, alloc: Global, prints: Option<&[Value]>) -> Result<(), AllocError>
+    ensures { IfOk result (λ _. bytes.new.items ≡ bytes.old.items ++ flatten (prints_lines (told_view prints.entry))) }
+{
+    match prints {
+        Some(values) => push_prints(bytes, alloc, values),
+        None => Ok(()),
+    }
+}
+
+/// How many values were printed, where it is told.
+fn prints_count<'a>(prints: Option<&[Value]>) -> Field<'a>
+    ensures { field_text result ≡ prints_count (told_view prints.entry) }
+{
+    match prints {
+        Some(values) => Number(values.len() as u64),
+        None => Word(b"-"),
+    }
+}
+
+/// Adds the line of a note.
+fn push_note(bytes: &mut Vec<u8>, note: LoggedNote) -> Result<(), AllocError>
+    ensures { IfOk result (λ _. bytes.new.items ≡ bytes.old.items ++ note_line (logged_note_view note)) }
+{
+    push_line(
+        bytes,
+        &[
+            Word(b"note"),
+            Number(note.instance as u64),
+            Number(note.attempt as u64),
+            Word(found_word(note.kind)),
+        ],
+    )
+}
+
+/// Adds the lines of notes.
+pub fn push_notes(bytes: &mut Vec<u8>, notes: &[LoggedNote]) -> Result<(), AllocError>
+    ensures { IfOk result (λ _. bytes.new.items ≡ bytes.old.items ++ flatten (map note_line (map logged_note_view notes.now))) }
+{
+    for note in notes {
+        push_note(bytes, *note)?;
+    }
+    Ok(())
+}
+
+/// Adds the first line of entry number n, which printed this.
+fn push_step(
+    bytes: &mut Vec<u8>,
+    n: u64,
+    entry: &Entry,
+    prints: Option<&[Value]>,
+) -> Result<(), AllocError>
+    ensures { IfOk result (λ _. bytes.new.items ≡ bytes.old.items ++ step_line n (entry_view entry.now) (told_view prints.entry)) }
+{
     push_line(
         bytes,
         &[
             Word(b"step"),
-            Number(n as u64),
+            Number(n),
             Number(entry.instance as u64),
             Number(entry.attempt as u64),
             Word(entry.label.as_bytes()),
             Word(entry.next.as_bytes()),
-            Number(changes.len() as u64),
+            Number(entry.changes.as_slice().len() as u64),
+            prints_count(prints),
         ],
-    )?;
-    push_changes(bytes, alloc, changes)
+    )
 }
 
-/// Adds the lines of all entries of a journal.
-pub fn push_entries(bytes: &mut Vec<u8>, alloc: Global, journal: &Journal) -> Result<(), AllocError>
-    ensures { IfOk result (λ _. bytes.new.items ≡ bytes.old.items ++ flatten (entries_lines 1 journal.now.entries)) }
+/// Adds the lines of entry number n, of what it printed, and of the notes behind it.
+pub fn push_entry(
+    bytes: &mut Vec<u8>,
+    alloc: Global,
+    n: u64,
+    entry: &Entry,
+    prints: Option<&[Value]>,
+    notes: &[LoggedNote],
+) -> Result<(), AllocError>
+    ensures { IfOk result (λ _. bytes.new.items ≡ bytes.old.items ++ flatten (logged_lines n (logged_view entry.now prints.entry notes.now))) }
 {
-    for i in 0..journal.len() {
-        let n = i + 1;
-        push_entry(bytes, alloc, n, journal.entry(n))?;
-    }
-    Ok(())
+    push_step(bytes, n, entry, prints)?;
+    push_changes(bytes, alloc, entry.changes.as_slice())?;
+    push_told(bytes, alloc, prints)?;
+    push_notes(bytes, notes)
 }

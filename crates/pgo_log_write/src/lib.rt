@@ -13,6 +13,8 @@ ghost use Rattle.pgo_log_write.specs.Leaves.{result_fields};
 mod accounts;
 mod entries;
 mod line;
+pub mod log;
+mod run;
 pub mod status;
 mod words;
 pub mod write;

@@ -5,6 +5,7 @@ ghost use Rattle.pgo_meaning.specs.System.{resource_of};
 ghost use Rattle.pgo_model.specs.Bundle.{end_text, indexed_text, kind_text, note_word, refused_text};
 ghost use Rattle.pgo_model.specs.ValueText.{value_text};
 ghost use Rattle.pgo_syntax.specs.RecordView.{kind_view};
+ghost use Rattle.pgo_bundle.specs.Lines.{found_text};
 ghost use Rattle.pgo_log_write.specs.Lines.{end_view};
 
 use pgo_base::text::Text;
@@ -68,7 +69,7 @@ pub fn word_before_kind(kind: NoteKind) -> &'static [u8]
 {
     match kind {
         NoteKind::Blocked | NoteKind::NoValue | NoteKind::AssertFails => b"note",
-        NoteKind::Many => b"many",
+        NoteKind::Many => b"many", // the number of leaves follows
     }
 }
 
@@ -81,6 +82,18 @@ pub fn kind_word(kind: NoteKind) -> &'static [u8]
         NoteKind::NoValue => b"novalue",
         NoteKind::AssertFails => b"assert",
         NoteKind::Many => b"65536",
+    }
+}
+
+/// What was found, in the line of a note.
+pub fn found_word(kind: NoteKind) -> &'static [u8]
+    ensures { result.now ≡ found_text (kind_view kind) }
+{
+    match kind {
+        NoteKind::Blocked => b"blocked",
+        NoteKind::NoValue => b"novalue",
+        NoteKind::AssertFails => b"assert",
+        NoteKind::Many => b"many",
     }
 }
 
