@@ -13,7 +13,7 @@ use Rattle.pgo_model.specs.Core.{Reaches, Settings, are_at_done, are_blocked, ha
 use Rattle.pgo_model.specs.BundleParts.{is_read_name, is_run_status}
 use Rattle.pgo_model.specs.Log as log
 use Rattle.pgo_model.specs.Log.{Change, Component, Effect, changes_between, components_of, own_components, resource_components}
-use Rattle.pgo_model.specs.Machine.{Entry, Finished, Record, Step, Noted, Held, Down, Full, Rules, nth, state_at}
+use Rattle.pgo_model.specs.Machine.{Entry, Finished, Note, Record, Step, Noted, Held, Down, Full, Rules, nth, state_at}
 use Rattle.pgo_model.specs.MachineLists.{nth_below}
 use Rattle.pgo_model.specs.ModuleText.{Text}
 use Rattle.pgo_model.specs.State.{is_shallow}
@@ -47,9 +47,12 @@ use Rattle.pgo_accept.proofs.Counted.{different}
 use Rattle.pgo_accept.proofs.Variables.{processes_once}
 use Rattle.pgo_accounts.proofs.Steps.{Leads, is_label, leads_from}
 use Rattle.pgo_accounts.proofs.Entries.{label_at}
-use Rattle.pgo_log_text.specs.IsBundle.{AreCanonical, IsCanonicalIndex, IsCanonicalValue}
+use Rattle.pgo_bundle.specs.RunLog.{are_shallow, run_log, told_prints}
+use Rattle.pgo_bundle.specs.Untied.{untied_at}
+use Rattle.pgo_log_text.specs.IsBundle.{AreCanonical, ArePrints, AreValues, IsCanonicalIndex, IsCanonicalValue}
 use Rattle.pgo_log_text.specs.WrittenRun.{IsWrittenChange, IsWrittenEntry, IsWrittenRecord, IsWrittenResource, IsWrittenRun}
 use Rattle.pgo_run_values.specs.Spellable.{AllSpellable, IsSpellable}
+use Rattle.pgo_prints.specs.Prints.{EachSpellable}
 use Rattle.pgo_written_runs.specs.Failures.{DownsShort}
 use Rattle.pgo_written_runs.proofs.Components.{own_few, own_from, owned_from, resource_from, resources_many}
 use Rattle.pgo_written_runs.proofs.Constants.{constants_canonical, constants_named}
@@ -86,6 +89,21 @@ module _ (s : Spec) (consts : List (Name × Data)) (accepted : IsAccepted s cons
     where
       parts : (v : Data) (u : Vars) → (nat_le (depth v) 256 && is_shallow u) ≡ true → (nat_le (depth v) 256 ≡ true) × (is_shallow u ≡ true)
       parts v u e = and_parts (nat_le (depth v) 256) (is_shallow u) e
+
+  -- ---- what is printed, where it is told
+
+  values_canonical : (vs : List Data) → EachSpellable vs → are_shallow vs ≡ true → AreValues vs
+  values_canonical [] h d = tt
+  values_canonical (v ∷ vs) h d =
+      let q = and_parts (nat_le (depth v) 1024) (are_shallow vs) d in
+      (canonical v (h v (inl refl)) (leb-true (depth v) 1024 q.0), values_canonical vs (λ w m. h w (inr m)) q.1)
+
+  prints_written : (vs : List Data) → EachSpellable vs → length vs ≤ 1048576 → ArePrints (told_prints vs)
+  prints_written vs h few = go (are_shallow vs) refl
+    where
+      go : (d : Bool) → are_shallow vs ≡ d → ArePrints (if d then Some vs else None)
+      go true e = (omega (arith, few), values_canonical vs h e)
+      go false e = tt
 
   -- ---- identifiers and indices
 
@@ -165,7 +183,7 @@ module _ (s : Spec) (consts : List (Name × Data)) (accepted : IsAccepted s cons
     abbrev at : ℕ → Vars
     at n = state_at R y.start entries n
 
-    module _ (made : EntriesMade R f) (good : (n : ℕ) → n ≤ length entries → IsGoodState b (at n)) (values : (n : ℕ) → n ≤ length entries → AllSpellable (at n)) (accounts : (k : ℕ) → Accounts R (Reaches y) run f k) (joint : JointAccounts R run f) (reached : DownsReached y f) where
+    module _ (made : EntriesMade R f) (good : (n : ℕ) → n ≤ length entries → IsGoodState b (at n)) (values : (n : ℕ) → n ≤ length entries → AllSpellable (at n)) (accounts : (k : ℕ) → Accounts R (Reaches y) run f k) (joint : JointAccounts R run f) (reached : DownsReached y f) (printed : (p : ℕ) (e : Entry Effect) → nth entries p ≡ Some e → EachSpellable e.change.prints × (length e.change.prints ≤ 1048576)) where
       few_members : length y.members ≤ 64
       few_members = let g = length-map b.instances member_of in let h = keeps.sound.numbered.few_instances in omega (arith, g, h)
 
@@ -230,6 +248,7 @@ module _ (s : Spec) (consts : List (Name × Data)) (accepted : IsAccepted s cons
               let same : length e.change.changes ≡ length (changes_between (components_of y) (at p) (at (suc p))) = ap (λ (z : Effect). length z.changes) by.change in
               omega (arith, n, same, components_short));
           changes = change_written;
+          prints = (let q = printed p e h in prints_written e.change.prints q.0 q.1);
         }
 
       resource_there : (r : ℕ) (q : Resource) → nth y.resources r ≡ Some q → IsWrittenResource y.resources r
@@ -253,8 +272,19 @@ module _ (s : Spec) (consts : List (Name × Data)) (accepted : IsAccepted s cons
           (downs r o t, (λ e. omega (arith, n, few_resources, e)), resource_there r q.1 q.3)
       record_written k i (Full n) at_i t = let same : n ≡ settings.steps = t in omega (arith, same, steps)
 
-      pub run_written : (status : ℕ) → AreCanonical consts → SpellsModule (Text (module_of s)) (module_of s) → IsTrue (is_run_status status) → IsWrittenRun (module_of s) (constants_with s consts) y f status
-      run_written status given spells is_status =
+      -- a note is of an instance, and of one of its attempts
+      note_written : (j : ℕ) (n : Note) → nth f.notes j ≡ Some n → (n.instance < 2 ^ 32) × (n.attempt < 2 ^ 32)
+      note_written j n at_j =
+          let r = (accounts n.instance).notes j n at_j refl in
+          let k = (accounts n.instance).number r.0 (Noted n.kind n.position) r.2 in
+          let a = nth_below (f.records n.instance) r.0 (Noted n.kind n.position) r.2 in
+          let m = (accounts n.instance).bounded in
+          let same = r.1 in
+          (omega (arith, k, few_members), omega (arith, a, m, same, attempts))
+
+      pub run_written : (status : ℕ) → AreCanonical consts → SpellsModule (Text (module_of s)) (module_of s) → IsTrue (is_run_status status) → untied_at (run_log y settings f status) ≡ None
+          → IsWrittenRun (module_of s) (constants_with s consts) y settings f status
+      run_written status given spells is_status tied =
           let named = constants_named s consts accepted.binding in
           let variables : map (λ p. p.0) y.start ≡ (module_of s).variables = keeps.sound.start.variables ∙ variables_same s in
           record {
@@ -276,9 +306,11 @@ module _ (s : Spec) (consts : List (Name × Data)) (accepted : IsAccepted s cons
             start = all_canonical y.start starts keeps.sound.start.shallow;
             entry_count = let room = joint.room in omega (arith, room, steps);
             entries = entry_written;
+            notes = note_written;
             instance_count = omega (arith, few_members);
             members = λ k m at_k. member_canonical m (among_nth m y.members k at_k);
             record_count = λ k. (let n = (accounts k).bounded in omega (arith, n, attempts));
             records = λ k i x q. record_written k i x q ((accounts k).told i x q);
             status_is = is_status;
+            tied = tied;
           }

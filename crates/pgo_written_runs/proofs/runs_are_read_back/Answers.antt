@@ -1,5 +1,6 @@
 use Rattle.std.proofs.Common.{false}
 use Rattle.pgo_bound.specs.BoundOf.{bound_of}
+use Rattle.pgo_bundle.specs.RunLog.{run_log}
 use Rattle.pgo_meaning.specs.System.{system_of}
 use Rattle.pgo_model.specs.Core.{Core}
 use Rattle.pgo_model.specs.Machine.{finished_of}
@@ -18,7 +19,9 @@ returns-clause-made c text s consts settings run f status spells passes given sh
     let keeps = c.texts_keep_states.ensures.kept text s consts spells passes counted in
     run_written s consts accepted (c.modules_are_written.ensures text s consts spells passes) c.spellable_values_are_read_back.ensures.texts keeps short (archetypes_short text s spells) (c.run_values_are_spellable.ensures.start text s consts spells passes spelled) settings run f steps attempts downs
     made (c.made_entries_are_runs.ensures.good b settings f keeps made) (λ n le. c.run_values_are_spellable.ensures.made text s consts settings f n spells passes spelled made le) accounts joint reached
+    (λ p e at_p. (c.prints_are_spellable.ensures.values text s consts settings f p e spells passes spelled made at_p, c.prints_are_spellable.ensures.few text s consts settings f p e spells passes spelled made at_p))
     status given (c.modules_are_read_back.ensures text s consts spells passes short).spells is_status
+    (c.tied_logs.ensures.untied (run_log (system_of b) settings f status) (c.runs_are_tied.ensures (system_of b) settings run f status accounts))
 
 pub returns-clause-read_made : goal.returns-clause-read_made
 returns-clause-read_made c text s consts settings run f status spells passes given short steps attempts downs is_status made accounts joint reached =

@@ -1,0 +1,3 @@
+pub mod PrintCounts
+pub mod PrintValues
+pub mod Entries
