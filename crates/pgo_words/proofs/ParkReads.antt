@@ -5,7 +5,7 @@ use Rattle.pgo_base.specs.Data.{Data}
 use Rattle.pgo_base.specs.Lookup.{Name}
 use Rattle.pgo_model.specs.Core.{Settings}
 use Rattle.pgo_model.specs.ValueText.{is_one_of}
-use Rattle.pgo_words.specs.Asks.{Command, Compile, Expand, Step, Run, Check, Load, Request, AsksRun, AsksBy}
+use Rattle.pgo_words.specs.Asks.{Command, Compile, Expand, Step, Run, Check, Migrate, Load, Request, AsksRun, AsksBy}
 use Rattle.pgo_words.specs.Options.{option_words, MayPark}
 use Rattle.pgo_words.specs.Park.{park_word, are_valued, IsPark}
 use Rattle.pgo_words.specs.Parts.{HasOptions, Pairs, is_plain}
@@ -89,6 +89,7 @@ park_of (Step ts) words behind cs s a e =
     sym (ap (is_one_of park_word) a.words_are ∙ has_no_park true a.behind a.options a.parts.rest h)
 park_of Run words behind cs s a e = sym (ap (is_one_of park_word) e)
 park_of Check words behind cs s a e = sym (ap (is_one_of park_word) a.words_are)
+park_of Migrate words behind cs s a e = sym (ap (is_one_of park_word) a.words_are)
 park_of (Load k) words behind cs s a e =
     let few = a.few in
     let plain : is_plain (decimal k) ≡ true = asking.decimal_plain k (omega (arith, few)) in

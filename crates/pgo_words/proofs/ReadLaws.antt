@@ -6,7 +6,7 @@ use Rattle.pgo_base.specs.Data.{Data}
 use Rattle.pgo_base.specs.Lookup.{Name}
 use Rattle.pgo_model.specs.Core.{Settings}
 use Rattle.pgo_model.specs.ValueText.{same_bytes}
-use Rattle.pgo_words.specs.Asks.{Command, Compile, Expand, Step, Run, Check, Load, Request, HasParts, AsksStep, AsksRun, AsksBy, Asks}
+use Rattle.pgo_words.specs.Asks.{Command, Compile, Expand, Step, Run, Check, Migrate, Load, Request, HasParts, AsksStep, AsksRun, AsksBy, Asks}
 use Rattle.pgo_words.specs.Constants.{Constants}
 use Rattle.pgo_words.specs.Failures.{FailuresOr}
 use Rattle.pgo_words.specs.Items.{SpelledOnly}
@@ -104,6 +104,7 @@ run_none behind f r n a = go r.command n a
     go (Step ts) n a = cc
     go Run n a = f r.consts r.settings a
     go Check n a = cc
+    go Migrate n a = cc
     go (Load k) n a = cc
 
 -- what is read of the words that are left without `--park`
@@ -137,6 +138,7 @@ module _ (behind others : List (List ℕ)) (stands : (options : Pairs) (rest : L
       go (Step ts) cs s n a = cc
       go Run cs s n a = let e = b.2 a.options s cs (gives cs s a) in λ i. record { command = sym b.0 i; consts = e.1 i; settings = e.0 i }
       go Check cs s n a = cc
+      go Migrate cs s n a = cc
       go (Load k) cs s n a = cc
 
 -- ---- `step`
@@ -157,6 +159,7 @@ step_none behind f r n a = go r.command n a
     go (Step ts) n a = f ts r.consts r.settings a
     go Run n a = cc
     go Check n a = cc
+    go Migrate n a = cc
     go (Load k) n a = cc
 
 pub step_none_options : (behind : List (Bor (List ℕ))) → ReadsOptions true behind None → BehindOnly names.Step (texts behind) None
@@ -208,6 +211,7 @@ module _ (behind : List (Bor (List ℕ))) (o : Options) (read : ReadsOptions tru
             λ i. record { command = Step (f i); consts = e.1 i; settings = e.0 i }
         go Run cs s n a = cc
         go Check cs s n a = cc
+        go Migrate cs s n a = cc
         go (Load k) cs s n a = cc
 
 -- ---- the command
@@ -217,7 +221,7 @@ abbrev command_by_word : List ℕ → Option CommandName
 command_by_word word =
     if same_bytes word (codes "compile") then Some names.Compile else if same_bytes word (codes "expand") then Some names.Expand
     else if same_bytes word (codes "step") then Some names.Step else if same_bytes word (codes "run") then Some names.Run
-    else if same_bytes word (codes "check") then Some names.Check else if same_bytes word (codes "load") then Some names.Load else None
+    else if same_bytes word (codes "check") then Some names.Check else if same_bytes word (codes "migrate") then Some names.Migrate else if same_bytes word (codes "load") then Some names.Load else None
 
 -- commands have words of their own
 own_word : (k : CommandName) → command_by_word (word_of k) ≡ Some k
@@ -226,6 +230,7 @@ own_word names.Expand = refl
 own_word names.Step = refl
 own_word names.Run = refl
 own_word names.Check = refl
+own_word names.Migrate = refl
 own_word names.Load = refl
 
 pub same_command : (k l : CommandName) → word_of k ≡ word_of l → k ≡ l
@@ -241,6 +246,7 @@ word_first Expand words cs s a = (a.rest, a.words_are)
 word_first (Step ts) words cs s a = (a.behind, a.words_are)
 word_first Run words cs s a = (a.behind, a.words_are)
 word_first Check words cs s a = ([], a.words_are)
+word_first Migrate words cs s a = ([], a.words_are)
 word_first (Load k) words cs s a = (decimal k ∷ [], a.alone.words_are)
 
 pub first_word_is : (words behind : List (List ℕ)) (word : List ℕ) (r : Request) → words ≡ word ∷ behind → Asks words r → word ≡ word_of (name_of r.command)

@@ -16,6 +16,7 @@ pub data Command : Type 0 where
   Step : (turns : List ℕ) → Command
   Run : Command
   Check : Command
+  Migrate : Command
   Load : (size : ℕ) → Command
 
 -- a command, the values of constants, and the settings of a run
@@ -78,6 +79,7 @@ AsksBy Expand words consts settings = AsksTranslation (codes "expand") words con
 AsksBy (Step turns) words consts settings = AsksStep turns words consts settings
 AsksBy Run words consts settings = AsksRun words consts settings
 AsksBy Check words consts settings = AsksAlone (codes "check" ∷ []) words consts settings
+AsksBy Migrate words consts settings = AsksAlone (codes "migrate" ∷ []) words consts settings
 AsksBy (Load size) words consts settings = AsksLoad size words consts settings
 
 -- the words ask for this

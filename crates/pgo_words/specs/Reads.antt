@@ -6,7 +6,7 @@ use Rattle.pgo_model.specs.Core.{Settings}
 use Rattle.pgo_syntax.specs.RecordView.{settings_view}
 use Rattle.pgo_syntax.specs.declared.records.Settings as settings
 use Rattle.pgo_model.specs.ValueText.{is_one_of}
-use Rattle.pgo_words.specs.Asks.{Command, Compile, Expand, Step, Run, Check, Load, Request, HasParts, Asks, AsksOnly}
+use Rattle.pgo_words.specs.Asks.{Command, Compile, Expand, Step, Run, Check, Migrate, Load, Request, HasParts, Asks, AsksOnly}
 use Rattle.pgo_words.specs.Constants.{Constants}
 use Rattle.pgo_words.specs.Failures.{FailuresOr}
 use Rattle.pgo_words.specs.Parts.{Pairs, now_of, texts}
@@ -74,6 +74,7 @@ word_of names.Expand = codes "expand"
 word_of names.Step = codes "step"
 word_of names.Run = codes "run"
 word_of names.Check = codes "check"
+word_of names.Migrate = codes "migrate"
 word_of names.Load = codes "load"
 
 -- the word is that of this command, or of none
@@ -88,6 +89,7 @@ parks_at names.Expand behind = false
 parks_at names.Step behind = false
 parks_at names.Run behind = is_one_of (codes "--park") behind
 parks_at names.Check behind = false
+parks_at names.Migrate behind = false
 parks_at names.Load behind = false
 
 abbrev pub name_of : Command → CommandName
@@ -96,6 +98,7 @@ name_of Expand = names.Expand
 name_of (Step turns) = names.Step
 name_of Run = names.Run
 name_of Check = names.Check
+name_of Migrate = names.Migrate
 name_of (Load size) = names.Load
 
 -- behind the word of the command the words ask for this and for nothing else

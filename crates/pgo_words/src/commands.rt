@@ -11,6 +11,7 @@ pub enum CommandName {
     Step,
     Run,
     Check,
+    Migrate,
     Load,
 }
 
@@ -28,6 +29,8 @@ pub fn find_command(word: &[u8]) -> Option<CommandName>
         Some(CommandName::Run)
     } else if same_bytes(word, b"check") {
         Some(CommandName::Check)
+    } else if same_bytes(word, b"migrate") {
+        Some(CommandName::Migrate)
     } else if same_bytes(word, b"load") {
         Some(CommandName::Load)
     } else {

@@ -26,7 +26,8 @@ use std::alloc::{AllocError, Global};
 /// What the words of the command line, without the program's name, ask for: a command, then its options, `--name` and its value
 /// as the next word, at most once each and in any order, then its constants, `NAME=value` with an identifier of at most 512 bytes
 /// and the text of a value, each name once. `compile` and `expand` have constants, `step` and `run` options and constants; `check`
-/// has neither, and `load` a number from 1 to 32 alone. `step` and `run` have `--seed` (below 2^64, 0 where it isn't given),
+/// and `migrate` have neither, and `load` a number from 1 to 32 alone. `step` and `run` have `--seed` (below 2^64, 0 where it
+/// isn't given),
 /// `--attempts` and `--steps` (at most 100,000 each, 10,000 where they aren't given), and `--fail`: one item or more, separated by
 /// commas, each `resource:number`, both below 2^32. It sets the pre-commit of that number, from 1, at the resource of that number
 /// to fail; no pre-commit fails where it isn't given. Such a pair is never met where the number is 0 or there is no such resource,
@@ -78,6 +79,7 @@ fn read_command(
         CommandName::Step => read_step(alloc, behind),
         CommandName::Run => read_run(alloc, behind),
         CommandName::Check => Ok(read_check(alloc, behind)),
+        CommandName::Migrate => Ok(read_migrate(alloc, behind)),
         CommandName::Load => Ok(read_load(alloc, behind)),
     }
 }
@@ -189,6 +191,18 @@ fn read_check(alloc: Global, behind: &[&str]) -> Option<Request>
 {
     if behind.is_empty() {
         Some(without_options(alloc, Command::Check, Consts::new(alloc)))
+    } else {
+        None
+    }
+}
+
+/// `migrate` alone.
+fn read_migrate(alloc: Global, behind: &[&str]) -> Option<Request>
+    ensures reads { BehindOnly names.Migrate (texts behind.now) (option_map request_view result) }
+    ensures parks { IfSome result (λ r. r.settings.park ≡ parks_at names.Migrate (texts behind.now)) }
+{
+    if behind.is_empty() {
+        Some(without_options(alloc, Command::Migrate, Consts::new(alloc)))
     } else {
         None
     }

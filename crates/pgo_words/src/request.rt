@@ -48,6 +48,8 @@ pub enum Command {
     Run,
     /// `check`: whether the log of a bundle is a run of its module.
     Check,
+    /// `migrate`: a bundle of version 1, brought over to version 2.
+    Migrate,
     /// `load`: the run of a specification made from a number, from 1 to 32, and its check.
     Load { size: u32 },
 }

@@ -20,3 +20,6 @@ returns-then-same_bytes-5 c = same_bytes-is _ _ (sym c.if-same_bytes-5.ensures)
 
 pub returns-then-same_bytes-6 : goal.returns-then-same_bytes-6
 returns-then-same_bytes-6 c = same_bytes-is _ _ (sym c.if-same_bytes-6.ensures)
+
+pub returns-then-same_bytes-7 : goal.returns-then-same_bytes-7
+returns-then-same_bytes-7 c = same_bytes-is _ _ (sym c.if-same_bytes-7.ensures)

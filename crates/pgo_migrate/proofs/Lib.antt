@@ -1,0 +1,2 @@
+pub mod MigrateLaws
+pub mod ReadBack
