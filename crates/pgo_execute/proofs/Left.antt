@@ -62,6 +62,7 @@ module _ {S R P : Type 0} {s : sections.Ghosts S P} {g : Ghosts R} where
         is = record {
           start = journal.start;
           entries = journal.entries fits;
+          notes = journal.notes fits;
           count = all.as_many;
           records = λ k a e. records_are a.records 1 _ (all.each k a e).told_are;
           ends = λ k a e. (all.each k a e).end_is ∙ ends_same _;

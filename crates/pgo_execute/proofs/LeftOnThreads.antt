@@ -23,6 +23,7 @@ pub finished_closed : (y : System) (tree : Trees) (settings : Settings) (f : Fin
 finished_closed y tree settings f l = record {
   start = l.start;
   entries = refl;
+  notes = refl;
   count = l.accounts.as_many;
   records = λ k a e. records_are a.records 1 _ (l.accounts.each k a e).told_are;
   ends = λ k a e. (l.accounts.each k a e).end_is ∙ ends_same _;

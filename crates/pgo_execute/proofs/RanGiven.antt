@@ -4,8 +4,9 @@ use Rattle.std.specs.Prelude.{if◌then◌else◌}
 use Rattle.pgo_base.specs.Data.{Data}
 use Rattle.pgo_base.specs.Lookup.{Name}
 use Rattle.pgo_bound.specs.BoundOf.{bound_of}
+use Rattle.pgo_bundle.specs.Lines.{BundleText}
+use Rattle.pgo_bundle.specs.RunLog.{run_log}
 use Rattle.pgo_meaning.specs.System.{system_of}
-use Rattle.pgo_model.specs.Bundle.{Bundle}
 use Rattle.pgo_model.specs.Core.{Core, Settings, state_behind, status_of, last_ends_from, has_stopped, has_full, are_at_done, are_blocked}
 use Rattle.pgo_model.specs.Log.{Effect}
 use Rattle.pgo_model.specs.Machine.{Finished, finished_of}
@@ -21,10 +22,10 @@ use Rattle.pgo_execute.specs.Schedules.{Schedule, Turns, Rounds, Threads, ends_a
 
 -- the bytes are the bundle of the specification's own module, constants and system
 pub bundle_of : (s : Spec) (consts : List (Name × Data)) (b : Bound) (m : Module) (cs : List (Name × Data)) (settings : Settings) (turns : List ℕ) (status : ℕ) (written : List ℕ)
-    → b ≡ bound_of s consts → m ≡ module_of s → cs ≡ constants_with s consts → written ≡ Bundle m cs (system_of b) settings (finished_of (Core (system_of b) settings turns)) status
-    → written ≡ Bundle (module_of s) (constants_with s consts) (system_of (bound_of s consts)) settings (finished_of (Core (system_of (bound_of s consts)) settings turns)) status
+    → b ≡ bound_of s consts → m ≡ module_of s → cs ≡ constants_with s consts → written ≡ BundleText m cs (run_log (system_of b) settings (finished_of (Core (system_of b) settings turns)) status)
+    → written ≡ BundleText (module_of s) (constants_with s consts) (run_log (system_of (bound_of s consts)) settings (finished_of (Core (system_of (bound_of s consts)) settings turns)) status)
 bundle_of s consts b m cs settings turns status written e f g h =
-    h ∙ (λ i. Bundle (f i) (g i) (system_of (e i)) settings (finished_of (Core (system_of (e i)) settings turns)) status)
+    h ∙ (λ i. BundleText (f i) (g i) (run_log (system_of (e i)) settings (finished_of (Core (system_of (e i)) settings turns)) status))
 
 pub status_is : (s : Spec) (consts : List (Name × Data)) (b : Bound) (settings : Settings) (turns : List ℕ) (status : ℕ) → b ≡ bound_of s consts
     → status ≡ status_of (system_of b) settings (finished_of (Core (system_of b) settings turns))

@@ -4,7 +4,6 @@ use Rattle.std.specs.Prelude.{◌≡◌, ◌↔◌, ℕ, suc, Bool, true, false,
 use Rattle.pgo_base.specs.Data.{Data, string}
 use Rattle.pgo_base.specs.Lookup.{Name, Vars}
 use Rattle.pgo_model.specs.Accounts.{Accounts, JointAccounts, at}
-use Rattle.pgo_model.specs.Bundle.{Bundle}
 use Rattle.pgo_model.specs.Choice.{Seeded, words_of}
 use Rattle.pgo_model.specs.Core.{Core, Settings, Reaches, rules_of, status_of}
 use Rattle.pgo_model.specs.IsRun.{IsRun}
@@ -28,8 +27,11 @@ use Rattle.pgo_core.specs.Rounds.{AreRounds}
 use Rattle.pgo_translate.specs.Agrees.{Agrees, IsNext}
 use Rattle.pgo_translate.specs.ModuleOf.{constants_with, module_of}
 use Rattle.pgo_written.specs.Alone.{SpellsAlone}
+use Rattle.pgo_bundle.specs.BundleLog.{checked_log}
+use Rattle.pgo_bundle.specs.Lines.{BundleText}
+use Rattle.pgo_bundle.specs.RunLog.{run_log}
+use Rattle.pgo_bundle.specs.Tied.{IsTied}
 use Rattle.pgo_log_text.specs.ReadBundle.{IsReadBundle, IsOnlyBundle}
-use Rattle.pgo_log_text.specs.LogOf.{log_of}
 use Rattle.pgo_execute.specs.Schedules.{Schedule, Turns, Rounds, Threads}
 
 module _ (s : Spec) (consts : List (Name × Data)) where
@@ -58,7 +60,9 @@ module _ (s : Spec) (consts : List (Name × Data)) where
     pub sound : Sound (bound_of s consts)
     pub declared : Declares (bound_of s consts) (bound_of s consts).start
     -- the bytes are the bundle of what is left, with the module that the specification means
-    pub bundle : written ≡ Bundle (module_of s) (constants_with s consts) system settings f status
+    pub bundle : written ≡ BundleText (module_of s) (constants_with s consts) (run_log system settings f status)
+    -- its records are tied to its entries and its notes
+    pub tied : IsTied (run_log system settings f status)
     -- the module's actions are TRUE of exactly the pairs of states that the sections allow, and Init of the declared starts
     pub agrees : Agrees (module_of s) (constants_with s consts) (bound_of s consts)
     -- its text spells it and no other module
@@ -67,11 +71,11 @@ module _ (s : Spec) (consts : List (Name × Data)) where
     pub run : IsRun (module_of s) (constants_with s consts) (ids_of system) (bound_of s consts).start f.entries
     -- and its Next is TRUE of each of them
     pub next : FollowNext f.entries
-    -- the bytes are the bundle of this module, these constants and the log of these entries, and of nothing else
-    pub is_read : IsReadBundle written (module_of s) (constants_with s consts) (log_of system f.entries)
-    pub only : IsOnlyBundle written (module_of s) (constants_with s consts) (log_of system f.entries)
-    -- and that log is a run of the module as well
-    pub read_run : IsRun (module_of s) (constants_with s consts) (ids_of system) (bound_of s consts).start (log_of system f.entries).entries
+    -- the bytes are the bundle of this module, these constants and the log of what is left, and of nothing else
+    pub is_read : IsReadBundle written (module_of s) (constants_with s consts) (run_log system settings f status)
+    pub only : IsOnlyBundle written (module_of s) (constants_with s consts) (run_log system settings f status)
+    -- and what is checked of that log is a run of the module as well
+    pub read_run : IsRun (module_of s) (constants_with s consts) (checked_log (run_log system settings f status)).ids (checked_log (run_log system settings f status)).start (checked_log (run_log system settings f status)).entries
     -- the records number each instance's attempts, and each is one entry, one note true at its place, or one refusal: by
     -- another instance that is bound to the resource, by a pre-commit that is set to fail, or by a full journal; on threads at
     -- the journal, too

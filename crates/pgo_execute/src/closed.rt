@@ -2,7 +2,6 @@
 ghost use Rattle.std.specs.Prelude.{◌≤◌, ◌<◌, ℕ, true, List, length};
 ghost use Rattle.pgo_base.specs.Data.{Data};
 ghost use Rattle.pgo_base.specs.Lookup.{Name};
-ghost use Rattle.pgo_model.specs.Bundle.{Bundle};
 ghost use Rattle.pgo_model.specs.Core.{Settings, status_of};
 ghost use Rattle.pgo_model.specs.Log.{Effect};
 ghost use Rattle.pgo_model.specs.Machine.{Entry, Note};
@@ -16,6 +15,8 @@ ghost use Rattle.pgo_workers.specs.Worker.{Worker};
 ghost use Rattle.pgo_mpcal_read.specs.Texts.{SpellsSpec};
 ghost use Rattle.pgo_translate.specs.ModuleOf.{constants_with, module_of};
 ghost use Rattle.pgo_accept.specs.Answers.{NothingRefuses};
+ghost use Rattle.pgo_bundle.specs.Lines.{BundleText};
+ghost use Rattle.pgo_bundle.specs.RunLog.{run_log};
 ghost use Rattle.pgo_log_text.specs.IsBundle.{AreCanonical};
 ghost use Rattle.pgo_accounts.specs.ClosedTexts.{RunIsClosed, left_of};
 ghost use Rattle.pgo_written_runs.specs.Failures.{DownsShort};
@@ -23,6 +24,7 @@ ghost use Rattle.pgo_execute.specs.Ran.{RanBy};
 
 use pgo_accounts::{closed_boards_are_runs, made_entries_are_runs, texts_keep_states};
 use pgo_agrees::{modules_agree, texts_are_accepted};
+use pgo_bundle::{run_logs_are_checked, runs_are_tied};
 use pgo_log_text::bundle_reader::one_bundle;
 use pgo_run_values::spellable_values_are_read_back;
 use pgo_systems::{notes_tell_of_leaves, pre_commits_are_of_bound_resources};
@@ -39,7 +41,7 @@ use pgo_written_runs::{read_values_are_canonical, runs_are_read_back};
 ///
 /// Source: this project's choice.
 pub fn closed_boards_ran()
-    ensures { (text : List ℕ) (s : Spec) (consts : List (Name × Data)) (settings : Settings) (entries : List (Entry Effect)) (notes : List Note) (ws : ℕ → Worker) (bs : ℕ → View Effect) (told : ℕ → Told) → SpellsSpec text s → NothingRefuses s consts → AreCanonical consts → length (Text (module_of s)) ≤ 4294967295 → settings.steps < 4294967296 → settings.attempts < 4294967296 → DownsShort settings → Declares (bound_of s consts) (bound_of s consts).start → RunIsClosed s consts settings entries notes ws bs told → RanBy s consts true true settings (left_of s consts settings entries notes ws) (status_of (system_of (bound_of s consts)) settings (left_of s consts settings entries notes ws)) (Bundle (module_of s) (constants_with s consts) (system_of (bound_of s consts)) settings (left_of s consts settings entries notes ws) (status_of (system_of (bound_of s consts)) settings (left_of s consts settings entries notes ws))) }
+    ensures { (text : List ℕ) (s : Spec) (consts : List (Name × Data)) (settings : Settings) (entries : List (Entry Effect)) (notes : List Note) (ws : ℕ → Worker) (bs : ℕ → View Effect) (told : ℕ → Told) → SpellsSpec text s → NothingRefuses s consts → AreCanonical consts → length (Text (module_of s)) ≤ 4294967295 → settings.steps < 4294967296 → settings.attempts < 4294967296 → DownsShort settings → Declares (bound_of s consts) (bound_of s consts).start → RunIsClosed s consts settings entries notes ws bs told → RanBy s consts true true settings (left_of s consts settings entries notes ws) (status_of (system_of (bound_of s consts)) settings (left_of s consts settings entries notes ws)) (BundleText (module_of s) (constants_with s consts) (run_log (system_of (bound_of s consts)) settings (left_of s consts settings entries notes ws) (status_of (system_of (bound_of s consts)) settings (left_of s consts settings entries notes ws)))) }
 {
     read_values_are_canonical();
     spellable_values_are_read_back();
@@ -52,5 +54,7 @@ pub fn closed_boards_ran()
     pre_commits_are_of_bound_resources();
     notes_tell_of_leaves();
     runs_are_read_back();
+    runs_are_tied();
+    run_logs_are_checked();
     one_bundle();
 }

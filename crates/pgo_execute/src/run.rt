@@ -31,6 +31,7 @@ use pgo_accounts::{
 use pgo_agrees::{modules_agree, premises_hold, texts_are_accepted};
 use pgo_base::consts::Consts;
 use pgo_base::results::both;
+use pgo_bundle::{run_logs_are_checked, runs_are_tied};
 use pgo_core::instances::Core;
 use pgo_definitions::sections::evaluated_for_sections;
 use pgo_journal::finished::Finished;
@@ -180,6 +181,8 @@ pub fn expanded_run(
     modules_agree();
     modules_are_read_back();
     runs_are_read_back();
+    runs_are_tied();
+    run_logs_are_checked();
     one_bundle();
     statuses_are_fine();
     accepted_runs();

@@ -4,7 +4,7 @@ use Rattle.pgo_base.specs.Data.{Data}
 use Rattle.pgo_base.specs.Lookup.{Name}
 use Rattle.pgo_model.specs.Core.{Settings}
 use Rattle.pgo_execute.specs.Schedules.{Schedule, Turns, Rounds, Threads}
-use Rattle.pgo_words.specs.Asks.{Command, Compile, Expand, Step, Run, Check, Load, Request, AsksBy, AsksOnly}
+use Rattle.pgo_words.specs.Asks.{Command, Compile, Expand, Step, Run, Check, Migrate, Load, Request, AsksBy, AsksOnly}
 use Rattle.pgo_words.specs.Reads.{name_of}
 use Rattle.pgo_words.specs.Settings.{default_settings}
 use Rattle.pgo_words.specs.declared.commands.CommandName.{CommandName}
@@ -12,7 +12,7 @@ use Rattle.pgo_words.specs.declared.commands.CommandName.TheVariants as names
 use Rattle.pgo_words.proofs.ReadLaws.{one_command}
 use Rattle.pgo_front.specs.declared.target.Target.{Target}
 use Rattle.pgo_front.specs.declared.target.Target.TheVariants as targets
-use Rattle.pgo_front.specs.Asked.{AsksCheck, AsksExecution, ExecutesOnly, LoadsOnly, TranslatesOnly, command_to}
+use Rattle.pgo_front.specs.Asked.{AsksCheck, AsksExecution, AsksMigration, ExecutesOnly, LoadsOnly, TranslatesOnly, command_to}
 use Rattle.pgo_front.specs.Answers.{AsksNothing, AsksOfInput, AsksSomeExecution, AsksSomeLoad, AsksSomeTranslation, ReadsNothing}
 
 -- ---- the command of a run
@@ -75,11 +75,28 @@ pub check_no_load : (words : List (List ℕ)) → AsksCheck words → AsksSomeLo
 check_no_load words check load =
     let n : names.Check ≡ names.Load = same_name words Check (Load load.0) [] [] default_settings default_settings check load.1 in cc
 
+pub execution_no_migration : (words : List (List ℕ)) → AsksSomeExecution words → AsksMigration words → ⊥
+execution_no_migration words a migration =
+    no_execution names.Migrate (λ e. cc) (λ e. cc) a.0 (same_name words (command_under a.0) Migrate a.2 [] a.1 default_settings (run_asked words a) migration)
+
+pub translation_no_migration : (words : List (List ℕ)) → AsksSomeTranslation words → AsksMigration words → ⊥
+translation_no_migration words a migration =
+    no_translation names.Migrate (λ e. cc) (λ e. cc) a.0 (same_name words (command_to a.0) Migrate a.1 [] default_settings default_settings a.2 migration)
+
+pub check_no_migration : (words : List (List ℕ)) → AsksCheck words → AsksMigration words → ⊥
+check_no_migration words check migration =
+    let n : names.Check ≡ names.Migrate = same_name words Check Migrate [] [] default_settings default_settings check migration in cc
+
+pub migration_no_load : (words : List (List ℕ)) → AsksMigration words → AsksSomeLoad words → ⊥
+migration_no_load words migration load =
+    let n : names.Migrate ≡ names.Load = same_name words Migrate (Load load.0) [] [] default_settings default_settings migration load.1 in cc
+
 -- a command that reads the input is no load
 pub input_no_load : (words : List (List ℕ)) → AsksOfInput words → AsksSomeLoad words → ⊥
 input_no_load words (inl a) load = execution_no_load words a load
 input_no_load words (inr (inl a)) load = check_no_load words a load
-input_no_load words (inr (inr a)) load = translation_no_load words a load
+input_no_load words (inr (inr (inl a))) load = translation_no_load words a load
+input_no_load words (inr (inr (inr a))) load = migration_no_load words a load
 
 -- ---- words that ask for something don't ask for nothing
 
@@ -92,13 +109,17 @@ check_something words a nothing = nothing (record { command = Check; consts = []
 pub translation_something : (words : List (List ℕ)) → AsksSomeTranslation words → AsksNothing words → ⊥
 translation_something words a nothing = nothing (record { command = command_to a.0; consts = a.1; settings = default_settings }) a.2
 
+pub migration_something : (words : List (List ℕ)) → AsksMigration words → AsksNothing words → ⊥
+migration_something words a nothing = nothing (record { command = Migrate; consts = []; settings = default_settings }) a
+
 pub load_something : (words : List (List ℕ)) → AsksSomeLoad words → AsksNothing words → ⊥
 load_something words a nothing = nothing (record { command = Load a.0; consts = []; settings = default_settings }) a.1
 
 pub input_something : (words : List (List ℕ)) → AsksOfInput words → AsksNothing words → ⊥
 input_something words (inl a) nothing = execution_something words a nothing
 input_something words (inr (inl a)) nothing = check_something words a nothing
-input_something words (inr (inr a)) nothing = translation_something words a nothing
+input_something words (inr (inr (inl a))) nothing = translation_something words a nothing
+input_something words (inr (inr (inr a))) nothing = migration_something words a nothing
 
 -- nor for a load
 pub input_unread : (words : List (List ℕ)) → AsksOfInput words → ReadsNothing words → ⊥
@@ -116,6 +137,7 @@ schedule_of Expand = Threads
 schedule_of (Step ts) = Turns ts
 schedule_of Run = Threads
 schedule_of Check = Threads
+schedule_of Migrate = Threads
 schedule_of (Load n) = Threads
 
 schedule_back : (words : List (List ℕ)) (schedule : Schedule) (settings : Settings) (consts : List (Name × Data)) → AsksExecution words schedule settings consts
@@ -130,6 +152,7 @@ target_of Expand = targets.Expansion
 target_of (Step ts) = targets.Module
 target_of Run = targets.Module
 target_of Check = targets.Module
+target_of Migrate = targets.Module
 target_of (Load n) = targets.Module
 
 target_back : (target : Target) → target_of (command_to target) ≡ target
@@ -142,6 +165,7 @@ size_of Expand = 0
 size_of (Step ts) = 0
 size_of Run = 0
 size_of Check = 0
+size_of Migrate = 0
 size_of (Load n) = n
 
 default_to : (words : List (List ℕ)) (target : Target) (consts : List (Name × Data)) (settings : Settings) → AsksBy (command_to target) words consts settings → settings ≡ default_settings

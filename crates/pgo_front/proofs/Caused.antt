@@ -4,7 +4,7 @@ use Rattle.pgo_io.specs.Faults.{Rose}
 use Rattle.pgo_base.specs.Data.{Data}
 use Rattle.pgo_base.specs.Lookup.{Name}
 use Rattle.pgo_model.specs.Module.{Module}
-use Rattle.pgo_model.specs.Log.{Log}
+use Rattle.pgo_bundle.specs.BundleLog.{BundleLog, checked_log}
 use Rattle.pgo_model.specs.IsRun.{IsRun}
 use Rattle.pgo_check.specs.declared.verdict.Verdict.{Verdict}
 use Rattle.pgo_log_text.specs.ReadBundle.{IsReadBundle, IsNoBundle}
@@ -14,7 +14,8 @@ use Rattle.pgo_front.specs.Spells.{most_bytes}
 use Rattle.pgo_front.specs.Verdicts.{most_bundle_bytes, IsRunVerdict, IsBadVerdict}
 use Rattle.pgo_front.specs.Answers.{AsksNothing, AsksOfInput, AsksSomeExecution, AsksSomeLoad, AsksSomeTranslation, WritesBundle, Checked, WritesVerdict, EndsWell, WritesPrefix, Stops, IsRefusal, OrNoMemory, IsToldToCheck}
 use Rattle.pgo_front.proofs.Judging.{run_is_not_bad, no_run_is_not_run}
-use Rattle.pgo_front.proofs.Asking.{execution_no_check, translation_no_check, check_no_load, input_something, load_something}
+use Rattle.pgo_front.specs.Asked.{AsksMigration}
+use Rattle.pgo_front.proofs.Asking.{execution_no_check, translation_no_check, check_no_load, check_no_migration, input_something, load_something}
 
 -- what an input told is what holds of its text
 pub at_told : (input : Option (List ℕ)) (text : List ℕ) (P : List ℕ → Type 0) → input ≡ Some text → IfSome input P → P text
@@ -23,7 +24,7 @@ at_told input text P told h = subst (λ o. IfSome o P) told h
 pub not_short : {n : ℕ} → most_bytes < n → n ≤ most_bytes → ⊥
 not_short long short = omega (arith, long, short)
 
-not_short_bundle : {n : ℕ} → most_bundle_bytes < n → n ≤ most_bundle_bytes → ⊥
+pub not_short_bundle : {n : ℕ} → most_bundle_bytes < n → n ≤ most_bundle_bytes → ⊥
 not_short_bundle long short = omega (arith, long, short)
 
 -- words that ask for something don't ask for nothing
@@ -50,18 +51,20 @@ module _ (words : List (List ℕ)) (input : Option (List ℕ)) (before now : ℕ
   fine_asks : EndsWell words input old new → Something
   fine_asks (inl h) = inl (inl h.0)
   fine_asks (inr (inl h)) = inl (inr (inl h.0))
-  fine_asks (inr (inr (inl h))) = inl (inr (inr h.0))
-  fine_asks (inr (inr (inr h))) = inr (h.1.size, h.1.asks)
+  fine_asks (inr (inr (inl h))) = inl (inr (inr (inl h.0)))
+  fine_asks (inr (inr (inr (inl h)))) = inr (h.1.size, h.1.asks)
+  fine_asks (inr (inr (inr (inr h)))) = inl (inr (inr (inr h.0)))
 
   fault_asks : WritesPrefix words input old new → Something
   fault_asks (inl h) = inl (inl h.0)
   fault_asks (inr (inl h)) = inl (inr (inl h.0))
-  fault_asks (inr (inr (inl h))) = inl (inr (inr h.0))
-  fault_asks (inr (inr (inr h))) = inr (h.1.size, h.1.asks)
+  fault_asks (inr (inr (inl h))) = inl (inr (inr (inl h.0)))
+  fault_asks (inr (inr (inr (inl h)))) = inr (h.1.size, h.1.asks)
+  fault_asks (inr (inr (inr (inr h)))) = inl (inr (inr (inr h.0)))
 
   refused_asks : Stops words input before now status.SpecRefused → Something
   refused_asks (inl h) = inl (inl h.0)
-  refused_asks (inr (inl h)) = inl (inr (inr h.0))
+  refused_asks (inr (inl h)) = inl (inr (inr (inl h.0)))
   refused_asks (inr (inr h)) = inr (h.size, h.asks)
 
   -- words that ask for nothing
@@ -76,13 +79,18 @@ module _ (words : List (List ℕ)) (input : Option (List ℕ)) (before now : ℕ
       long_asks : Stops words input before now status.TooLong → Something
       long_asks (inl h) = inl (inl h.0)
       long_asks (inr (inl h)) = inl (inr (inl h.0))
-      long_asks (inr (inr h)) = inl (inr (inr h.0))
+      long_asks (inr (inr (inl h))) = inl (inr (inr (inl h.0)))
+      long_asks (inr (inr (inr h))) = inl (inr (inr (inr h.0)))
   usage_comes status.Stopped h nothing = absurd (not_nothing words (inl (inl (h.halted refl).0)) nothing)
   usage_comes status.Spent h nothing = absurd (not_nothing words (inl (inl (h.spent refl).0)) nothing)
   usage_comes status.Quiet h nothing = absurd (not_nothing words (inl (inl (h.quiet refl).0)) nothing)
   usage_comes status.Full h nothing = absurd (not_nothing words (inl (inl (h.full refl).0)) nothing)
   usage_comes status.NotARun h nothing = absurd (not_nothing words (inl (inr (inl (h.not_a_run refl).0))) nothing)
-  usage_comes status.BadBundle h nothing = absurd (not_nothing words (inl (inr (inl (h.stopped tt).0))) nothing)
+  usage_comes status.BadBundle h nothing = absurd (not_nothing words (bad_asks (h.stopped tt)) nothing)
+    where
+      bad_asks : Stops words input before now status.BadBundle → Something
+      bad_asks (inl h) = inl (inr (inl h.0))
+      bad_asks (inr h) = inl (inr (inr (inr h.0)))
   usage_comes status.NoMemory h nothing = inr refl
 
   module _ (text : List ℕ) (told : IsToldToCheck words input text) (read : Rose before now → ⊥) where
@@ -94,6 +102,9 @@ module _ (words : List (List ℕ)) (input : Option (List ℕ)) (before now : ℕ
 
     not_load : {A : Type 0} → AsksSomeLoad words → A
     not_load a = absurd (check_no_load words told.asks a)
+
+    no_migration : {A : Type 0} → AsksMigration words → A
+    no_migration a = absurd (check_no_migration words told.asks a)
 
     -- words that ask for a check aren't refused for a specification
     not_refused_spec : {A : Type 0} → Stops words input before now status.SpecRefused → A
@@ -108,20 +119,24 @@ module _ (words : List (List ℕ)) (input : Option (List ℕ)) (before now : ℕ
     fine_found (inl h) = no_run h.0
     fine_found (inr (inl h)) = found IsRunVerdict h
     fine_found (inr (inr (inl h))) = not_translation h.0
-    fine_found (inr (inr (inr h))) = not_load (h.1.size, h.1.asks)
+    fine_found (inr (inr (inr (inl h)))) = not_load (h.1.size, h.1.asks)
+    fine_found (inr (inr (inr (inr h)))) = no_migration h.0
 
     fault_found : WritesPrefix words input old new → (v : Verdict) × Checked text v
     fault_found (inl h) = no_run h.0
     fault_found (inr (inr (inl h))) = not_translation h.0
-    fault_found (inr (inr (inr h))) = not_load (h.1.size, h.1.asks)
+    fault_found (inr (inr (inr (inl h)))) = not_load (h.1.size, h.1.asks)
+    fault_found (inr (inr (inr (inr h)))) = no_migration h.0
     fault_found (inr (inl h)) = let g = at_told input text _ told.told h.1 in (g.0, g.1)
 
     refused_bundle : Stops words input before now status.BadBundle → (length text ≤ most_bundle_bytes) × IsNoBundle text
-    refused_bundle h = at_told input text (λ t. (length t ≤ most_bundle_bytes) × IsNoBundle t) told.told h.1
+    refused_bundle (inl h) = at_told input text (λ t. (length t ≤ most_bundle_bytes) × IsNoBundle t) told.told h.1
+    refused_bundle (inr h) = no_migration h.0
 
     long_bundle : Stops words input before now status.TooLong → most_bundle_bytes < length text
     long_bundle (inl h) = no_run h.0
-    long_bundle (inr (inr h)) = not_translation h.0
+    long_bundle (inr (inr (inl h))) = not_translation h.0
+    long_bundle (inr (inr (inr h))) = no_migration h.0
     long_bundle (inr (inl h)) = at_told input text (λ t. most_bundle_bytes < length t) told.told h.1
 
     asks_something : AsksNothing words → ⊥
@@ -162,9 +177,9 @@ module _ (words : List (List ℕ)) (input : Option (List ℕ)) (before now : ℕ
     no_bundle_comes status.BadBundle h short nothing = inl refl
     no_bundle_comes status.NoMemory h short nothing = inr refl
 
-    module _ (m : Module) (consts : List (Name × Data)) (l : Log) (bundle : IsReadBundle text m consts l) (wrote : Rose out_before out_now → ⊥) (short : length text ≤ most_bundle_bytes) where
+    module _ (m : Module) (consts : List (Name × Data)) (l : BundleLog) (bundle : IsReadBundle text m consts l) (wrote : Rose out_before out_now → ⊥) (short : length text ≤ most_bundle_bytes) where
       -- a bundle whose log is a run
-      pub is_run_comes : (s : Status) → Says s → IsRun m consts l.ids l.start l.entries → OrNoMemory s status.Fine
+      pub is_run_comes : (s : Status) → Says s → IsRun m consts (checked_log l).ids (checked_log l).start (checked_log l).entries → OrNoMemory s status.Fine
       is_run_comes status.Fine h run = inl refl
       is_run_comes status.Usage h run = absurd (asks_something (h.stopped tt))
       is_run_comes status.SpecRefused h run = not_refused_spec (h.stopped tt)
@@ -180,7 +195,7 @@ module _ (words : List (List ℕ)) (input : Option (List ℕ)) (before now : ℕ
       is_run_comes status.NoMemory h run = inr refl
 
       -- a bundle whose log is none
-      pub is_no_run_comes : (s : Status) → Says s → (IsRun m consts l.ids l.start l.entries → ⊥) → OrNoMemory s status.NotARun
+      pub is_no_run_comes : (s : Status) → Says s → (IsRun m consts (checked_log l).ids (checked_log l).start (checked_log l).entries → ⊥) → OrNoMemory s status.NotARun
       is_no_run_comes status.Fine h none = let f = fine_found (h.fine refl) in absurd (no_run_is_not_run text m consts l bundle none f.0 f.2.1 f.1)
       is_no_run_comes status.Usage h none = absurd (asks_something (h.stopped tt))
       is_no_run_comes status.SpecRefused h none = not_refused_spec (h.stopped tt)

@@ -8,11 +8,11 @@ use Rattle.pgo_execute.specs.Schedules.{Schedule}
 use Rattle.pgo_front.specs.declared.status.Status.{Status}
 use Rattle.pgo_front.specs.declared.status.Status.TheVariants as status
 use Rattle.pgo_model.specs.Core.{Settings}
-use Rattle.pgo_front.specs.Asked.{AsksCheck}
+use Rattle.pgo_front.specs.Asked.{AsksCheck, AsksMigration}
 use Rattle.pgo_front.specs.Spells.{most_bytes}
 use Rattle.pgo_front.specs.Answers.{AsksNothing, AsksSomeExecution, AsksSomeLoad, AsksSomeTranslation, Asked, IsRefused, WritesBundle, EndsWell, WritesPrefix, Stops, OrNoMemory, IsRunOrNoMemory, IsToldToExecute}
 use Rattle.pgo_front.proofs.Caused.{Says, at_told, not_short}
-use Rattle.pgo_front.proofs.Asking.{execution_no_check, execution_no_load, execution_something, translation_no_execution}
+use Rattle.pgo_front.proofs.Asking.{execution_no_check, execution_no_load, execution_no_migration, execution_something, translation_no_execution}
 
 module _ (words : List (List ℕ)) (input : Option (List ℕ)) (before now : ℕ) (out_before out_now : ℕ) (old new : Option (List ℕ)) (schedule : Schedule) (settings : Settings) (text : List ℕ) (consts : List (Name × Data)) (told : IsToldToExecute schedule settings words input consts text) (read : Rose before now → ⊥) where
   this_run : AsksSomeExecution words
@@ -27,6 +27,14 @@ module _ (words : List (List ℕ)) (input : Option (List ℕ)) (before now : ℕ
   no_translation : {A : Type 0} → AsksSomeTranslation words → A
   no_translation a = absurd (translation_no_execution words a this_run)
 
+  no_migration : {A : Type 0} → AsksMigration words → A
+  no_migration a = absurd (execution_no_migration words this_run a)
+
+  -- words that ask for this aren't refused for a bundle
+  no_bundle : {A : Type 0} → Stops words input before now status.BadBundle → A
+  no_bundle (inl h) = no_check h.0
+  no_bundle (inr h) = no_migration h.0
+
   not_usage : {A : Type 0} → AsksNothing words → A
   not_usage nothing = absurd (execution_something words this_run nothing)
 
@@ -40,13 +48,15 @@ module _ (words : List (List ℕ)) (input : Option (List ℕ)) (before now : ℕ
   fine_made (inl h) = made 0 h
   fine_made (inr (inl h)) = no_check h.0
   fine_made (inr (inr (inl h))) = no_translation h.0
-  fine_made (inr (inr (inr h))) = no_load (h.1.size, h.1.asks)
+  fine_made (inr (inr (inr (inl h)))) = no_load (h.1.size, h.1.asks)
+  fine_made (inr (inr (inr (inr h)))) = no_migration h.0
 
   fault_made : WritesPrefix words input old new → Made
   fault_made (inl h) = let g = at_told input text _ told.told h.1 in (g.0, g.1, g.2)
   fault_made (inr (inl h)) = no_check h.0
   fault_made (inr (inr (inl h))) = no_translation h.0
-  fault_made (inr (inr (inr h))) = no_load (h.1.size, h.1.asks)
+  fault_made (inr (inr (inr (inl h)))) = no_load (h.1.size, h.1.asks)
+  fault_made (inr (inr (inr (inr h)))) = no_migration h.0
 
   refused_text : Stops words input before now status.SpecRefused → IsRefused words text
   refused_text (inl h) = at_told input text (IsRefused words) told.told h.1
@@ -56,7 +66,8 @@ module _ (words : List (List ℕ)) (input : Option (List ℕ)) (before now : ℕ
   long_text : Stops words input before now status.TooLong → most_bytes < length text
   long_text (inl h) = at_told input text (λ t. most_bytes < length t) told.told h.1
   long_text (inr (inl h)) = no_check h.0
-  long_text (inr (inr h)) = no_translation h.0
+  long_text (inr (inr (inl h))) = no_translation h.0
+  long_text (inr (inr (inr h))) = no_migration h.0
 
   -- what is run isn't refused with the constants that the words ask for
   was_expandable : Made → IsExpandable text consts
@@ -80,7 +91,7 @@ module _ (words : List (List ℕ)) (input : Option (List ℕ)) (before now : ℕ
   too_long_comes status.Quiet h long = absurd (not_short long (made 22 (h.quiet refl)).2.short)
   too_long_comes status.Full h long = absurd (not_short long (made 23 (h.full refl)).2.short)
   too_long_comes status.NotARun h long = no_check (h.not_a_run refl).0
-  too_long_comes status.BadBundle h long = no_check (h.stopped tt).0
+  too_long_comes status.BadBundle h long = no_bundle (h.stopped tt)
   too_long_comes status.NoMemory h long = inr refl
 
   -- a text that has no run
@@ -97,7 +108,7 @@ module _ (words : List (List ℕ)) (input : Option (List ℕ)) (before now : ℕ
   refused_comes status.Quiet h short none = absurd (none (was_expandable (made 22 (h.quiet refl))))
   refused_comes status.Full h short none = absurd (none (was_expandable (made 23 (h.full refl))))
   refused_comes status.NotARun h short none = no_check (h.not_a_run refl).0
-  refused_comes status.BadBundle h short none = no_check (h.stopped tt).0
+  refused_comes status.BadBundle h short none = no_bundle (h.stopped tt)
   refused_comes status.NoMemory h short none = inr refl
 
   -- a text that has one
@@ -114,5 +125,5 @@ module _ (words : List (List ℕ)) (input : Option (List ℕ)) (before now : ℕ
   run_comes status.Quiet h wrote short x = inr (inr (inr (inl refl)))
   run_comes status.Full h wrote short x = inr (inr (inr (inr (inl refl))))
   run_comes status.NotARun h wrote short x = no_check (h.not_a_run refl).0
-  run_comes status.BadBundle h wrote short x = no_check (h.stopped tt).0
+  run_comes status.BadBundle h wrote short x = no_bundle (h.stopped tt)
   run_comes status.NoMemory h wrote short x = inr (inr (inr (inr (inr refl))))

@@ -5,7 +5,7 @@ use Rattle.pgo_accept.specs.Answers.{IsExpandable}
 use Rattle.pgo_load.specs.Load.{load_consts, load_text}
 use Rattle.pgo_front.specs.declared.status.Status.{Status}
 use Rattle.pgo_front.specs.declared.status.Status.TheVariants as status
-use Rattle.pgo_front.specs.Asked.{AsksCheck, AsksLoad}
+use Rattle.pgo_front.specs.Asked.{AsksCheck, AsksLoad, AsksMigration}
 use Rattle.pgo_front.specs.Answers.{AsksNothing, AsksOfInput, AsksSomeExecution, AsksSomeTranslation, EndsWell, OrNoMemory, Stops, WritesPrefix}
 use Rattle.pgo_front.specs.Loads.{Loaded, NotLoaded}
 use Rattle.pgo_front.proofs.Asking.{input_no_load, load_something}
@@ -22,7 +22,15 @@ module _ (words : List (List ℕ)) (input : Option (List ℕ)) (before now : ℕ
   no_check a = no_input (inr (inl a))
 
   no_translation : {A : Type 0} → AsksSomeTranslation words → A
-  no_translation a = no_input (inr (inr a))
+  no_translation a = no_input (inr (inr (inl a)))
+
+  no_migration : {A : Type 0} → AsksMigration words → A
+  no_migration a = no_input (inr (inr (inr a)))
+
+  -- words that ask for a load aren't refused for a bundle
+  no_bundle : {A : Type 0} → Stops words input before now status.BadBundle → A
+  no_bundle (inl h) = no_check h.0
+  no_bundle (inr h) = no_migration h.0
 
   not_usage : {A : Type 0} → AsksNothing words → A
   not_usage nothing = absurd (load_something words (size, asks) nothing)
@@ -34,13 +42,15 @@ module _ (words : List (List ℕ)) (input : Option (List ℕ)) (before now : ℕ
   fine_made (inl h) = no_run h.0
   fine_made (inr (inl h)) = no_check h.0
   fine_made (inr (inr (inl h))) = no_translation h.0
-  fine_made (inr (inr (inr h))) = (h.0, h.1)
+  fine_made (inr (inr (inr (inl h)))) = (h.0, h.1)
+  fine_made (inr (inr (inr (inr h)))) = no_migration h.0
 
   fault_made : WritesPrefix words input old new → Made
   fault_made (inl h) = no_run h.0
   fault_made (inr (inl h)) = no_check h.0
   fault_made (inr (inr (inl h))) = no_translation h.0
-  fault_made (inr (inr (inr h))) = (h.0, h.1)
+  fault_made (inr (inr (inr (inl h)))) = (h.0, h.1)
+  fault_made (inr (inr (inr (inr h)))) = no_migration h.0
 
   refused_load : Stops words input before now status.SpecRefused → NotLoaded words
   refused_load (inl h) = no_run h.0
@@ -50,7 +60,8 @@ module _ (words : List (List ℕ)) (input : Option (List ℕ)) (before now : ℕ
   not_long : {A : Type 0} → Stops words input before now status.TooLong → A
   not_long (inl h) = no_run h.0
   not_long (inr (inl h)) = no_check h.0
-  not_long (inr (inr h)) = no_translation h.0
+  not_long (inr (inr (inl h))) = no_translation h.0
+  not_long (inr (inr (inr h))) = no_migration h.0
 
   abbrev CanExpand : Type 0
   CanExpand = IsExpandable (load_text size) (load_consts size)
@@ -77,7 +88,7 @@ module _ (words : List (List ℕ)) (input : Option (List ℕ)) (before now : ℕ
   loads_comes status.Quiet h wrote x = no_run (h.quiet refl).0
   loads_comes status.Full h wrote x = no_run (h.full refl).0
   loads_comes status.NotARun h wrote x = no_check (h.not_a_run refl).0
-  loads_comes status.BadBundle h wrote x = no_check (h.stopped tt).0
+  loads_comes status.BadBundle h wrote x = no_bundle (h.stopped tt)
   loads_comes status.NoMemory h wrote x = inr refl
 
   -- a load that has none
@@ -93,5 +104,5 @@ module _ (words : List (List ℕ)) (input : Option (List ℕ)) (before now : ℕ
   load_refused_comes status.Quiet h none = no_run (h.quiet refl).0
   load_refused_comes status.Full h none = no_run (h.full refl).0
   load_refused_comes status.NotARun h none = no_check (h.not_a_run refl).0
-  load_refused_comes status.BadBundle h none = no_check (h.stopped tt).0
+  load_refused_comes status.BadBundle h none = no_bundle (h.stopped tt)
   load_refused_comes status.NoMemory h none = inr refl

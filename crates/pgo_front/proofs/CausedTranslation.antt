@@ -8,12 +8,12 @@ use Rattle.pgo_front.specs.declared.status.Status.{Status}
 use Rattle.pgo_front.specs.declared.status.Status.TheVariants as status
 use Rattle.pgo_front.specs.declared.target.Target.{Target}
 use Rattle.pgo_front.specs.declared.target.Target.TheVariants as targets
-use Rattle.pgo_front.specs.Asked.{AsksCheck}
+use Rattle.pgo_front.specs.Asked.{AsksCheck, AsksMigration}
 use Rattle.pgo_front.specs.Spells.{most_bytes}
 use Rattle.pgo_front.specs.Translations.{TranslatesTo, Translated, NotTranslated}
 use Rattle.pgo_front.specs.Answers.{AsksNothing, AsksSomeExecution, AsksSomeLoad, AsksSomeTranslation, EndsWell, WritesPrefix, Stops, OrNoMemory, IsToldToTranslate}
 use Rattle.pgo_front.proofs.Caused.{Says, at_told, not_short}
-use Rattle.pgo_front.proofs.Asking.{translation_no_check, translation_no_execution, translation_no_load, translation_something}
+use Rattle.pgo_front.proofs.Asking.{translation_no_check, translation_no_execution, translation_no_load, translation_no_migration, translation_something}
 
 -- what is translated can be expanded
 expandable : (target : Target) (text : List ℕ) (consts : List (Name × Data)) (written : List ℕ) → TranslatesTo target text consts written → IsExpandable text consts
@@ -33,6 +33,14 @@ module _ (words : List (List ℕ)) (input : Option (List ℕ)) (before now : ℕ
   no_check : {A : Type 0} → AsksCheck words → A
   no_check check = absurd (translation_no_check words this_translation check)
 
+  no_migration : {A : Type 0} → AsksMigration words → A
+  no_migration a = absurd (translation_no_migration words this_translation a)
+
+  -- words that ask for this aren't refused for a bundle
+  no_bundle : {A : Type 0} → Stops words input before now status.BadBundle → A
+  no_bundle (inl h) = no_check h.0
+  no_bundle (inr h) = no_migration h.0
+
   not_usage : {A : Type 0} → AsksNothing words → A
   not_usage nothing = absurd (translation_something words this_translation nothing)
 
@@ -42,13 +50,15 @@ module _ (words : List (List ℕ)) (input : Option (List ℕ)) (before now : ℕ
   fine_made : EndsWell words input old new → Made
   fine_made (inl h) = no_run h.0
   fine_made (inr (inl h)) = no_check h.0
-  fine_made (inr (inr (inr h))) = no_load (h.1.size, h.1.asks)
+  fine_made (inr (inr (inr (inl h)))) = no_load (h.1.size, h.1.asks)
+  fine_made (inr (inr (inr (inr h)))) = no_migration h.0
   fine_made (inr (inr (inl h))) = let g = at_told input text _ told.told h.1 in (g.0, g.1)
 
   fault_made : WritesPrefix words input old new → Made
   fault_made (inl h) = no_run h.0
   fault_made (inr (inl h)) = no_check h.0
-  fault_made (inr (inr (inr h))) = no_load (h.1.size, h.1.asks)
+  fault_made (inr (inr (inr (inl h)))) = no_load (h.1.size, h.1.asks)
+  fault_made (inr (inr (inr (inr h)))) = no_migration h.0
   fault_made (inr (inr (inl h))) = let g = at_told input text _ told.told h.1 in (g.0, g.1)
 
   refused_text : Stops words input before now status.SpecRefused → NotTranslated words text
@@ -59,7 +69,8 @@ module _ (words : List (List ℕ)) (input : Option (List ℕ)) (before now : ℕ
   long_text : Stops words input before now status.TooLong → most_bytes < length text
   long_text (inl h) = no_run h.0
   long_text (inr (inl h)) = no_check h.0
-  long_text (inr (inr h)) = at_told input text (λ t. most_bytes < length t) told.told h.1
+  long_text (inr (inr (inl h))) = at_told input text (λ t. most_bytes < length t) told.told h.1
+  long_text (inr (inr (inr h))) = no_migration h.0
 
   -- what is translated isn't refused with the constants that the words ask for
   was_expandable : Made → IsExpandable text consts
@@ -82,7 +93,7 @@ module _ (words : List (List ℕ)) (input : Option (List ℕ)) (before now : ℕ
   too_long_to_translate_comes status.Quiet h long = no_run (h.quiet refl).0
   too_long_to_translate_comes status.Full h long = no_run (h.full refl).0
   too_long_to_translate_comes status.NotARun h long = no_check (h.not_a_run refl).0
-  too_long_to_translate_comes status.BadBundle h long = no_check (h.stopped tt).0
+  too_long_to_translate_comes status.BadBundle h long = no_bundle (h.stopped tt)
   too_long_to_translate_comes status.NoMemory h long = inr refl
 
   -- a text that has no translation
@@ -99,7 +110,7 @@ module _ (words : List (List ℕ)) (input : Option (List ℕ)) (before now : ℕ
   not_translated_comes status.Quiet h short none = no_run (h.quiet refl).0
   not_translated_comes status.Full h short none = no_run (h.full refl).0
   not_translated_comes status.NotARun h short none = no_check (h.not_a_run refl).0
-  not_translated_comes status.BadBundle h short none = no_check (h.stopped tt).0
+  not_translated_comes status.BadBundle h short none = no_bundle (h.stopped tt)
   not_translated_comes status.NoMemory h short none = inr refl
 
   -- a text that has one
@@ -116,5 +127,5 @@ module _ (words : List (List ℕ)) (input : Option (List ℕ)) (before now : ℕ
   translates_comes status.Quiet h wrote short x = no_run (h.quiet refl).0
   translates_comes status.Full h wrote short x = no_run (h.full refl).0
   translates_comes status.NotARun h wrote short x = no_check (h.not_a_run refl).0
-  translates_comes status.BadBundle h wrote short x = no_check (h.stopped tt).0
+  translates_comes status.BadBundle h wrote short x = no_bundle (h.stopped tt)
   translates_comes status.NoMemory h wrote short x = inr refl

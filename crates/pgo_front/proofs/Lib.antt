@@ -7,6 +7,7 @@ pub mod Caused
 pub mod CausedExecution
 pub mod CausedTranslation
 pub mod CausedLoad
+pub mod CausedMigration
 pub mod Translating
 pub mod LinesWritten
 pub mod PiecesWritten

@@ -14,7 +14,7 @@ use Rattle.pgo_front.specs.Makes.{HasLine, HasOwnLine, MakesAsked, MakesLoad, St
 module _ (words : List (List ℕ)) (input : Option (List ℕ)) (size : ℕ) (asks : LoadsOnly words size) where
   pub load_made : (r : Result Output Ended) → IfOk r (MakesLoad size) → IfOk r (λ m. m.status ≡ status.Fine) → IfOk r (MakesAsked words input)
   load_made (Ok m) h fine =
-      inr (inr (inr (
+      inr (inr (inr (inl (
         fine,
         record {
           size = size;
@@ -25,7 +25,7 @@ module _ (words : List (List ℕ)) (input : Option (List ℕ)) (size : ℕ) (ask
           loads = h.loads;
           written_is = h.line_is;
         },
-      )))
+      ))))
   load_made (Err e) h fine = tt
 
   pub load_stopped : (before now : ℕ) (s : Status) → StopsSpec (load_text size) (load_consts size) s → Stops words input before now s
@@ -43,7 +43,7 @@ module _ (words : List (List ℕ)) (input : Option (List ℕ)) (size : ℕ) (ask
   no_bundle s (inr h) e = let n : 40 ≡ 31 = ap number_of (sym h ∙ e) in omega (arith, n)
 
   pub load_lines : (r : Result Output Ended) → IfErr r (λ e. StopsSpec (load_text size) (load_consts size) e.status)
-      → IfErr r (λ e. HasLine (RefusedWith (load_text size) (load_consts size)) e.status e.line) → IfErr r (λ e. HasOwnLine input (RefusesSpec words input) e.status e.line)
+      → IfErr r (λ e. HasLine (RefusedWith (load_text size) (load_consts size)) e.status e.line) → IfErr r (λ e. HasOwnLine words input (RefusesSpec words input) e.status e.line)
   load_lines (Ok m) stops lines = tt
   load_lines (Err e) stops lines = inl (refused_line e.status e.line lines, no_bundle e.status stops)
 

@@ -5,7 +5,6 @@ use Rattle.pgo_base.specs.Data.{Data}
 use Rattle.pgo_base.specs.Lookup.{Name}
 use Rattle.pgo_check.specs.declared.verdict.Verdict.{Verdict}
 use Rattle.pgo_check.specs.declared.verdict.Verdict.TheVariants.{Run, Bad}
-use Rattle.pgo_log_text.specs.ReadBundle.{IsNoBundle}
 use Rattle.pgo_front.specs.declared.output.Output.{Output}
 use Rattle.pgo_front.specs.declared.ended.Ended.{Ended}
 use Rattle.pgo_front.specs.declared.status.Status.{Status}
@@ -13,7 +12,7 @@ use Rattle.pgo_front.specs.declared.status.Status.TheVariants as status
 use Rattle.pgo_execute.specs.Schedules.{Schedule}
 use Rattle.pgo_model.specs.Core.{Settings}
 use Rattle.pgo_front.specs.declared.target.Target.{Target}
-use Rattle.pgo_front.specs.Asked.{AsksExecution, AsksCheck, AsksTranslation, ExecutesOnly, TranslatesOnly}
+use Rattle.pgo_front.specs.Asked.{AsksExecution, AsksCheck, AsksMigration, AsksTranslation, ExecutesOnly, TranslatesOnly}
 use Rattle.pgo_front.specs.Spells.{most_bytes}
 use Rattle.pgo_front.specs.Statuses.{number_of, line_of, IsSilent}
 use Rattle.pgo_log_text.specs.LineNumbers.{IsLineOf}
@@ -21,8 +20,11 @@ use Rattle.pgo_front.specs.Verdicts.{IsRunVerdict, IsBadVerdict, most_bundle_byt
 use Rattle.pgo_accept.specs.Answers.{IsExpandable}
 use Rattle.pgo_accept.specs.Refusals.{RefusedWith}
 use Rattle.pgo_front.specs.Translations.{NotTranslated}
-use Rattle.pgo_front.specs.Answers.{AsksSomeExecution, Asked, IsRefused, RefusedBy, RefusesSpec, WritesBundle, WritesVerdict, EndsWell, WritesPrefix, Stops, IsRefusal, SaysRefusal, SaysBundleLine}
-use Rattle.pgo_front.specs.Makes.{IsRunEnd, IsVerdictStatus, MakesRun, MakesAsked, MakesTranslation, MakesJudged, MakesVerdict, StopsFor, StopsInput, StopsJudging, StopsCheck, StopsSpecInput, HasLine, RefusesInput, NamesLine, HasBundleLine, IsNoBundleEnd, HasOwnLine, bytes_of}
+use Rattle.pgo_front.specs.Answers.{AsksSomeExecution, Asked, IsRefused, RefusedBy, RefusesSpec, WritesBundle, WritesVerdict, EndsWell, WritesPrefix, Stops, IsRefusal, SaysLineOf, SaysRefusal}
+use Rattle.pgo_front.specs.Makes.{IsRunEnd, IsVerdictStatus, MakesRun, MakesAsked, MakesTranslation, MakesJudged, MakesVerdict, StopsBundle, StopsBundleInput, StopsFor, StopsInput, StopsCheck, StopsMigration, StopsSpecInput, HasLine, IsLineToCheck, IsLineToMigrate, IsNamedLine, RefusesInput, NamesLine, HasBundleLine, IsNoBundleEnd, HasOwnLine, bytes_of}
+use Rattle.pgo_front.specs.Migrations.{HaveOneVerdict, IsCheckLine, IsMigrationLine, Migrated}
+use Rattle.pgo_front.proofs.Asking.{check_no_migration}
+use Rattle.pgo_migrate.specs.Migrates.{Migrates}
 use Rattle.pgo_front.proofs.ConstantValues.{translation_constants}
 
 -- ---- why a command stopped
@@ -34,11 +36,11 @@ stops_input Cause None before now text s told short (inl h) = inl (h.0, tt)
 stops_input Cause (Some bs) before now text s told short (inl h) = inl (h.0, subst (λ bs. (length bs ≤ most_bytes) × Cause bs) told (short, h.1))
 stops_input Cause input before now text s told short (inr e) = inr (inr (inr e))
 
-pub stops_check : (input : Option (List ℕ)) (before now : ℕ) (text : List ℕ) (s : Status)
-    → IfSome input (λ bs. text ≡ bs) → length text ≤ most_bundle_bytes → StopsJudging text s → StopsCheck input before now s
-stops_check None before now text s told short (inl h) = inl (h.0, tt)
-stops_check (Some bs) before now text s told short (inl h) = inl (h.0, subst (λ bs. (length bs ≤ most_bundle_bytes) × IsNoBundle bs) told (short, h.1))
-stops_check input before now text s told short (inr e) = inr (inr (inr e))
+pub stops_bundle : (Cause : List ℕ → Type 0) (input : Option (List ℕ)) (before now : ℕ) (text : List ℕ) (s : Status)
+    → IfSome input (λ bs. text ≡ bs) → length text ≤ most_bundle_bytes → StopsBundle (Cause text) s → StopsBundleInput Cause input before now s
+stops_bundle Cause None before now text s told short (inl h) = inl (h.0, tt)
+stops_bundle Cause (Some bs) before now text s told short (inl h) = inl (h.0, subst (λ bs. (length bs ≤ most_bundle_bytes) × Cause bs) told (short, h.1))
+stops_bundle Cause input before now text s told short (inr e) = inr (inr (inr e))
 
 -- of words that ask for a translation
 pub translation_stopped : (words : List (List ℕ)) (input : Option (List ℕ)) (before now : ℕ) (target : Target) (consts : List (Name × Data)) (s : Status)
@@ -49,9 +51,9 @@ translation_stopped words input before now target consts s asks (inl h) =
     refused : (o : Option (List ℕ)) → IfSome o (λ text. (length text ≤ most_bytes) × (IsExpandable text consts → ⊥)) → IfSome o (NotTranslated words)
     refused None g = tt
     refused (Some text) g = record { target = target; consts = consts; asks = asks.0; no_others = asks.1; short = g.0; refused = g.1 }
-translation_stopped words input before now target consts s asks (inr (inl h)) = subst (Stops words input before now) (sym h.0) (inr (inr (target, consts, asks.0)), h.1)
+translation_stopped words input before now target consts s asks (inr (inl h)) = subst (Stops words input before now) (sym h.0) (inr (inr (inl (target, consts, asks.0))), h.1)
 translation_stopped words input before now target consts s asks (inr (inr (inl h))) =
-    subst (Stops words input before now) (sym h.0) (inr (inr ((target, consts, asks.0), h.1)))
+    subst (Stops words input before now) (sym h.0) (inr (inr (inl ((target, consts, asks.0), h.1))))
 translation_stopped words input before now target consts s asks (inr (inr (inr e))) = subst (Stops words input before now) (sym e) tt
 
 -- of words that ask for a run
@@ -107,6 +109,11 @@ pub makes_check : (input : Option (List ℕ)) (text : List ℕ) (m : Output)
     → IfSome input (λ bs. text ≡ bs) → length text ≤ most_bundle_bytes → MakesJudged text m → IfSome input (λ bs. (length bs ≤ most_bundle_bytes) × MakesJudged bs m)
 makes_check None text m told short h = tt
 makes_check (Some bs) text m told short h = subst (λ bs. (length bs ≤ most_bundle_bytes) × MakesJudged bs m) told (short, h)
+
+pub makes_migration : (input : Option (List ℕ)) (text : List ℕ) (m : Output)
+    → IfSome input (λ bs. text ≡ bs) → length text ≤ most_bundle_bytes → Migrates text (bytes_of m.written) → HaveOneVerdict text (bytes_of m.written) → IfSome input (λ bs. Migrated bs (bytes_of m.written))
+makes_migration None text m told short h one = tt
+makes_migration (Some bs) text m told short h one = subst (λ bs. Migrated bs (bytes_of m.written)) told (short, h, one)
 
 -- of the words that asked for it
 execution_asked : (words : List (List ℕ)) (input : Option (List ℕ)) (schedule : Schedule) (settings : Settings) (consts : List (Name × Data)) (m : Output) → ExecutesOnly words schedule settings consts
@@ -170,7 +177,9 @@ into_fault words None old new m (inr (inl h)) g = inr (inl (h.0, tt))
 into_fault words (Some text) old new m (inr (inl h)) g = inr (inl (h.0, (h.2.0, h.2.1, subst (GrowsByPrefix old new) h.2.2.line_is g)))
 into_fault words None old new m (inr (inr (inl h))) g = inr (inr (inl (h.0, tt)))
 into_fault words (Some text) old new m (inr (inr (inl h))) g = inr (inr (inl (h.0, (bytes_of m.written, h.2, g))))
-into_fault words input old new m (inr (inr (inr h))) g = inr (inr (inr (bytes_of m.written, h.1, g)))
+into_fault words input old new m (inr (inr (inr (inl h)))) g = inr (inr (inr (inl (bytes_of m.written, h.1, g))))
+into_fault words None old new m (inr (inr (inr (inr h)))) g = inr (inr (inr (inr (h.0, tt))))
+into_fault words (Some text) old new m (inr (inr (inr (inr h)))) g = inr (inr (inr (inr (h.0, (bytes_of m.written, h.2, g)))))
 
 ran_with : (words : List (List ℕ)) (input old new : Option (List ℕ)) (m : Output) (s : Status) → m.status ≡ s → AsksSomeExecution words
     → IfSome input (λ text. Asked words text (number_of m.status) (bytes_of m.written)) → Grows old new (bytes_of m.written) → WritesBundle words input (number_of s) old new
@@ -186,14 +195,17 @@ fine_to words (Some text) old new m e (inr (inl h)) g =
     inr (inl (h.0, (h.2.0, is_run_verdict h.2.0 m h.2.2 e, h.2.1, subst (Grows old new) h.2.2.line_is g)))
 fine_to words None old new m e (inr (inr (inl h))) g = inr (inr (inl (h.0, tt)))
 fine_to words (Some text) old new m e (inr (inr (inl h))) g = inr (inr (inl (h.0, (bytes_of m.written, h.2, g))))
-fine_to words input old new m e (inr (inr (inr h))) g = inr (inr (inr (bytes_of m.written, h.1, g)))
+fine_to words input old new m e (inr (inr (inr (inl h)))) g = inr (inr (inr (inl (bytes_of m.written, h.1, g))))
+fine_to words None old new m e (inr (inr (inr (inr h)))) g = inr (inr (inr (inr (h.0, tt))))
+fine_to words (Some text) old new m e (inr (inr (inr (inr h)))) g = inr (inr (inr (inr (h.0, (bytes_of m.written, h.2, g)))))
 
 -- with a status that is a run's alone
 bundle_to : (words : List (List ℕ)) (input old new : Option (List ℕ)) (m : Output) (s : Status) → m.status ≡ s → (number_of s ≡ 0 → ⊥) → (number_of s ≡ 30 → ⊥)
     → MakesAsked words input m → Grows old new (bytes_of m.written) → WritesBundle words input (number_of s) old new
 bundle_to words input old new m s e no_fine no_log (inl h) g = ran_with words input old new m s e h.0 h.2 g
 bundle_to words input old new m s e no_fine no_log (inr (inr (inl h))) g = absurd (no_fine (numbered e h.1))
-bundle_to words input old new m s e no_fine no_log (inr (inr (inr h))) g = absurd (no_fine (numbered e h.0))
+bundle_to words input old new m s e no_fine no_log (inr (inr (inr (inl h)))) g = absurd (no_fine (numbered e h.0))
+bundle_to words input old new m s e no_fine no_log (inr (inr (inr (inr h)))) g = absurd (no_fine (numbered e h.1))
 bundle_to words input old new m s e no_fine no_log (inr (inl h)) g = absurd (neither h.1)
   where
     neither : IsVerdictStatus m → ⊥
@@ -227,7 +239,8 @@ not_a_run_to words input old new m e (inl h) g = absurd (none h.1)
     none (inr (inr (inr (inl f)))) = let n : 22 ≡ 30 = numbered f e in omega (arith, n)
     none (inr (inr (inr (inr f)))) = let n : 23 ≡ 30 = numbered f e in omega (arith, n)
 not_a_run_to words input old new m e (inr (inr (inl h))) g = absurd (fine_no_run m h.1 e)
-not_a_run_to words input old new m e (inr (inr (inr h))) g = absurd (fine_no_run m h.0 e)
+not_a_run_to words input old new m e (inr (inr (inr (inl h)))) g = absurd (fine_no_run m h.0 e)
+not_a_run_to words input old new m e (inr (inr (inr (inr h)))) g = absurd (fine_no_run m h.1 e)
 not_a_run_to words None old new m e (inr (inl h)) g = (h.0, tt)
 not_a_run_to words (Some text) old new m e (inr (inl h)) g =
     (h.0, (h.2.0, is_bad_verdict h.2.0 m h.2.2 e, h.2.1, subst (Grows old new) h.2.2.line_is g))
@@ -248,7 +261,8 @@ made_no_fault words input m (inr (inl h)) e = judged h.1
     judged (inl f) = let n : 0 ≡ 13 = numbered f e in omega (arith, n)
     judged (inr f) = let n : 30 ≡ 13 = numbered f e in omega (arith, n)
 made_no_fault words input m (inr (inr (inl h))) e = let n : 0 ≡ 13 = numbered h.1 e in omega (arith, n)
-made_no_fault words input m (inr (inr (inr h))) e = let n : 0 ≡ 13 = numbered h.0 e in omega (arith, n)
+made_no_fault words input m (inr (inr (inr (inl h)))) e = let n : 0 ≡ 13 = numbered h.0 e in omega (arith, n)
+made_no_fault words input m (inr (inr (inr (inr h)))) e = let n : 0 ≡ 13 = numbered h.1 e in omega (arith, n)
 
 -- nor that of a refusal
 pub made_no_refusal : (words : List (List ℕ)) (input : Option (List ℕ)) (m : Output) → MakesAsked words input m → IsRefusal m.status → ⊥
@@ -266,7 +280,8 @@ made_no_refusal words input m (inr (inl h)) r = judged h.1
     judged (inl f) = subst IsRefusal f r
     judged (inr f) = subst IsRefusal f r
 made_no_refusal words input m (inr (inr (inl h))) r = subst IsRefusal h.1 r
-made_no_refusal words input m (inr (inr (inr h))) r = subst IsRefusal h.0 r
+made_no_refusal words input m (inr (inr (inr (inl h)))) r = subst IsRefusal h.0 r
+made_no_refusal words input m (inr (inr (inr (inr h)))) r = subst IsRefusal h.1 r
 
 -- a verdict's status is one of two
 pub verdict_status : (v : Verdict) (m : Output) → MakesVerdict v m → IsVerdictStatus m
@@ -282,68 +297,83 @@ no_bundle consts input before now s (inr (inl h)) e = let n : 12 ≡ 31 = number
 no_bundle consts input before now s (inr (inr (inl h))) e = let n : 14 ≡ 31 = numbered h.0 e in omega (arith, n)
 no_bundle consts input before now s (inr (inr (inr h))) e = let n : 40 ≡ 31 = numbered h e in omega (arith, n)
 
--- and no end of a check is that of a refused specification
-no_specification : (input : Option (List ℕ)) (before now : ℕ) (s : Status) → StopsCheck input before now s → s ≡ status.SpecRefused → ⊥
-no_specification input before now s (inl h) e = let n : 31 ≡ 11 = numbered h.0 e in omega (arith, n)
-no_specification input before now s (inr (inl h)) e = let n : 12 ≡ 11 = numbered h.0 e in omega (arith, n)
-no_specification input before now s (inr (inr (inl h))) e = let n : 14 ≡ 11 = numbered h.0 e in omega (arith, n)
-no_specification input before now s (inr (inr (inr h))) e = let n : 40 ≡ 11 = numbered h e in omega (arith, n)
+-- and no end of a command on a bundle is that of a refused specification
+no_specification : (Cause : List ℕ → Type 0) (input : Option (List ℕ)) (before now : ℕ) (s : Status) → StopsBundleInput Cause input before now s → s ≡ status.SpecRefused → ⊥
+no_specification Cause input before now s (inl h) e = let n : 31 ≡ 11 = numbered h.0 e in omega (arith, n)
+no_specification Cause input before now s (inr (inl h)) e = let n : 12 ≡ 11 = numbered h.0 e in omega (arith, n)
+no_specification Cause input before now s (inr (inr (inl h))) e = let n : 14 ≡ 11 = numbered h.0 e in omega (arith, n)
+no_specification Cause input before now s (inr (inr (inr h))) e = let n : 40 ≡ 11 = numbered h e in omega (arith, n)
 
-pub spec_lines : (consts : List (Name × Data)) (input : Option (List ℕ)) (before now : ℕ) (R Q : (line : List ℕ) → Type 0) (r : Result Output Ended)
+pub spec_lines : (words : List (List ℕ)) (consts : List (Name × Data)) (input : Option (List ℕ)) (before now : ℕ) (R Q : (line : List ℕ) → Type 0) (r : Result Output Ended)
     → ((e : Ended) → HasLine R e.status e.line → HasLine Q e.status e.line) → IfErr r (λ e. StopsSpecInput consts input before now e.status)
-    → IfErr r (λ e. HasLine R e.status e.line) → IfErr r (λ e. HasOwnLine input Q e.status e.line)
-spec_lines consts input before now R Q (Ok m) f stops lines = tt
-spec_lines consts input before now R Q (Err e) f stops lines = inl (f e lines, no_bundle consts input before now e.status stops)
+    → IfErr r (λ e. HasLine R e.status e.line) → IfErr r (λ e. HasOwnLine words input Q e.status e.line)
+spec_lines words consts input before now R Q (Ok m) f stops lines = tt
+spec_lines words consts input before now R Q (Err e) f stops lines = inl (f e lines, no_bundle consts input before now e.status stops)
 
-pub check_lines : (input : Option (List ℕ)) (before now : ℕ) (Q : (line : List ℕ) → Type 0) (r : Result Output Ended)
-    → IfErr r (λ e. StopsCheck input before now e.status) → IfErr r (λ e. HasBundleLine input e.status e.line) → IfErr r (λ e. HasOwnLine input Q e.status e.line)
-check_lines input before now Q (Ok m) stops lines = tt
-check_lines input before now Q (Err e) stops lines = go lines
+-- a line that is named is one that is named in another sense
+named_too : (L K : List ℕ → ℕ → Type 0) (input line : Option (List ℕ)) → ((text : List ℕ) (n : ℕ) → L text n → K text n) → NamesLine L input line → NamesLine K input line
+named_too L K input None f h = absurd h
+named_too L K None (Some l) f h = (h.0, h.1, tt)
+named_too L K (Some text) (Some l) f h = (h.0, h.1, f text h.0 h.2)
+
+pub bundle_lines : (words : List (List ℕ)) (Cause : List ℕ → Type 0) (Line : List ℕ → ℕ → Type 0) (input : Option (List ℕ)) (before now : ℕ) (Q : (line : List ℕ) → Type 0) (r : Result Output Ended)
+    → ((text : List ℕ) (n : ℕ) → Line text n → IsNamedLine words text n) → IfErr r (λ e. StopsBundleInput Cause input before now e.status)
+    → IfErr r (λ e. HasBundleLine Line input e.status e.line) → IfErr r (λ e. HasOwnLine words input Q e.status e.line)
+bundle_lines words Cause Line input before now Q (Ok m) f stops lines = tt
+bundle_lines words Cause Line input before now Q (Err e) f stops lines = go lines
   where
-    go : HasBundleLine input e.status e.line → HasOwnLine input Q e.status e.line
-    go (inl h) = inr h
-    go (inr h) = inl (subst (HasLine Q e.status) (sym h.1) (no_specification input before now e.status stops), h.0)
+    go : HasBundleLine Line input e.status e.line → HasOwnLine words input Q e.status e.line
+    go (inl h) = inr (h.0, named_too Line (IsNamedLine words) input e.line f h.1)
+    go (inr h) = inl (subst (HasLine Q e.status) (sym h.1) (no_specification Cause input before now e.status stops), h.0)
+
+-- of a check, and of a migration
+pub named_by_check : (words : List (List ℕ)) → AsksCheck words → (text : List ℕ) (n : ℕ) → IsLineToCheck text n → IsNamedLine words text n
+named_by_check words asks text n h = (h.0, λ check. h.1, λ migration. absurd (check_no_migration words asks migration))
+
+pub named_by_migration : (words : List (List ℕ)) → AsksMigration words → (text : List ℕ) (n : ℕ) → IsLineToMigrate text n → IsNamedLine words text n
+named_by_migration words asks text n h = (h.0, λ check. absurd (check_no_migration words check asks), λ migration. h.1)
 
 -- an end of another number has no line
-pub no_line : (input : Option (List ℕ)) (Q : (line : List ℕ) → Type 0) (s : Status) (line : Option (List ℕ)) (n : ℕ) → number_of s ≡ n → (n ≡ 11 → ⊥) → (n ≡ 31 → ⊥) → line ≡ None
-    → HasOwnLine input Q s line
-no_line input Q s line n is a b none = inl (subst (HasLine Q s) (sym none) (λ e. a (sym is ∙ ap number_of e)), λ e. b (sym is ∙ ap number_of e))
+pub no_line : (words : List (List ℕ)) (input : Option (List ℕ)) (Q : (line : List ℕ) → Type 0) (s : Status) (line : Option (List ℕ)) (n : ℕ) → number_of s ≡ n → (n ≡ 11 → ⊥) → (n ≡ 31 → ⊥) → line ≡ None
+    → HasOwnLine words input Q s line
+no_line words input Q s line n is a b none = inl (subst (HasLine Q s) (sym none) (λ e. a (sym is ∙ ap number_of e)), λ e. b (sym is ∙ ap number_of e))
 
 -- what was made has none
 pub made_line : (words : List (List ℕ)) (input : Option (List ℕ)) (Q : (line : List ℕ) → Type 0) (s : Status) (line : Option (List ℕ)) (m : Output) → s ≡ m.status → line ≡ None
-    → MakesAsked words input m → HasOwnLine input Q s line
+    → MakesAsked words input m → HasOwnLine words input Q s line
 made_line words input Q s line m e none h = made h
   where
-    ran : IsRunEnd m.status → HasOwnLine input Q s line
-    ran (inl f) = no_line input Q s line 0 (ap number_of (e ∙ f)) (λ n. omega (arith, n)) (λ n. omega (arith, n)) none
-    ran (inr (inl f)) = no_line input Q s line 20 (ap number_of (e ∙ f)) (λ n. omega (arith, n)) (λ n. omega (arith, n)) none
-    ran (inr (inr (inl f))) = no_line input Q s line 21 (ap number_of (e ∙ f)) (λ n. omega (arith, n)) (λ n. omega (arith, n)) none
-    ran (inr (inr (inr (inl f)))) = no_line input Q s line 22 (ap number_of (e ∙ f)) (λ n. omega (arith, n)) (λ n. omega (arith, n)) none
-    ran (inr (inr (inr (inr f)))) = no_line input Q s line 23 (ap number_of (e ∙ f)) (λ n. omega (arith, n)) (λ n. omega (arith, n)) none
+    ran : IsRunEnd m.status → HasOwnLine words input Q s line
+    ran (inl f) = no_line words input Q s line 0 (ap number_of (e ∙ f)) (λ n. omega (arith, n)) (λ n. omega (arith, n)) none
+    ran (inr (inl f)) = no_line words input Q s line 20 (ap number_of (e ∙ f)) (λ n. omega (arith, n)) (λ n. omega (arith, n)) none
+    ran (inr (inr (inl f))) = no_line words input Q s line 21 (ap number_of (e ∙ f)) (λ n. omega (arith, n)) (λ n. omega (arith, n)) none
+    ran (inr (inr (inr (inl f)))) = no_line words input Q s line 22 (ap number_of (e ∙ f)) (λ n. omega (arith, n)) (λ n. omega (arith, n)) none
+    ran (inr (inr (inr (inr f)))) = no_line words input Q s line 23 (ap number_of (e ∙ f)) (λ n. omega (arith, n)) (λ n. omega (arith, n)) none
 
-    judged : IsVerdictStatus m → HasOwnLine input Q s line
-    judged (inl f) = no_line input Q s line 0 (ap number_of (e ∙ f)) (λ n. omega (arith, n)) (λ n. omega (arith, n)) none
-    judged (inr f) = no_line input Q s line 30 (ap number_of (e ∙ f)) (λ n. omega (arith, n)) (λ n. omega (arith, n)) none
+    judged : IsVerdictStatus m → HasOwnLine words input Q s line
+    judged (inl f) = no_line words input Q s line 0 (ap number_of (e ∙ f)) (λ n. omega (arith, n)) (λ n. omega (arith, n)) none
+    judged (inr f) = no_line words input Q s line 30 (ap number_of (e ∙ f)) (λ n. omega (arith, n)) (λ n. omega (arith, n)) none
 
-    made : MakesAsked words input m → HasOwnLine input Q s line
+    made : MakesAsked words input m → HasOwnLine words input Q s line
     made (inl h) = ran h.1
     made (inr (inl h)) = judged h.1
-    made (inr (inr (inl h))) = no_line input Q s line 0 (ap number_of (e ∙ h.1)) (λ n. omega (arith, n)) (λ n. omega (arith, n)) none
-    made (inr (inr (inr h))) = no_line input Q s line 0 (ap number_of (e ∙ h.0)) (λ n. omega (arith, n)) (λ n. omega (arith, n)) none
+    made (inr (inr (inl h))) = no_line words input Q s line 0 (ap number_of (e ∙ h.1)) (λ n. omega (arith, n)) (λ n. omega (arith, n)) none
+    made (inr (inr (inr (inl h)))) = no_line words input Q s line 0 (ap number_of (e ∙ h.0)) (λ n. omega (arith, n)) (λ n. omega (arith, n)) none
+    made (inr (inr (inr (inr h)))) = no_line words input Q s line 0 (ap number_of (e ∙ h.1)) (λ n. omega (arith, n)) (λ n. omega (arith, n)) none
 
--- ---- the command `check`
+-- ---- the commands `check` and `migrate`
 
--- of a text that is no bundle
-pub judging_stopped : (text : List ℕ) (n : ℕ) (s : Status) (line : Option (List ℕ)) → IsNoBundle text → IsNoBundleEnd n s line → StopsJudging text s
-judging_stopped text n s line none (inl h) = inl (h.0, none)
-judging_stopped text n s line none (inr h) = inr h.0
+-- of a text that isn't taken
+pub bundle_stopped : (Cause : Type 0) (n : ℕ) (s : Status) (line : Option (List ℕ)) → Cause → IsNoBundleEnd n s line → StopsBundle Cause s
+bundle_stopped Cause n s line none (inl h) = inl (h.0, none)
+bundle_stopped Cause n s line none (inr h) = inr h.0
 
-pub end_line : (text : List ℕ) (n : ℕ) (s : Status) (line : Option (List ℕ)) → IsLineOf text n → IsNoBundleEnd n s line → HasBundleLine (Some text) s line
-end_line text n s line there (inl h) = inl (h.0, subst (NamesLine (Some text)) (sym h.1) (n, refl, there))
-end_line text n s line there (inr h) = inr (λ e. let n : 40 ≡ 31 = numbered h.0 e in omega (arith, n), h.1)
+pub end_line : (Line : List ℕ → ℕ → Type 0) (text : List ℕ) (n : ℕ) (s : Status) (line : Option (List ℕ)) → Line text n → IsNoBundleEnd n s line → HasBundleLine Line (Some text) s line
+end_line Line text n s line there (inl h) = inl (h.0, subst (NamesLine Line (Some text)) (sym h.1) (n, refl, there))
+end_line Line text n s line there (inr h) = inr (λ e. let n : 40 ≡ 31 = numbered h.0 e in omega (arith, n), h.1)
 
 pub verdict_line_none : (input : Option (List ℕ)) (r : Result Output Ended) → IfErr r (λ e. e.status ≡ status.NoMemory) → IfErr r (λ e. e.line ≡ None)
-    → IfErr r (λ e. HasBundleLine input e.status e.line)
+    → IfErr r (λ e. HasBundleLine IsLineToCheck input e.status e.line)
 verdict_line_none input (Ok m) stopped none = tt
 verdict_line_none input (Err e) stopped none = inr (λ b. let n : 40 ≡ 31 = numbered stopped b in omega (arith, n), none)
 
@@ -353,44 +383,69 @@ check_made words input (Ok m) asks either h = check_asked words input m asks eit
 check_made words input (Err e) asks either h = tt
 
 pub check_stopped : (words : List (List ℕ)) (input : Option (List ℕ)) (before now : ℕ) (s : Status) → AsksCheck words → StopsCheck input before now s → Stops words input before now s
-check_stopped words input before now s asks (inl h) = subst (Stops words input before now) (sym h.0) (asks, h.1)
+check_stopped words input before now s asks (inl h) = subst (Stops words input before now) (sym h.0) (inl (asks, h.1))
 check_stopped words input before now s asks (inr (inl h)) = subst (Stops words input before now) (sym h.0) (inr (inl asks), h.1)
 check_stopped words input before now s asks (inr (inr (inl h))) = subst (Stops words input before now) (sym h.0) (inr (inl (asks, h.1)))
 check_stopped words input before now s asks (inr (inr (inr e))) = subst (Stops words input before now) (sym e) tt
 
-pub check_refuses : (input : Option (List ℕ)) (before now : ℕ) (s : Status) → StopsCheck input before now s → IsRefusal s
-check_refuses input before now s (inl h) = subst IsRefusal (sym h.0) tt
-check_refuses input before now s (inr (inl h)) = subst IsRefusal (sym h.0) tt
-check_refuses input before now s (inr (inr (inl h))) = subst IsRefusal (sym h.0) tt
-check_refuses input before now s (inr (inr (inr e))) = subst IsRefusal (sym e) tt
+pub migration_made : (words : List (List ℕ)) (input : Option (List ℕ)) (r : Result Output Ended) → AsksMigration words → IfOk r (λ m. m.status ≡ status.Fine)
+    → IfOk r (λ m. IfSome input (λ text. Migrated text (bytes_of m.written))) → IfOk r (MakesAsked words input)
+migration_made words input (Ok m) asks fine h = inr (inr (inr (inr (asks, fine, h))))
+migration_made words input (Err e) asks fine h = tt
+
+pub migration_stopped : (words : List (List ℕ)) (input : Option (List ℕ)) (before now : ℕ) (s : Status) → AsksMigration words → StopsMigration input before now s → Stops words input before now s
+migration_stopped words input before now s asks (inl h) = subst (Stops words input before now) (sym h.0) (inr (asks, h.1))
+migration_stopped words input before now s asks (inr (inl h)) = subst (Stops words input before now) (sym h.0) (inr (inr (inr asks)), h.1)
+migration_stopped words input before now s asks (inr (inr (inl h))) = subst (Stops words input before now) (sym h.0) (inr (inr (inr (asks, h.1))))
+migration_stopped words input before now s asks (inr (inr (inr e))) = subst (Stops words input before now) (sym e) tt
+
+pub bundle_refuses : (Cause : List ℕ → Type 0) (input : Option (List ℕ)) (before now : ℕ) (s : Status) → StopsBundleInput Cause input before now s → IsRefusal s
+bundle_refuses Cause input before now s (inl h) = subst IsRefusal (sym h.0) tt
+bundle_refuses Cause input before now s (inr (inl h)) = subst IsRefusal (sym h.0) tt
+bundle_refuses Cause input before now s (inr (inr (inl h))) = subst IsRefusal (sym h.0) tt
+bundle_refuses Cause input before now s (inr (inr (inr e))) = subst IsRefusal (sym e) tt
 
 -- the input tells the text
-told_line : (input : Option (List ℕ)) (text : List ℕ) (s : Status) (line : Option (List ℕ)) → IfSome input (λ bs. text ≡ bs) → HasBundleLine (Some text) s line → HasBundleLine input s line
-told_line input text s line told (inr h) = inr h
-told_line input text s None told (inl h) = absurd h.1
-told_line None text s (Some l) told (inl h) = inl (h.0, (h.1.0, h.1.1, tt))
-told_line (Some bs) text s (Some l) told (inl h) = inl (h.0, (h.1.0, h.1.1, subst (λ t. IsLineOf t h.1.0) told h.1.2))
+told_line : (Line : List ℕ → ℕ → Type 0) (input : Option (List ℕ)) (text : List ℕ) (s : Status) (line : Option (List ℕ)) → IfSome input (λ bs. text ≡ bs) → HasBundleLine Line (Some text) s line → HasBundleLine Line input s line
+told_line Line input text s line told (inr h) = inr h
+told_line Line input text s None told (inl h) = absurd h.1
+told_line Line None text s (Some l) told (inl h) = inl (h.0, (h.1.0, h.1.1, tt))
+told_line Line (Some bs) text s (Some l) told (inl h) = inl (h.0, (h.1.0, h.1.1, subst (λ t. Line t h.1.0) told h.1.2))
 
-pub told_lines : (input : Option (List ℕ)) (text : List ℕ) (r : Result Output Ended) → IfSome input (λ bs. text ≡ bs) → IfErr r (λ e. HasBundleLine (Some text) e.status e.line)
-    → IfErr r (λ e. HasBundleLine input e.status e.line)
-told_lines input text (Ok m) told lines = tt
-told_lines input text (Err e) told lines = told_line input text e.status e.line told lines
+pub told_lines : (Line : List ℕ → ℕ → Type 0) (input : Option (List ℕ)) (text : List ℕ) (r : Result Output Ended) → IfSome input (λ bs. text ≡ bs) → IfErr r (λ e. HasBundleLine Line (Some text) e.status e.line)
+    → IfErr r (λ e. HasBundleLine Line input e.status e.line)
+told_lines Line input text (Ok m) told lines = tt
+told_lines Line input text (Err e) told lines = told_line Line input text e.status e.line told lines
 
 -- ---- what came to the error output
 
 -- the line of a refused specification
-pub said_refusal : (words : List (List ℕ)) (input old new : Option (List ℕ)) (s : Status) (line : Option (List ℕ)) (Quiet : Type 0) → HasOwnLine input (RefusesSpec words input) s line
+pub said_refusal : (words : List (List ℕ)) (input old new : Option (List ℕ)) (s : Status) (line : Option (List ℕ)) (Quiet : Type 0) → HasOwnLine words input (RefusesSpec words input) s line
     → (line_of s ≡ None → Quiet → IfSome line (λ l. Grows old new l)) → s ≡ status.SpecRefused → Quiet → SaysRefusal words input old new
 said_refusal words input old new s None Quiet (inl h) said e quiet = absurd (h.0 e)
 said_refusal words input old new s (Some l) Quiet (inl h) said e quiet = (l, said (ap line_of e) quiet, h.0.1)
 said_refusal words input old new s line Quiet (inr h) said e quiet = absurd (let n : 31 ≡ 11 = numbered h.0 e in omega (arith, n))
 
--- and of a text that is no bundle
-pub said_bundle : (input old new : Option (List ℕ)) (Q : (line : List ℕ) → Type 0) (s : Status) (line : Option (List ℕ)) (Quiet : Type 0) → HasOwnLine input Q s line
-    → (line_of s ≡ None → Quiet → IfSome line (λ l. Grows old new l)) → s ≡ status.BadBundle → Quiet → SaysBundleLine input old new
-said_bundle input old new Q s line Quiet (inl h) said e quiet = absurd (h.1 e)
-said_bundle input old new Q s None Quiet (inr h) said e quiet = absurd h.1
-said_bundle input old new Q s (Some l) Quiet (inr h) said e quiet = (h.1.0, subst (Grows old new) h.1.1 (said (ap line_of e) quiet), h.1.2)
+-- and of a text that is no bundle, or isn't brought over
+said_line : (words : List (List ℕ)) (Line : List ℕ → ℕ → Type 0) (input old new : Option (List ℕ)) (Q : (line : List ℕ) → Type 0) (s : Status) (line : Option (List ℕ)) (Quiet : Type 0)
+    → ((text : List ℕ) (n : ℕ) → IsNamedLine words text n → Line text n) → HasOwnLine words input Q s line
+    → (line_of s ≡ None → Quiet → IfSome line (λ l. Grows old new l)) → s ≡ status.BadBundle → Quiet → SaysLineOf Line input old new
+said_line words Line input old new Q s line Quiet f (inl h) said e quiet = absurd (h.1 e)
+said_line words Line input old new Q s None Quiet f (inr h) said e quiet = absurd h.1
+said_line words Line None old new Q s (Some l) Quiet f (inr h) said e quiet = (h.1.0, subst (Grows old new) h.1.1 (said (ap line_of e) quiet), tt)
+said_line words Line (Some text) old new Q s (Some l) Quiet f (inr h) said e quiet = (h.1.0, subst (Grows old new) h.1.1 (said (ap line_of e) quiet), f text h.1.0 h.1.2)
+
+pub said_bundle : (words : List (List ℕ)) (input old new : Option (List ℕ)) (Q : (line : List ℕ) → Type 0) (s : Status) (line : Option (List ℕ)) (Quiet : Type 0) → HasOwnLine words input Q s line
+    → (line_of s ≡ None → Quiet → IfSome line (λ l. Grows old new l)) → s ≡ status.BadBundle → Quiet → SaysLineOf IsLineOf input old new
+said_bundle words input old new Q s line Quiet h said e quiet = said_line words IsLineOf input old new Q s line Quiet (λ text n named. named.0) h said e quiet
+
+pub said_untied : (words : List (List ℕ)) (input old new : Option (List ℕ)) (Q : (line : List ℕ) → Type 0) (s : Status) (line : Option (List ℕ)) (Quiet : Type 0) → HasOwnLine words input Q s line
+    → (line_of s ≡ None → Quiet → IfSome line (λ l. Grows old new l)) → s ≡ status.BadBundle → AsksCheck words → Quiet → SaysLineOf IsCheckLine input old new
+said_untied words input old new Q s line Quiet h said e asks quiet = said_line words IsCheckLine input old new Q s line Quiet (λ text n named. named.1 asks) h said e quiet
+
+pub said_migration : (words : List (List ℕ)) (input old new : Option (List ℕ)) (Q : (line : List ℕ) → Type 0) (s : Status) (line : Option (List ℕ)) (Quiet : Type 0) → HasOwnLine words input Q s line
+    → (line_of s ≡ None → Quiet → IfSome line (λ l. Grows old new l)) → s ≡ status.BadBundle → AsksMigration words → Quiet → SaysLineOf IsMigrationLine input old new
+said_migration words input old new Q s line Quiet h said e asks quiet = said_line words IsMigrationLine input old new Q s line Quiet (λ text n named. named.2 asks) h said e quiet
 
 -- where the command did its work there is none
 pub silent_status : (s : Status) → IsSilent s → line_of s ≡ None
@@ -408,7 +463,7 @@ silent_status status.WriteFault h = absurd h
 silent_status status.TooLong h = absurd h
 silent_status status.NoMemory h = absurd h
 
-pub silent_line : (input : Option (List ℕ)) (Q : (line : List ℕ) → Type 0) (s : Status) (line : Option (List ℕ)) → IsSilent s → HasOwnLine input Q s line → line ≡ None
-silent_line input Q s None quiet h = refl
-silent_line input Q s (Some l) quiet (inl h) = absurd (subst IsSilent h.0.0 quiet)
-silent_line input Q s (Some l) quiet (inr h) = absurd (subst IsSilent h.0 quiet)
+pub silent_line : (words : List (List ℕ)) (input : Option (List ℕ)) (Q : (line : List ℕ) → Type 0) (s : Status) (line : Option (List ℕ)) → IsSilent s → HasOwnLine words input Q s line → line ≡ None
+silent_line words input Q s None quiet h = refl
+silent_line words input Q s (Some l) quiet (inl h) = absurd (subst IsSilent h.0.0 quiet)
+silent_line words input Q s (Some l) quiet (inr h) = absurd (subst IsSilent h.0 quiet)

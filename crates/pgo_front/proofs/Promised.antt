@@ -10,11 +10,12 @@ use Rattle.pgo_front.specs.Answers.{AsksSomeLoad, ReadsNothing, RefusesSpec, Sto
 use Rattle.pgo_front.specs.Streams.{Stream, before, after, Failed}
 use Rattle.pgo_front.specs.Headline.{Headline}
 use Rattle.pgo_front.specs.Makes.{MakesAsked, HasOwnLine, IsWritten, IsCutShort, EndsAs}
-use Rattle.pgo_front.proofs.Making.{numbered, into_fault, fine_to, halted_to, spent_to, quiet_to, full_to, not_a_run_to, made_line, no_line, made_no_fault, made_no_refusal, said_refusal, said_bundle, silent_status, silent_line}
+use Rattle.pgo_front.proofs.Making.{numbered, into_fault, fine_to, halted_to, spent_to, quiet_to, full_to, not_a_run_to, made_line, no_line, made_no_fault, made_no_refusal, said_refusal, said_bundle, said_migration, said_untied, silent_status, silent_line}
 use Rattle.pgo_front.proofs.Caused.{Says, usage_comes, too_long_bundle_comes, no_bundle_comes, is_run_comes, is_no_run_comes}
 use Rattle.pgo_front.proofs.CausedExecution.{too_long_comes, refused_comes, run_comes}
 use Rattle.pgo_front.proofs.CausedTranslation.{too_long_to_translate_comes, not_translated_comes, translates_comes}
 use Rattle.pgo_front.proofs.CausedLoad.{loads_comes, load_refused_comes}
+use Rattle.pgo_front.proofs.CausedMigration.{migrates_comes, not_migrated_comes, too_long_to_migrate_comes}
 
 module _ {S O E : Type 0} (words : List (List ℕ)) (input : Stream S) (out : Stream O) (err : Stream E) where
   -- what the statuses say of this call
@@ -25,7 +26,7 @@ module _ {S O E : Type 0} (words : List (List ℕ)) (input : Stream S) (out : St
   StopsHere s = Stops words (before input) (input.faults input.old) (input.faults input.new) s
 
   abbrev OwnLine : Ended → Type 0
-  OwnLine e = HasOwnLine (before input) (RefusesSpec words (before input)) e.status e.line
+  OwnLine e = HasOwnLine words (before input) (RefusesSpec words (before input)) e.status e.line
 
   -- where all of what was made is written
   written_causes : (m : Output) (s : Status) → MakesAsked words (before input) m → IsWritten m out s → Causes s
@@ -78,7 +79,7 @@ module _ {S O E : Type 0} (words : List (List ℕ)) (input : Stream S) (out : St
   own_line : (made : Result Output Ended) (e : Ended) → EndsAs made out e → IfOk made (MakesAsked words (before input)) → IfErr made OwnLine → OwnLine e
   own_line (Ok m) e (none, inl w) ok line = made_line words (before input) _ e.status e.line m w.status_is none ok
   own_line (Ok m) e (none, inr c) ok line =
-      no_line (before input) _ e.status e.line 13 (ap number_of c.status_is) (λ n. omega (arith, n)) (λ n. omega (arith, n)) none
+      no_line words (before input) _ e.status e.line 13 (ap number_of c.status_is) (λ n. omega (arith, n)) (λ n. omega (arith, n)) none
   own_line (Err stop) e (same, kept) ok line = subst OwnLine (sym same) line
 
   -- a refusal leaves the output as it was
@@ -135,6 +136,7 @@ module _ {S O E : Type 0} (words : List (List ℕ)) (input : Stream S) (out : St
         not_a_run = of_status.not_a_run;
         is_run = λ text m consts l told read wrote short bundle run. is_run_comes words (before input) _ _ _ _ _ _ text told read m consts l bundle wrote short e.status of_status run;
         is_no_run = λ text m consts l told read wrote short bundle none. is_no_run_comes words (before input) _ _ _ _ _ _ text told read m consts l bundle wrote short e.status of_status none;
+        migrates = λ text written told read wrote short m. migrates_comes words (before input) _ _ _ _ _ _ text told read written e.status of_status wrote short m;
         loads = λ size asks wrote x. loads_comes words (before input) _ _ _ _ _ _ size asks e.status of_status wrote x;
         stopped = of_status.stopped;
         usage = usage_comes words (before input) _ _ _ _ _ _ e.status of_status;
@@ -144,16 +146,20 @@ module _ {S O E : Type 0} (words : List (List ℕ)) (input : Stream S) (out : St
         not_translated = λ target text consts told read. not_translated_comes words (before input) _ _ _ _ _ _ target text consts told read e.status of_status;
         too_long_bundle = λ text told read. too_long_bundle_comes words (before input) _ _ _ _ _ _ text told read e.status of_status;
         no_bundle = λ text told read. no_bundle_comes words (before input) _ _ _ _ _ _ text told read e.status of_status;
+        too_long_to_migrate = λ text told read. too_long_to_migrate_comes words (before input) _ _ _ _ _ _ text told read e.status of_status;
+        not_migrated = λ text told read. not_migrated_comes words (before input) _ _ _ _ _ _ text told read e.status of_status;
         load_refused = λ size asks. load_refused_comes words (before input) _ _ _ _ _ _ size asks e.status of_status;
         kept = out_kept made e end ok;
         says = says;
         says_refusal = said_refusal words (before input) _ _ e.status e.line _ of_line says_own;
-        says_bundle = said_bundle (before input) _ _ _ e.status e.line _ of_line says_own;
+        says_bundle = said_bundle words (before input) _ _ _ e.status e.line _ of_line says_own;
+        says_untied = λ bad asks quiet. said_untied words (before input) _ _ _ e.status e.line _ of_line says_own bad asks quiet;
+        says_migration = λ bad asks quiet. said_migration words (before input) _ _ _ e.status e.line _ of_line says_own bad asks quiet;
         read_failed = in_faults made e end steady failed;
         write_failed = out_faults made e end;
         write_fault = of_status.write_fault;
         prefix = of_status.prefix;
         ended = λ no_load all. read_to_end made e end (ended no_load) (ended_refused no_load) all;
         unread = unread;
-        silent = λ quiet. silent (silent_status e.status quiet) (silent_line (before input) _ e.status e.line quiet of_line);
+        silent = λ quiet. silent (silent_status e.status quiet) (silent_line words (before input) _ e.status e.line quiet of_line);
       }

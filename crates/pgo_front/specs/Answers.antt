@@ -15,7 +15,7 @@ use Rattle.pgo_model.specs.Core.{Settings}
 use Rattle.pgo_verdicts.specs.Judged.{Judged}
 use Rattle.pgo_verdicts.specs.Runs.{Runs}
 use Rattle.pgo_words.specs.Asks.{Request, Asks}
-use Rattle.pgo_front.specs.Asked.{AsksExecution, AsksCheck, AsksTranslation, AsksLoad}
+use Rattle.pgo_front.specs.Asked.{AsksExecution, AsksCheck, AsksMigration, AsksTranslation, AsksLoad}
 use Rattle.pgo_front.specs.Spells.{most_bytes}
 use Rattle.pgo_front.specs.Statuses.{line_of}
 use Rattle.pgo_log_text.specs.ReadBundle.{IsNoBundle}
@@ -23,6 +23,7 @@ use Rattle.pgo_log_text.specs.LineNumbers.{IsLineOf}
 use Rattle.pgo_front.specs.Verdicts.{IsRunVerdict, verdict_line, bundle_line, most_bundle_bytes}
 use Rattle.pgo_front.specs.Translations.{Translated, NotTranslated}
 use Rattle.pgo_front.specs.Loads.{Loaded, NotLoaded, LoadRefusedBy}
+use Rattle.pgo_front.specs.Migrations.{CannotMigrate, IsCheckLine, IsMigrationLine, Migrated}
 
 -- ---- words
 
@@ -40,7 +41,7 @@ AsksSomeLoad words = (size : ℕ) × AsksLoad size words
 
 -- the words ask for a command that reads the input
 abbrev pub AsksOfInput : List (List ℕ) → Type 0
-AsksOfInput words = AsksSomeExecution words ⊎ (AsksCheck words ⊎ AsksSomeTranslation words)
+AsksOfInput words = AsksSomeExecution words ⊎ (AsksCheck words ⊎ (AsksSomeTranslation words ⊎ AsksMigration words))
 
 -- the words ask for nothing that there is
 abbrev pub AsksNothing : List (List ℕ) → Type 0
@@ -128,6 +129,18 @@ abbrev pub WritesTranslationPrefix : List (List ℕ) → (input old new : Option
 WritesTranslationPrefix words input old new =
     AsksSomeTranslation words × IfSome input (λ text. (written : List ℕ) × Translated words text written × GrowsByPrefix old new written)
 
+-- ---- the command `migrate`
+
+-- the words ask that a bundle be brought over, and where the input told its text, the output has grown by its bundle of version 2
+abbrev pub WritesMigration : List (List ℕ) → (input old new : Option (List ℕ)) → Type 0
+WritesMigration words input old new =
+    AsksMigration words × IfSome input (λ text. (written : List ℕ) × Migrated text written × Grows old new written)
+
+-- and where the input told its text, the output has grown by a prefix of its bundle of version 2
+abbrev pub WritesMigrationPrefix : List (List ℕ) → (input old new : Option (List ℕ)) → Type 0
+WritesMigrationPrefix words input old new =
+    AsksMigration words × IfSome input (λ text. (written : List ℕ) × Migrated text written × GrowsByPrefix old new written)
+
 -- ---- the command `load`
 
 -- the words ask for a load, and the output has grown by its line
@@ -140,19 +153,23 @@ WritesLoadPrefix words old new = (written : List ℕ) × Loaded words written ×
 
 -- ---- statuses
 
--- the run ended with every instance at Done, or the log is a run, or the specification is translated, or the load is judged
+-- the run ended with every instance at Done, or the log is a run, or the specification is translated, or the load is judged, or the bundle is
+-- brought over
 abbrev pub EndsWell : List (List ℕ) → (input old new : Option (List ℕ)) → Type 0
 EndsWell words input old new =
     WritesBundle words input 0 old new
     ⊎ (WritesVerdict words input IsRunVerdict old new
-    ⊎ (WritesTranslation words input old new ⊎ WritesLoad words old new))
+    ⊎ (WritesTranslation words input old new
+    ⊎ (WritesLoad words old new ⊎ WritesMigration words input old new)))
 
--- a prefix of the bundle of a run, of the line of a verdict, of a translation, or of the line of a load, came to the output
+-- a prefix of the bundle of a run, of the line of a verdict, of a translation, of the line of a load, or of a bundle that is brought over, came to
+-- the output
 abbrev pub WritesPrefix : List (List ℕ) → (input old new : Option (List ℕ)) → Type 0
 WritesPrefix words input old new =
     WritesBundlePrefix words input old new
     ⊎ (WritesVerdictPrefix words input old new
-    ⊎ (WritesTranslationPrefix words input old new ⊎ WritesLoadPrefix words old new))
+    ⊎ (WritesTranslationPrefix words input old new
+    ⊎ (WritesLoadPrefix words old new ⊎ WritesMigrationPrefix words input old new)))
 
 -- why a command that wrote nothing stopped
 abbrev pub Stops : List (List ℕ) → (input : Option (List ℕ)) → (faults_before faults_now : ℕ) → Status → Type 0
@@ -160,12 +177,15 @@ Stops words input before now status.Usage = AsksNothing words
 Stops words input before now status.SpecRefused =
     (AsksSomeExecution words × IfSome input (IsRefused words))
     ⊎ ((AsksSomeTranslation words × IfSome input (NotTranslated words)) ⊎ NotLoaded words)
-Stops words input before now status.BadBundle = AsksCheck words × IfSome input (λ text. (length text ≤ most_bundle_bytes) × IsNoBundle text)
+Stops words input before now status.BadBundle =
+    (AsksCheck words × IfSome input (λ text. (length text ≤ most_bundle_bytes) × IsNoBundle text))
+    ⊎ (AsksMigration words × IfSome input (λ text. (length text ≤ most_bundle_bytes) × CannotMigrate text))
 Stops words input before now status.ReadFault = AsksOfInput words × Rose before now
 Stops words input before now status.TooLong =
     (AsksSomeExecution words × IfSome input (λ text. most_bytes < length text))
     ⊎ ((AsksCheck words × IfSome input (λ text. most_bundle_bytes < length text))
-    ⊎ (AsksSomeTranslation words × IfSome input (λ text. most_bytes < length text)))
+    ⊎ ((AsksSomeTranslation words × IfSome input (λ text. most_bytes < length text))
+    ⊎ (AsksMigration words × IfSome input (λ text. most_bundle_bytes < length text))))
 Stops words input before now status.NoMemory = Unit {0}
 Stops words input before now status.Fine = ⊥
 Stops words input before now status.WriteFault = ⊥
@@ -227,9 +247,21 @@ SaysLine s old new = IfSome (line_of s) (λ l. Grows old new l)
 abbrev pub SaysRefusal : List (List ℕ) → (input old new : Option (List ℕ)) → Type 0
 SaysRefusal words input old new = (line : List ℕ) × Grows old new line × RefusesSpec words input line
 
--- the error output has grown by a line that names a line of the input, which is no bundle
+-- the error output has grown by a line that names this line of the input
+abbrev pub SaysLineOf : (Line : List ℕ → ℕ → Type 0) → (input old new : Option (List ℕ)) → Type 0
+SaysLineOf Line input old new = (n : ℕ) × Grows old new (bundle_line n) × IfSome input (λ text. Line text n)
+
+-- the error output has grown by a line that names a line of the input, which is no bundle, or isn't brought over
 abbrev pub SaysBundleLine : (input old new : Option (List ℕ)) → Type 0
-SaysBundleLine input old new = (n : ℕ) × Grows old new (bundle_line n) × IfSome input (λ text. IsLineOf text n)
+SaysBundleLine = SaysLineOf IsLineOf
+
+-- which line that is where a bundle is checked
+abbrev pub SaysCheckLine : (input old new : Option (List ℕ)) → Type 0
+SaysCheckLine = SaysLineOf IsCheckLine
+
+-- which line that is where a bundle is to be brought over
+abbrev pub SaysMigrationLine : (input old new : Option (List ℕ)) → Type 0
+SaysMigrationLine = SaysLineOf IsMigrationLine
 
 -- the words ask for a run under this schedule with these settings and constants, and the input tells this text
 pub record IsToldToExecute (schedule : Schedule) (settings : Settings) (words : List (List ℕ)) (input : Option (List ℕ)) (consts : List (Name × Data)) (text : List ℕ) : Type 0 where
@@ -239,6 +271,11 @@ pub record IsToldToExecute (schedule : Schedule) (settings : Settings) (words : 
 -- the words ask for a check, and the input tells this text
 pub record IsToldToCheck (words : List (List ℕ)) (input : Option (List ℕ)) (text : List ℕ) : Type 0 where
   pub asks : AsksCheck words
+  pub told : input ≡ Some text
+
+-- the words ask that a bundle be brought over, and the input tells this text
+pub record IsToldToMigrate (words : List (List ℕ)) (input : Option (List ℕ)) (text : List ℕ) : Type 0 where
+  pub asks : AsksMigration words
   pub told : input ≡ Some text
 
 -- the words ask for this translation with these constants, and the input tells this text

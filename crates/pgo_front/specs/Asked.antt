@@ -4,7 +4,7 @@ use Rattle.pgo_base.specs.Data.{Data}
 use Rattle.pgo_base.specs.Lookup.{Name}
 use Rattle.pgo_model.specs.Core.{Settings}
 use Rattle.pgo_execute.specs.Schedules.{Schedule, Turns, Rounds, Threads}
-use Rattle.pgo_words.specs.Asks.{Command, Compile, Expand, Step, Run, Check, Load, AsksBy}
+use Rattle.pgo_words.specs.Asks.{Command, Compile, Expand, Step, Run, Check, Migrate, Load, AsksBy}
 use Rattle.pgo_words.specs.Settings.{default_settings}
 use Rattle.pgo_front.specs.declared.target.Target.{Target}
 use Rattle.pgo_front.specs.declared.target.Target.TheVariants as targets
@@ -19,6 +19,10 @@ AsksExecution words Threads settings consts = AsksBy Run words consts settings
 -- the words ask for the check of a bundle
 abbrev pub AsksCheck : List (List ℕ) → Type 0
 AsksCheck words = AsksBy Check words [] default_settings
+
+-- the words ask that a bundle be brought over
+abbrev pub AsksMigration : List (List ℕ) → Type 0
+AsksMigration words = AsksBy Migrate words [] default_settings
 
 -- the command that translates
 abbrev pub command_to : Target → Command

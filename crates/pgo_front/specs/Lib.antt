@@ -4,6 +4,7 @@ pub mod Spells
 pub mod Verdicts
 pub mod Translations
 pub mod Loads
+pub mod Migrations
 pub mod Answers
 pub mod Streams
 pub mod Headline

@@ -17,7 +17,7 @@ use Rattle.pgo_front.specs.declared.status.Status.TheVariants as status
 use Rattle.pgo_front.specs.declared.mode.Mode.{Mode}
 use Rattle.pgo_front.specs.declared.mode.Mode.TheVariants as modes
 use Rattle.pgo_front.specs.declared.task.Task.{Task}
-use Rattle.pgo_front.specs.declared.task.Task.TheVariants.{Execute, Check, Translate, Load}
+use Rattle.pgo_front.specs.declared.task.Task.TheVariants.{Execute, Check, Migrate, Translate, Load}
 use Rattle.pgo_front.specs.declared.target.Target.{Target}
 use Rattle.pgo_execute.specs.Schedules.{Schedule, Threads, schedule_view}
 use Rattle.pgo_load.specs.Load.{Loads}
@@ -25,8 +25,9 @@ use Rattle.pgo_model.specs.Core.{Settings}
 use Rattle.pgo_syntax.specs.RecordView.{settings_view}
 use Rattle.pgo_verdicts.specs.Judged.{Judged}
 use Rattle.pgo_verdicts.specs.Runs.{Runs}
-use Rattle.pgo_front.specs.Asked.{AsksCheck, ExecutesOnly, TranslatesOnly, LoadsOnly}
+use Rattle.pgo_front.specs.Asked.{AsksCheck, AsksMigration, ExecutesOnly, TranslatesOnly, LoadsOnly}
 use Rattle.pgo_front.specs.Loads.{Loaded, load_line}
+use Rattle.pgo_front.specs.Migrations.{CannotMigrate, IsCheckLine, IsMigrationLine, Migrated}
 use Rattle.pgo_front.specs.Spells.{most_bytes}
 use Rattle.pgo_front.specs.Statuses.{number_of}
 use Rattle.pgo_front.specs.Streams.{Stream, before, after, Failed}
@@ -48,6 +49,7 @@ mode_view modes.Threads = Threads
 abbrev pub AsksFor : List (List ℕ) → Task → Type 0
 AsksFor words (Execute mode consts settings) = ExecutesOnly words (mode_view mode) (settings_view settings) consts
 AsksFor words Check = AsksCheck words
+AsksFor words Migrate = AsksMigration words
 AsksFor words (Translate target consts) = TranslatesOnly words target consts
 AsksFor words (Load size) = LoadsOnly words size
 
@@ -117,28 +119,54 @@ pub record MakesVerdict (v : Verdict) (m : Output) : Type 0 where
 abbrev pub MakesJudged : (text : List ℕ) → Output → Type 0
 MakesJudged text m = (v : Verdict) × Judged text v × MakesVerdict v m
 
+-- a bundle isn't taken for this cause, or there was no memory
+abbrev pub StopsBundle : Type 0 → Status → Type 0
+StopsBundle Cause s = ((s ≡ status.BadBundle) × Cause) ⊎ (s ≡ status.NoMemory)
+
+-- why a command on a bundle stopped at this input, whose text isn't taken for this cause
+abbrev pub StopsBundleInput : (Cause : List ℕ → Type 0) → (input : Option (List ℕ)) → (faults_before faults_now : ℕ) → Status → Type 0
+StopsBundleInput Cause input before now s =
+    ((s ≡ status.BadBundle) × IfSome input (λ text. (length text ≤ most_bundle_bytes) × Cause text))
+    ⊎ StopsReading most_bundle_bytes input before now s
+
 -- the text is no bundle that is read, or there was no memory
 abbrev pub StopsJudging : (text : List ℕ) → Status → Type 0
-StopsJudging text s = ((s ≡ status.BadBundle) × IsNoBundle text) ⊎ (s ≡ status.NoMemory)
+StopsJudging text = StopsBundle (IsNoBundle text)
 
 -- why a check of this input stopped
 abbrev pub StopsCheck : (input : Option (List ℕ)) → (faults_before faults_now : ℕ) → Status → Type 0
-StopsCheck input before now s =
-    ((s ≡ status.BadBundle) × IfSome input (λ text. (length text ≤ most_bundle_bytes) × IsNoBundle text))
-    ⊎ StopsReading most_bundle_bytes input before now s
+StopsCheck = StopsBundleInput IsNoBundle
 
--- a line that names a line of the input, which is no bundle
-abbrev pub NamesLine : (input line : Option (List ℕ)) → Type 0
-NamesLine input None = ⊥
-NamesLine input (Some l) = (n : ℕ) × (l ≡ bundle_line n) × IfSome input (λ text. IsLineOf text n)
+-- a line of a text that is no bundle, and which it is
+abbrev pub IsLineToCheck : List ℕ → ℕ → Type 0
+IsLineToCheck text n = IsLineOf text n × IsCheckLine text n
 
--- such a line comes with a text that is no bundle, and no line without one
-abbrev pub HasBundleLine : (input : Option (List ℕ)) → Status → (line : Option (List ℕ)) → Type 0
-HasBundleLine input s line = ((s ≡ status.BadBundle) × NamesLine input line) ⊎ ((s ≡ status.BadBundle → ⊥) × (line ≡ None))
+-- a line that names this line of the input
+abbrev pub NamesLine : (Line : List ℕ → ℕ → Type 0) → (input line : Option (List ℕ)) → Type 0
+NamesLine Line input None = ⊥
+NamesLine Line input (Some l) = (n : ℕ) × (l ≡ bundle_line n) × IfSome input (λ text. Line text n)
+
+-- such a line comes with a text that isn't taken, and no line without one
+abbrev pub HasBundleLine : (Line : List ℕ → ℕ → Type 0) → (input : Option (List ℕ)) → Status → (line : Option (List ℕ)) → Type 0
+HasBundleLine Line input s line = ((s ≡ status.BadBundle) × NamesLine Line input line) ⊎ ((s ≡ status.BadBundle → ⊥) × (line ≡ None))
 
 -- the text is no bundle, and its line says so, with this number; or there was no memory
 abbrev pub IsNoBundleEnd : ℕ → Status → Option (List ℕ) → Type 0
 IsNoBundleEnd n s line = ((s ≡ status.BadBundle) × (line ≡ Some (bundle_line n))) ⊎ ((s ≡ status.NoMemory) × (line ≡ None))
+
+-- ---- the command `migrate`
+
+-- the text isn't a bundle that is brought over, or there was no memory
+abbrev pub StopsMigrating : (text : List ℕ) → Status → Type 0
+StopsMigrating text = StopsBundle (CannotMigrate text)
+
+-- why the migration of this input stopped
+abbrev pub StopsMigration : (input : Option (List ℕ)) → (faults_before faults_now : ℕ) → Status → Type 0
+StopsMigration = StopsBundleInput CannotMigrate
+
+-- a line of a text that isn't brought over, and which it is
+abbrev pub IsLineToMigrate : List ℕ → ℕ → Type 0
+IsLineToMigrate text n = IsLineOf text n × IsMigrationLine text n
 
 -- ---- the commands `expand` and `compile`
 
@@ -162,9 +190,13 @@ pub record MakesLoad (size : ℕ) (m : Output) : Type 0 where
 
 -- ---- all of them
 
--- the line of the end of a command: that of a refused specification, or of a text that is no bundle; no other end has one
-abbrev pub HasOwnLine : (input : Option (List ℕ)) (R : (line : List ℕ) → Type 0) → Status → Option (List ℕ) → Type 0
-HasOwnLine input R s line = (HasLine R s line × (s ≡ status.BadBundle → ⊥)) ⊎ ((s ≡ status.BadBundle) × NamesLine input line)
+-- a line of the input; and which it is where the words ask for a check, or that a bundle be brought over
+abbrev pub IsNamedLine : List (List ℕ) → List ℕ → ℕ → Type 0
+IsNamedLine words text n = IsLineOf text n × (AsksCheck words → IsCheckLine text n) × (AsksMigration words → IsMigrationLine text n)
+
+-- the line of the end of a command: that of a refused specification, or of a text that is no bundle, or isn't brought over; no other end has one
+abbrev pub HasOwnLine : (words : List (List ℕ)) (input : Option (List ℕ)) (R : (line : List ℕ) → Type 0) → Status → Option (List ℕ) → Type 0
+HasOwnLine words input R s line = (HasLine R s line × (s ≡ status.BadBundle → ⊥)) ⊎ ((s ≡ status.BadBundle) × NamesLine (IsNamedLine words) input line)
 
 -- what a command made of its words and its input
 abbrev pub MakesOfRun : List (List ℕ) → (input : Option (List ℕ)) → Output → Type 0
@@ -182,8 +214,13 @@ MakesOfTranslation words input m =
 abbrev pub MakesOfLoad : List (List ℕ) → Output → Type 0
 MakesOfLoad words m = (m.status ≡ status.Fine) × Loaded words (bytes_of m.written)
 
+abbrev pub MakesOfMigration : List (List ℕ) → (input : Option (List ℕ)) → Output → Type 0
+MakesOfMigration words input m =
+    AsksMigration words × (m.status ≡ status.Fine) × IfSome input (λ text. Migrated text (bytes_of m.written))
+
 abbrev pub MakesAsked : List (List ℕ) → (input : Option (List ℕ)) → Output → Type 0
-MakesAsked words input m = MakesOfRun words input m ⊎ (MakesOfCheck words input m ⊎ (MakesOfTranslation words input m ⊎ MakesOfLoad words m))
+MakesAsked words input m =
+    MakesOfRun words input m ⊎ (MakesOfCheck words input m ⊎ (MakesOfTranslation words input m ⊎ (MakesOfLoad words m ⊎ MakesOfMigration words input m)))
 
 -- ---- the end of a command that made this, or stopped
 

@@ -2,10 +2,10 @@
 ghost use Rattle.std.specs.Prelude.{◌≡◌, ◌≤◌, ◌⊎◌, length, Some, None, IfOk, IfErr, IfSome, OnOk};
 ghost use Rattle.pgo_front.specs.Verdicts.{most_bundle_bytes, why_text};
 ghost use Rattle.pgo_front.specs.Answers.{IsAtEnd, ReadsAll};
-ghost use Rattle.pgo_front.specs.Makes.{HasBundleLine, IsVerdictStatus, MakesJudged, MakesVerdict, StopsCheck, StopsJudging};
+ghost use Rattle.pgo_front.specs.Makes.{HasBundleLine, IsLineToCheck, IsVerdictStatus, MakesJudged, MakesVerdict, StopsCheck, StopsJudging};
 
 use crate::ended::Ended;
-use crate::input::read_input;
+use crate::input::{MOST_BUNDLE_BYTES, read_input};
 use crate::output::{Output, Written};
 use crate::status::Status;
 use pgo_check::verdict::{Verdict, Why};
@@ -17,9 +17,6 @@ use pgo_verdicts::judge::judge;
 use std::alloc::{AllocError, Global};
 use std::thread::Threads;
 
-/// The most bytes of a bundle.
-const MOST_BUNDLE_BYTES: u64 = 268_435_456;
-
 /// Makes the line of the verdict on the bundle that the input is.
 pub fn make_check<T: Threads + Sync, S: Source>(
     rt: &T,
@@ -29,7 +26,7 @@ pub fn make_check<T: Threads + Sync, S: Source>(
     ensures ok { IfOk result (λ m. IfSome (S.left input.old) (λ text. (length text ≤ most_bundle_bytes) × MakesJudged text m)) }
     ensures either { IfOk result IsVerdictStatus }
     ensures err { IfErr result (λ e. StopsCheck (S.left input.old) (S.faults input.old) (S.faults input.new) e.status) }
-    ensures line { IfErr result (λ e. HasBundleLine (S.left input.old) e.status e.line) }
+    ensures line { IfErr result (λ e. HasBundleLine IsLineToCheck (S.left input.old) e.status e.line) }
     ensures ended { OnOk result (IsAtEnd (S.left input.old) (S.left input.new)) }
     ensures steady { OnOk result (S.faults input.new ≡ S.faults input.old) }
     ensures failed { IfErr result (λ e. (e.status ≡ Status.ReadFault) ⊎ (S.faults input.new ≡ S.faults input.old)) }
@@ -46,7 +43,7 @@ fn check_text<T: Threads + Sync>(rt: &T, alloc: Global, text: &[u8]) -> Result<O
     ensures ok { IfOk result (MakesJudged text.now) }
     ensures either { IfOk result IsVerdictStatus }
     ensures err { IfErr result (λ e. StopsJudging text.now e.status) }
-    ensures line { IfErr result (λ e. HasBundleLine (Some text.now) e.status e.line) }
+    ensures line { IfErr result (λ e. HasBundleLine IsLineToCheck (Some text.now) e.status e.line) }
 {
     match judge(rt, alloc, text) {
         Ok(judgement) => make_verdict(alloc, judgement.verdict),

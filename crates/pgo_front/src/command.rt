@@ -13,6 +13,7 @@ use crate::check::make_check;
 use crate::ended::Ended;
 use crate::execution::make_execution;
 use crate::load::make_load;
+use crate::migration::make_migration;
 use crate::output::{Output, Written};
 use crate::status::Status;
 use crate::task::{Task, read_task};
@@ -38,14 +39,15 @@ use std::thread::Threads;
 ///   ended, where the system gives one, so an output of more than one instance hangs on the schedule. The gate is called before each
 ///   turn of an instance of such a run, and once more when it has ended.
 /// - `check`: a bundle is the input, and the verdict on its log the output, one line, `run steps` or `bad at why`.
+/// - `migrate`: a bundle of version 1 is the input, and the bundle of version 2 of the same module, constants and log the output.
 /// - `expand` or `compile`, and constants: a specification is the input, and its translation the output: the text of its expansion,
 ///   or that of its module.
 /// - `load N`: the output is one line, `load N: instances I, steps S, verdict run S`, of the run of the specification that is made
 ///   from N, with I instances and S entries, whose bundle is judged a run. No input is read.
 ///
-/// The words come first, then the input is read to its end, then the text is read, then the run, the check or the translation
-/// is made, and only then is the output written, line by line, and then flushed. A refusal puts its one line on `err`, whose faults
-/// change no status.
+/// The words come first, then the input is read to its end, then the text is read, then the run, the check, the migration or the
+/// translation is made, and only then is the output written, line by line, and then flushed. A refusal puts its one line on `err`,
+/// whose faults change no status.
 /// The specification of a load may be refused as one of the input may: with `SpecRefused` and its line. The statuses are those of
 /// `Status`. This project's choice.
 pub fn pgo<T: Threads + Wait + Sync, S: Source, O: Sink, E: Sink, G: Gate + Sync>(
@@ -174,7 +176,7 @@ fn make<T: Threads + Wait + Sync, S: Source, G: Gate + Sync>(
 ) -> Result<Output, Ended>
     ensures ok { IfOk result (MakesAsked words.now (S.left input.old)) }
     ensures err { IfErr result (λ e. Stops words.now (S.left input.old) (S.faults input.old) (S.faults input.new) e.status) }
-    ensures line { IfErr result (λ e. HasOwnLine (S.left input.old) (RefusesSpec words.now (S.left input.old)) e.status e.line) }
+    ensures line { IfErr result (λ e. HasOwnLine words.now (S.left input.old) (RefusesSpec words.now (S.left input.old)) e.status e.line) }
     ensures refusal { IfErr result (λ e. IsRefusal e.status) }
     ensures unread { ReadsNothing words.now → input.new ≡ input.old }
     ensures ended { ¬ AsksSomeLoad words.now → OnOk result (IsAtEnd (S.left input.old) (S.left input.new)) }
@@ -188,6 +190,7 @@ fn make<T: Threads + Wait + Sync, S: Source, G: Gate + Sync>(
             make_execution(rt, alloc, &mode, &consts, &settings, input, gate)
         }
         Ok(Task::Check) => make_check(rt, alloc, input),
+        Ok(Task::Migrate) => make_migration(alloc, input),
         Ok(Task::Translate(target, consts)) => make_translation(alloc, target, &consts, input),
         Ok(Task::Load(size)) => make_load(rt, alloc, size),
         Err(WordStop::Usage) => Err(Ended::as_status(Status::Usage)),

@@ -47,7 +47,7 @@ impl Ended {
         }
     }
 
-    /// A text is no bundle, from this line on; or there was no memory.
+    /// A text is no bundle, or isn't brought over, for this line; or there was no memory.
     pub fn as_no_bundle(alloc: Global, line: usize) -> Ended
         ensures { IsNoBundleEnd line result.status result.line }
     {

@@ -11,6 +11,9 @@ use std::alloc::Global;
 /// The most bytes of a specification.
 pub const MOST_BYTES: u64 = 1_048_576;
 
+/// The most bytes of a bundle.
+pub const MOST_BUNDLE_BYTES: u64 = 268_435_456;
+
 /// All bytes of the input, at most `limit`.
 pub fn read_input<S: Source>(alloc: Global, input: &mut S, limit: u64) -> Result<Vec<u8>, Status>
     ensures all { IfOk result (λ v. IfSome (S.left input.old) (λ bs. v.items ≡ bs)) }

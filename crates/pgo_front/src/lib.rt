@@ -7,6 +7,7 @@ mod ended;
 mod execution;
 mod input;
 mod load;
+mod migration;
 mod mode;
 mod output;
 mod status;

@@ -6,7 +6,7 @@ ghost use Rattle.pgo_front.specs.Statuses.{number_of, line_of};
 #[derive(Clone, Copy, Debug, PartialEq, Eq)]
 pub enum Status {
     /// Every instance is at Done, or the bundle's log is a run of its module, or the specification is translated, or the load is
-    /// judged.
+    /// judged, or the bundle is brought over.
     Fine,
     /// The words ask for nothing that there is.
     Usage,
@@ -28,7 +28,7 @@ pub enum Status {
     Full,
     /// The bundle's log is no run of its module.
     NotARun,
-    /// The text is no bundle.
+    /// The text is no bundle; or of one that is to be brought over, it is none of version 1 whose records are tied to its entries.
     BadBundle,
     /// There was no memory; or an expression opens more than 640 levels, is made more than 1,024 high by macros, or a module's text
     /// has 2^32 bytes or more.

@@ -23,6 +23,8 @@ pub enum Task {
     Execute(Mode, Consts, Settings),
     /// The check of a bundle.
     Check,
+    /// A bundle of version 1, brought over to version 2.
+    Migrate,
     /// This translation of a specification, with these values of constants.
     Translate(Target, Consts),
     /// The load of this size.
@@ -57,6 +59,7 @@ fn task_of(request: Request) -> Task
         ),
         Command::Run => Task::Execute(Mode::Threads, consts, settings),
         Command::Check => Task::Check,
+        Command::Migrate => Task::Migrate,
         Command::Expand => Task::Translate(Target::Expansion, consts),
         Command::Compile => Task::Translate(Target::Module, consts),
         Command::Load { size } => Task::Load(size),

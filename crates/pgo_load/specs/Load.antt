@@ -64,4 +64,4 @@ pub record Loads (size instances steps : ℕ) : Type 0 where
   pub written : List ℕ
   pub runs : Runs (load_text size) (load_consts size) load_settings Rounds status written
   pub judged : Judged written (Run steps)
-  pub instances_are : instances ≡ length judged.log.ids
+  pub instances_are : instances ≡ length judged.log.accounts

@@ -20,6 +20,7 @@ nothing_done words input out err unread kept says = record {
   not_a_run = λ e. absurd (let n : 40 ≡ 30 = ap number_of e in omega (arith, n));
   is_run = λ text m consts l told read wrote short bundle run. inr refl;
   is_no_run = λ text m consts l told read wrote short bundle none. inr refl;
+  migrates = λ text written told read wrote short m. inr refl;
   loads = λ size asks wrote x. inr refl;
   stopped = λ _. tt;
   usage = λ _. inr refl;
@@ -29,11 +30,15 @@ nothing_done words input out err unread kept says = record {
   not_translated = λ target text consts told read short none. inr refl;
   too_long_bundle = λ text told read long. inr refl;
   no_bundle = λ text told read short none. inr refl;
+  too_long_to_migrate = λ text told read long. inr refl;
+  not_migrated = λ text told read short none. inr refl;
   load_refused = λ size asks none. inr refl;
   kept = λ _. kept;
   says = says;
   says_refusal = λ e. absurd (let n : 40 ≡ 11 = ap number_of e in omega (arith, n));
   says_bundle = λ e. absurd (let n : 40 ≡ 31 = ap number_of e in omega (arith, n));
+  says_untied = λ e. absurd (let n : 40 ≡ 31 = ap number_of e in omega (arith, n));
+  says_migration = λ e. absurd (let n : 40 ≡ 31 = ap number_of e in omega (arith, n));
   read_failed = inr (ap input.faults unread);
   write_failed = inr (ap out.faults kept);
   write_fault = λ e. absurd (let n : 40 ≡ 13 = ap number_of e in omega (arith, n));

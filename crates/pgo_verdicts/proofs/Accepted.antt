@@ -11,18 +11,16 @@ use Rattle.pgo_model.specs.IsRun.{IsRun}
 use Rattle.pgo_check.specs.declared.verdict.Verdict.{Verdict}
 use Rattle.pgo_check.specs.declared.verdict.Verdict.TheVariants.{Run, Bad}
 use Rattle.pgo_check.specs.declared.verdict.Why.TheVariants.{NoInit, NoStep}
-use Rattle.pgo_check.specs.Verdict.{Decides, IsFirstBad}
+use Rattle.pgo_check.specs.Verdict.{Decides}
 use Rattle.pgo_log_text.specs.ReadBundle.{IsReadBundle}
-use Rattle.pgo_log_text.specs.LogOf.{log_of, entry_read}
+use Rattle.pgo_bundle.specs.BundleLog.{BundleLog, checked_log}
+use Rattle.pgo_bundle.specs.RunLog.{entry_read, log_of, run_log}
 use Rattle.pgo_translate.specs.ModuleOf.{module_of, constants_with}
 use Rattle.pgo_execute.specs.Executes.{Executes}
 use Rattle.pgo_execute.specs.Ran.{system}
 use Rattle.pgo_execute.specs.Schedules.{Schedule}
 use Rattle.pgo_verdicts.specs.Judged.{Judged}
-
--- a run has no first entry that is no step
-never_bad : (m : Module) (consts : List (Name × Data)) (l : Log) → IsRun m consts l.ids l.start l.entries → (p : ℕ) → IsFirstBad m consts l.ids l.start l.entries p → ⊥
-never_bad m consts l run p h = h.bad (run.steps p h.entry h.found)
+use Rattle.pgo_verdicts.proofs.Once.{never_bad}
 
 -- what is decided of a run
 decided : (m : Module) (consts : List (Name × Data)) (l : Log) → IsRun m consts l.ids l.start l.entries → (v : Verdict)
@@ -32,16 +30,16 @@ decided m consts l run (Bad n NoInit) h = absurd (h.1 run.begins)
 decided m consts l run (Bad n NoStep) h = absurd (never_bad m consts l run h.0 h.3)
 
 -- a text that is the bundle of a run gets no other verdict
-bundle_accepted : (text : List ℕ) (m : Module) (consts : List (Name × Data)) (l : Log) → IsReadBundle text m consts l → IsRun m consts l.ids l.start l.entries
-    → (v : Verdict) → Judged text v → v ≡ Run (length l.entries)
+bundle_accepted : (text : List ℕ) (m : Module) (consts : List (Name × Data)) (l : BundleLog) → IsReadBundle text m consts l
+    → IsRun m consts (checked_log l).ids (checked_log l).start (checked_log l).entries → (v : Verdict) → Judged text v → v ≡ Run (length (checked_log l).entries)
 bundle_accepted text m consts l read run v j =
     let same = j.only m consts l read in
-    decided m consts l run v
-    (transport (λ i. Decides (sym same.0 i) (sym same.1 i) (sym same.2 i).ids (sym same.2 i).start (sym same.2 i).entries v) j.decides)
+    decided m consts (checked_log l) run v
+    (transport (λ i. Decides (sym same.0 i) (sym same.1 i) (checked_log (sym same.2 i)).ids (checked_log (sym same.2 i)).start (checked_log (sym same.2 i)).entries v) j.decides)
 
 -- nor does what a run of a text writes
 pub accepted : (text : List ℕ) (consts : List (Name × Data)) (settings : Settings) (schedule : Schedule) (status : ℕ) (written : List ℕ) (x : Executes text consts settings schedule status written)
-    (v : Verdict) → Judged written v → v ≡ Run (length x.left.entries)
-accepted text consts settings schedule status written x v j =
-    bundle_accepted written (module_of x.spec) (constants_with x.spec consts) (log_of (system x.spec consts) x.left.entries) x.ran.is_read x.ran.read_run v j
-    ∙ ap Run (length-map x.left.entries entry_read)
+    → checked_log (run_log (system x.spec consts) settings x.left status) ≡ log_of (system x.spec consts) x.left.entries → (v : Verdict) → Judged written v → v ≡ Run (length x.left.entries)
+accepted text consts settings schedule status written x checked v j =
+    bundle_accepted written (module_of x.spec) (constants_with x.spec consts) (run_log (system x.spec consts) settings x.left status) x.ran.is_read x.ran.read_run v j
+    ∙ ap Run (ap (λ (l : Log). length l.entries) checked ∙ length-map x.left.entries entry_read)

@@ -1,1 +1,3 @@
+pub mod Once
 pub mod Accepted
+pub mod Migrations

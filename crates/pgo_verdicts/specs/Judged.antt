@@ -3,7 +3,7 @@ use Rattle.std.specs.Prelude.{ℕ, List}
 use Rattle.pgo_base.specs.Data.{Data}
 use Rattle.pgo_base.specs.Lookup.{Name}
 use Rattle.pgo_model.specs.Module.{Module}
-use Rattle.pgo_model.specs.Log.{Log}
+use Rattle.pgo_bundle.specs.BundleLog.{BundleLog, checked_log}
 use Rattle.pgo_check.specs.declared.verdict.Verdict.{Verdict}
 use Rattle.pgo_check.specs.Verdict.{Decides}
 use Rattle.pgo_log_text.specs.ReadBundle.{IsReadBundle, IsOnlyBundle}
@@ -12,8 +12,8 @@ use Rattle.pgo_log_text.specs.ReadBundle.{IsReadBundle, IsOnlyBundle}
 pub record Judged (text : List ℕ) (v : Verdict) : Type 0 where
   pub written_module : Module
   pub consts : List (Name × Data)
-  pub log : Log
+  pub log : BundleLog
   pub bundle : IsReadBundle text written_module consts log
   -- it is the bundle of nothing else
   pub only : IsOnlyBundle text written_module consts log
-  pub decides : Decides written_module consts log.ids log.start log.entries v
+  pub decides : Decides written_module consts (checked_log log).ids (checked_log log).start (checked_log log).entries v

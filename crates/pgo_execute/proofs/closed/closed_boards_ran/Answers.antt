@@ -1,18 +1,17 @@
 use Rattle.std.proofs.Common.{ℕ, refl, true}
 use Rattle.pgo_bound.specs.BoundOf.{bound_of}
 use Rattle.pgo_meaning.specs.System.{system_of}
-use Rattle.pgo_model.specs.Bundle.{Bundle}
 use Rattle.pgo_model.specs.Accounts.{Accounts}
 use Rattle.pgo_model.specs.Core.{Reaches, rules_of, status_of}
-use Rattle.pgo_model.specs.System.{ids_of}
 use Rattle.pgo_pluscal.specs.PlusCalOf.{pluscal_of}
 use Rattle.pgo_systems.proofs.States.{counted_values}
 use Rattle.pgo_translate.specs.ModuleOf.{constants_with, module_of}
-use Rattle.pgo_log_text.specs.LogOf.{log_of}
+use Rattle.pgo_bundle.specs.Lines.{BundleText}
+use Rattle.pgo_bundle.specs.RunLog.{run_log}
 use Rattle.pgo_accounts.specs.ClosedTexts.{left_of}
 use Rattle.pgo_execute.proofs.QuietStatus.{left_status, quiet_status}
 use Rattle.pgo_execute.proofs.RanGiven.{one_of_five}
-use Rattle.pgo_execute.proofs.ReadRuns.{run_read}
+use Rattle.pgo_execute.proofs.ReadRuns.{log_read}
 use Rattle.pgo_execute.proofs.closed.closed_boards_ran.Goals as goal
 
 pub returns : goal.returns
@@ -20,6 +19,7 @@ returns c text s consts settings entries notes ws bs told spells passes given sh
     let b = bound_of s consts in let y = system_of b in
     let f = left_of s consts settings entries notes ws in
     let status = status_of y settings f in
+    let l = run_log y settings f status in
     let counted = c.spellable_values_are_read_back.ensures.all_counted consts (c.read_values_are_canonical.ensures.spellable consts given) in
     let accepted = c.texts_are_accepted.ensures.accepted text s consts spells passes.names passes.labels passes.binding in
     let keeps = c.texts_keep_states.ensures.kept text s consts spells passes counted in
@@ -36,13 +36,14 @@ returns c text s consts settings entries notes ws bs told spells passes given sh
       sound = c.texts_keep_states.ensures.sound text s consts spells passes counted;
       declared = declared;
       bundle = refl;
+      tied = c.runs_are_tied.ensures y settings true f status accounts;
       agrees = agrees;
       alone = c.modules_are_read_back.ensures text s consts spells passes short;
       run = is_run;
       next = c.made_entries_are_runs.ensures.next s consts (module_of s) settings f accepted keeps agrees made;
       is_read = is_read;
-      only = c.one_bundle.ensures (Bundle (module_of s) (constants_with s consts) y settings f status) (module_of s) (constants_with s consts) (log_of y f.entries) is_read;
-      read_run = run_read (module_of s) (constants_with s consts) (ids_of y) b.start f.entries is_run;
+      only = c.one_bundle.ensures (BundleText (module_of s) (constants_with s consts) l) (module_of s) (constants_with s consts) l is_read;
+      read_run = log_read (module_of s) (constants_with s consts) y l f.entries (c.run_logs_are_checked.ensures y settings f status) is_run;
       accounts = accounts;
       notes = λ k i p kind e. c.notes_tell_of_leaves.ensures.record b settings true f k i p kind (accounts k) e;
       joint = joint;

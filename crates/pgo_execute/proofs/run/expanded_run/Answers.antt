@@ -13,7 +13,7 @@ use Rattle.pgo_model.specs.Core.{Core, rules_of, state_behind}
 use Rattle.pgo_model.specs.BundleParts.{is_run_status}
 use Rattle.pgo_model.specs.Module.{Module}
 use Rattle.pgo_model.specs.ModuleText.{Text}
-use Rattle.pgo_log_text.specs.LogOf.{log_of}
+use Rattle.pgo_bundle.specs.RunLog.{run_log}
 use Rattle.pgo_log_text.specs.ReadBundle.{IsReadBundle}
 use Rattle.pgo_model.specs.Machine.{finished_of, last_state}
 use Rattle.pgo_model.specs.ModuleView.{module_view}
@@ -28,8 +28,7 @@ use Rattle.pgo_execute.specs.Ran.{AllDone, RanBy}
 use Rattle.pgo_execute.specs.Schedules.{ends_all, schedule_view}
 use Rattle.pgo_execute.proofs.QuietStatus.{good_state, itself, left_status, quiet_status}
 use Rattle.pgo_execute.proofs.RanGiven.{bundle_of, left_by, on_one, one_of_five, status_is}
-use Rattle.pgo_execute.proofs.ReadRuns.{run_read}
-use Rattle.pgo_model.specs.System.{ids_of}
+use Rattle.pgo_execute.proofs.ReadRuns.{log_read}
 use Rattle.pgo_execute.proofs.run.expanded_run.Goals as goal
 
 pub finished_under-requires-clause-macros : goal.finished_under-requires-clause-macros
@@ -100,7 +99,8 @@ returns c =
     let is_status = subst (λ (n : ℕ). IsTrue (is_run_status n)) (sym status) (c.runs_are_read_back.ensures.status (system_of (bound_of s consts)) settings own) in
     let bundle = bundle_of s consts b _ _ settings left.turns c.in_ok-status.status c.in_ok-text.text a.bound_is made c.in_ok-constants.ensures (c.in_ok-text.ensures.text settings finished left.is) in
     let read = c.runs_are_read_back.ensures.read a.text s consts settings left.turns c.in_ok-status.status a.spells n c.requires.constants short c.counts_are_short.ensures.steps c.counts_are_short.ensures.attempts c.counts_are_short.ensures.failures is_status in
-    let is_read = subst (λ (w : List ℕ). IsReadBundle w (module_of s) (constants_with s consts) (log_of (system_of (bound_of s consts)) own.entries)) (sym bundle) read in
+    let l = run_log (system_of (bound_of s consts)) settings own c.in_ok-status.status in
+    let is_read = subst (λ (w : List ℕ). IsReadBundle w (module_of s) (constants_with s consts) l) (sym bundle) read in
     let joint = law.joint a.text s consts settings left.turns a.spells n counted in
     let schedule = schedule_view c.args.schedule.now in
     let either : IsRunStatus c.in_ok-status.status = subst IsRunStatus (sym status) (one_of_five (system_of (bound_of s consts)) settings own) in
@@ -110,13 +110,14 @@ returns c =
       sound = sound;
       declared = subst (λ (b : Bound). Declares b b.start) a.bound_is a.declared;
       bundle = bundle;
+      tied = c.runs_are_tied.ensures (system_of (bound_of s consts)) settings false own c.in_ok-status.status (λ k. law.accounts a.text s consts settings left.turns k a.spells n counted);
       agrees = c.modules_agree.ensures a.text s consts (pluscal_of s) a.spells n (counted_values consts counted) refl;
       alone = c.modules_are_read_back.ensures a.text s consts a.spells n short;
       run = law.run a.text s consts settings left.turns a.spells n counted;
       next = law.next a.text s consts settings left.turns a.spells n counted;
       is_read = is_read;
-      only = c.one_bundle.ensures c.in_ok-text.text (module_of s) (constants_with s consts) (log_of (system_of (bound_of s consts)) own.entries) is_read;
-      read_run = run_read (module_of s) (constants_with s consts) (ids_of (system_of (bound_of s consts))) (bound_of s consts).start own.entries (law.run a.text s consts settings left.turns a.spells n counted);
+      only = c.one_bundle.ensures c.in_ok-text.text (module_of s) (constants_with s consts) l is_read;
+      read_run = log_read (module_of s) (constants_with s consts) (system_of (bound_of s consts)) l own.entries (c.run_logs_are_checked.ensures (system_of (bound_of s consts)) settings own c.in_ok-status.status) (law.run a.text s consts settings left.turns a.spells n counted);
       accounts = λ k. law.accounts a.text s consts settings left.turns k a.spells n counted;
       notes = λ k i p kind e. c.notes_tell_of_leaves.ensures.record (bound_of s consts) settings false own k i p kind (law.accounts a.text s consts settings left.turns k a.spells n counted) e;
       joint = record {

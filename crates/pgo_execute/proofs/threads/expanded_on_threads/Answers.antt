@@ -4,9 +4,10 @@ use Rattle.pgo_agrees.proofs.Premises as premises
 use Rattle.pgo_bound.specs.BoundOf.{bound_of}
 use Rattle.pgo_bound.specs.Declares.{Declares}
 use Rattle.pgo_bound.specs.Sound.{Sound}
+use Rattle.pgo_bundle.specs.Lines.{BundleText}
+use Rattle.pgo_bundle.specs.RunLog.{run_log}
 use Rattle.pgo_closed.specs.SystemRuns.{IsClosedRun, SystemPremises, left}
 use Rattle.pgo_meaning.specs.System.{system_of}
-use Rattle.pgo_model.specs.Bundle.{Bundle}
 use Rattle.pgo_model.specs.Core.{state_behind, status_of}
 use Rattle.pgo_model.specs.Module.{Module}
 use Rattle.pgo_model.specs.ModuleText.{Text}
@@ -96,15 +97,15 @@ returns g c =
     (good_state (bound_of s consts) last (c.accepted_runs.ensures.good s consts last accepted sound) (c.made_entries_are_runs.ensures.good (bound_of s consts) settings own (c.texts_keep_states.ensures.kept a.text s consts a.spells n counted) entries_made (length es) (itself (length es)))) in
     let status : c.in_ok-status.status ≡ status_of (system_of (bound_of s consts)) settings own =
     c.in_ok-status.ensures settings f is good ∙ ap (λ (b : Bound). status_of (system_of b) settings (left (system_of b) (tree_of b) settings es ns l.workers)) a.bound_is in
-    let written : c.in_ok-text.text ≡ Bundle (module_of s) (constants_with s consts) (system_of (bound_of s consts)) settings own (status_of (system_of (bound_of s consts)) settings own) =
+    let written : c.in_ok-text.text ≡ BundleText (module_of s) (constants_with s consts) (run_log (system_of (bound_of s consts)) settings own (status_of (system_of (bound_of s consts)) settings own)) =
     c.in_ok-text.ensures.text settings f is
-    ∙ (λ i. Bundle (made i) (c.in_ok-constants.ensures i) (system_of (a.bound_is i)) settings (left (system_of (a.bound_is i)) (tree_of (a.bound_is i)) settings es ns l.workers) (status i)) in
+    ∙ (λ i. BundleText (made i) (c.in_ok-constants.ensures i) (run_log (system_of (a.bound_is i)) settings (left (system_of (a.bound_is i)) (tree_of (a.bound_is i)) settings es ns l.workers) (status i))) in
     let ran = c.closed_boards_ran.ensures a.text s consts settings es ns l.workers l.boards l.told a.spells n c.requires.constants short c.counts_are_short.ensures.steps c.counts_are_short.ensures.attempts c.counts_are_short.ensures.failures
     (subst (λ (b : Bound). Declares b b.start) a.bound_is a.declared) closed in
     record {
       left = own;
       by = tt;
       ran = subst (λ (w : List ℕ). RanBy s consts true true settings own c.in_ok-status.status w) (sym written)
-          (subst (λ (m : ℕ). RanBy s consts true true settings own m (Bundle (module_of s) (constants_with s consts) (system_of (bound_of s consts)) settings own (status_of (system_of (bound_of s consts)) settings own))) (sym status) ran);
+          (subst (λ (m : ℕ). RanBy s consts true true settings own m (BundleText (module_of s) (constants_with s consts) (run_log (system_of (bound_of s consts)) settings own (status_of (system_of (bound_of s consts)) settings own)))) (sym status) ran);
       either = subst IsRunStatus (sym status) (one_of_five (system_of (bound_of s consts)) settings own);
     }

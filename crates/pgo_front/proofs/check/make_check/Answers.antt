@@ -1,7 +1,9 @@
 use Rattle.std.proofs.Common.{◌≡◌, ◌≤◌, length, sym, subst, IfSome}
 use Rattle.std.proofs.lemmas.Result.{IfOk-weaker, IfErr-weaker}
 use Rattle.pgo_front.specs.Verdicts.{most_bundle_bytes}
-use Rattle.pgo_front.proofs.Making.{makes_check, stops_check, told_lines}
+use Rattle.pgo_front.specs.Makes.{IsLineToCheck}
+use Rattle.pgo_log_text.specs.ReadBundle.{IsNoBundle}
+use Rattle.pgo_front.proofs.Making.{makes_check, stops_bundle, told_lines}
 use Rattle.pgo_front.proofs.check.make_check.Goals as goal
 
 pub returns-in-Ok-clause-ok : goal.returns-in-Ok-clause-ok
@@ -16,10 +18,10 @@ returns-in-Ok-clause-err g c =
     let left = g.S.Source.left c.args.input.now in
     let told = subst (λ t. IfSome left (λ bs. t ≡ bs)) (sym c.as_slice.ensures.value) c.in-Ok.ensures.all in
     let short = subst (λ t. length t ≤ most_bundle_bytes) (sym c.as_slice.ensures.value) c.in-Ok.ensures.within in
-    IfErr-weaker c.check_text.result _ _ (λ e h. stops_check left _ _ _ e.status told short h) c.check_text.ensures.err
+    IfErr-weaker c.check_text.result _ _ (λ e h. stops_bundle IsNoBundle left _ _ _ e.status told short h) c.check_text.ensures.err
 
 pub returns-in-Ok-clause-line : goal.returns-in-Ok-clause-line
 returns-in-Ok-clause-line g c =
     let left = g.S.Source.left c.args.input.now in
     let told = subst (λ t. IfSome left (λ bs. t ≡ bs)) (sym c.as_slice.ensures.value) c.in-Ok.ensures.all in
-    told_lines left _ c.check_text.result told c.check_text.ensures.line
+    told_lines IsLineToCheck left _ c.check_text.result told c.check_text.ensures.line

@@ -6,7 +6,10 @@ use Rattle.pgo_front.specs.Makes.{AsksFor, mode_view}
 use Rattle.pgo_front.proofs.Asking.{input_unread}
 use Rattle.pgo_front.proofs.ConstantValues.{run_constants}
 use Rattle.pgo_front.proofs.Loading.{load_lines, load_made, load_refuses, load_stopped}
-use Rattle.pgo_front.proofs.Making.{execution_made, execution_stopped, execution_line, spec_lines, check_made, check_stopped, check_lines, check_refuses, translation_made, translation_stopped, translation_line}
+use Rattle.pgo_log_text.specs.ReadBundle.{IsNoBundle}
+use Rattle.pgo_front.specs.Makes.{IsLineToCheck, IsLineToMigrate}
+use Rattle.pgo_front.specs.Migrations.{CannotMigrate}
+use Rattle.pgo_front.proofs.Making.{bundle_lines, bundle_refuses, execution_made, execution_stopped, execution_line, spec_lines, check_made, check_stopped, migration_made, migration_stopped, named_by_check, named_by_migration, translation_made, translation_stopped, translation_line}
 use Rattle.pgo_front.proofs.command.make.Goals as goal
 
 pub make_execution-requires-clause-constants : goal.make_execution-requires-clause-constants
@@ -39,7 +42,7 @@ returns-in-Ok-Execute-clause-line g c =
     let left = g.S.Source.left c.args.input.now in
     let asked = c.in-Ok-Execute in
     let asks = subst (AsksFor words) asked.field-0-is asked.ensures.asks in
-    spec_lines asked.consts left _ _ _ (RefusesSpec words left) c.make_execution.result
+    spec_lines words asked.consts left _ _ _ (RefusesSpec words left) c.make_execution.result
     (λ e h. execution_line words left (mode_view asked.mode) (settings_view asked.settings) asked.consts e.status e.line asks.0 h)
     c.make_execution.ensures.err c.make_execution.ensures.line
 
@@ -63,12 +66,14 @@ returns-in-Ok-Check-clause-err g c =
 
 pub returns-in-Ok-Check-clause-line : goal.returns-in-Ok-Check-clause-line
 returns-in-Ok-Check-clause-line g c =
+    let words = c.args.words.now in
     let left = g.S.Source.left c.args.input.now in
-    check_lines left _ _ (RefusesSpec c.args.words.now left) c.make_check.result c.make_check.ensures.err c.make_check.ensures.line
+    let asks = subst (AsksFor words) c.in-Ok-Check.field-0-is c.in-Ok-Check.ensures.asks in
+    bundle_lines words IsNoBundle IsLineToCheck left _ _ (RefusesSpec words left) c.make_check.result (named_by_check words asks) c.make_check.ensures.err c.make_check.ensures.line
 
 pub returns-in-Ok-Check-clause-refusal : goal.returns-in-Ok-Check-clause-refusal
 returns-in-Ok-Check-clause-refusal g c =
-    IfErr-weaker c.make_check.result _ _ (λ e h. check_refuses (g.S.Source.left c.args.input.now) _ _ e.status h) c.make_check.ensures.err
+    IfErr-weaker c.make_check.result _ _ (λ e h. bundle_refuses IsNoBundle (g.S.Source.left c.args.input.now) _ _ e.status h) c.make_check.ensures.err
 
 pub returns-in-Ok-Check-clause-unread : goal.returns-in-Ok-Check-clause-unread
 returns-in-Ok-Check-clause-unread g c nothing =
@@ -96,14 +101,42 @@ returns-in-Ok-Translate-clause-line g c =
     let left = g.S.Source.left c.args.input.now in
     let asked = c.in-Ok-Translate in
     let asks = subst (AsksFor words) asked.field-0-is asked.ensures.asks in
-    spec_lines asked.consts left _ _ _ (RefusesSpec words left) c.make_translation.result
+    spec_lines words asked.consts left _ _ _ (RefusesSpec words left) c.make_translation.result
     (λ e h. translation_line words left asked.target asked.consts e.status e.line asks.0 h) c.make_translation.ensures.err c.make_translation.ensures.line
 
 pub returns-in-Ok-Translate-clause-unread : goal.returns-in-Ok-Translate-clause-unread
 returns-in-Ok-Translate-clause-unread g c nothing =
     let asked = c.in-Ok-Translate in
     let asks = subst (AsksFor c.args.words.now) asked.field-0-is asked.ensures.asks in
-    absurd (input_unread c.args.words.now (inr (inr (asked.target, asked.consts, asks.0))) nothing)
+    absurd (input_unread c.args.words.now (inr (inr (inl (asked.target, asked.consts, asks.0)))) nothing)
+
+pub returns-in-Ok-Migrate-clause-ok : goal.returns-in-Ok-Migrate-clause-ok
+returns-in-Ok-Migrate-clause-ok g c =
+    let words = c.args.words.now in
+    let asks = subst (AsksFor words) c.in-Ok-Migrate.field-0-is c.in-Ok-Migrate.ensures.asks in
+    migration_made words (g.S.Source.left c.args.input.now) c.make_migration.result asks c.make_migration.ensures.fine c.make_migration.ensures.ok
+
+pub returns-in-Ok-Migrate-clause-err : goal.returns-in-Ok-Migrate-clause-err
+returns-in-Ok-Migrate-clause-err g c =
+    let words = c.args.words.now in
+    let asks = subst (AsksFor words) c.in-Ok-Migrate.field-0-is c.in-Ok-Migrate.ensures.asks in
+    IfErr-weaker c.make_migration.result _ _ (λ e h. migration_stopped words (g.S.Source.left c.args.input.now) _ _ e.status asks h) c.make_migration.ensures.err
+
+pub returns-in-Ok-Migrate-clause-line : goal.returns-in-Ok-Migrate-clause-line
+returns-in-Ok-Migrate-clause-line g c =
+    let words = c.args.words.now in
+    let left = g.S.Source.left c.args.input.now in
+    let asks = subst (AsksFor words) c.in-Ok-Migrate.field-0-is c.in-Ok-Migrate.ensures.asks in
+    bundle_lines words CannotMigrate IsLineToMigrate left _ _ (RefusesSpec words left) c.make_migration.result (named_by_migration words asks) c.make_migration.ensures.err c.make_migration.ensures.line
+
+pub returns-in-Ok-Migrate-clause-refusal : goal.returns-in-Ok-Migrate-clause-refusal
+returns-in-Ok-Migrate-clause-refusal g c =
+    IfErr-weaker c.make_migration.result _ _ (λ e h. bundle_refuses CannotMigrate (g.S.Source.left c.args.input.now) _ _ e.status h) c.make_migration.ensures.err
+
+pub returns-in-Ok-Migrate-clause-unread : goal.returns-in-Ok-Migrate-clause-unread
+returns-in-Ok-Migrate-clause-unread g c nothing =
+    let asks = subst (AsksFor c.args.words.now) c.in-Ok-Migrate.field-0-is c.in-Ok-Migrate.ensures.asks in
+    absurd (input_unread c.args.words.now (inr (inr (inr asks))) nothing)
 
 pub returns-in-Ok-Load-clause-ok : goal.returns-in-Ok-Load-clause-ok
 returns-in-Ok-Load-clause-ok g c =
