@@ -15,6 +15,8 @@ $1 == "init" { variables = $2; next }
 variables > 0 { variables--; keep_value($0); next }
 $1 == "set" { keep_value(substr($0, 5)); next }
 $1 == "step" { keep_entry(); next }
+$1 == "print" { next }
+$1 == "note" { notes++; next }
 $1 == "inst" { keep_end(); next }
 $1 == "end" { entries_at_end = $2; status_at_end = $3; next }
 { keep_record() }
@@ -49,6 +51,7 @@ function keep_record(kind) {
   kind = $2 == "note" ? $3 : $2
   records[account, kind]++
   records[account, "any"]++
+  if ($2 == "note" || $2 == "many") note_records++
   if (kind == "step") { has_record[$3] = account " " $1; steps++ }
   if (kind == "held" && $3 == account) refuses_itself = account
 }
@@ -74,6 +77,7 @@ function judge_line(text) {
 function judge_bundle(i, k, at) {
   if (verdict != "run " entries + 0) { wrong = "check: " verdict; return }
   if (entries_at_end != entries + 0 || steps + 0 != entries + 0) wrong = "bundle: " entries + 0 " entries, " steps + 0 " records of them, end " entries_at_end
+  if (notes + 0 != note_records + 0) wrong = "bundle: " notes + 0 " notes, " note_records + 0 " records of them"
   for (i = 1; i <= entries; i++) {
     k = by[i]
     if (has_record[i] != k " " attempt[i]) wrong = "bundle: entry " i " has no record"

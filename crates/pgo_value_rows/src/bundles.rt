@@ -38,7 +38,10 @@ impl Bundles {
         let text = self.text.changed()?;
         let bundle = text.as_str().strip_suffix("\n").unwrap_or("");
         match read_bundle(self.alloc, bundle.as_bytes()) {
-            Ok(read) => part_of(self.alloc, &read.1, &read.2, self.part.as_str()),
+            Ok((_module, consts, bundle)) => {
+                let log = bundle.into_log(self.alloc)?;
+                part_of(self.alloc, &consts, &log, self.part.as_str())
+            }
             Err(LogStop::BadLog { line }) => self.refused(line),
             Err(LogStop::NoMemory) => Err(AllocError),
         }
