@@ -1,0 +1,4 @@
+pub mod Streams
+pub mod Statuses
+pub mod Makes
+pub mod Promise

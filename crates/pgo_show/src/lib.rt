@@ -1,0 +1,11 @@
+// Explanations of bundles, from words and bytes to bytes and a status.
+#![tactic(auto)]
+
+mod command;
+mod ended;
+mod explain;
+mod input;
+mod status;
+
+pub use command::show;
+pub use status::Status;

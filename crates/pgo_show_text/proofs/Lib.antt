@@ -1,0 +1,4 @@
+mod Lists
+mod Heads
+mod States
+mod Instances

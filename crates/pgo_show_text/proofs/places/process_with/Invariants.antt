@@ -1,0 +1,7 @@
+use Rattle.std.proofs.Common.{◌≡◌, map, drop}
+use Rattle.pgo_model.specs.ModuleView.{process_view}
+use Rattle.pgo_show_text.specs.Facts as spec
+use Rattle.pgo_show_text.proofs.places.process_with.Given as goal
+
+abbrev pub invariant-loop-process : goal.invariant-loop-process
+invariant-loop-process l = spec.process_with l.label (map process_view l.processes) ≡ spec.process_with l.label (map process_view (drop l.process-index l.processes))
