@@ -1,8 +1,9 @@
 // The top call: words and bytes in, bytes and a status out.
-ghost use Rattle.std.specs.Prelude.{◌≡◌, ◌⊎◌, [], None, IfSome, IfOk, IfErr, OnOk, OnErr};
+ghost use Rattle.std.specs.Prelude.{◌≡◌, ◌⊎◌, None, IfSome, IfOk, IfErr, OnOk, OnErr};
 ghost use Rattle.pgo_io.specs.Faults.{Rose};
 ghost use Rattle.pgo_io.specs.Sink.{Grows, GrowsByPrefix};
-ghost use Rattle.pgo_show.specs.Makes.{EndsAs, ExplainsShort, HasLine, IsAtEnd, ReadsAll, SaysLine, StopsWords};
+ghost use Rattle.pgo_show.specs.Makes.{EndsAs, HasLine, IsAtEnd, MadeAsked, ReadsAll, SaysLine, StopsAsked};
+ghost use Rattle.pgo_show.specs.Wishes.{asked, component_asked};
 ghost use Rattle.pgo_show.specs.Promise.{Promise};
 ghost use Rattle.pgo_show.specs.Statuses.{line_of};
 ghost use Rattle.pgo_show.specs.Streams.{around};
@@ -10,6 +11,7 @@ ghost use Rattle.pgo_show.specs.Streams.{around};
 use crate::ended::Ended;
 use crate::explain::make_text;
 use crate::status::Status;
+use crate::wish::request_of;
 use pgo_base::word::Word;
 use pgo_io::errors::Failed;
 use pgo_io::sink::Sink;
@@ -17,10 +19,11 @@ use pgo_io::source::Source;
 use pgo_io::write_all::write_all;
 use std::alloc::Global;
 
-/// Explains a bundle, which is the input. The output is a text for a person: a line on the whole, and some lines of each instance
-/// (`shown` of `pgo_show_text`).
+/// Explains a bundle, which is the input. Without words the output is a text for a person: a line on the whole, and some lines of each
+/// instance (`shown` of `pgo_show_text`). With `--svg` it is a picture (`picture` of `pgo_show_picture`), and with `--changes` and a
+/// component the values of that component, entry by entry (`changes` of `pgo_show_changes`).
 ///
-/// There are no words. The input is read to its end, then the bundle is read, then the text is made, and only then is it written,
+/// The input is read to its end, then the bundle is read, then the text is made, and only then is it written,
 /// and then flushed. A refusal puts its one line on `err`, whose faults change no status. The statuses are those of `Status`.
 /// This project's choice.
 pub fn show<S: Source, O: Sink, E: Sink>(
@@ -82,20 +85,20 @@ fn write_text<O: Sink>(out: &mut O, text: &[u8]) -> Result<(), Failed>
     out.flush()
 }
 
-/// Makes the text that the words ask for, from all of the input.
+/// Makes what the words ask for, from all of the input.
 fn make<S: Source>(alloc: Global, words: &[Word], input: &mut S) -> Result<Vec<u8>, Ended>
-    ensures asks { OnOk result (words.now ≡ []) }
-    ensures ok { IfOk result (λ v. IfSome (S.left input.old) (λ text. ExplainsShort text v.items)) }
-    ensures err { IfErr result (λ e. StopsWords words.now (S.left input.old) (S.faults input.old) (S.faults input.new) e.status) }
-    ensures line { IfErr result (λ e. HasLine (S.left input.old) e.status e.line) }
-    ensures unread { (words.now ≡ [] → ⊥) → input.new ≡ input.old }
+    ensures asks { OnOk result (asked words.now ≡ None → ⊥) }
+    ensures ok { IfOk result (λ v. IfSome (S.left input.old) (λ text. MadeAsked (asked words.now) text v.items)) }
+    ensures err { IfErr result (λ e. StopsAsked (asked words.now) (S.left input.old) (S.faults input.old) (S.faults input.new) e.status) }
+    ensures line { IfErr result (λ e. HasLine (component_asked (asked words.now)) (S.left input.old) e.status e.line) }
+    ensures unread { asked words.now ≡ None → input.new ≡ input.old }
     ensures ended { OnOk result (IsAtEnd (S.left input.old) (S.left input.new)) }
     ensures steady { OnOk result (S.faults input.new ≡ S.faults input.old) }
     ensures failed { IfErr result (λ e. (e.status ≡ Status.ReadFault) ⊎ (S.faults input.new ≡ S.faults input.old)) }
     ensures ended_refused { IfErr result (λ e. ReadsAll e.status → IsAtEnd (S.left input.old) (S.left input.new)) }
 {
-    match words {
-        [] => make_text(alloc, input),
-        [_, ..] => Err(Ended::as_status(Status::Usage)),
+    match request_of(words) {
+        Some(request) => make_text(alloc, request, input),
+        None => Err(Ended::as_status(Status::Usage)),
     }
 }

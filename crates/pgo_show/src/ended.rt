@@ -1,6 +1,6 @@
 // How an explanation ended, and what is said of it.
 ghost use Rattle.std.specs.Prelude.{◌≡◌, None};
-ghost use Rattle.pgo_show.specs.Makes.{IsNoBundleEnd};
+ghost use Rattle.pgo_show.specs.Makes.{IsNoBundleEnd, IsNoComponentEnd};
 
 use crate::status::Status;
 use pgo_lines::line::Line;
@@ -37,6 +37,21 @@ impl Ended {
         ) {
             Ok(line) => Ended {
                 status: Status::BadBundle,
+                line: Some(line),
+            },
+            Err(_) => Ended::as_status(Status::NoMemory),
+        }
+    }
+    /// This component isn't there; or there was no memory.
+    pub fn as_no_component(alloc: Global, component: &[u8]) -> Ended
+        ensures { IsNoComponentEnd component.now result.status result.line }
+    {
+        match Line::of(
+            alloc,
+            &[Bytes(b"pgo: no component "), Bytes(component), Bytes(b"\n")],
+        ) {
+            Ok(line) => Ended {
+                status: Status::NoComponent,
                 line: Some(line),
             },
             Err(_) => Ended::as_status(Status::NoMemory),

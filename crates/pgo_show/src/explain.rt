@@ -1,17 +1,21 @@
-// The explanation of a bundle.
-ghost use Rattle.std.specs.Prelude.{◌≡◌, ◌⊎◌, None, Some, IfOk, IfErr, IfSome, OnOk};
+// What is made of a bundle.
+ghost use Rattle.std.specs.Prelude.{◌≡◌, ◌⊎◌, Some, option_map, IfOk, IfErr, IfSome, OnOk};
 ghost use Rattle.pgo_model.specs.ModuleText.{flatten};
-ghost use Rattle.pgo_show.specs.Makes.{Explains, text_shown, ExplainsShort, HasLine, IsAtEnd, ReadsAll, Stops, StopsText};
+ghost use Rattle.pgo_show.specs.Makes.{Explains, lines_told, text_of_lines, text_told, ExplainsShort, HasLine, IsAtEnd, IsTextEnd, ReadsAll, Stops, StopsText};
+ghost use Rattle.pgo_show.specs.Wishes.{component_of, wish_of};
 
 use crate::ended::Ended;
 use crate::input::read_input;
 use crate::status::Status;
+use crate::wish::{Request, component_of};
 use pgo_base::module::Module;
 use pgo_bundle::log::BundleLog;
 use pgo_io::source::Source;
-use pgo_lines::line::Line;
+use pgo_lines::line::{Line, Lines};
 use pgo_log_text::bundle_reader::read_bundle;
 use pgo_log_text::errors::LogStop;
+use pgo_show_changes::changes::changes;
+use pgo_show_picture::picture::picture;
 use pgo_show_text::shown::shown;
 use std::alloc::{AllocError, Global};
 
@@ -26,51 +30,91 @@ fn bytes_of(alloc: Global, lines: &[Line]) -> Result<Vec<u8>, AllocError>
     Ok(bytes)
 }
 
-/// The text that explains a bundle.
-fn text_of(alloc: Global, m: &Module, log: &BundleLog) -> Result<Vec<u8>, AllocError>
-    ensures { IfOk result (λ v. v.items ≡ text_shown m.now log.now) }
+/// What is asked for of a bundle; none, where its log has no such component.
+fn lines_of(
+    alloc: Global,
+    request: Request<'_>,
+    m: &Module,
+    log: &BundleLog,
+) -> Result<Option<Lines>, AllocError>
+    ensures { IfOk result (λ o. o ≡ lines_told (wish_of request.entry) m.now log.now) }
 {
-    let lines = shown(alloc, m, log)?;
-    bytes_of(alloc, lines.as_slice())
+    match request {
+        Request::Explanation => Ok(Some(shown(alloc, m, log)?)),
+        Request::Picture => Ok(Some(picture(alloc, log)?)),
+        Request::Changes(component) => changes(alloc, component.as_str().as_bytes(), log),
+    }
 }
 
-/// The same, or the status that says that there was no memory.
-fn text_or_status(alloc: Global, m: &Module, log: &BundleLog) -> Result<Vec<u8>, Ended>
-    ensures ok { IfOk result (λ v. v.items ≡ text_shown m.now log.now) }
-    ensures err { IfErr result (λ e. e.status ≡ Status.NoMemory) }
-    ensures line { IfErr result (λ e. e.line ≡ None) }
+/// The bytes of these lines, where there are some.
+fn text_of_lines(alloc: Global, lines: &Option<Lines>) -> Result<Option<Vec<u8>>, AllocError>
+    ensures { IfOk result (λ o. option_map (λ v. v.items) o ≡ text_of_lines lines.now) }
 {
-    match text_of(alloc, m, log) {
-        Ok(text) => Ok(text),
+    match lines {
+        Some(lines) => Ok(Some(bytes_of(alloc, lines.as_slice())?)),
+        None => Ok(None),
+    }
+}
+
+/// The text that is asked for of a bundle; none, where its log has no such component.
+fn text_of(
+    alloc: Global,
+    request: Request<'_>,
+    m: &Module,
+    log: &BundleLog,
+) -> Result<Option<Vec<u8>>, AllocError>
+    ensures { IfOk result (λ o. option_map (λ v. v.items) o ≡ text_told (wish_of request.entry) m.now log.now) }
+{
+    let lines = lines_of(alloc, request, m, log)?;
+    text_of_lines(alloc, &lines)
+}
+
+/// The same, or the status that says that there was none, or no memory.
+fn text_or_status(
+    alloc: Global,
+    request: Request<'_>,
+    m: &Module,
+    log: &BundleLog,
+) -> Result<Vec<u8>, Ended>
+    ensures ok { IfOk result (λ v. text_told (wish_of request.entry) m.now log.now ≡ Some v.items) }
+    ensures err { IfErr result (λ e. IsTextEnd (text_told (wish_of request.entry) m.now log.now) (component_of (wish_of request.entry)) e.status e.line) }
+{
+    match text_of(alloc, request, m, log) {
+        Ok(Some(text)) => Ok(text),
+        Ok(None) => Err(Ended::as_no_component(alloc, component_of(request))),
         Err(_) => Err(Ended::as_status(Status::NoMemory)),
     }
 }
 
-/// The text that explains the bundle that this text is.
-fn explain(alloc: Global, text: &[u8]) -> Result<Vec<u8>, Ended>
-    ensures ok { IfOk result (λ v. Explains text.now v.items) }
-    ensures err { IfErr result (λ e. StopsText text.now e.status) }
-    ensures line { IfErr result (λ e. HasLine (Some text.now) e.status e.line) }
+/// What is asked for of the bundle that this text is.
+fn explain(alloc: Global, request: Request<'_>, text: &[u8]) -> Result<Vec<u8>, Ended>
+    ensures ok { IfOk result (λ v. Explains (wish_of request.entry) text.now v.items) }
+    ensures err { IfErr result (λ e. StopsText (wish_of request.entry) text.now e.status) }
+    ensures line { IfErr result (λ e. HasLine (component_of (wish_of request.entry)) (Some text.now) e.status e.line) }
 {
     match read_bundle(alloc, text) {
-        Ok((module, _consts, log)) => text_or_status(alloc, &module, &log),
+        Ok((module, _consts, log)) => text_or_status(alloc, request, &module, &log),
         Err(LogStop::BadLog { line }) => Err(Ended::as_no_bundle(alloc, line)),
         Err(LogStop::NoMemory) => Err(Ended::as_status(Status::NoMemory)),
     }
 }
 
-/// The text that explains the bundle that the input is.
-pub fn make_text<S: Source>(alloc: Global, input: &mut S) -> Result<Vec<u8>, Ended>
-    ensures ok { IfOk result (λ v. IfSome (S.left input.old) (λ text. ExplainsShort text v.items)) }
-    ensures err { IfErr result (λ e. Stops (S.left input.old) (S.faults input.old) (S.faults input.new) e.status) }
-    ensures line { IfErr result (λ e. HasLine (S.left input.old) e.status e.line) }
+/// What is asked for of the bundle that the input is.
+pub fn make_text<S: Source>(
+    alloc: Global,
+    request: Request<'_>,
+    input: &mut S,
+) -> Result<Vec<u8>, Ended>
+    ensures ok { IfOk result (λ v. IfSome (S.left input.old) (λ text. ExplainsShort (wish_of request.entry) text v.items)) }
+    ensures err { IfErr result (λ e. Stops (wish_of request.entry) (S.left input.old) (S.faults input.old) (S.faults input.new) e.status) }
+    ensures line { IfErr result (λ e. HasLine (component_of (wish_of request.entry)) (S.left input.old) e.status e.line) }
     ensures ended { OnOk result (IsAtEnd (S.left input.old) (S.left input.new)) }
     ensures steady { OnOk result (S.faults input.new ≡ S.faults input.old) }
     ensures failed { IfErr result (λ e. (e.status ≡ Status.ReadFault) ⊎ (S.faults input.new ≡ S.faults input.old)) }
     ensures ended_refused { IfErr result (λ e. ReadsAll e.status → IsAtEnd (S.left input.old) (S.left input.new)) }
 {
     match read_input(alloc, input) {
-        Ok(text) => explain(alloc, text.as_slice()),
+        Ok(text) => explain(alloc, request, text.as_slice()),
         Err(status) => Err(Ended::as_status(status)),
     }
 }

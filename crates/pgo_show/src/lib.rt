@@ -6,6 +6,7 @@ mod ended;
 mod explain;
 mod input;
 mod status;
+mod wish;
 
 pub use command::show;
 pub use status::Status;

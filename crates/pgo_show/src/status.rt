@@ -17,18 +17,21 @@ pub enum Status {
     TooLong,
     /// The text is no bundle.
     BadBundle,
+    /// The words ask for a component that the log doesn't have.
+    NoComponent,
     /// There was no memory.
     NoMemory,
 }
 
 impl Status {
-    /// The exit status: 0, 10, 12, 13, 14, 31 or 40.
+    /// The exit status: 0, 10, 12, 13, 14, 31 or 40. The words ask for nothing that there is, and have 10, where they ask for a component
+    /// that isn't there too.
     pub fn number(self) -> u8
         ensures { result ≡ number_of self }
     {
         match self {
             Status::Fine => 0,
-            Status::Usage => 10,
+            Status::Usage | Status::NoComponent => 10,
             Status::ReadFault => 12,
             Status::WriteFault => 13,
             Status::TooLong => 14,
@@ -37,13 +40,13 @@ impl Status {
         }
     }
 
-    /// The line that a refusal puts on the error output; none where the bundle is explained, and none where a text is no bundle,
-    /// whose line names a line of it.
+    /// The line that a refusal puts on the error output; none where the bundle is explained, none where a text is no bundle, whose line
+    /// names a line of it, and none where a component isn't there, whose line names it.
     pub fn line(self) -> Option<&'static [u8]>
         ensures { option_map (λ l. l.now) result ≡ line_of self }
     {
         match self {
-            Status::Fine | Status::BadBundle => None,
+            Status::Fine | Status::BadBundle | Status::NoComponent => None,
             Status::Usage => Some(b"pgo: usage\n"),
             Status::ReadFault => Some(b"pgo: read fault\n"),
             Status::WriteFault => Some(b"pgo: write fault\n"),

@@ -10,14 +10,16 @@ pub nothing_done : {S O E : Type 0} (words : List (List ℕ)) (input : Stream S)
     → ((Failed err → ⊥) → SaysLine status.NoMemory (before err) (after err)) → Promise words input out err status.NoMemory
 nothing_done words input out err unread kept says = record {
   fine = λ e. absurd (let n : 40 ≡ 0 = ap number_of e in omega (arith, n));
-  explained = λ text m consts l asks told read wrote short bundle. inr refl;
+  explained = λ wish text m consts l some told read wrote short bundle has. inr refl;
+  lacking = λ wish text m consts l some told read wrote short bundle lacks. inr refl;
   stopped = λ _. inl refl;
   usage = λ _. inr refl;
-  too_long = λ text asks told read long. inr refl;
-  no_bundle = λ text asks told read short none. inr refl;
+  too_long = λ wish text some told read long. inr refl;
+  no_bundle = λ wish text some told read short none. inr refl;
   kept = λ _. kept;
   says = says;
   says_bundle = λ e. absurd (let n : 40 ≡ 31 = ap number_of e in omega (arith, n));
+  says_component = λ e. absurd (let n : 40 ≡ 10 = ap number_of e in omega (arith, n));
   read_failed = inr (ap input.faults unread);
   write_failed = inr (ap out.faults kept);
   write_fault = λ e. absurd (let n : 40 ≡ 13 = ap number_of e in omega (arith, n));
