@@ -1,6 +1,6 @@
 -- What the table of operators says of operands and of what follows them.
 use Rattle.std.proofs.Common.{◌≡◌, ℕ, ◌+◌, ◌<◌, ◌≤◌, Bool, true, false, ◌&&◌, ◌||◌, ◌⊎◌, inl, inr, refl, ap, sym, subst, arith, nat_lt}
-use denote.Enum.Bare.{same_true}
+use denote.Enum.Bare.{same_true, true_same}
 use Rattle.std.proofs.lemmas.Bool.{ltb-true, lt-ltb}
 use Rattle.pgo_expr_read.specs.declared.table.Operator.{Operator}
 use Rattle.pgo_expr_read.specs.declared.table.Operator.TheVariants as operator
@@ -10,8 +10,8 @@ use Rattle.pgo_base.specs.declared.expr.Prefix.{Prefix}
 use Rattle.pgo_base.specs.declared.expr.Prefix.TheVariants as pre
 use Rattle.pgo_expr_read.specs.declared.table.Form.{Form}
 use Rattle.pgo_expr_read.specs.declared.table.Form.TheVariants as form
-use Rattle.pgo_expr_read.specs.contracts.table.OperatorPartialEq.TheImpl as same_operator
-use Rattle.pgo_expr_read.specs.Table.{low, high, is_left, is_of, takes_left, form_low, prefix_least, right_least}
+use Rattle.pgo_expr_read.specs.contracts.table.OperatorPartialEq.TheImpl as derived
+use Rattle.pgo_expr_read.specs.Table.{low, high, is_left, same_operator, is_of, takes_left, form_low, prefix_least, right_least}
 
 -- the range of an operator's levels
 ranged : (o : Operator) → (low o ≤ high o) × (high o < 31)
@@ -57,7 +57,19 @@ prefix-small pre.Powerset = omega arith
 prefix-small pre.Flatten = omega arith
 prefix-small pre.Domain = omega arith
 
-same : (o p : Operator) → same_operator.ghosts.eq o p ≡ true → o ≡ p
+-- the derived equality says the same
+pub derived_operator : (o p : Operator) → derived.ghosts.eq o p ≡ same_operator o p
+derived_operator (operator.Infix a) (operator.Infix b) = refl
+derived_operator (operator.Infix a) operator.Product = refl
+derived_operator operator.Product (operator.Infix b) = refl
+derived_operator operator.Product operator.Product = refl
+
+-- operators are the same exactly where they are one
+pub one_operator : (o : Operator) → same_operator o o ≡ true
+one_operator (operator.Infix a) = true_same the_type a a refl
+one_operator operator.Product = refl
+
+same : (o p : Operator) → same_operator o p ≡ true → o ≡ p
 same (operator.Infix a) (operator.Infix b) e = ap operator.Infix (same_true the_type tt a b e)
 same operator.Product operator.Product e = refl
 same (operator.Infix a) operator.Product e = cc

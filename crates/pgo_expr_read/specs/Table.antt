@@ -1,6 +1,8 @@
 -- The table of operators. Levels are doubled, so that a prefix operator stands between the infix operators of its level
 -- and those above: an operator of level n has 2 * n, a prefix operator of level n has 2 * n + 1.
 use Rattle.std.specs.Prelude.{ℕ, ◌+◌, Bool, true, false, ◌||◌, ◌&&◌, nat_lt}
+use denote.Enum.Bare.{sameb}
+use Rattle.pgo_base.specs.contracts.expr.Infix.{the_type}
 use Rattle.pgo_base.specs.declared.expr.Infix.TheVariants as op
 use Rattle.pgo_base.specs.declared.expr.Prefix.{Prefix}
 use Rattle.pgo_base.specs.declared.expr.Prefix.TheVariants as pre
@@ -9,7 +11,6 @@ use Rattle.pgo_expr_read.specs.declared.table.Operator.TheVariants as operator
 use Rattle.pgo_expr_read.specs.declared.table.Levels.{Levels}
 use Rattle.pgo_expr_read.specs.declared.table.Form.{Form}
 use Rattle.pgo_expr_read.specs.declared.table.Form.TheVariants as form
-use Rattle.pgo_expr_read.specs.contracts.table.OperatorPartialEq.TheImpl as same_operator
 
 abbrev levels : ℕ → ℕ → Bool → Levels
 levels least greatest is_left = record { least = least; greatest = greatest; is_left = is_left }
@@ -65,8 +66,15 @@ form_low (form.Operation op) = low op
 form_low (form.Prefix p) = prefix_least p
 form_low form.Closed = 32
 
+-- two operators are one
+abbrev pub same_operator : Operator → Operator → Bool
+same_operator (operator.Infix a) (operator.Infix b) = sameb the_type a b
+same_operator (operator.Infix a) operator.Product = false
+same_operator operator.Product (operator.Infix b) = false
+same_operator operator.Product operator.Product = true
+
 abbrev pub is_of : Operator → Form → Bool
-is_of op (form.Operation other) = same_operator.ghosts.eq op other
+is_of op (form.Operation other) = same_operator op other
 is_of op (form.Prefix p) = false
 is_of op form.Closed = false
 
