@@ -7,25 +7,20 @@ use std::collections::BTreeSet;
 
 /// Adds the names that stand in an expression.
 ///
-/// Err only where there is no memory.
+/// Err only where there is no memory. It recurses to the height of the expression.
 pub fn add_names<'a>(
     alloc: Global,
     names: &mut BTreeSet<&'a [u8]>,
     e: &'a Expr,
 ) -> Result<(), AllocError> {
-    let mut left = Vec::new(alloc);
-    left.push(e)?;
-    for _ in 0..u64::MAX {
-        let Some(one) = left.pop() else {
-            return Ok(());
-        };
-        if let Expr::Name(x) = one {
-            names.insert(x.as_bytes())?;
-        }
-        let parts = operands(alloc, one)?;
-        left.extend_from_slice(parts.as_slice())?;
+    if let Expr::Name(x) = e {
+        names.insert(x.as_bytes())?;
     }
-    Err(AllocError)
+    let parts = operands(alloc, e)?;
+    for part in parts.as_slice() {
+        add_names(alloc, names, *part)?;
+    }
+    Ok(())
 }
 
 /// Whether a definition is used, where these are the names that stand in what is evaluated and in what is used behind it. The names in its

@@ -1,5 +1,5 @@
 // One level of an assignment: all indices and right sides in the order of the text, and then the changes from left to right.
-ghost use Rattle.std.specs.Prelude.{◌≡◌, ℕ, suc, [], ◌∷◌, List, map, None, option_map, if◌then◌else◌, IfOk};
+ghost use Rattle.std.specs.Prelude.{◌≡◌, ℕ, [], ◌∷◌, List, map, None, option_map, if◌then◌else◌, IfOk};
 ghost use Rattle.pgo_base.specs.ExprView.{tree};
 ghost use Rattle.pgo_base.specs.Lookup.{find};
 ghost use Rattle.pgo_effects.specs.Around.{around_view};
@@ -27,7 +27,7 @@ use crate::todo::Todo;
 use pgo_base::expr::{Expr, Exprs, Sub, Update, Updates};
 use pgo_base::results::both;
 use pgo_base::text::Text;
-use pgo_rewrite::reads::place;
+use pgo_rewrite::reads::{next_place, place};
 use pgo_syntax::assignment::{Assignment, Left, Step};
 use std::alloc::{AllocError, Global};
 
@@ -36,16 +36,6 @@ use std::alloc::{AllocError, Global};
 pub(crate) enum PathPart {
     Index(Text),
     Field(Text),
-}
-
-/// The number behind one. Err where there is none of 64 bits.
-fn after(k: u64) -> Result<u64, AllocError>
-    ensures { IfOk result (λ n. n ≡ suc k) }
-{
-    match k.checked_add(1) {
-        Some(n) => Ok(n),
-        None => Err(AllocError),
-    }
 }
 
 /// Adds the reads of an expression and a name for the value of what is left; gives the number of the name's place.
@@ -80,7 +70,7 @@ fn add_step<'a>(
         Step::Field(x) => Ok((PathPart::Field(x.copy(alloc)?), used)),
         Step::Index(e) => {
             let k = bind_place(alloc, setting, b"at", e.get(), used, effects)?;
-            let (name, next) = both(place(alloc, k), after(k))?;
+            let (name, next) = next_place(alloc, k)?;
             Ok((PathPart::Index(name), next))
         }
     }
@@ -249,7 +239,7 @@ fn add_put_assignment<'a>(
 {
     let (path, k) = add_steps(alloc, setting, left.path.as_slice(), used, effects)?;
     let k = bind_place(alloc, setting, b"val", right, k, effects)?;
-    let (name, next) = both(place(alloc, k), after(k))?;
+    let (name, next) = next_place(alloc, k)?;
     let change = assigned(alloc, setting, &left.name.name, path.as_slice(), name)?;
     Ok((change, next))
 }

@@ -29,9 +29,6 @@ use pgo_syntax::process::Process;
 use pgo_walk::make::make;
 use std::alloc::{AllocError, Global};
 
-/// The most branch points in one another. An expression of the module that is at most 512 high has fewer.
-const MOST_BRANCHES: u64 = 600;
-
 /// The tree of a section, by its label.
 fn section_tree<'a, 'i>(
     alloc: Global,
@@ -43,7 +40,7 @@ fn section_tree<'a, 'i>(
     ensures tree { IfOk result (λ p. p.1 ≡ expansion variables.now (places_in setting.entry) (section_view (setting_view setting.entry) section.now).1) }
 {
     let state = start(alloc, setting, section)?;
-    let part = make(alloc, variables, state, MOST_BRANCHES);
+    let part = make(alloc, variables, state);
     both(section.label.copy(alloc), part)
 }
 

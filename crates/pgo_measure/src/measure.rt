@@ -278,8 +278,7 @@ fn advance<'a, 'i>(
 /// apart; nothing where the nodes pass the limit.
 ///
 /// Err where there is no memory, where more than 2^64 - 1 names are bound, and as `is_wide` of `pgo_put_sizes`: where more than 1,024
-/// expressions stand within one another, or where those of a level have more nodes than are left and a mapping macro's read has no path
-/// to a `yield`.
+/// expressions stand within one another.
 pub fn measure(
     alloc: Global,
     variables: &[Text],

@@ -81,21 +81,16 @@ fn process_from(alloc: Global, s: Step, left: &mut Vec<Action>) -> Result<Writte
     ensures { Reads (spec.process_from s [] (reverse left.old.items)) result (reverse left.new.items) }
 {
     let mut done = Items::new(alloc);
-    for _turn in 0..u64::MAX {
-        match left.pop() {
-            None => return Err(TextStop::at(0)),
-            Some(a) => {
-                if is_same(a.name.as_bytes(), s.name.as_bytes()) {
-                    return process(alloc, s, done, a.body);
-                }
-                if !is_action_of(s.name.as_bytes(), a.name.as_bytes()) {
-                    return Err(TextStop::at(0));
-                }
-                done.push(a)?;
-            }
+    while let Some(a) = left.pop() {
+        if is_same(a.name.as_bytes(), s.name.as_bytes()) {
+            return process(alloc, s, done, a.body);
         }
+        if !is_action_of(s.name.as_bytes(), a.name.as_bytes()) {
+            return Err(TextStop::at(0));
+        }
+        done.push(a)?;
     }
-    Err(TextStop::NoMemory)
+    Err(TextStop::at(0))
 }
 
 /// The processes of these steps, whose definitions these are.

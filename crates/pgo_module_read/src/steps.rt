@@ -105,23 +105,18 @@ fn steps_before(alloc: Global, next: &Sub, sets: &Sub) -> Result<Items<Step>, Te
     let mut all = Items::new(alloc);
     let mut next = next;
     let mut sets = sets;
-    for _turn in 0..u64::MAX {
-        match or_parts(next.get()) {
-            None => {
-                all.push(step_with(alloc, next, sets)?)?;
-                return Ok(reversed(all));
+    while let Some((before, last)) = or_parts(next.get()) {
+        match union_parts(sets.get()) {
+            None => return Err(TextStop::at(0)),
+            Some((others, ids)) => {
+                all.push(step_with(alloc, last, ids)?)?;
+                next = before;
+                sets = others;
             }
-            Some((before, last)) => match union_parts(sets.get()) {
-                None => return Err(TextStop::at(0)),
-                Some((others, ids)) => {
-                    all.push(step_with(alloc, last, ids)?)?;
-                    next = before;
-                    sets = others;
-                }
-            },
         }
     }
-    Err(TextStop::NoMemory)
+    all.push(step_with(alloc, next, sets)?)?;
+    Ok(reversed(all))
 }
 
 /// The processes of the body of Next, which has one more alternative behind them, with their sets by that of ProcSet.

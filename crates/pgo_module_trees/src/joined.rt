@@ -14,13 +14,10 @@ fn joined(alloc: Global, o: Infix, e: Sub, others: Vec<Sub>) -> Result<Sub, Allo
 {
     let mut whole = e;
     let mut left = others;
-    for _ in 0..u64::MAX {
-        match left.pop() {
-            Some(next) => whole = binary_of(alloc, o, whole, next)?,
-            None => return Ok(whole),
-        }
+    while let Some(next) = left.pop() {
+        whole = binary_of(alloc, o, whole, next)?;
     }
-    Err(AllocError)
+    Ok(whole)
 }
 
 /// TRUE or FALSE

@@ -34,13 +34,10 @@ fn push_bullets(bytes: &mut Vec<u8>, alloc: Global, items: Vec<&Sub>) -> Result<
     ensures { IfOk result (λ _. bytes.new.items ≡ bytes.old.items ++ text.flatten (map text.bullet (map (λ r. r.now) (reverse items.entry.items)))) }
 {
     let mut left = items;
-    for _ in 0..u64::MAX {
-        match left.pop() {
-            Some(e) => push_bullet(bytes, alloc, e)?,
-            None => return Ok(()),
-        }
+    while let Some(e) = left.pop() {
+        push_bullet(bytes, alloc, e)?;
     }
-    Err(NoMemory)
+    Ok(())
 }
 
 /// Adds the head of a definition and the lines of its items: the first, and the others, of which the last stands first.

@@ -34,17 +34,10 @@ pub fn conjuncts(alloc: Global, e: &Sub) -> Result<Vec<&Sub>, AllocError>
 {
     let mut left = e;
     let mut items = Vec::new(alloc);
-    for _ in 0..u64::MAX {
-        match sides(left.get()) {
-            Some((a, b)) => {
-                items.push(b)?;
-                left = a;
-            }
-            None => {
-                items.push(left)?;
-                return Ok(items);
-            }
-        }
+    while let Some((a, b)) = sides(left.get()) {
+        items.push(b)?;
+        left = a;
     }
-    Err(AllocError)
+    items.push(left)?;
+    Ok(items)
 }

@@ -2,7 +2,7 @@
 #![tactic(auto)]
 
 mod bodies;
-mod conjuncts;
+pub mod conjuncts;
 pub mod laws;
 mod lines;
 pub mod write;

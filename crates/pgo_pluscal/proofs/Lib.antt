@@ -5,3 +5,4 @@ pub mod Depths
 pub mod OwnNames
 pub mod Rows
 pub mod ParameterNames
+mod Room

@@ -1,5 +1,5 @@
 // The lines of a tree.
-ghost use Rattle.std.specs.Prelude.{◌≡◌, ◌++◌, IfOk};
+ghost use Rattle.std.specs.Prelude.{◌≡◌, ◌<◌, ◌≤◌, ◌++◌, length, IfOk};
 ghost use Rattle.pgo_base.specs.ExprView.{tree};
 ghost use Rattle.pgo_sections.specs.Expansion.{If};
 ghost use Rattle.pgo_pluscal.specs.PartView.{expansions, ending_of};
@@ -8,12 +8,13 @@ ghost use Rattle.pgo_pluscal.specs.Text.{tree_text, arms_text, more_arms_text};
 use crate::part::{Ending, Part};
 use crate::steps::{push_closings, push_end, push_steps};
 use crate::words::Word::{Bytes, Own};
-use crate::words::{deeper, push_line};
+use crate::words::push_line;
 use pgo_base::expr::{Expr, Names};
 use pgo_expr_write::errors::NoMemory;
 use std::alloc::Global;
 
-/// Adds the lines of a part, in so many blocks; own: the variables of the process.
+/// Adds the lines of a part, in so many blocks; own: the variables of the process. Each block around has opened with a line, so the blocks
+/// are no more than the bytes before.
 #[cycle(lines)]
 pub fn push_part(
     bytes: &mut Vec<u8>,
@@ -22,6 +23,7 @@ pub fn push_part(
     level: usize,
     part: &Part,
 ) -> Result<(), NoMemory>
+    requires { level ≤ length bytes.old.items }
     ensures { IfOk result (λ _. bytes.new.items ≡ bytes.old.items ++ tree_text own.now level part.now) }
 {
     let opened = part.open();
@@ -39,6 +41,7 @@ fn push_ending(
     level: usize,
     ending: &Ending,
 ) -> Result<(), NoMemory>
+    requires { level ≤ length bytes.old.items }
     ensures { IfOk result (λ _. bytes.new.items ≡ bytes.old.items ++ tree_text own.now level (ending_of ending.now)) }
 {
     match ending {
@@ -63,15 +66,16 @@ fn push_if<'a>(
     a: &Part,
     b: &Part,
 ) -> Result<(), NoMemory>
+    requires { level ≤ length bytes.old.items }
     ensures { IfOk result (λ _. bytes.new.items ≡ bytes.old.items ++ tree_text own.now level (If (tree e.now) a.now b.now)) }
 {
-    let within = deeper(level)?;
     push_line(
         bytes,
         alloc,
         level,
         &[Bytes(b"if ("), Own(own, e), Bytes(b") {")],
     )?;
+    let within = level + 1;
     push_part(bytes, alloc, own, within, a)?;
     push_line(bytes, alloc, level, &[Bytes(b"} else {")])?;
     push_part(bytes, alloc, own, within, b)?;
@@ -87,11 +91,12 @@ fn push_arms(
     level: usize,
     arms: &[Part],
 ) -> Result<(), NoMemory>
+    requires { level < length bytes.old.items }
     ensures { IfOk result (λ _. bytes.new.items ≡ bytes.old.items ++ arms_text own.now level (expansions arms.now)) }
 {
     match arms.split_first() {
         Some((first, rest)) => {
-            push_part(bytes, alloc, own, deeper(level)?, first)?;
+            push_part(bytes, alloc, own, level + 1, first)?;
             push_more_arms(bytes, alloc, own, level, rest)
         }
         None => Ok(()),
@@ -107,9 +112,10 @@ fn push_more_arms(
     level: usize,
     arms: &[Part],
 ) -> Result<(), NoMemory>
+    requires { level < length bytes.old.items }
     ensures { IfOk result (λ _. bytes.new.items ≡ bytes.old.items ++ more_arms_text own.now level (expansions arms.now)) }
 {
-    let within = deeper(level)?;
+    let within = level + 1;
     for arm in arms {
         push_line(bytes, alloc, level, &[Bytes(b"} or {")])?;
         push_part(bytes, alloc, own, within, arm)?;

@@ -1,5 +1,5 @@
 // The lines of a row of statements, and of a row's end.
-ghost use Rattle.std.specs.Prelude.{◌≡◌, ◌++◌, [], ◌∷◌, codes, IfOk};
+ghost use Rattle.std.specs.Prelude.{◌≡◌, ◌+◌, ◌^◌, ◌<◌, ◌≤◌, ◌++◌, [], ◌∷◌, codes, length, IfOk};
 ghost use Rattle.std.specs.List.{flat_map};
 ghost use Rattle.pgo_base.specs.ExprView.{tree};
 ghost use Rattle.pgo_pluscal.specs.Steps as spec;
@@ -7,7 +7,7 @@ ghost use Rattle.pgo_pluscal.specs.Text.{change_text, end_text, line, value_text
 
 use crate::part::Step;
 use crate::words::Word::{Bytes, Name, Own};
-use crate::words::{deeper, push_line};
+use crate::words::push_line;
 use pgo_base::expr::{Expr, Names};
 use pgo_base::text::Text;
 use pgo_expr_write::errors::NoMemory;
@@ -24,17 +24,16 @@ fn opens(step: &Step) -> bool
 }
 
 /// How many blocks stand around what follows a statement.
-fn level_after(level: usize, step: &Step) -> Result<usize, NoMemory>
-    ensures { IfOk result (λ n. n ≡ spec.level_after level step.now) }
+fn level_after(level: usize, step: &Step) -> usize
+    requires { level + 1 < 2 ^ 64 }
+    ensures { result ≡ spec.level_after level step.now }
 {
-    if opens(step) {
-        deeper(level)
-    } else {
-        Ok(level)
-    }
+    if opens(step) { level + 1 } else { level }
 }
 
-/// Adds the lines of a row of statements, and says how many blocks stand around what follows it.
+/// Adds the lines of a row of statements, and says how many blocks stand around what follows it. A block opens with a line, so they are
+/// no more than the bytes before.
+#[tactic(auto, using(crate::proofs::Room::step_more))]
 pub fn push_steps(
     bytes: &mut Vec<u8>,
     alloc: Global,
@@ -42,12 +41,14 @@ pub fn push_steps(
     level: usize,
     steps: &[Step],
 ) -> Result<usize, NoMemory>
-    ensures { IfOk result (λ n. (bytes.new.items ≡ bytes.old.items ++ spec.opened own.now level steps.now) × (n ≡ spec.level_within level steps.now)) }
+    requires { level ≤ length bytes.old.items }
+    ensures text { IfOk result (λ n. (bytes.new.items ≡ bytes.old.items ++ spec.opened own.now level steps.now) × (n ≡ spec.level_within level steps.now)) }
+    ensures room { IfOk result (λ n. n ≤ length bytes.new.items) }
 {
     let mut at = level;
     for step in steps {
         push_step(bytes, alloc, own, at, step)?;
-        at = level_after(at, step)?;
+        at = level_after(at, step);
     }
     Ok(at)
 }
@@ -120,15 +121,13 @@ pub fn push_closings(
     level: usize,
     blocks: usize,
 ) -> Result<(), NoMemory>
+    requires { level + blocks < 2 ^ 64 }
     ensures { IfOk result (λ _. bytes.new.items ≡ bytes.old.items ++ spec.closings level blocks) }
 {
     let mut left = blocks;
     while left > 0 {
         left -= 1;
-        let Some(at) = level.checked_add(left) else {
-            return Err(NoMemory);
-        };
-        push_line(bytes, alloc, at, &[Bytes(b"}")])?;
+        push_line(bytes, alloc, level + left, &[Bytes(b"}")])?;
     }
     Ok(())
 }

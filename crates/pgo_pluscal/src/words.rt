@@ -1,5 +1,5 @@
 // Lines of words.
-ghost use Rattle.std.specs.Prelude.{◌≡◌, ◌+◌, ◌++◌, ℕ, List, map, IfOk};
+ghost use Rattle.std.specs.Prelude.{◌≡◌, ◌++◌, ℕ, List, map, IfOk};
 ghost use Rattle.pgo_model.specs.ModuleText.{flatten};
 ghost use Rattle.pgo_pluscal.specs.Text.{blanks, line};
 ghost use Rattle.pgo_pluscal.specs.Words.{word_text};
@@ -22,16 +22,6 @@ pub enum Word<'a> {
     Body(&'a Sub),
     /// An expression of a tree, with these variables of the process by their names.
     Own(&'a Names, &'a Expr),
-}
-
-/// One block more. `NoMemory` comes where a number can't hold it.
-pub fn deeper(level: usize) -> Result<usize, NoMemory>
-    ensures { IfOk result (λ n. n ≡ level + 1) }
-{
-    match level.checked_add(1) {
-        Some(n) => Ok(n),
-        None => Err(NoMemory),
-    }
 }
 
 /// Adds a line of these words, in so many blocks.

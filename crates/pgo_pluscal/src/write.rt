@@ -19,7 +19,7 @@ use std::alloc::Global;
 /// statements. Each block stands two blanks further in. Expressions are canonical text, and in a process's trees the name of
 /// one of its variables stands for its part at `self`.
 ///
-/// `NoMemory` comes where there is no memory, or where a number of 64 bits can't hold how many blocks stand in one another.
+/// `NoMemory` comes only where there is no memory.
 ///
 /// Source: the PlusCal manual for the statements, this project's choice for lines, blanks and parentheses.
 pub fn write_pluscal(alloc: Global, p: &PlusCal) -> Result<Text, NoMemory>

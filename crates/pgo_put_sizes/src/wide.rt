@@ -13,8 +13,9 @@ use std::alloc::{AllocError, Global};
 /// Whether the expressions of one level of the code have more nodes than are left, with the arguments of the macros around them in
 /// place. None of them is made.
 ///
-/// False where they have not, and of code that evaluates no expression. Err where there is no memory, where more than 1,024 expressions
-/// stand within one another, or where they have more nodes than are left and a mapping macro's read has no path to a `yield`.
+/// False where they have not, of code that evaluates no expression, and where some mapping macro's read has no path to a `yield`: what
+/// stands behind such a read isn't in the expansion. Err where there is no memory, or where more than 1,024 expressions stand within one
+/// another.
 pub fn is_wide<'a>(
     alloc: Global,
     setting: Setting<'a, '_>,
@@ -26,7 +27,6 @@ pub fn is_wide<'a>(
     let rest = take_todo(alloc, todo, left)?;
     match rest {
         Some(_) => Ok(false),
-        None if all_yield(setting.bindings()) => Ok(true),
-        None => Err(AllocError),
+        None => Ok(all_yield(setting.bindings())),
     }
 }

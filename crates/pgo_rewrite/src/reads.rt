@@ -1,5 +1,5 @@
 // Mapped reads that come before an expression.
-ghost use Rattle.std.specs.Prelude.{◌≡◌, ◌+◌, [], ◌∷◌, ◌++◌, None, Some, IfOk};
+ghost use Rattle.std.specs.Prelude.{◌≡◌, suc, [], ◌∷◌, ◌++◌, None, Some, IfOk};
 ghost use Rattle.pgo_base.specs.ExprView.{tree};
 ghost use Rattle.pgo_rewrite.specs.Views.{mapped_view, read_view, read_views};
 ghost use Rattle.pgo_sections.specs.Access.{place as place_name, read_whole as whole, read_element as element};
@@ -7,7 +7,6 @@ ghost use Rattle.pgo_sections.specs.Access.{place as place_name, read_whole as w
 use crate::lists::push_item;
 use crate::mapped::Mapped;
 use pgo_base::expr::Expr;
-use pgo_base::results::both;
 use pgo_base::text::Text;
 use std::alloc::{AllocError, Global};
 
@@ -42,14 +41,17 @@ pub fn place(alloc: Global, k: u64) -> Result<Text, AllocError>
     Ok(Text::from_bytes(bytes)?)
 }
 
-/// The number behind one. Err where there is none of 64 bits.
-fn after(k: u64) -> Result<u64, AllocError>
-    ensures { IfOk result (λ n. n ≡ k + 1) }
+/// The name of the place number `k`, and the number behind it, which is the length of that name.
+///
+/// Err only where there is no memory.
+#[tactic(auto, using(crate::proofs::Places::place_length))]
+pub fn next_place(alloc: Global, k: u64) -> Result<(Text, u64), AllocError>
+    ensures name { IfOk result (λ r. r.0 ≡ place_name k) }
+    ensures next { IfOk result (λ r. r.1 ≡ suc k) }
 {
-    match k.checked_add(1) {
-        Some(n) => Ok(n),
-        None => Err(AllocError),
-    }
+    let name = place(alloc, k)?;
+    let next = name.as_bytes().len() as u64;
+    Ok((name, next))
 }
 
 /// The places that the read of an element takes: of its index and twice of its value; and how many are in use then.
@@ -64,14 +66,13 @@ struct ElementNames {
 /// The places that the read of an element takes where `k` are in use.
 fn element_names(alloc: Global, k: u64) -> Result<ElementNames, AllocError>
     ensures at { IfOk result (λ n. n.at ≡ place_name k) }
-    ensures value { IfOk result (λ n. n.value ≡ place_name (k + 1)) }
-    ensures rest { IfOk result (λ n. n.rest ≡ place_name (k + 1)) }
-    ensures used { IfOk result (λ n. n.used ≡ k + 2) }
+    ensures value { IfOk result (λ n. n.value ≡ place_name (suc k)) }
+    ensures rest { IfOk result (λ n. n.rest ≡ place_name (suc k)) }
+    ensures used { IfOk result (λ n. n.used ≡ suc (suc k)) }
 {
-    let next = after(k)?;
-    let used = after(next)?;
-    let at = place(alloc, k)?;
-    let (value, rest) = both(place(alloc, next), place(alloc, next))?;
+    let (at, next) = next_place(alloc, k)?;
+    let (value, used) = next_place(alloc, next)?;
+    let rest = place(alloc, next)?;
     Ok(ElementNames {
         at,
         value,
@@ -133,9 +134,9 @@ impl<'a> Reads<'a> {
         ensures used { IfOk result (λ _. self.new.used ≡ (whole (mapped_view mapped.entry) self.old.used).used) }
     {
         let k = self.used;
-        let value = place(alloc, k)?;
+        let (value, next) = next_place(alloc, k)?;
         let rest = place(alloc, k)?;
-        self.add(whole_read(mapped, value), after(k)?)?;
+        self.add(whole_read(mapped, value), next)?;
         Ok(Expr::Name(rest))
     }
 

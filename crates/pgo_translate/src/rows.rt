@@ -67,14 +67,9 @@ pub fn row_items(alloc: Global, row: &[Step], rest: Vec<Sub>) -> Result<Vec<Sub>
 {
     let mut left = row;
     let mut items = rest;
-    for _ in 0..u64::MAX {
-        match left.split_last() {
-            Some((step, steps)) => {
-                items = step_items(alloc, step, items)?;
-                left = steps;
-            }
-            None => return Ok(items),
-        }
+    while let Some((step, steps)) = left.split_last() {
+        items = step_items(alloc, step, items)?;
+        left = steps;
     }
-    Err(AllocError)
+    Ok(items)
 }

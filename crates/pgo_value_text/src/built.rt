@@ -44,11 +44,8 @@ fn numbered(alloc: Global, elements: Vec<Value>) -> Result<Vec<(Value, Value)>, 
 {
     let mut numbered = Vec::with_capacity(alloc, elements.len())?;
     for element in elements {
-        match i64::try_from(numbered.len() as u128 + 1) {
-            Ok(number) => numbered.push((Value::Int(number), element))?,
-            // No memory holds so many.
-            Err(_) => return Err(AllocError),
-        }
+        let number = (numbered.len() + 1) as i64;
+        numbered.push((Value::Int(number), element))?;
     }
     Ok(numbered)
 }

@@ -3,3 +3,4 @@ pub mod Runs
 pub mod BlockAmong
 pub mod Turns
 pub mod Around
+pub mod Smaller

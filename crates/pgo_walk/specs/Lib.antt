@@ -3,3 +3,4 @@ pub mod SettingPlaces
 pub mod FrameView
 pub mod Emitted
 pub mod Behind
+pub mod Ended

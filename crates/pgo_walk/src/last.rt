@@ -351,28 +351,6 @@ fn row_turn<'a, 'i>(
     Ok(Event::Quiet)
 }
 
-/// A turn at what comes last where that is further code.
-///
-/// Err also where it is not.
-fn code_turn<'a, 'i>(
-    alloc: Global,
-    state: &mut State<'a, 'i>,
-    setting: Setting<'a, 'i>,
-    renames: &Made,
-    last: &Last<'a>,
-) -> Result<Event<'a, 'i>, AllocError>
-    ensures { IfOk result (λ t. (vs : List Name) → with_frame vs state.old (spec.Run (places_in setting.entry) (last_code (setting_view setting.entry) last.now) renames.now) ≡ emitted vs t (left_in vs state.new)) }
-{
-    match last {
-        Last::If(e, a, b) => if_turn(alloc, state, setting, renames, e, a, b),
-        Last::Either(todos) => either_turn(alloc, state, setting, renames, todos.as_slice()),
-        Last::Then(a, b) => then_turn(alloc, state, setting, renames, a, b),
-        Last::Row(todos) => row_turn(alloc, state, setting, renames, todos.as_slice()),
-        Last::Code(todo) => unfold_turn(alloc, state, setting, renames, todo),
-        _ => Err(AllocError),
-    }
-}
-
 /// A turn at what comes last: code, and the variables in their order.
 pub fn last_turn<'a, 'i>(
     alloc: Global,
@@ -393,6 +371,10 @@ pub fn last_turn<'a, 'i>(
         Last::Print(e) => print_turn(alloc, state, setting, renames, e),
         Last::Yield(e) => yield_turn(alloc, state, setting, renames, e),
         Last::Goto(label) => jump(alloc, variables, state, label),
-        _ => code_turn(alloc, state, setting, renames, last),
+        Last::If(e, a, b) => if_turn(alloc, state, setting, renames, e, a, b),
+        Last::Either(todos) => either_turn(alloc, state, setting, renames, todos.as_slice()),
+        Last::Then(a, b) => then_turn(alloc, state, setting, renames, a, b),
+        Last::Row(todos) => row_turn(alloc, state, setting, renames, todos.as_slice()),
+        Last::Code(todo) => unfold_turn(alloc, state, setting, renames, todo),
     }
 }

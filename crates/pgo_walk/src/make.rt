@@ -2,7 +2,8 @@
 ghost use Rattle.std.specs.Prelude.{◌≡◌, map, IfOk};
 ghost use Rattle.pgo_pluscal.specs.PartView.{around, before, ending_of, expansions};
 ghost use Rattle.pgo_sections.specs.Expansion.{Either, Expansion, If};
-ghost use Rattle.pgo_walk.specs.Emitted.{emitted, left_in, moved};
+ghost use Rattle.pgo_walk.specs.Emitted.{left_in, moved};
+ghost use Rattle.pgo_walk.specs.Ended.{ended};
 
 use crate::event::{Event, Move};
 use crate::frames::State;
@@ -27,20 +28,33 @@ fn step_of(m: Move) -> Step
     }
 }
 
+/// What ends statements in a row.
+#[derive(Drop)]
+pub(crate) enum RowEnd<'a, 'i> {
+    /// a test: where it is TRUE the state goes on, and else this one does
+    If(Sub, State<'a, 'i>),
+    /// `either` with these arms
+    Either(Vec<State<'a, 'i>>),
+    /// the changes of an end, and the label that comes next
+    End(Vec<(Text, Text)>, Text),
+}
+
 /// Adds the statements that come first, and gives what ends them.
 fn row<'a, 'i>(
     alloc: Global,
     variables: &[Text],
     state: &mut State<'a, 'i>,
     steps: &mut Vec<Step>,
-) -> Result<Event<'a, 'i>, AllocError>
-    ensures { IfOk result (λ t. around steps.old.items (left_in variables.now state.old) ≡ around steps.new.items (emitted variables.now t (left_in variables.now state.new))) }
+) -> Result<RowEnd<'a, 'i>, AllocError>
+    ensures { IfOk result (λ t. around steps.old.items (left_in variables.now state.old) ≡ around steps.new.items (ended variables.now t (left_in variables.now state.new))) }
 {
     for _ in 0..u64::MAX {
         match turn(alloc, variables, state)? {
             Event::Quiet => {}
             Event::Step(m) => steps.push(step_of(m))?,
-            event => return Ok(event),
+            Event::If(test, other) => return Ok(RowEnd::If(test, other)),
+            Event::Either(arms) => return Ok(RowEnd::Either(arms)),
+            Event::End(changes, label) => return Ok(RowEnd::End(changes, label)),
         }
     }
     Err(AllocError)
@@ -78,59 +92,44 @@ fn make_either(
     alloc: Global,
     variables: &[Text],
     arms: Vec<State<'_, '_>>,
-    fuel: u64,
 ) -> Result<Ending, AllocError>
     ensures { IfOk result (λ e. ending_of e ≡ Either (expansions (map (left_in variables.now) arms.entry.items))) }
 {
     let mut parts = Vec::new(alloc);
     for arm in arms {
-        parts.push(make(alloc, variables, arm, fuel)?)?;
+        parts.push(make(alloc, variables, arm)?)?;
     }
     Ok(Ending::Either(parts))
 }
 
 /// The ending at a branch point or an end; the state is what is left behind it.
-///
-/// Err also where it is another event.
 #[cycle(make)]
 fn make_ending<'a, 'i>(
     alloc: Global,
     variables: &[Text],
-    event: Event<'a, 'i>,
+    end: RowEnd<'a, 'i>,
     state: State<'a, 'i>,
-    fuel: u64,
 ) -> Result<Ending, AllocError>
-    ensures { IfOk result (λ e. ending_of e ≡ emitted variables.now event.entry (left_in variables.now state.entry)) }
+    ensures { IfOk result (λ e. ending_of e ≡ ended variables.now end.entry (left_in variables.now state.entry)) }
 {
-    match event {
-        Event::If(test, other) => {
-            let a = boxed(alloc, make(alloc, variables, state, fuel));
-            let b = boxed(alloc, make(alloc, variables, other, fuel));
+    match end {
+        RowEnd::If(test, other) => {
+            let a = boxed(alloc, make(alloc, variables, state));
+            let b = boxed(alloc, make(alloc, variables, other));
             if_ending(test, a, b)
         }
-        Event::Either(arms) => make_either(alloc, variables, arms, fuel),
-        Event::End(changes, label) => Ok(Ending::End(changes, label)),
-        _ => Err(AllocError),
+        RowEnd::Either(arms) => make_either(alloc, variables, arms),
+        RowEnd::End(changes, label) => Ok(Ending::End(changes, label)),
     }
 }
 
-/// The tree of what is still to be done, in which at most so many branch points stand in one another.
-///
-/// Err where there is no memory or there are more.
+/// The tree of what is still to be done. It recurses to the branch points that stand in one another.
 #[cycle(make)]
-pub fn make(
-    alloc: Global,
-    variables: &[Text],
-    state: State<'_, '_>,
-    fuel: u64,
-) -> Result<Part, AllocError>
+pub fn make(alloc: Global, variables: &[Text], state: State<'_, '_>) -> Result<Part, AllocError>
     ensures { IfOk result (λ p. p ≡ left_in variables.now state.entry) }
 {
-    if fuel == 0 {
-        return Err(AllocError);
-    }
     let mut state = state;
     let mut steps = Vec::new(alloc);
-    let event = row(alloc, variables, &mut state, &mut steps)?;
-    whole(steps, make_ending(alloc, variables, event, state, fuel - 1))
+    let end = row(alloc, variables, &mut state, &mut steps)?;
+    whole(steps, make_ending(alloc, variables, end, state))
 }

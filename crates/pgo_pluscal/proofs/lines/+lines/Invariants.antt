@@ -1,5 +1,5 @@
 -- What is written and what is left to write are the whole, and each call is about a part that is less deep.
-use Rattle.std.proofs.Common.{◌≡◌, ◌+◌, ◌*◌, ◌++◌, max, drop}
+use Rattle.std.proofs.Common.{◌≡◌, ◌+◌, ◌*◌, ◌≤◌, ◌++◌, max, drop, length}
 use Rattle.pgo_pluscal.specs.PartSize.{depth, arms_depth}
 use Rattle.pgo_pluscal.specs.PartView.{expansions, ending_of}
 use Rattle.pgo_pluscal.specs.Text.{more_arms_text}
@@ -7,8 +7,9 @@ use Rattle.pgo_pluscal.proofs.lines.+lines.Given as goal
 
 abbrev pub invariant-push_more_arms-loop-arm : goal.invariant-push_more_arms-loop-arm
 invariant-push_more_arms-loop-arm l =
-    l.bytes.items ++ more_arms_text l.own l.level (expansions (drop l.arm-index l.arms))
-    ≡ l.initial.bytes.items ++ more_arms_text l.own l.level (expansions l.arms)
+    (l.bytes.items ++ more_arms_text l.own l.level (expansions (drop l.arm-index l.arms))
+    ≡ l.initial.bytes.items ++ more_arms_text l.own l.level (expansions l.arms))
+    × (l.level ≤ length l.bytes.items)
 
 abbrev pub decreases-push_part : goal.decreases-push_part
 decreases-push_part l = 4 * depth l.part.now + 1

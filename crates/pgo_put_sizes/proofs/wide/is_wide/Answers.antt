@@ -10,9 +10,9 @@ use Rattle.pgo_put_sizes.proofs.Taken.{less_than}
 use Rattle.pgo_put_sizes.proofs.wide.is_wide.Goals as goal
 
 pub returns-in-None : goal.returns-in-None
-returns-in-None c =
+returns-in-None c = λ h.
     let s = setting_view c.args.setting in let t = c.args.todo.now in
-    let all : spec.all_yield s.mapped ≡ true = ap spec.all_yield (sym c.bindings.ensures) ∙ sym c.all_yield.ensures ∙ c.if-all_yield.true in
-    let low : todo_nodes t ≤ least (code_of s t) = todo_least s (λ x m h. found_yields s.mapped x m all h) t in
+    let all : spec.all_yield s.mapped ≡ true = ap spec.all_yield (sym c.bindings.ensures) ∙ sym c.all_yield.ensures ∙ h in
+    let low : todo_nodes t ≤ least (code_of s t) = todo_least s (λ x m g. found_yields s.mapped x m all g) t in
     let less : c.args.left < todo_nodes t = less_than c.args.left (todo_nodes t) (sym c.in_ok-rest.ensures ∙ c.in-None.is) in
-    λ h. omega arith
+    omega arith

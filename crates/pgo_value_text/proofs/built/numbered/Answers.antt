@@ -1,6 +1,6 @@
 -- One element more is numbered.
-use Rattle.std.proofs.Common.{◌≡◌, ◌∙◌, ap, sym, subst, map, ◌+◌, w64, rules, to_z, of_z, SFits}
-use Rattle.std.proofs.lemmas.Int.{to_z-of_z}
+use Rattle.std.proofs.Common.{◌∙◌, ap, map, ◌+◌, ◌<◌, ◌^◌, w64, rules, to_z}
+use Rattle.std.proofs.Math.Facts.{to_z_pos}
 use Rattle.pgo_base.specs.declared.value.Value.TheVariants.{Int}
 use Rattle.pgo_base.specs.Data.{integer}
 use Rattle.pgo_base.specs.View.{pair_of}
@@ -9,8 +9,10 @@ use Rattle.pgo_value_text.proofs.built.numbered.Goals as goal
 
 pub loop-element-preserved : goal.loop-element-preserved
 loop-element-preserved c =
-    let z = c.in-Ok.number in
-    let same : to_z w64 (of_z w64 z) ≡ z = to_z-of_z w64 z (subst (SFits w64) (sym c.in-Ok.ensures.1) c.in-Ok.ensures.0) in
-    ap (map pair_of) c.in_ok-push-in-Ok.ensures.items
-    ∙ numbered_more c.loop-element.numbered.items c.loop-element.yielded (Int (to_z w64 (of_z w64 z))) c.in-Some.element (c.len-in-loop-element.result + 1)
-    c.loop-element.invariant (ap integer (same ∙ c.in-Ok.ensures.1)) (ap (λ n. n + 1) (search rules))
+    let n = c.len-in-loop-element.result + 1 in
+    let small : n < 2 ^ 63 = search rules in (
+      ap (map pair_of) c.in_ok-push.ensures.items
+          ∙ numbered_more c.loop-element.numbered.items c.loop-element.yielded (Int (to_z w64 n)) c.in-Some.element n
+          c.loop-element.invariant.0 (ap integer (to_z_pos w64 small)) (ap (λ n. n + 1) (search rules)),
+      search rules,
+    )
