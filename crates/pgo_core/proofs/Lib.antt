@@ -27,7 +27,6 @@ pub mod StepLeaves
 pub mod Stages
 pub mod Contention
 pub mod OpenedLists
-pub mod Unplaced
 pub mod RoundTurns
 pub mod TurnAnswers
 pub mod FreeContents

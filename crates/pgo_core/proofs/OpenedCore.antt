@@ -73,7 +73,7 @@ module _ {C : Type 0} (y : System) (tree : Trees) (walk : C → Walk) (settings 
         giving m false g = g
 
         phase : w.giving ≡ false → phase_at walk w.giving w.place w.readied ≡ spec.Resting
-        phase g = λ i. phase_at walk (g i) ((are j w e).place fits.runs i) w.readied
+        phase g = λ i. phase_at walk (g i) ((are j w e).place i) w.readied
 
     worker_is : (j : ℕ) (w : Worker C) → nth ws j ≡ Some w → worker_at y tree walk ws j ≡ see walk w
     worker_is j w e = ap (λ o. elim o as (λ o. spec.Worker) [ None ↦ record { number = j; records = []; own = []; phase = spec.Resting; taken = []; dropped = false } | Some w ↦ see walk w ]) e

@@ -1,5 +1,5 @@
 -- A turn in memory, as it is called.
-use Rattle.std.proofs.Common.{◌≡◌, ℕ, zero, suc, ◌&&◌, Bool, true, false, List, [], ◌∷◌, Some, refl, sym, ap, ◌∙◌, subst, arith, ◌⊎◌, inl, inr, set}
+use Rattle.std.proofs.Common.{◌≡◌, ℕ, zero, suc, Bool, true, false, List, [], ◌∷◌, Some, refl, sym, ap, ◌∙◌, subst, arith, ◌⊎◌, inl, inr, set}
 use Rattle.std.specs.Prelude.{IsSome}
 use Rattle.pgo_model.specs.Core.{Settings}
 use Rattle.pgo_model.specs.Log.{Effect}
@@ -13,22 +13,30 @@ use Rattle.pgo_workers.specs.Worlds.{Layout, layout_of, world_of}
 use Rattle.pgo_resource.specs.declared.resource.Resource.{Ghosts}
 use Rattle.pgo_section.specs.Programs.{Trees, RunsSystem}
 use Rattle.pgo_section.specs.Sight.{end_of}
-use Rattle.pgo_section.specs.Turns.{Met, TurnedBy}
+use Rattle.pgo_section.specs.Turns.{Met, TurnedBy, IsApart, TurnApart}
 use Rattle.pgo_section.specs.declared.worker.Turn.{Turn}
 use Rattle.pgo_section.specs.declared.worker.Turn.TheVariants as turns
 use Rattle.pgo_section.specs.declared.worker.Worker.{Worker}
 use Rattle.pgo_core.specs.AllViews.{AllViews, Became, Leaves, IsBoard}
-use Rattle.pgo_core.specs.Cores.{IsSafe, HadEnded, TurnedAt, StoppedAt}
+use Rattle.pgo_core.specs.Cores.{IsSafe, HadEnded, TurnedAt, StoppedAt, has_turned}
 use Rattle.pgo_core.specs.ExclusiveBoards.{board_layout, views_of}
 use Rattle.pgo_core.specs.declared.exclusive_board.ExclusiveBoard.{ExclusiveBoard}
 use Rattle.pgo_core.proofs.BoardOfAll.{is_board}
 use Rattle.pgo_core.proofs.CoreTurned.{same_some}
 use Rattle.pgo_core.proofs.SafeKept.{became_met}
 
-pub neither : (a b : Bool) → (a && b) ≡ false → (a ≡ false) ⊎ (b ≡ false)
-neither true true e = absurd (grind (arith, e))
-neither true false e = inr refl
-neither false b e = inl refl
+one_alone : (l l' m m' : Bool) → IsApart l l' m m' → l ≡ false → m ≡ false → (l' ≡ false) ⊎ (m' ≡ false)
+one_alone l l' m m' (inl h) e f = inl (h ∙ e)
+one_alone l l' m m' (inr h) e f = inr (h ∙ f)
+
+-- a turn lent no content, or took and gave nothing, on a board that had done neither for the instance
+pub unmixed : (t : Turn) (l l' m m' : Bool) → has_turned t ≡ true → TurnApart t l l' m m' → l ≡ false → m ≡ false → (l' ≡ false) ⊎ (m' ≡ false)
+unmixed turns.Went l l' m m' has h e f = one_alone l l' m m' h e f
+unmixed (turns.Committed n) l l' m m' has h e f = one_alone l l' m m' h e f
+unmixed (turns.Noted kind n) l l' m m' has h e f = one_alone l l' m m' h e f
+unmixed (turns.Refused x) l l' m m' has h e f = one_alone l l' m m' h e f
+unmixed (turns.Idle x) l l' m m' has h e f = one_alone l l' m m' h e f
+unmixed turns.NoMemory l l' m m' has h e f = absurd (grind (arith, has))
 
 module _ {R : Type 0} {g : Ghosts R} where
   pub board_at : (b : ExclusiveBoard R g) (l : Layout) → board_layout b ≡ l → IsBoard (world_of l) (views_of b)

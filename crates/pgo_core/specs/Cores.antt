@@ -126,7 +126,7 @@ module _ {C : Type 0} (y : System) (tree : Trees) (walk : C → Walk) where
     pub records : w.records.items ≡ []
     pub out : w.out_of_memory ≡ false
     pub dropped : w.dropped ≡ false
-    pub place : RunsSystem y tree settings → w.place ≡ None
+    pub place : w.place ≡ None
     pub meets : (b : View Effect) → RunsSystem y tree settings → IsFresh y settings k b → Met y tree walk w b
 
   -- the workers of all instances before the first turn

@@ -1,5 +1,5 @@
 -- The core in memory, to contracts.
-use Rattle.std.specs.Prelude.{◌≡◌, ◌++◌, ◌∷◌, [], ℕ, true, List, length, Some}
+use Rattle.std.specs.Prelude.{◌≡◌, ◌-◌, ◌++◌, ◌∷◌, [], ℕ, true, List, length, Some}
 use Rattle.std.proofs.Math.ListN.{set}
 use Rattle.pgo_model.specs.Accounts.{Contended}
 use Rattle.pgo_model.specs.Core as model
@@ -59,6 +59,10 @@ module _ {S R P : Type 0} {s : sections.Ghosts S P} {g : Ghosts R} where
     pub told_is : has_turned t ≡ true → (turns : List ℕ) → StandsAt turns c → FitsCore c → ((turned (system_of c) (settings_of c) (turns ++ (k ∷ []))).workers k).records ≡ ((turned (system_of c) (settings_of c) turns).workers k).records ++ told t
     pub many : answer_tells_many t ≡ true
     pub answer : has_turned t ≡ true → (turns : List ℕ) → StandsAt turns c → FitsCore c → IsAnswer (system_of c) (settings_of c) (turned (system_of c) (settings_of c) turns) k t
+
+  -- how many more turns of instances may be made
+  abbrev pub turns_left : Core S R P s g → ℕ
+  turns_left c = 18446744073709551615 - c.made
 
   abbrev pub workers_in : Core S R P s g → List (Worker P)
   workers_in c = c.workers.items

@@ -6,5 +6,4 @@ pub mod ExclusiveRows
 pub mod ExclusiveBoards
 pub mod Cores
 pub mod Instances
-pub mod NoPlaces
 pub mod Rounds

@@ -1,5 +1,5 @@
 // A board of all instances, for one thread.
-ghost use Rattle.std.specs.Prelude.{◌≡◌, ◌<◌, ◌≤◌, ◌-◌, ◌*◌, ◌↔◌, ◌&&◌, ℕ, suc, [], None, Some, true, false, length, vec_len, vec_capacity, slice_get, IsSome, IsOk, IsErr, IfOk, IfErr, OnOk};
+ghost use Rattle.std.specs.Prelude.{◌≡◌, ◌<◌, ◌≤◌, ◌-◌, ◌*◌, ◌↔◌, ℕ, suc, [], None, Some, true, false, length, vec_len, vec_capacity, slice_get, IsSome, IsOk, IsErr, IfOk, IfErr, OnOk};
 ghost use Rattle.std.specs.Borrow.{sem, Lends};
 ghost use Rattle.pgo_bound.specs.Sound.{Sound};
 ghost use Rattle.pgo_bound.specs.State.{AreDifferent, variables_of};
@@ -151,13 +151,6 @@ impl<R: Resource> ExclusiveBoard<R> {
         self.moved = false;
     }
 
-    /// Whether a content was lent and a resource was taken or given, both since the board became the current instance's.
-    pub fn is_mixed(&self) -> bool
-        ensures { result ≡ (views_of self.now).lent && (views_of self.now).moved }
-    {
-        self.lent && self.moved
-    }
-
     /// The journal.
     pub fn into_journal(self) -> Journal
         ensures start { result.start ≡ (board_layout self).start }
@@ -182,6 +175,10 @@ impl<R: Resource> Board for ExclusiveBoard<R> {
     ghost with_board = { with_exclusive };
 
     ghost stays = { stays_of };
+
+    ghost lent = { λ s. s.lent };
+
+    ghost moved = { λ s. s.moved };
 
     /// Takes a resource; it is refused exactly where another instance holds it.
     fn take(&mut self, r: u32) -> Result<(), Refusal>

@@ -5,7 +5,7 @@ ghost use Rattle.pgo_model.specs.Machine.{finished_of, nth};
 ghost use Rattle.pgo_syntax.specs.RecordView.{settings_view};
 ghost use Rattle.pgo_workers.specs.Worlds.{layout_of};
 ghost use Rattle.pgo_section.specs.Programs.{RunsSystem};
-ghost use Rattle.pgo_section.specs.Turns.{Met};
+ghost use Rattle.pgo_section.specs.Turns.{Met, TurnApart};
 ghost use Rattle.pgo_core.specs.Cores.{all_roomy, counted, has_turned, TurnedAt, StoppedAt};
 
 use crate::accounts::accounts_of;
@@ -86,6 +86,7 @@ fn turn_of<S: Sections, B: Board>(
     ensures stays { B.stays board.old board.new }
     ensures as_many { vec_len workers.new ≡ vec_len workers.old }
     ensures turned { TurnedAt (S.system sections.now) (S.tree sections.now) (S.walk sections.now) k workers.old.items workers.new.items (B.shows board.old) (B.shows board.new) result }
+    ensures apart { TurnApart result (B.lent board.old) (B.lent board.new) (B.moved board.old) (B.moved board.new) }
 {
     workers[k].turn(alloc, sections, board)
 }
@@ -110,7 +111,7 @@ fn stop_of<S: Sections, B: Board>(
 }
 
 impl<S: Sections + Drop, R: Resource> Core<S, R> {
-    ghost use Rattle.pgo_core.specs.Instances.{Safe, IsSame, StandsAt, Turns, IdleKeeps, Stops, StoppedBelow, IsJournalOf, AreAccountsIn};
+    ghost use Rattle.pgo_core.specs.Instances.{Safe, IsSame, StandsAt, Turns, IdleKeeps, Stops, StoppedBelow, IsJournalOf, AreAccountsIn, turns_left};
 
     /// One turn of instance k: the next event of its attempt, or of its next one; nothing where it has ended, and
     /// `Idle` with `Nobody` where no instance has the number. Where memory is wanting, its attempt is dropped, and it makes no
@@ -120,6 +121,7 @@ impl<S: Sections + Drop, R: Resource> Core<S, R> {
         ensures safe { Safe self.new }
         ensures turns { Turns k result self.old self.new }
         ensures idle { IdleKeeps k result self.old self.new }
+        ensures left { has_turned result ≡ true → k < vec_len self.old.workers → turns_left self.new < turns_left self.old }
     {
         if k as usize >= self.workers.len() {
             return Turn::Idle { end: End::Nobody };
@@ -138,21 +140,17 @@ impl<S: Sections + Drop, R: Resource> Core<S, R> {
         ensures safe { Safe self.new }
         ensures turns { Turns k result self.old self.new }
         ensures idle { IdleKeeps k result self.old self.new }
+        ensures left { turns_left self.new < turns_left self.old }
     {
         self.made += 1;
         self.board.set_current(k);
-        let turn = turn_of(
+        turn_of(
             alloc,
             &self.sections,
             &mut self.workers,
             k as usize,
             &mut self.board,
-        );
-        if self.board.is_mixed() {
-            Turn::NoMemory
-        } else {
-            turn
-        }
+        )
     }
 
     /// These turns, one after the other, up to the first that memory is wanting for.

@@ -5,4 +5,3 @@ pub mod accounts;
 pub mod claims;
 pub mod exclusive_board;
 pub mod instances;
-mod no_places;

@@ -77,7 +77,7 @@ fn is_true(v: &Value) -> Result<bool, OpStop>
     }
 }
 
-/// The number below n that the next word picks. `NoMemory` also where n has more than 32 bits.
+/// The number below n that the next word picks.
 pub fn next_pick(picks: &mut Picks, n: usize) -> Result<usize, OpStop>
     requires { 0 < n }
     ensures words { words_of picks.new ≡ words_of picks.old }
@@ -86,11 +86,8 @@ pub fn next_pick(picks: &mut Picks, n: usize) -> Result<usize, OpStop>
     ensures made { IfOk result (λ i. choices_of picks.new ≡ record { count = n; taken = i } ∷ choices_of picks.old) }
     ensures err { IfErr result (λ x. x ≡ stops.NoMemory) }
 {
-    let Ok(count) = u32::try_from(n) else {
-        return Err(OpStop::NoMemory);
-    };
-    let i = picks.next(count)?;
-    Ok(i as usize)
+    let i = picks.next_below(n)?;
+    Ok(i)
 }
 
 /// The choice of an `either` without arms, which counts as one among one.

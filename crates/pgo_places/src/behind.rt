@@ -73,11 +73,8 @@ fn member(alloc: Global, members: &[Value], stand: &mut Stand) -> Result<Option<
     if count == 0 {
         return Ok(None);
     }
-    if count > u32::MAX as usize {
-        return Err(AllocError);
-    }
-    let i = stand.pick(count as u32)?;
-    Ok(Some(members[i as usize].copy(alloc)?))
+    let i = stand.pick(count)?;
+    Ok(Some(members[i].copy(alloc)?))
 }
 
 /// The name stands for one of the members.

@@ -70,11 +70,8 @@ fn chosen(arms: &[usize], stand: &mut Stand) -> Result<Flow, AllocError>
         stand.pick(1)?;
         return Ok(Flow::Over(0));
     }
-    if count > u32::MAX as usize {
-        return Err(AllocError);
-    }
-    let i = stand.pick(count as u32)?;
-    Ok(Flow::Over(arms[i as usize]))
+    let i = stand.pick(count)?;
+    Ok(Flow::Over(arms[i]))
 }
 
 /// The own component that is assigned.

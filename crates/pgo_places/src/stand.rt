@@ -138,12 +138,12 @@ impl Stand {
     }
 
     /// The number below n that the next word picks; the choice is made then.
-    pub fn pick(&mut self, n: u32) -> Result<u32, AllocError>
+    pub fn pick(&mut self, n: usize) -> Result<usize, AllocError>
         requires { 0 < n }
         ensures picked { IfOk result (λ i. i ≡ picked_at (stand_view self.old) n) }
         ensures makes { IfOk result (λ i. stand_view self.new ≡ going (choosing n i (progress_view self.old)) (stand_view self.old)) }
     {
-        self.picks.next(n)
+        self.picks.next_below(n)
     }
 
     /// The resource is too deep for a state, or it isn't.

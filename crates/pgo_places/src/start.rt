@@ -31,7 +31,7 @@ use pgo_base::value::Value;
 use pgo_code::program::{Code, Program, Section, Variable};
 use pgo_resource::picks::Picks;
 use pgo_syntax::bound::Instance;
-use pgo_syntax::records::NoteKind;
+use pgo_syntax::records::{MOST_LEAVES, NoteKind};
 use std::alloc::{AllocError, Global};
 use std::sync::Arc;
 
@@ -318,7 +318,7 @@ fn first_in(
     Ok(Attempt {
         place,
         start,
-        left: 65_535,
+        left: MOST_LEAVES - 1,
     })
 }
 

@@ -11,7 +11,7 @@ mod leaves;
 #[derive(Drop)]
 pub struct Picks {
     source: Source,
-    path: Vec<u32>,
+    path: Vec<usize>,
     points: Vec<Point>,
     ghost has_room: { vec_len points ≤ vec_capacity path },
     ghost are_picks: { All IsPick points.items },

@@ -26,15 +26,15 @@ pub enum Source {
 /// A choice that was made: of how many, and the number of the one that was taken.
 #[derive(Clone, Copy)]
 pub struct Point {
-    pub count: u32,
-    pub taken: u32,
+    pub count: usize,
+    pub taken: usize,
 }
 
 /// Where the next leaf leaves this one, and what it picks there.
 #[derive(Clone, Copy)]
 pub struct Turn {
     pub at: usize,
-    pub pick: u32,
+    pub pick: usize,
 }
 
 /// The last of these choices at which a pick is left that wasn't made, and the next pick there.
@@ -48,7 +48,7 @@ pub fn last_turn(source: &Source, points: &[Point]) -> Option<Turn>
         i -= 1;
         let point = points[i];
         let next = following(point);
-        if next != word_of(source, i as u64) % point.count {
+        if next != word_of(source, i as u64) as usize % point.count {
             return Some(Turn { at: i, pick: next });
         }
     }
@@ -56,7 +56,7 @@ pub fn last_turn(source: &Source, points: &[Point]) -> Option<Turn>
 }
 
 /// The path to the turn, in place of what was written. It takes no memory.
-pub fn write_path(path: &mut Vec<u32>, points: &[Point], turn: Turn)
+pub fn write_path(path: &mut Vec<usize>, points: &[Point], turn: Turn)
     requires below { turn.at < length points.now }
     requires room { length points.now ≤ vec_capacity path.old }
     ensures items { path.new.items ≡ turned_to points.now turn }
@@ -70,7 +70,7 @@ pub fn write_path(path: &mut Vec<u32>, points: &[Point], turn: Turn)
 }
 
 /// The number after the one that was taken, and 0 behind the last.
-fn following(point: Point) -> u32
+fn following(point: Point) -> usize
     requires { IsPick point }
     ensures { result ≡ chosen.following (point_view point) }
 {

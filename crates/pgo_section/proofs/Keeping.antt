@@ -21,7 +21,7 @@ use Rattle.pgo_workers.specs.Worker as spec
 use Rattle.pgo_workers.specs.Worker.{Resting, Giving, is_giving, with_held}
 use Rattle.pgo_section.specs.Programs.{Trees, RunsSystem, program_of}
 use Rattle.pgo_section.specs.Sight.{see, phase_at, placed, program_at, end_between, end_of}
-use Rattle.pgo_section.specs.Turns.{Same, Keeps, Fits, Met, TurnedSo, Ran, Wants, Drops, TurnedBy, IsLast}
+use Rattle.pgo_section.specs.Turns.{Same, Keeps, Fits, Met, TurnedSo, Ran, Wants, Drops, TurnedBy, IsApart, TurnApart, IsLast}
 use Rattle.pgo_section.specs.declared.worker.Turn.{Turn}
 use Rattle.pgo_section.specs.declared.worker.Turn.TheVariants as turns
 use Rattle.pgo_section.specs.declared.worker.Worker.{Worker}
@@ -199,3 +199,12 @@ module _ {C : Type 0} (y : System) (tree : Trees) (walk : C → Walk) where
             (subst (λ u. Meets (world y) (program_at y tree w) (Reaches y) (IsGood y) u (with_held (aborted b.held) b)) up d.meets));
         fits = fits_still y w v s m.fits;
       }
+
+-- what holds of an event holds of the turn that it is
+pub turn_apart : (t : Turn) (l l' m m' : Bool) → IsApart l l' m m' → TurnApart t l l' m m'
+turn_apart turns.Went l l' m m' h = h
+turn_apart (turns.Committed n) l l' m m' h = h
+turn_apart (turns.Noted kind n) l l' m m' h = h
+turn_apart (turns.Refused x) l l' m m' h = h
+turn_apart (turns.Idle e) l l' m m' h = h
+turn_apart turns.NoMemory l l' m m' h = tt

@@ -1,6 +1,6 @@
 -- A turn in code, as the turn that it is.
 use Rattle.std.specs.List.{list_all}
-use Rattle.std.specs.Prelude.{◌≡◌, ◌≤◌, ◌<◌, ◌++◌, ℕ, suc, Bool, true, false, List, [], length, map, vec_capacity, Some, None}
+use Rattle.std.specs.Prelude.{◌≡◌, ◌≤◌, ◌<◌, ◌++◌, ◌⊎◌, ℕ, suc, Bool, true, false, List, [], length, map, vec_capacity, Some, None}
 use Rattle.pgo_base.specs.Data.{Data}
 use Rattle.pgo_model.specs.Core.{Settings, Reaches, is_listed}
 use Rattle.pgo_model.specs.Log.{Effect}
@@ -99,6 +99,15 @@ abbrev pub TurnedBy : {C : Type 0} → System → Trees → (C → Walk) → Wor
 TurnedBy y tree walk w b v c (turns.Idle e) = (end_of w ≡ Some e) × (v ≡ w) × (c ≡ b)
 TurnedBy y tree walk w b v c turns.NoMemory = (end_of w ≡ None) × RunsOut w v c
 TurnedBy y tree walk w b v c t = (end_of w ≡ None) × (v.out_of_memory ≡ w.out_of_memory) × Ran y tree walk w b v c t
+
+-- no content was lent, or nothing was taken or given, by whether a board kept that before and afterwards
+abbrev pub IsApart : (lent lent' moved moved' : Bool) → Type 0
+IsApart l l' m m' = (l' ≡ l) ⊎ (m' ≡ m)
+
+-- the same of a turn that memory wasn't wanting for
+abbrev pub TurnApart : Turn → (lent lent' moved moved' : Bool) → Type 0
+TurnApart turns.NoMemory l l' m m' = Unit {0}
+TurnApart t l l' m m' = IsApart l l' m m'
 
 -- what the board was asked last and refused
 abbrev pub IsLast : Turn → View Effect → Type 0

@@ -66,6 +66,7 @@ pub fn changed_values<B: Board>(
     requires once { Once taken.now.items }
     ensures system { B.layout board.new ≡ B.layout board.old }
     ensures stays { B.stays board.old board.new }
+    ensures moved { B.moved board.new ≡ B.moved board.old }
     ensures shows { B.shows board.new ≡ B.shows board.old }
     ensures values { IfOk result (λ vs. map at_of vs.items ≡ changed_resources (changes_of (B.shows board.old).held)) }
 {

@@ -12,6 +12,7 @@ pub fn abort_all<B: Board>(taken: &Vec<u32>, board: &mut B)
     requires once { Once taken.now.items }
     ensures system { B.layout board.new ≡ B.layout board.old }
     ensures stays { B.stays board.old board.new }
+    ensures moved { B.moved board.new ≡ B.moved board.old }
     ensures shows { B.shows board.new ≡ with_held (aborted (B.shows board.old).held) (B.shows board.old) }
 {
     for index in 0..taken.len() {
@@ -25,6 +26,7 @@ pub fn put_back<B: Board>(back: bool, taken: &Vec<u32>, board: &mut B)
     requires once { Once taken.now.items }
     ensures system { B.layout board.new ≡ B.layout board.old }
     ensures stays { B.stays board.old board.new }
+    ensures moved { B.moved board.new ≡ B.moved board.old }
     ensures shows { B.shows board.new ≡ with_held (if back then aborted (B.shows board.old).held else (B.shows board.old).held) (B.shows board.old) }
 {
     if back {
@@ -38,6 +40,7 @@ pub fn commit_all<B: Board>(taken: &Vec<u32>, board: &mut B)
     requires once { Once taken.now.items }
     ensures system { B.layout board.new ≡ B.layout board.old }
     ensures stays { B.stays board.old board.new }
+    ensures moved { B.moved board.new ≡ B.moved board.old }
     ensures shows { B.shows board.new ≡ with_held (committed (B.shows board.old).held) (B.shows board.old) }
 {
     for index in 0..taken.len() {

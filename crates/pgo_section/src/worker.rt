@@ -124,6 +124,7 @@ impl<P: Drop> Worker<P> {
         ensures records { IfOk result (λ w. w.records.items ≡ []) }
         ensures memory { IfOk result (λ w. w.out_of_memory ≡ false) }
         ensures dropped { IfOk result (λ w. w.dropped ≡ false) }
+        ensures place { IfOk result (λ w. w.place ≡ None) }
         ensures meets { IfOk result (λ w. (b : View Effect) → RunsSystem (S.system sections.now) (S.tree sections.now) (settings_view settings.now) → IsFresh (S.system sections.now) (settings_view settings.now) instance b → Met (S.system sections.now) (S.tree sections.now) (S.walk sections.now) w b) }
     {
         let settings = copied(alloc, settings)?;

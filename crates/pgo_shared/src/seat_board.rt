@@ -84,7 +84,7 @@ impl<'a, R: Resource> SeatBoard<'a, R> {
 }
 
 impl<'a, R: Resource> Board for SeatBoard<'a, R> {
-    ghost use Rattle.std.specs.Prelude.{◌≡◌, ◌<◌, ◌+◌, refl, ℕ, None, OnOk, IfOk, IfErr};
+    ghost use Rattle.std.specs.Prelude.{◌≡◌, ◌<◌, ◌+◌, refl, ℕ, false, None, OnOk, IfOk, IfErr};
     ghost use Rattle.pgo_resource.specs.Answers.{RefusedTake, RefusedCommit, RefusedNote};
     ghost use Rattle.pgo_model.specs.LogView.{entry_view};
     ghost use Rattle.pgo_syntax.specs.RecordView.{note_view};
@@ -115,6 +115,7 @@ impl<'a, R: Resource> Board for SeatBoard<'a, R> {
         ensures ok { OnOk result (Takes (world_of (layout_of_board self.old)) r (shows_of self.old) (shows_of self.new)) }
         ensures err { IfErr result (λ x. RefusedTake (world_of (layout_of_board self.old)) r x (shows_of self.old) (shows_of self.new)) }
         ensures step { TakenAt (world_of (layout_of_board self.old)) R.shows (view_of self.old) r (steps_of self.old) (steps_of self.new) (ByBoard (shows_of self.old).instance r result) }
+        ensures still { IfErr result (λ x. false ≡ false) }
     {
         match self.instance.take(self.shared, r) {
             Ok(content) => {

@@ -1,5 +1,5 @@
 // The core before its first turn.
-ghost use Rattle.std.specs.Prelude.{◌≡◌, ◌≤◌, ◌<◌, [], ℕ, true, length, vec_len, Some, IfOk};
+ghost use Rattle.std.specs.Prelude.{◌≡◌, ◌≤◌, ◌<◌, [], ℕ, length, vec_len, Some, IfOk};
 ghost use Rattle.pgo_base.specs.Lookup.{Vars};
 ghost use Rattle.pgo_bound.specs.Sound.{Sound};
 ghost use Rattle.pgo_bound.specs.State.{AreDifferent, variables_of};
@@ -14,7 +14,6 @@ ghost use Rattle.pgo_core.specs.Cores.{AreOpened, MayFail};
 use super::Core;
 use crate::accounts::rooms_of;
 use crate::exclusive_board::ExclusiveBoard;
-use crate::no_places::NoPlaces;
 use pgo_base::results::both;
 use pgo_base::scope::State;
 use pgo_resource::resource::Resource;
@@ -41,23 +40,22 @@ fn copied(alloc: Global, settings: &Settings) -> Result<Settings, AllocError>
 /// A worker for each of the own components, in order.
 fn workers_of<S: Sections + Drop>(
     alloc: Global,
-    wrapped: &NoPlaces<S>,
+    sections: &S,
     owns: Vec<State>,
     resources: u32,
     settings: &Settings,
 ) -> Result<Vec<Worker<S::Place>>, AllocError>
-    requires hidden { wrapped.now.hidden ≡ true }
-    requires few { length owns.items ≤ length (S.system wrapped.now.sections).members }
+    requires few { length owns.items ≤ length (S.system sections.now).members }
     requires small { length owns.items < 4294967296 }
-    requires owns { (k : ℕ) (o : Vars) → nth owns.items k ≡ Some o → o ≡ own_in (layout_of (S.system wrapped.now.sections)) (S.system wrapped.now.sections).start k }
-    requires resources { resources ≡ length (S.system wrapped.now.sections).resources }
+    requires owns { (k : ℕ) (o : Vars) → nth owns.items k ≡ Some o → o ≡ own_in (layout_of (S.system sections.now)) (S.system sections.now).start k }
+    requires resources { resources ≡ length (S.system sections.now).resources }
     ensures as_many { IfOk result (λ ws. vec_len ws ≡ length owns.items) }
-    ensures opened { IfOk result (λ ws. AreOpened (S.system wrapped.now.sections) (S.tree wrapped.now.sections) (S.walk wrapped.now.sections) (settings_view settings.now) ws.items) }
+    ensures opened { IfOk result (λ ws. AreOpened (S.system sections.now) (S.tree sections.now) (S.walk sections.now) (settings_view settings.now) ws.items) }
 {
     let mut workers = Vec::with_capacity(alloc, owns.len())?;
     for own in owns {
         let k = workers.len() as u32;
-        let worker = Worker::open(alloc, wrapped, own, resources, k, settings)?;
+        let worker = Worker::open(alloc, sections, own, resources, k, settings)?;
         workers.push_reserved(worker);
     }
     Ok(workers)
@@ -92,11 +90,7 @@ impl<S: Sections + Drop, R: Resource> Core<S, R> {
     {
         let count = owns.len();
         let resources = contents.len() as u32;
-        let wrapped = NoPlaces {
-            sections,
-            hidden: true,
-        };
-        let workers = workers_of(alloc, &wrapped, owns, resources, settings);
+        let workers = workers_of(alloc, &sections, owns, resources, settings);
         let board = ExclusiveBoard::open(alloc, bound, contents, settings.steps, settings.attempts);
         let rooms = rooms_of(alloc, count, settings.attempts);
         let accounts = Vec::with_capacity(alloc, count);
@@ -105,7 +99,7 @@ impl<S: Sections + Drop, R: Resource> Core<S, R> {
             both(rooms, both(accounts, copied(alloc, settings))),
         )?;
         Ok(Core {
-            sections: wrapped.sections,
+            sections,
             settings,
             workers,
             board,

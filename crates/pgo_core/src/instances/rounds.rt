@@ -1,5 +1,5 @@
 // Rounds, until all instances have ended.
-ghost use Rattle.std.specs.Prelude.{◌≡◌, ◌≤◌, ◌<◌, ℕ, List, vec_len, IfOk};
+ghost use Rattle.std.specs.Prelude.{◌≡◌, ◌≤◌, ◌<◌, ◌+◌, ℕ, List, vec_len, IfOk, OnOk};
 ghost use Rattle.pgo_core.specs.Cores.{AllEnded, HadEnded};
 
 use super::{Core, counted, has_turned};
@@ -8,7 +8,7 @@ use pgo_resource::sections::Sections;
 use std::alloc::{AllocError, Global};
 
 impl<S: Sections + Drop, R: Resource> Core<S, R> {
-    ghost use Rattle.pgo_core.specs.Instances.{Safe, IsSame, StandsAt, MadeFrom, MadeRound, ComesToEnd, workers_in};
+    ghost use Rattle.pgo_core.specs.Instances.{Safe, IsSame, StandsAt, MadeFrom, MadeRound, ComesToEnd, workers_in, turns_left};
 
     /// One turn of instance k: how many turns were made, none where it had ended.
     fn turn_if(&mut self, alloc: Global, k: usize) -> Result<usize, AllocError>
@@ -19,6 +19,7 @@ impl<S: Sections + Drop, R: Resource> Core<S, R> {
         ensures one { IfOk result (λ n. n ≤ 1) }
         ensures stands { IfOk result (λ n. (before : List ℕ) → StandsAt before self.old → MadeFrom before k 1 n self.new) }
         ensures ended { IfOk result (λ n. n ≡ 0 → HadEnded k (workers_in self.old) (workers_in self.new)) }
+        ensures left { OnOk result (turns_left self.new < turns_left self.old) }
     {
         let turn = self.turn(alloc, k as u32);
         if has_turned(turn) {
@@ -35,6 +36,7 @@ impl<S: Sections + Drop, R: Resource> Core<S, R> {
         ensures same { IsSame self.old self.new }
         ensures stands { IfOk result (λ n. (before : List ℕ) → StandsAt before self.old → MadeRound before n self.new) }
         ensures ended { IfOk result (λ n. n ≡ 0 → AllEnded (workers_in self.new)) }
+        ensures left { IfOk result (λ n. turns_left self.new + n ≤ turns_left self.old) }
     {
         let mut made = 0;
         for k in 0..self.workers.len() {
@@ -44,18 +46,17 @@ impl<S: Sections + Drop, R: Resource> Core<S, R> {
     }
 
     /// Rounds, in each of which every instance that hasn't ended makes one turn, in order, until all have ended. It stops
-    /// where memory is wanting, and after 2^64 - 1 rounds.
+    /// where memory is wanting.
     pub fn rounds(&mut self, alloc: Global) -> Result<(), AllocError>
         requires safe { Safe self.old }
         ensures safe { Safe self.new }
         ensures same { IsSame self.old self.new }
         ensures stands { IfOk result (λ _. (before : List ℕ) → StandsAt before self.old → ComesToEnd before self.new) }
     {
-        for _ in 0..u64::MAX {
+        loop {
             if self.round(alloc)? == 0 {
                 return Ok(());
             }
         }
-        Err(AllocError)
     }
 }

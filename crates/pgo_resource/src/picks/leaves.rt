@@ -44,21 +44,21 @@ impl Picks {
     }
 
     /// The word that the next choice uses.
-    fn word(&self) -> u32
+    fn word(&self) -> usize
         ensures { result ≡ words_of self.now (length (choices_of self.now)) }
     {
         let at = self.points.len();
         if at < self.path.len() {
             self.path[at]
         } else {
-            word_of(&self.source, at as u64)
+            word_of(&self.source, at as u64) as usize
         }
     }
 
     /// The number below n that the next word picks. The choice is kept.
     ///
     /// Err only where there is no memory; then nothing has changed.
-    pub fn next(&mut self, n: u32) -> Result<u32, AllocError>
+    pub fn next_below(&mut self, n: usize) -> Result<usize, AllocError>
         requires { 0 < n }
         ensures picked { IfOk result (λ i. i ≡ pick (words_of self.old (length (choices_of self.old))) n) }
         ensures made { IfOk result (λ i. choices_of self.new ≡ record { count = n; taken = i } ∷ choices_of self.old) }
@@ -70,6 +70,19 @@ impl Picks {
         self.path.reserve(self.points.len() + 1)?;
         self.points.push(Point { count: n, taken })?;
         Ok(taken)
+    }
+
+    /// The same where the number has 32 bits.
+    pub fn next(&mut self, n: u32) -> Result<u32, AllocError>
+        requires { 0 < n }
+        ensures picked { IfOk result (λ i. i ≡ pick (words_of self.old (length (choices_of self.old))) n) }
+        ensures made { IfOk result (λ i. choices_of self.new ≡ record { count = n; taken = i } ∷ choices_of self.old) }
+        ensures kept { OnErr result (choices_of self.new ≡ choices_of self.old) }
+        ensures words { words_of self.new ≡ words_of self.old }
+        ensures first { attempt_words self.new ≡ attempt_words self.old }
+    {
+        let taken = self.next_below(n as usize)?;
+        Ok(taken as u32)
     }
 
     /// Turns to the next leaf: at the last choice at which, under the same earlier picks, some pick wasn't made, the next one

@@ -7,7 +7,7 @@ ghost use Rattle.pgo_syntax.specs.RecordView.{settings_view};
 ghost use Rattle.pgo_workers.specs.Worlds.{layout_of};
 ghost use Rattle.pgo_section.specs.Programs.{RunsSystem};
 ghost use Rattle.pgo_section.specs.Sight.{placed};
-ghost use Rattle.pgo_section.specs.Turns.{Met, Keeps, Wants, Ran};
+ghost use Rattle.pgo_section.specs.Turns.{Met, Keeps, Wants, Ran, IsApart};
 
 use super::{Turn, Worker};
 use crate::contents::{abort_all, put_back};
@@ -34,6 +34,7 @@ impl<P: Drop> Worker<P> {
         ensures keeps { Keeps self.old self.new }
         ensures layout { B.layout board.new ≡ B.layout board.old }
         ensures stays { B.stays board.old board.new }
+        ensures apart { IsApart (B.lent board.old) (B.lent board.new) (B.moved board.old) (B.moved board.new) }
         ensures turned { Ran (S.system sections.now) (S.tree sections.now) (S.walk sections.now) (placed self.old place) (B.shows board.old) self.new (B.shows board.new) result }
     {
         match board.take(r) {
@@ -69,6 +70,7 @@ impl<P: Drop> Worker<P> {
         ensures wants { OnErr result (Wants self.old (B.shows board.old) self.new (B.shows board.new)) }
         ensures layout { B.layout board.new ≡ B.layout board.old }
         ensures stays { B.stays board.old board.new }
+        ensures apart { OnOk result (IsApart (B.lent board.old) (B.lent board.new) (B.moved board.old) (B.moved board.new)) }
         ensures turned { IfOk result (λ t. Ran (S.system sections.now) (S.tree sections.now) (S.walk sections.now) (placed self.old place) (B.shows board.old) self.new (B.shows board.new) t) }
     {
         sections.operate(alloc, &mut place, board.content(r))?;
@@ -97,6 +99,7 @@ impl<P: Drop> Worker<P> {
         ensures wants { OnErr result (Wants self.old (B.shows board.old) self.new (B.shows board.new)) }
         ensures layout { B.layout board.new ≡ B.layout board.old }
         ensures stays { B.stays board.old board.new }
+        ensures apart { OnOk result (IsApart (B.lent board.old) (B.lent board.new) (B.moved board.old) (B.moved board.new)) }
         ensures turned { IfOk result (λ t. Ran (S.system sections.now) (S.tree sections.now) (S.walk sections.now) (placed self.old place) (B.shows board.old) self.new (B.shows board.new) t) }
     {
         if self.holds(r) {

@@ -10,7 +10,7 @@ ghost use Rattle.pgo_workers.specs.Worlds.{layout_of, changed_own, resource_chan
 ghost use Rattle.pgo_section.specs.Folds.{at_of, AllBelow};
 ghost use Rattle.pgo_section.specs.Programs.{RunsSystem};
 ghost use Rattle.pgo_section.specs.Sight.{placed};
-ghost use Rattle.pgo_section.specs.Turns.{Met, Keeps, Wants, Ran, IsEntry, entry_with};
+ghost use Rattle.pgo_section.specs.Turns.{Met, Keeps, Wants, Ran, IsApart, IsEntry, entry_with};
 
 use super::{Turn, Worker};
 use crate::changes::{changed_values, resource_changes};
@@ -43,6 +43,7 @@ impl<P: Drop> Worker<P> {
         ensures keeps { Keeps self.old self.new }
         ensures layout { B.layout board.new ≡ B.layout board.old }
         ensures stays { B.stays board.old board.new }
+        ensures apart { IsApart (B.lent board.old) (B.lent board.new) (B.moved board.old) (B.moved board.new) }
         ensures turned { Ran (S.system sections.now) (S.tree sections.now) (S.walk sections.now) (placed self.old place) (B.shows board.old) self.new (B.shows board.new) result }
     {
         let resource = self.taken[self.readied];
@@ -123,6 +124,7 @@ impl<P: Drop> Worker<P> {
         requires going { self.now.giving ≡ false }
         ensures layout { B.layout board.new ≡ B.layout board.old }
         ensures stays { B.stays board.old board.new }
+        ensures moved { B.moved board.new ≡ B.moved board.old }
         ensures shows { B.shows board.new ≡ B.shows board.old }
         ensures ends { IfOk result (λ p. IsEntry (S.system sections.now) (S.tree sections.now) (S.walk sections.now) (placed self.now place) place (B.shows board.old) (entry_view p.0) p.1) }
     {
@@ -150,6 +152,7 @@ impl<P: Drop> Worker<P> {
         ensures wants { OnErr result (Wants self.old (B.shows board.old) self.new (B.shows board.new)) }
         ensures layout { B.layout board.new ≡ B.layout board.old }
         ensures stays { B.stays board.old board.new }
+        ensures apart { OnOk result (IsApart (B.lent board.old) (B.lent board.new) (B.moved board.old) (B.moved board.new)) }
         ensures turned { IfOk result (λ t. Ran (S.system sections.now) (S.tree sections.now) (S.walk sections.now) (placed self.old place) (B.shows board.old) self.new (B.shows board.new) t) }
     {
         let (entry, next) = self.ready(alloc, sections, board, place)?;
@@ -184,6 +187,7 @@ impl<P: Drop> Worker<P> {
         ensures keeps { Keeps self.old self.new }
         ensures layout { B.layout board.new ≡ B.layout board.old }
         ensures stays { B.stays board.old board.new }
+        ensures apart { IsApart (B.lent board.old) (B.lent board.new) (B.moved board.old) (B.moved board.new) }
         ensures turned { Ran (S.system sections.now) (S.tree sections.now) (S.walk sections.now) (placed self.old place) (B.shows board.old) self.new (B.shows board.new) result }
     {
         let _ = place;

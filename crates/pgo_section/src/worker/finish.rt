@@ -8,7 +8,7 @@ ghost use Rattle.pgo_workers.specs.Worker.{finished};
 ghost use Rattle.pgo_workers.specs.Worlds.{layout_of};
 ghost use Rattle.pgo_section.specs.Programs.{RunsSystem};
 ghost use Rattle.pgo_section.specs.Sight.{see};
-ghost use Rattle.pgo_section.specs.Turns.{Met, Drops, Keeps, Ran};
+ghost use Rattle.pgo_section.specs.Turns.{Met, Drops, Keeps, Ran, IsApart};
 ghost use Rattle.pgo_section.specs.declared.worker.Turn.TheVariants as turned;
 
 use super::Worker;
@@ -64,6 +64,7 @@ impl<P: Drop> Worker<P> {
         ensures keeps { Keeps self.old self.new }
         ensures layout { B.layout board.new ≡ B.layout board.old }
         ensures stays { B.stays board.old board.new }
+        ensures apart { IsApart (B.lent board.old) (B.lent board.new) (B.moved board.old) (B.moved board.new) }
         ensures fewer { length self.new.taken.items < length self.old.taken.items }
         ensures records { self.new.records ≡ self.old.records }
         ensures giving { self.new.giving ≡ false → self.new.taken.items ≡ [] }

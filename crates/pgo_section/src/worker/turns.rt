@@ -4,7 +4,7 @@ ghost use Rattle.pgo_syntax.specs.RecordView.{settings_view};
 ghost use Rattle.pgo_workers.specs.Worlds.{layout_of};
 ghost use Rattle.pgo_section.specs.Programs.{RunsSystem};
 ghost use Rattle.pgo_section.specs.Sight.{placed, end_of};
-ghost use Rattle.pgo_section.specs.Turns.{Met, Drops, Same, Keeps, Wants, Ran, TurnedBy, IsLast};
+ghost use Rattle.pgo_section.specs.Turns.{Met, Drops, Same, Keeps, Wants, Ran, TurnedBy, IsApart, TurnApart, IsLast};
 
 use super::{Turn, Worker};
 use pgo_resource::board::Board;
@@ -28,6 +28,7 @@ impl<P: Drop> Worker<P> {
         ensures wants { OnErr result (Wants self.old (B.shows board.old) self.new (B.shows board.new)) }
         ensures layout { B.layout board.new ≡ B.layout board.old }
         ensures stays { B.stays board.old board.new }
+        ensures apart { OnOk result (IsApart (B.lent board.old) (B.lent board.new) (B.moved board.old) (B.moved board.new)) }
         ensures turned { IfOk result (λ t. Ran (S.system sections.now) (S.tree sections.now) (S.walk sections.now) (placed self.old place) (B.shows board.old) self.new (B.shows board.new) t) }
     {
         let next = sections.next(alloc, &mut place)?;
@@ -61,6 +62,7 @@ impl<P: Drop> Worker<P> {
         ensures wants { OnErr result (Wants self.old (B.shows board.old) self.new (B.shows board.new)) }
         ensures layout { B.layout board.new ≡ B.layout board.old }
         ensures stays { B.stays board.old board.new }
+        ensures apart { OnOk result (IsApart (B.lent board.old) (B.lent board.new) (B.moved board.old) (B.moved board.new)) }
         ensures turned { IfOk result (λ t. Ran (S.system sections.now) (S.tree sections.now) (S.walk sections.now) self.old (B.shows board.old) self.new (B.shows board.new) t) }
     {
         let attempt = self.attempt();
@@ -85,6 +87,7 @@ impl<P: Drop> Worker<P> {
         ensures going { OnErr result (self.old.giving ≡ false) }
         ensures layout { B.layout board.new ≡ B.layout board.old }
         ensures stays { B.stays board.old board.new }
+        ensures apart { OnOk result (IsApart (B.lent board.old) (B.lent board.new) (B.moved board.old) (B.moved board.new)) }
         ensures turned { IfOk result (λ t. Ran (S.system sections.now) (S.tree sections.now) (S.walk sections.now) self.old (B.shows board.old) self.new (B.shows board.new) t) }
     {
         if self.giving {
@@ -129,6 +132,7 @@ impl<P: Drop> Worker<P> {
         ensures same { Same self.old self.new }
         ensures layout { B.layout board.new ≡ B.layout board.old }
         ensures stays { B.stays board.old board.new }
+        ensures apart { TurnApart result (B.lent board.old) (B.lent board.new) (B.moved board.old) (B.moved board.new) }
         ensures turned { TurnedBy (S.system sections.now) (S.tree sections.now) (S.walk sections.now) self.old (B.shows board.old) self.new (B.shows board.new) result }
         ensures last { IsLast result (B.shows board.new) }
         ensures met { Met (S.system sections.now) (S.tree sections.now) (S.walk sections.now) self.new (B.shows board.new) }
@@ -157,6 +161,7 @@ impl<P: Drop> Worker<P> {
         ensures same { Same self.old self.new }
         ensures layout { B.layout board.new ≡ B.layout board.old }
         ensures stays { B.stays board.old board.new }
+        ensures apart { TurnApart result (B.lent board.old) (B.lent board.new) (B.moved board.old) (B.moved board.new) }
         ensures turned { TurnedBy (S.system sections.now) (S.tree sections.now) (S.walk sections.now) self.old (B.shows board.old) self.new (B.shows board.new) result }
         ensures last { IsLast result (B.shows board.new) }
         ensures met { Met (S.system sections.now) (S.tree sections.now) (S.walk sections.now) self.new (B.shows board.new) }

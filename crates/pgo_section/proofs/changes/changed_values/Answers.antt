@@ -22,6 +22,7 @@ loop-left-init g c =
     record {
       system = refl;
       stays = g.met.B.Board.stays_same c.args.board.now;
+      moved = refl;
       shows = refl;
       left = all_left c.len-left.result _ n;
       values = ap (map at_of) c.new-values.ensures.items ∙ sym (ap (λ hs. changed_resources (changes_of hs)) (none_left held c.len-left.result (subst (λ l. length l ≤ c.len-left.result) c.requires.held (all_left' c.len-left.result _ n))));
@@ -52,6 +53,7 @@ loop-left-preserved g c =
     record {
       system = law.keeps c.loop-left.board r c.content.result.now ∙ c.loop-left.invariant.system;
       stays = law.stays_on c.args.board.now c.loop-left.board _ c.loop-left.invariant.stays (law.stays_with c.loop-left.board r c.content.result.now there);
+      moved = c.content.ensures.moved c.content.result.now ∙ c.loop-left.invariant.moved;
       shows = same ∙ c.loop-left.invariant.shows;
       left = less c.loop-left.left (length taken) c.loop-left-test.true c.loop-left.invariant.left;
       values = c.in_ok-insert_changed.ensures ∙ ap (with_changed r (M c.content.result.now)) c.loop-left.invariant.values

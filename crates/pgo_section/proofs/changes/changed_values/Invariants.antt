@@ -8,6 +8,7 @@ abbrev pub invariant-loop-left : goal.invariant-loop-left
 invariant-loop-left g l = record {
   system : g.B.Board.layout l.board ≡ g.B.Board.layout l.fn.board;
   stays : g.B.Board.stays l.fn.board l.board;
+  moved : g.B.Board.moved l.board ≡ g.B.Board.moved l.fn.board;
   shows : g.B.Board.shows l.board ≡ g.B.Board.shows l.fn.board;
   left : l.left ≤ length l.fn.taken.items;
   values : map at_of l.values.items ≡ changed_resources (changes_of (drop l.left (g.B.Board.shows l.fn.board).held));

@@ -12,7 +12,7 @@ far : (n i j k : ℕ) → n ≤ i → n ≡ j → j ≡ k → k ≤ i
 far n i j k h e f = omega (arith, h, e, f)
 
 pub loop-index-init : goal.loop-index-init
-loop-index-init g c = record { system = refl; stays = g.met.B.Board.stays_same c.args.board.now; shows = refl; resources = sym c.requires.held; fold = refl }
+loop-index-init g c = record { system = refl; stays = g.met.B.Board.stays_same c.args.board.now; moved = refl; shows = refl; resources = sym c.requires.held; fold = refl }
 
 pub content-requires : goal.content-requires
 content-requires g c =
@@ -28,7 +28,7 @@ loop-index-preserved g c =
     let c2 = g.B.Board.with_board c.loop-index.board r c.abort.new.self in
     let made = changed_board abort_it b (g.B.Board.shows c2) r (M c.content.result.now) (M c.abort.new.self) h.0 h.1 (law.shown c.loop-index.board r c.content.result.now h.0 c.content.ensures.value h.1) c.abort.ensures (law.puts c.loop-index.board r c.abort.new.self there) in
     let s = fold_step abort_it taken c.loop-index.index r (g.B.Board.shows c.args.board.now) b (g.B.Board.shows c2) close c.index.ensures made c.loop-index.invariant.shows c.loop-index.invariant.resources c.loop-index.invariant.fold in
-    record { system = law.keeps c.loop-index.board r c.abort.new.self ∙ c.loop-index.invariant.system; stays = law.stays_on c.args.board.now c.loop-index.board c2 c.loop-index.invariant.stays (law.stays_with c.loop-index.board r c.abort.new.self there); shows = s.0; resources = s.1; fold = s.2 }
+    record { system = law.keeps c.loop-index.board r c.abort.new.self ∙ c.loop-index.invariant.system; stays = law.stays_on c.args.board.now c.loop-index.board c2 c.loop-index.invariant.stays (law.stays_with c.loop-index.board r c.abort.new.self there); moved = c.content.ensures.moved c.abort.new.self ∙ c.loop-index.invariant.moved; shows = s.0; resources = s.1; fold = s.2 }
 
 pub returns-clause-shows : goal.returns-clause-shows
 returns-clause-shows g c =

@@ -8,6 +8,7 @@ abbrev pub invariant-loop-index : goal.invariant-loop-index
 invariant-loop-index g l = record {
   system : g.B.Board.layout l.board ≡ g.B.Board.layout l.fn.board;
   stays : g.B.Board.stays l.fn.board l.board;
+  moved : g.B.Board.moved l.board ≡ g.B.Board.moved l.fn.board;
   shows : g.B.Board.shows l.board ≡ with_held (g.B.Board.shows l.board).held (g.B.Board.shows l.fn.board);
   resources : resources_of (g.B.Board.shows l.board).held ≡ l.fn.taken.items;
   fold : change_all abort_it (drop l.index l.fn.taken.items) (g.B.Board.shows l.board).held ≡ change_all abort_it l.fn.taken.items (g.B.Board.shows l.fn.board).held;

@@ -23,5 +23,5 @@ returns g c = let a = c.args.self.now in
     let there = some_by a.current c.args.r a.claims.items (held_among g.R.Resource.shows (here a) a.contents.items (taken_by a.current a.claims.items) c.args.r c.requires.held) in
     let near = apart_near g.R.Resource.shows (vec_len a.contents) c.args.r (claimed a.claims.items) a.held_once there in (
       (refl, λ w. board_ext _ _ refl refl refl (ap (λ b. with_item a.contents (if b then c.args.r else length a.contents.items) w) (sym there)) refl refl refl refl refl),
-      record { writes_back = tt; value = get_slice a.contents.items c.args.r c.index_mut.result.now (omega (arith, near, a.contents.ok.0)) c.index_mut.ensures.value },
+      record { writes_back = tt; value = get_slice a.contents.items c.args.r c.index_mut.result.now (omega (arith, near, a.contents.ok.0)) c.index_mut.ensures.value; moved = λ c. refl },
     )

@@ -23,6 +23,7 @@ loop-k-init g c =
       same = record { sections = refl; settings = refl };
       as_many = refl;
       few = omega arith;
+      left = omega arith;
       stands = λ before st. record {
         stands = λ fits. subst (λ l. StandsWith (g.S.Sections.system a.sections) (g.S.Sections.tree a.sections) (g.S.Sections.walk a.sections) (settings_of a) fits l a.made a.workers.items (views_of a.board)) (append_none before) (st fits);
         many = λ fits. refl;
@@ -38,6 +39,7 @@ loop-k-preserved g c =
       same = record { sections = same.sections ∙ inv.same.sections; settings = same.settings ∙ inv.same.settings };
       as_many = c.turn_if.ensures.safe.seats.as_many ∙ ap (λ x. length (g.S.Sections.system x).members) same.sections ∙ sym inv.safe.seats.as_many ∙ inv.as_many;
       few = omega (arith, inv.few, t.one);
+      left = omega (arith, inv.left, t.left);
       stands = λ before st.
           let q = inv.stands before st in let so = same_from a n same before 0 c.loop-k.k in
           let l = round_from (g.S.Sections.system a.sections) (settings_of a) before 0 c.loop-k.k in
@@ -52,6 +54,9 @@ loop-k-preserved g c =
       ended = λ none j w less here.
           one_ended c.loop-k.k c.in_ok-made.field-0 (workers_in a) (workers_in n) (second c.loop-k.made c.in_ok-made.field-0 none) (t.ended (second c.loop-k.made c.in_ok-made.field-0 none)) (inv.ended (first c.loop-k.made c.in_ok-made.field-0 none)) j w less here;
     }
+
+pub returns-clause-left : goal.returns-clause-left
+returns-clause-left g c = omega (arith, c.loop-k.invariant.left, c.loop-k.invariant.few)
 
 pub returns-clause-ended : goal.returns-clause-ended
 returns-clause-ended g c =

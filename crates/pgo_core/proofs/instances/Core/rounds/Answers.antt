@@ -1,4 +1,4 @@
-use Rattle.std.proofs.Common.{[], ◌++◌, refl, sym, ◌∙◌, subst, append_assoc}
+use Rattle.std.proofs.Common.{[], ◌++◌, refl, sym, ◌∙◌, subst, arith, append_assoc}
 use Rattle.pgo_model.specs.MachineAccounts.{append_none}
 use Rattle.pgo_core.specs.Cores.{CoreFits, StandsWith}
 use Rattle.pgo_core.specs.ExclusiveBoards.{views_of}
@@ -66,3 +66,6 @@ loop-preserved g c =
                 (subst (λ l. AreRounds y (settings_of n) l rest) (sym (append_assoc before q.turns made)) r)))));
           };
     }
+
+pub loop-smaller : goal.loop-smaller
+loop-smaller g c = omega (arith, c.in_ok-round.ensures.left, c.if-branch-eq0.false)

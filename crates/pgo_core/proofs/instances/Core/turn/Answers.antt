@@ -23,6 +23,9 @@ returns-then-k-len-clause-turns g c =
       answer = λ has turns st fits. nobody_answers y (settings_of a) (turned y (settings_of a) turns) c.args.k none;
     }
 
+pub returns-then-k-len-clause-left : goal.returns-then-k-len-clause-left
+returns-then-k-len-clause-left g c = λ has inside. absurd (omega (arith, inside, c.if-k-len.true, c.len.ensures))
+
 pub returns-then-k-len-clause-idle : goal.returns-then-k-len-clause-idle
 returns-then-k-len-clause-idle g c =
     let a = c.args.self.now in

@@ -26,6 +26,9 @@ returns-then-has_turned-clause-stands g c =
           ∙ ap length (same_from a n same before k 1);
     }
 
+pub returns-then-has_turned-clause-left : goal.returns-then-has_turned-clause-left
+returns-then-has_turned-clause-left g c = c.turn-turn.ensures.left (sym c.has_turned.ensures ∙ c.if-has_turned.true) c.requires.there
+
 pub returns-then-has_turned-clause-ended : goal.returns-then-has_turned-clause-ended
 returns-then-has_turned-clause-ended g c =
     λ none.

@@ -10,6 +10,6 @@ abbrev pub invariant-loop-own : goal.invariant-loop-own
 invariant-loop-own g l = record {
   count : length l.workers.items + length l.own-iterator.rest.items ≡ length l.fn.owns.items;
   capacity : length l.fn.owns.items ≤ vec_capacity l.workers;
-  owns : (j : ℕ) (o : Vars) → nth l.own-iterator.rest.items j ≡ Some o → o ≡ own_in (layout_of (g.S.Sections.system l.wrapped.sections)) (g.S.Sections.system l.wrapped.sections).start (length l.workers.items + j);
-  opened : AreOpened (g.S.Sections.system l.wrapped.sections) (g.S.Sections.tree l.wrapped.sections) (g.S.Sections.walk l.wrapped.sections) (settings_view l.settings) l.workers.items;
+  owns : (j : ℕ) (o : Vars) → nth l.own-iterator.rest.items j ≡ Some o → o ≡ own_in (layout_of (g.S.Sections.system l.sections)) (g.S.Sections.system l.sections).start (length l.workers.items + j);
+  opened : AreOpened (g.S.Sections.system l.sections) (g.S.Sections.tree l.sections) (g.S.Sections.walk l.sections) (settings_view l.settings) l.workers.items;
 }

@@ -1,4 +1,4 @@
-use Rattle.std.proofs.Common.{◌∙◌, sym, ap, subst}
+use Rattle.std.proofs.Common.{◌∙◌, sym, ap, subst, inr}
 use Rattle.pgo_workers.specs.View.{MayCommit, resources_of}
 use Rattle.pgo_workers.specs.Worlds.{world_of, layout_of}
 use Rattle.pgo_model.specs.LogView.{entry_view}
@@ -73,3 +73,9 @@ pub returns-in-Err-clause-stays : goal.returns-in-Err-clause-stays
 returns-in-Err-clause-stays g c =
     let law = g.met.B.Board in
     law.stays_on c.args.board.now c.ready.new.board c.abort_all.new.board c.ready.ensures.stays (law.stays_on c.ready.new.board c.commit.new.self c.abort_all.new.board c.commit.ensures.stays c.abort_all.ensures.stays)
+
+pub returns-in-Ok-clause-apart : goal.returns-in-Ok-clause-apart
+returns-in-Ok-clause-apart g c = inr (c.commit_all.ensures.moved ∙ c.commit.ensures.moved ∙ c.ready.ensures.moved)
+
+pub returns-in-Err-clause-apart : goal.returns-in-Err-clause-apart
+returns-in-Err-clause-apart g c = inr (c.abort_all.ensures.moved ∙ c.commit.ensures.moved ∙ c.ready.ensures.moved)

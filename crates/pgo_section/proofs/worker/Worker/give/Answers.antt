@@ -1,4 +1,4 @@
-use Rattle.std.proofs.Common.{◌≡◌, ◌∙◌, ◌<◌, ℕ, List, [], ◌∷◌, length, true, refl, sym, ap, subst, arith}
+use Rattle.std.proofs.Common.{◌≡◌, ◌∙◌, ◌<◌, ℕ, List, [], ◌∷◌, length, true, refl, sym, ap, subst, arith, inl}
 use Rattle.pgo_model.specs.Core.{Reaches}
 use Rattle.pgo_section.specs.Programs.{IsGood}
 use Rattle.pgo_workers.specs.View.{Gives}
@@ -32,3 +32,6 @@ returns-clause-turned g c =
     let first = first_of_list a.taken.items c.remove-r.result (some_taken (world y) (program_at y tree a) (Reaches y) (IsGood y) w b c.requires.met.meets giving) c.remove-r.ensures.value in
     TGave c.remove-r.result c.remove-r.new.self.items giving (first ∙ ap (λ l. c.remove-r.result ∷ l) (sym c.remove-r.ensures.items)) (subst (λ l. Gives (world_of l) c.remove-r.result b (g.B.Board.shows c.give.new.self)) c.requires.layout c.give.ensures.gives)
     (λ i. record w { phase = phase_of walk a.readied c.remove-r.new.self.items _ _ (sym c.remove-r.new.self.ok.0) c.is_empty.ensures i; taken = c.remove-r.new.self.items }) refl
+
+pub returns-clause-apart : goal.returns-clause-apart
+returns-clause-apart g c = inl c.give.ensures.lent

@@ -1,4 +1,4 @@
-use Rattle.std.proofs.Common.{◌∙◌, ◌<◌, sym, ap, subst}
+use Rattle.std.proofs.Common.{◌∙◌, ◌<◌, sym, ap, subst, inr}
 use Rattle.pgo_syntax.specs.ManyLeaves.{tells_many}
 use Rattle.pgo_syntax.specs.RecordView.{kind_view, result_view}
 use Rattle.pgo_resource.specs.Answers.{HolderRefuses}
@@ -69,3 +69,9 @@ returns-in-Ok-clause-stays g c = g.met.B.Board.stays_on c.args.board.now c.abort
 
 pub returns-clause-stays : goal.returns-clause-stays
 returns-clause-stays g c = g.met.B.Board.stays_on c.args.board.now c.abort_all.new.board c.note.new.self c.abort_all.ensures.stays c.note.ensures.stays
+
+pub returns-in-Ok-clause-apart : goal.returns-in-Ok-clause-apart
+returns-in-Ok-clause-apart g c = inr (c.note.ensures.moved ∙ c.abort_all.ensures.moved)
+
+pub returns-clause-apart : goal.returns-clause-apart
+returns-clause-apart g c = inr (c.note.ensures.moved ∙ c.abort_all.ensures.moved)

@@ -1,4 +1,4 @@
-use Rattle.std.proofs.Common.{refl, sym, ap, ◌∙◌}
+use Rattle.std.proofs.Common.{refl, sym, ap, ◌∙◌, inr}
 use Rattle.pgo_model.specs.Log.{Effect}
 use Rattle.pgo_workers.specs.View.{View, resources_of}
 use Rattle.pgo_workers.specs.Holds as holds
@@ -69,3 +69,6 @@ returns-in_err-back-clause-wants g c =
 
 pub returns-in_err-back-clause-stays : goal.returns-in_err-back-clause-stays
 returns-in_err-back-clause-stays g c = g.met.B.Board.stays_with c.args.board.now c.args.r c.operate.new.content (is_held (g.B.Board.shows c.args.board.now).held c.args.self.now.taken.items c.args.r (sym c.requires.met.meets.taken) c.requires.held)
+
+pub returns-clause-apart : goal.returns-clause-apart
+returns-clause-apart g c = inr (c.put_back.ensures.moved ∙ c.content.ensures.moved c.operate.new.content)

@@ -1,4 +1,4 @@
-use Rattle.std.proofs.Common.{◌∙◌, refl, sym, ap}
+use Rattle.std.proofs.Common.{◌∙◌, refl, sym, ap, inr}
 use Rattle.pgo_workers.specs.Holds as holds
 use Rattle.pgo_workers.specs.View.{resources_of}
 use Rattle.pgo_section.proofs.Boards.{some_is, at_among, is_held}
@@ -56,3 +56,9 @@ returns-in-Err-clause-stays g c =
     law.stays_on c.args.board.now (g.B.Board.with_board c.args.board.now r c.pre_commit.new.self) c.abort_all.new.board
     (law.stays_with c.args.board.now r c.pre_commit.new.self (is_held (g.B.Board.shows c.args.board.now).held a.taken.items r (sym c.requires.met.meets.taken) (at_among a.taken.items a.readied r c.requires.left c.index-resource.ensures)))
     c.abort_all.ensures.stays
+
+pub returns-in-Ok-clause-apart : goal.returns-in-Ok-clause-apart
+returns-in-Ok-clause-apart g c = inr (c.content.ensures.moved c.pre_commit.new.self)
+
+pub returns-in-Err-clause-apart : goal.returns-in-Err-clause-apart
+returns-in-Err-clause-apart g c = inr (c.abort_all.ensures.moved ∙ c.content.ensures.moved c.pre_commit.new.self)

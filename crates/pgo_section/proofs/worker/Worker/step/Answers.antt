@@ -1,7 +1,7 @@
 use Rattle.std.proofs.Common.{◌∙◌, sym, subst}
 use Rattle.pgo_syntax.specs.RecordView.{settings_view}
 use Rattle.pgo_section.specs.Programs.{RunsSystem}
-use Rattle.pgo_section.proofs.Keeping.{same_both, had_memory, is_last, met_kept, ran_turned, turned_by, wanted}
+use Rattle.pgo_section.proofs.Keeping.{same_both, had_memory, is_last, turn_apart, met_kept, ran_turned, turned_by, wanted}
 use Rattle.pgo_section.proofs.worker.Worker.step.Goals as goal
 
 pub returns-in-Ok-clause-same : goal.returns-in-Ok-clause-same
@@ -39,3 +39,6 @@ returns-in-Err-clause-turned g c = (c.requires.on, record { before = had_memory 
 
 pub returns-in-Err-clause-stays : goal.returns-in-Err-clause-stays
 returns-in-Err-clause-stays g c = g.met.B.Board.stays_on c.args.board.now c.make_turn.new.board c.run_out.new.board c.make_turn.ensures.stays c.run_out.ensures.stays
+
+pub returns-in-Ok-clause-apart : goal.returns-in-Ok-clause-apart
+returns-in-Ok-clause-apart g c = turn_apart c.in-Ok.turn _ _ _ _ c.in-Ok.ensures.apart

@@ -1,4 +1,4 @@
-use Rattle.std.proofs.Common.{◌∙◌, ◌<◌, length, Some, sym, ap, subst}
+use Rattle.std.proofs.Common.{◌∙◌, ◌<◌, length, Some, sym, ap, subst, inl, inr}
 use Rattle.pgo_resource.specs.Answers.{RefusedTake}
 use Rattle.pgo_workers.specs.View.{Takes, resources_of}
 use Rattle.pgo_workers.specs.Worlds.{Layout, world_of}
@@ -56,3 +56,9 @@ returns-in-Err-clause-turned g c =
 
 pub returns-in-Err-clause-stays : goal.returns-in-Err-clause-stays
 returns-in-Err-clause-stays g c = g.met.B.Board.stays_on c.args.board.now c.take.new.self c.abort_all.new.board c.take.ensures.stays c.abort_all.ensures.stays
+
+pub returns-in-Ok-clause-apart : goal.returns-in-Ok-clause-apart
+returns-in-Ok-clause-apart g c = inl c.take.ensures.lent
+
+pub returns-in-Err-clause-apart : goal.returns-in-Err-clause-apart
+returns-in-Err-clause-apart g c = inr (c.abort_all.ensures.moved ∙ c.in-Err.ensures.still)

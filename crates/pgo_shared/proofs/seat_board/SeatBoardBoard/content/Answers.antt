@@ -18,5 +18,6 @@ returns g c =
       record {
         writes_back = tt;
         value = content_is a c.args.r q.0 c.index_mut.result.now q.2 ∙ ap Some (sym (c.index_mut.ensures.value ∙ ap (λ (p : ℕ). get_or a.contents.items p c.index_mut.result.now) first));
+        moved = λ c. refl;
       },
     )
