@@ -1,9 +1,9 @@
--- The actions of a module by name, from the last one down.
-use Rattle.std.proofs.Common.{◌≡◌, List, [], ◌∷◌, ◌++◌, map, refl, ap, sym, ◌∙◌, arith, append_assoc}
-use Rattle.std.specs.Prelude.{true, false, reverse, Option, Some, None, is_some, option_map}
+-- The body of the last action of a name.
+use Rattle.std.proofs.Common.{◌≡◌, List, [], ◌∷◌, ◌++◌, map, ap, sym, ◌∙◌, append_assoc}
+use Rattle.std.specs.Prelude.{Bool, true, false, cond, if◌then◌else◌, reverse, Option, Some, option_map}
 use Rattle.std.proofs.lemmas.List.{append-nil, reverse-append, map_push}
 use Rattle.pgo_base.specs.declared.module.WrittenProcess as base_process
-use Rattle.pgo_base.specs.Lookup.{Name, find}
+use Rattle.pgo_base.specs.Lookup.{Name, same_name, find}
 use Rattle.pgo_base.specs.Tree.{Tree}
 use Rattle.pgo_model.specs.Names.{or_that, find_append}
 use Rattle.pgo_model.specs.Module.{WrittenProcess, actions_in}
@@ -24,18 +24,18 @@ search_last_in x left before p e =
     ∙ ap (find x) (reverse-append (actions_in (map process_view before)) p.actions)
     ∙ find_append x (reverse p.actions) (reverse (actions_in (map process_view before)))
 
--- the last process has the action
-pub process_here : (x : Name) (all left before : List base_process.WrittenProcess) (p : base_process.WrittenProcess) (o : Option Tree) → left ≡ before ++ p ∷ []
-    → find x (reverse p.actions) ≡ o → is_some o ≡ true → search_in x all ≡ search_in x left → o ≡ search_in x all
-process_here x all left before p None is there some h = absurd (grind (arith, some))
-process_here x all left before p (Some e) is there some h = sym (h ∙ search_last_in x left before p is ∙ ap (λ o. or_that o (search_in x before)) there)
+-- one process more at the end, whose actions come before those that were found
+pub process_more : (x : Name) (left before : List base_process.WrittenProcess) (p : base_process.WrittenProcess) (old new : Option Tree) → left ≡ before ++ p ∷ []
+    → old ≡ search_in x before → new ≡ or_that (find x (reverse p.actions)) old → new ≡ search_in x left
+process_more x left before p old new is h g = g ∙ ap (or_that (find x (reverse p.actions))) h ∙ sym (search_last_in x left before p is)
 
--- it has it not
-pub process_before : (x : Name) (all left before : List base_process.WrittenProcess) (p : base_process.WrittenProcess) (o : Option Tree) → left ≡ before ++ p ∷ []
-    → find x (reverse p.actions) ≡ o → is_some o ≡ false → search_in x all ≡ search_in x left → search_in x all ≡ search_in x before
-process_before x all left before p None is there none h = h ∙ search_last_in x left before p is ∙ ap (λ o. or_that o (search_in x before)) there
-process_before x all left before p (Some e) is there none h = absurd (grind (arith, none))
-
-pub is_some-map : {A B : Type 0} (f : A → B) (o : Option A) → is_some (option_map f o) ≡ is_some o
-is_some-map f None = refl
-is_some-map f (Some a) = refl
+-- one action more at the end, whose body stands under its name from here on
+pub action_more : {A : Type 0} (old new : Option A) (v : A) (f : A → Tree) (x : Name) (before : List (Name × Tree)) (p : Name × Tree) (first : Option Tree) → f v ≡ p.1
+    → new ≡ cond (same_name x p.0) (Some v) old → option_map f old ≡ or_that (find x (reverse before)) first
+    → option_map f new ≡ or_that (find x (reverse (before ++ p ∷ []))) first
+action_more old new v f x before p first e g h =
+    ap (option_map f) g ∙ go (same_name x p.0) ∙ ap (λ ps. or_that (find x ps) first) (sym (reverse-append before (p ∷ [])))
+  where
+    go : (b : Bool) → option_map f (cond b (Some v) old) ≡ or_that (if b then Some p.1 else find x (reverse before)) first
+    go true = ap Some e
+    go false = h

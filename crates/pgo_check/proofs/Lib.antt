@@ -4,4 +4,7 @@ pub mod Places
 pub mod ActionNames
 pub mod AlikeScopes
 pub mod ConstantDefinitions
+pub mod WorkNodes
 pub mod Variables
+pub mod Kept
+pub mod Placing

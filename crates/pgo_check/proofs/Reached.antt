@@ -1,12 +1,12 @@
 -- The states that a log reaches, and its first entry that is no step.
 use Rattle.std.proofs.Common.{◌≡◌, ℕ, zero, suc, ◌<◌, ◌+◌, List, [], ◌∷◌, length, map, get_or, refl, ap, sym, ◌∙◌, add-one, subst, arith, below_more}
-use Rattle.std.specs.Prelude.{Option, Some, None, option_and_then}
+use Rattle.std.specs.Prelude.{Bool, true, false, if◌then◌else◌, Option, Some, None, option_and_then}
 use Rattle.pgo_base.specs.Data.{Data, string}
 use Rattle.pgo_base.specs.Lookup.{Name, Vars}
 use Rattle.pgo_base.specs.declared.log.Entry as base_entry
-use Rattle.pgo_model.specs.Acts.{Acts}
-use Rattle.pgo_model.specs.IsRun.{IsStep}
-use Rattle.pgo_model.specs.Log.{Effect, After, StateAt}
+use Rattle.pgo_model.specs.Acts.{Acts, Begins}
+use Rattle.pgo_model.specs.IsRun.{IsRun, IsStep}
+use Rattle.pgo_model.specs.Log.{Effect, After, StateAt, after_changes, are_in}
 use Rattle.pgo_model.specs.LogView.{entry_view}
 use Rattle.pgo_model.specs.Machine.{Entry, nth}
 use Rattle.pgo_model.specs.Module.{Module}
@@ -39,11 +39,22 @@ state_after s b (d ∷ l) (suc i) e h g = go (After s d.change) h (λ t k. state
     go None k ih = absurd (cc)
     go (Some t) k ih = ih t k
 
+-- a state that there is after an entry is that after its changes
+pub went : (s : Vars) (e : Effect) (t : Vars) → After s e ≡ Some t → after_changes e.changes s ≡ Some t
+went s e t h = go (are_in e.changes s) h
+  where
+    go : (b : Bool) → (if b then after_changes e.changes s else None) ≡ Some t → after_changes e.changes s ≡ Some t
+    go true k = k
+    go false k = absurd (cc)
+
 -- what stands in a place of a list of values
 pub id_at : (ids : List Value) (i : ℕ) (v : Value) → i < length ids → v ≡ get_or ids i v → nth (map data_of ids) i ≡ Some (data_of v)
 id_at [] i v h g = absurd (omega (arith, h))
 id_at (w ∷ ids) zero v h g = ap (λ x. Some (data_of x)) (sym g)
 id_at (w ∷ ids) (suc i) v h g = id_at ids i v (omega (arith, h)) g
+
+pub some_is : {A : Type 0} (x y : A) → Some x ≡ Some y → x ≡ y
+some_is x y k = cc
 
 -- the entry leads to t, where its action is TRUE and its instance stands at its next label
 pub one_step : (m : Module) (consts : List (Name × Data)) (ids : List Data) (s : Vars) (e : Entry Effect) (d : Data) (t : Vars) → nth ids e.instance ≡ Some d → After s e.change ≡ Some t → Acts m consts e.change.label d s t × (place_of d t ≡ Some (string e.change.next)) → Leads m consts ids s e t
@@ -64,9 +75,6 @@ no_step m consts ids s e d t h g a u l =
       subst (λ w. Acts m consts e.change.label d s w) v (subst (λ x. Acts m consts e.change.label x s u) i l.acts),
       subst (λ w. place_of d w ≡ Some (string e.change.next)) v (subst (λ x. place_of x u ≡ Some (string e.change.next)) i l.next),
     )
-  where
-    some_is : {A : Type 0} (x y : A) → Some x ≡ Some y → x ≡ y
-    some_is x y k = cc
 
 -- the start is reached by no entry
 pub start_reached : (m : Module) (consts : List (Name × Data)) (ids : List Data) (s : Vars) (l : List (Entry Effect)) → IsReached m consts ids s l 0 s
@@ -104,3 +112,8 @@ entry_at (d ∷ es) (suc i) e h g = entry_at es i e (omega (arith, h)) g
 -- where all entries are behind, each is a step
 pub all_steps : (m : Module) (consts : List (Name × Data)) (ids : List Data) (s t : Vars) (l : List (Entry Effect)) (n : ℕ) → IsReached m consts ids s l n t → n ≡ length l → Finds m consts ids s l None
 all_steps m consts ids s t l n r h p e g = let k = nth_below l p e g in r.steps p (omega (arith, k, h)) e g
+
+-- where the start is one and no entry is found that is no step, the log is a run: at the same module, constants, identifiers and entries
+pub is_run : (m n : Module) (consts others : List (Name × Data)) (ids js : List Data) (s : Vars) (l k : List (Entry Effect)) → n ≡ m → others ≡ consts → js ≡ ids → k ≡ l → Begins n others s → Finds n others js s k None → IsRun m consts ids s l
+is_run m n consts others ids js s l k e f g h b w =
+    subst (λ x. IsRun x consts ids s l) e (subst (λ x. IsRun n x ids s l) f (subst (λ x. IsRun n others x s l) g (subst (λ x. IsRun n others js s x) h (record { begins = b; steps = w }))))

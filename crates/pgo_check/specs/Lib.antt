@@ -1,3 +1,5 @@
 pub mod Verdict
 pub mod Assigned
 pub mod Constants
+pub mod Placed
+pub mod Looked

@@ -11,7 +11,8 @@ ghost use Rattle.pgo_check.specs.Verdict.{Decides, Finds};
 use crate::actions::begins;
 use crate::definitions::Assigned;
 use crate::errors::NoMemory;
-use crate::states::step;
+use crate::lookup::places_of;
+use crate::states::{Look, follow, step};
 use crate::verdict::{Verdict, Why};
 use pgo_base::consts::Consts;
 use pgo_base::log::{Entry, Log};
@@ -39,11 +40,22 @@ pub fn first_bad(
     ensures found { IfOk result (λ o. Finds (module_view m.now.module.now) m.now.consts.now (map data_of ids.now) start.now (map entry_view entries.now) o) }
     ensures within { IfOk result (λ o. IsPlaced o (length entries.now)) }
 {
+    let places = places_of(alloc, start)?;
+    let look = Look {
+        m,
+        defs: m.defs_in(start),
+        ids,
+        places: &places,
+    };
     let mut before = first_state(alloc, start)?;
+    let mut behind = before.copy(alloc)?;
     for (i, e) in entries.iter().enumerate() {
-        match step(alloc, m, ids, &before, e)? {
+        match step(alloc, &look, &before, behind, e)? {
             None => return Ok(Some(i)),
-            Some(next) => before = next,
+            Some(next) => {
+                before = follow(alloc, &places, before, e)?;
+                behind = next;
+            }
         }
     }
     Ok(None)

@@ -127,17 +127,14 @@ fn is_constant(alloc: Global, varying: &NameMap<()>, e: &Expr) -> Result<bool, A
 {
     let mut left = Vec::new(alloc);
     left.push(e)?;
-    for _ in 0..u64::MAX {
-        let Some(one) = left.pop() else {
-            return Ok(true);
-        };
+    while let Some(one) = left.pop() {
         if !is_fixed(varying, one) {
             return Ok(false);
         }
         let parts = operands(alloc, one)?;
         left.extend_from_slice(parts.as_slice())?;
     }
-    Ok(false)
+    Ok(true)
 }
 
 /// Whether an expression, apart from its operands, speaks of no state.

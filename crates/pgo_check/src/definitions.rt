@@ -1,22 +1,23 @@
 // The definitions that a module's expressions see: those of its lines, and those that its lines make.
-ghost use Rattle.std.specs.Prelude.{◌≡◌, [], ◌∷◌, ◌++◌, map, Option, IsTrue, IfOk};
+ghost use Rattle.std.specs.Prelude.{◌≡◌, [], ◌∷◌, ◌++◌, map, option_map, reverse, IsTrue, IfOk};
 ghost use Rattle.pgo_base.specs.Data.{model};
 ghost use Rattle.pgo_base.specs.View.{named_data};
 ghost use Rattle.pgo_base.specs.ActionView.{action_pair};
-ghost use Rattle.pgo_base.specs.Lookup.{Vars};
+ghost use Rattle.pgo_base.specs.Lookup.{Name, find, or_that};
+ghost use Rattle.pgo_base.specs.NameMaps.{found};
 ghost use Rattle.pgo_base.specs.Tree as tree;
 ghost use Rattle.pgo_model.specs.Val as val;
-ghost use Rattle.pgo_model.specs.Val.{meanings};
 ghost use Rattle.pgo_model.specs.Module as specs;
 ghost use Rattle.pgo_model.specs.ModuleView.{defined_view, process_view, module_view};
 ghost use Rattle.pgo_model.specs.Written.{self_name, default_init_value, proc_set};
-ghost use Rattle.pgo_check.specs.Assigned.{HasVariablesOf, SeesItsDefinitions};
+ghost use Rattle.pgo_check.specs.Assigned.{AreSeenFrom, HasVariablesOf, SeesItsDefinitions};
 
 use crate::constants::constants_by_value;
 use crate::used::used_in;
 use pgo_base::consts::Consts;
 use pgo_base::expr::{Binders, Expr, Exprs, Infix, Names, Quantifier, Sub};
 use pgo_base::module::{Action, Defined, Defs, Module, WrittenProcess};
+use pgo_base::name_map::NameMap;
 use pgo_base::scope::State;
 use pgo_base::text::Text;
 use pgo_base::value::Value;
@@ -24,13 +25,29 @@ use std::alloc::{AllocError, Global};
 
 /// A module whose constants have values, and the state before the first entry, with the definitions that the module's expressions see:
 /// as they are written, and others that mean the same in states with the start's variables, of which some are given by their values.
-#[derive(Drop)]
+/// Beside them there are the body of the last action of each name, and the name `self`.
 pub struct Assigned<'a> {
     pub module: &'a Module,
     pub consts: &'a Consts,
     pub start: &'a State,
     pub written: Defs,
     pub by_value: Defs,
+    pub bodies: NameMap<&'a Sub>,
+    pub self_name: Text,
+}
+
+impl Drop for Assigned<'_> {
+    fn drop(self) {
+        let Assigned {
+            module,
+            consts,
+            start,
+            written,
+            by_value,
+            bodies,
+            self_name,
+        } = self;
+    }
 }
 
 impl<'a> Assigned<'a> {
@@ -49,19 +66,23 @@ impl<'a> Assigned<'a> {
         let written = definitions(alloc, &*m, &*consts)?;
         let used = used_in(alloc, &*m, written.as_slice())?;
         let by_value = constants_by_value(alloc, &written, &*start, used)?;
+        let bodies = bodies_of(alloc, m.processes.as_slice())?;
+        let self_name = self_text(alloc)?;
         Ok(Assigned {
             module: m,
             consts,
             start,
             written,
             by_value,
+            bodies,
+            self_name,
         })
     }
 
-    /// The definitions that mean in this state what the module's expressions see.
+    /// The definitions that mean what the module's expressions see, in this state and in each that has no other variables.
     pub fn defs_in(&self, s: &State) -> &Defs
         requires { SeesItsDefinitions self.now }
-        ensures { (next : Option Vars) → meanings (map defined_view result.now) s.now next ≡ meanings (specs.defs_of (module_view self.now.module.now) self.now.consts.now) s.now next }
+        ensures { AreSeenFrom self.now s.now (map defined_view result.now) }
     {
         if have_same_names(self.start.as_slice(), s.as_slice()) {
             &self.by_value
@@ -69,6 +90,34 @@ impl<'a> Assigned<'a> {
             &self.written
         }
     }
+}
+
+/// The body of the last action of each name.
+fn bodies_of<'a>(
+    alloc: Global,
+    processes: &'a [WrittenProcess],
+) -> Result<NameMap<&'a Sub>, AllocError>
+    ensures { IfOk result (λ bodies. (x : Name) → option_map (λ r. r.now) (found bodies x) ≡ find x (reverse (specs.actions_in (map process_view processes.now)))) }
+{
+    let mut bodies = NameMap::new(alloc);
+    for p in processes {
+        add_bodies(alloc, &mut bodies, p.actions.as_slice())?;
+    }
+    Ok(bodies)
+}
+
+/// The bodies of these actions under their names, each in place of what stood there.
+fn add_bodies<'a>(
+    alloc: Global,
+    bodies: &mut NameMap<&'a Sub>,
+    actions: &'a [Action],
+) -> Result<(), AllocError>
+    ensures { IfOk result (λ _. (x : Name) → option_map (λ r. r.now) (found bodies.new x) ≡ or_that (find x (reverse (map action_pair actions.now))) (option_map (λ r. r.now) (found bodies.old x))) }
+{
+    for a in actions {
+        bodies.set(alloc, &a.name, &a.body)?;
+    }
+    Ok(())
 }
 
 /// Whether these have the same names, one after another.
@@ -125,11 +174,18 @@ fn add_of_self(alloc: Global, defs: &mut Defs, name: &Text, body: Sub) -> Result
     })
 }
 
+/// The name `self`.
+fn self_text(alloc: Global) -> Result<Text, AllocError>
+    ensures { IfOk result (λ t. t ≡ self_name) }
+{
+    Text::from_slice(alloc, b"self")
+}
+
 /// The name `self` alone.
 fn self_names(alloc: Global) -> Result<Names, AllocError>
     ensures { IfOk result (λ ns. ns ≡ self_name ∷ []) }
 {
-    let name = Text::from_slice(alloc, b"self")?;
+    let name = self_text(alloc)?;
     Ok(Names::from_vec(vec![in alloc; name]?))
 }
 

@@ -6,6 +6,7 @@ pub mod checker;
 mod constants;
 pub mod definitions;
 pub mod errors;
+pub mod lookup;
 pub mod states;
 mod used;
 pub mod verdict;

@@ -1,23 +1,28 @@
 // The state that an entry of a log leads to.
-ghost use Rattle.std.specs.Prelude.{◌≡◌, ◌↔◌, if◌then◌else◌, IsTrue, map, Some, None, option_map, IfOk};
+ghost use Rattle.std.specs.Prelude.{◌≡◌, ◌↔◌, IsTrue, map, Some, None, option_map, IfOk};
 ghost use Rattle.pgo_base.specs.View.{data_of};
 ghost use Rattle.pgo_base.specs.Data.{function, pairs, string};
 ghost use Rattle.pgo_model.specs.Acts.{Acts};
 ghost use Rattle.pgo_model.specs.Variables.{place_of};
-ghost use Rattle.pgo_model.specs.Log.{after_changes, are_in, changed, is_in, with_part};
+ghost use Rattle.pgo_base.specs.Lookup.{Vars};
+ghost use Rattle.pgo_model.specs.Log.{After, after_changes, are_in, changed, is_in, with_part};
 ghost use Rattle.pgo_model.specs.LogView.{change_view, component_view, entry_view};
 ghost use Rattle.pgo_model.specs.ModuleView.{module_view};
 ghost use Rattle.pgo_model.specs.Options.{on};
-ghost use Rattle.pgo_check.specs.Assigned.{SeesItsDefinitions};
+ghost use Rattle.pgo_check.specs.Looked.{Fits};
+ghost use Rattle.pgo_check.specs.Placed.{ArePlaces, ArePlacesIfAny};
 ghost use Rattle.pgo_model.specs.Steps.{LeadsTo};
 
 use crate::actions::acts;
 use crate::definitions::Assigned;
+use crate::lookup::{place, value_of};
 use pgo_base::log::{Change, Component, Entry};
+use pgo_base::module::Defs;
+use pgo_base::name_map::NameMap;
 use pgo_base::scope::State;
 use pgo_base::text::Text;
 use pgo_base::value::{Fun, Value};
-use pgo_sets::lookup::{key_place, place_in, value_at};
+use pgo_sets::lookup::{at, key_place, value_at};
 use std::alloc::{AllocError, Global};
 
 /// A function with another value at an index in its domain. Where nothing else owns its pairs they are changed in place.
@@ -55,8 +60,21 @@ fn new_value(old: Value, index: &Option<Value>, value: Value) -> Result<Option<V
 pub fn changed(alloc: Global, state: State, change: &Change) -> Result<Option<State>, AllocError>
     ensures { IfOk result (λ o. o ≡ changed (change_view change.now) state) }
 {
+    changed_at(alloc, None, state, change)
+}
+
+/// The same by the places of the variables, where they are given.
+fn changed_at(
+    alloc: Global,
+    places: Option<&NameMap<usize>>,
+    state: State,
+    change: &Change,
+) -> Result<Option<State>, AllocError>
+    requires { ArePlacesIfAny state places }
+    ensures { IfOk result (λ o. o ≡ changed (change_view change.now) state) }
+{
     let mut state = state;
-    let Some(i) = place_in(&change.component.variable, state.as_slice()) else {
+    let Some(i) = place(places, &change.component.variable, &state) else {
         return Ok(None);
     };
     let value = change.value.copy(alloc)?;
@@ -71,10 +89,11 @@ pub fn changed(alloc: Global, state: State, change: &Change) -> Result<Option<St
 }
 
 /// Whether a component is in a state.
-fn is_in(component: &Component, s: &State) -> bool
+fn is_in(places: Option<&NameMap<usize>>, component: &Component, s: &State) -> bool
+    requires { ArePlacesIfAny s.now places }
     ensures { result ≡ is_in (component_view component.now) s.now }
 {
-    let Some(v) = s.find(&component.variable) else {
+    let Some(v) = value_of(places, &component.variable, s) else {
         return false;
     };
     let Some(index) = &component.index else {
@@ -90,8 +109,16 @@ fn is_in(component: &Component, s: &State) -> bool
 pub fn are_in(changes: &[Change], s: &State) -> bool
     ensures { result ≡ are_in (map change_view changes.now) s.now }
 {
+    are_in_at(None, changes, s)
+}
+
+/// The same by the places of the variables, where they are given.
+fn are_in_at(places: Option<&NameMap<usize>>, changes: &[Change], s: &State) -> bool
+    requires { ArePlacesIfAny s.now places }
+    ensures { result ≡ are_in (map change_view changes.now) s.now }
+{
     for c in changes {
-        if !is_in(&c.component, s) {
+        if !is_in(places, &c.component, s) {
             return false;
         }
     }
@@ -99,12 +126,18 @@ pub fn are_in(changes: &[Change], s: &State) -> bool
 }
 
 /// The state with these changes put in one after another, where each finds its component.
-fn after_changes(alloc: Global, s: &State, changes: &[Change]) -> Result<Option<State>, AllocError>
-    ensures { IfOk result (λ o. o ≡ after_changes (map change_view changes.now) s.now) }
+fn after_changes(
+    alloc: Global,
+    places: &NameMap<usize>,
+    before: State,
+    changes: &[Change],
+) -> Result<Option<State>, AllocError>
+    requires { ArePlaces before places.now }
+    ensures { IfOk result (λ o. o ≡ after_changes (map change_view changes.now) before) }
 {
-    let mut state = s.copy(alloc)?;
+    let mut state = before;
     for c in changes {
-        match changed(alloc, state, c)? {
+        match changed_at(alloc, Some(places), state, c)? {
             None => return Ok(None),
             Some(next) => state = next,
         }
@@ -112,27 +145,48 @@ fn after_changes(alloc: Global, s: &State, changes: &[Change]) -> Result<Option<
     Ok(Some(state))
 }
 
-/// The state after these changes, where each changed component is in the state before them.
-pub fn after(alloc: Global, s: &State, changes: &[Change]) -> Result<Option<State>, AllocError>
-    ensures { IfOk result (λ o. o ≡ if are_in (map change_view changes.now) s.now then after_changes (map change_view changes.now) s.now else None) }
+/// The state after an entry, made in place of the state before it; none where a changed component isn't in that one.
+pub fn after(
+    alloc: Global,
+    places: &NameMap<usize>,
+    before: State,
+    e: &Entry,
+) -> Result<Option<State>, AllocError>
+    requires { ArePlaces before places.now }
+    ensures { IfOk result (λ o. o ≡ After before (entry_view e.now).change) }
 {
-    if !are_in(changes, s) {
+    let changes = e.changes.as_slice();
+    if !are_in_at(Some(places), changes, &before) {
         return Ok(None);
     }
-    after_changes(alloc, s, changes)
+    after_changes(alloc, places, before, changes)
+}
+
+/// The state after an entry of which it is known that there is one, made in place of the state before it.
+pub(crate) fn follow(
+    alloc: Global,
+    places: &NameMap<usize>,
+    before: State,
+    e: &Entry,
+) -> Result<State, AllocError>
+    requires placed { ArePlaces before places.now }
+    requires there { (t : Vars) × (After before (entry_view e.now).change ≡ Some t) }
+    ensures { IfOk result (λ s. After before (entry_view e.now).change ≡ Some s) }
+{
+    let found = after_changes(alloc, places, before, e.changes.as_slice())?;
+    match found {
+        Some(next) => Ok(next),
+        None => unreachable!(),
+    }
 }
 
 /// Where the instance with this identifier stands.
-fn place_of<'a>(alloc: Global, id: &Value, s: &'a State) -> Result<Option<&'a Value>, AllocError>
-    ensures { IfOk result (λ o. option_map (λ r. data_of r.now) o ≡ place_of (data_of id.now) s.now) }
+fn place_of<'a>(id: &Value, s: &'a State) -> Option<&'a Value>
+    ensures { option_map (λ r. data_of r.now) result ≡ place_of (data_of id.now) s.now }
 {
-    let pc = Text::from_slice(alloc, b"pc")?;
-    let Some(f) = s.find(&pc) else {
-        return Ok(None);
-    };
-    match f {
-        Value::Fun(f) => Ok(value_at(f, id)),
-        _ => Ok(None),
+    match s.find_bytes(b"pc") {
+        Some(f) => at(f, id),
+        None => None,
     }
 }
 
@@ -149,43 +203,55 @@ fn is_string(v: Option<&Value>, text: &Text) -> bool
     }
 }
 
+/// What each entry of a log is checked against, found once for all of them: a module, the definitions that its expressions see, the
+/// identifiers by the instances' numbers, and the places of the variables.
+#[derive(Clone, Copy)]
+pub(crate) struct Look<'a, 'm> {
+    pub m: &'a Assigned<'m>,
+    pub defs: &'a Defs,
+    pub ids: &'a [Value],
+    pub places: &'a NameMap<usize>,
+}
+
 /// Whether an entry's action is TRUE of a pair of states, and its instance stands at the entry's next label then.
 fn is_step<'a>(
     alloc: Global,
-    m: &Assigned<'_>,
+    look: &Look<'_, '_>,
     id: &Value,
     s: &'a State,
     e: &Entry,
     t: &'a State,
 ) -> Result<bool, AllocError>
-    requires { SeesItsDefinitions m.now }
-    ensures { IfOk result (λ b. IsTrue b ↔ (Acts (module_view m.now.module.now) m.now.consts.now e.now.label (data_of id.now) s.now t.now × place_of (data_of id.now) t.now ≡ Some (string e.now.next))) }
+    requires { Fits look.now s.now }
+    ensures { IfOk result (λ b. IsTrue b ↔ (Acts (module_view look.now.m.now.module.now) look.now.m.now.consts.now e.now.label (data_of id.now) s.now t.now × place_of (data_of id.now) t.now ≡ Some (string e.now.next))) }
 {
-    if !acts(alloc, m, &e.label, id, s, t)? {
+    if !acts(alloc, look.m, look.defs, &e.label, id, s, t)? {
         return Ok(false);
     }
-    let place = place_of(alloc, id, t)?;
+    let place = place_of(id, t);
     Ok(is_string(place, &e.next))
 }
 
-/// The state that an entry leads to, where the entry is a step from this state.
-pub fn step(
+/// The state that an entry leads to, where the entry is a step from this state. It is made in place of `again`, which is this
+/// state too.
+pub(crate) fn step(
     alloc: Global,
-    m: &Assigned<'_>,
-    ids: &[Value],
+    look: &Look<'_, '_>,
     s: &State,
+    again: State,
     e: &Entry,
 ) -> Result<Option<State>, AllocError>
-    requires { SeesItsDefinitions m.now }
-    ensures { IfOk result (λ o. LeadsTo (module_view m.now.module.now) m.now.consts.now (map data_of ids.now) s.now (entry_view e.now) o) }
+    requires fits { Fits look.now s.now }
+    requires same { again ≡ s.now }
+    ensures { IfOk result (λ o. LeadsTo (module_view look.now.m.now.module.now) look.now.m.now.consts.now (map data_of look.now.ids.now) s.now (entry_view e.now) o) }
 {
-    let Some(id) = ids.get(e.instance as usize) else {
+    let Some(id) = look.ids.get(e.instance as usize) else {
         return Ok(None);
     };
-    let Some(t) = after(alloc, s, e.changes.as_slice())? else {
+    let Some(t) = after(alloc, look.places, again, e)? else {
         return Ok(None);
     };
-    if is_step(alloc, m, id, &*s, e, &t)? {
+    if is_step(alloc, look, id, &*s, e, &t)? {
         Ok(Some(t))
     } else {
         Ok(None)

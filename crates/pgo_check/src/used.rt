@@ -34,10 +34,7 @@ fn add_action_names(
 fn add_names(alloc: Global, names: &mut NameMap<()>, e: &Expr) -> Result<(), AllocError> {
     let mut left = Vec::new(alloc);
     left.push(e)?;
-    for _ in 0..u64::MAX {
-        let Some(one) = left.pop() else {
-            return Ok(());
-        };
+    while let Some(one) = left.pop() {
         add_name(alloc, names, one)?;
         let parts = operands(alloc, one)?;
         left.extend_from_slice(parts.as_slice())?;

@@ -1,12 +1,15 @@
 // The parts of a log, and the state before each.
 ghost use Rattle.std.specs.Prelude.{◌≡◌, ◌≤◌, ◌<◌, ◌-◌, length, map, take, drop, IfOk};
-ghost use Rattle.pgo_model.specs.Log.{After, StateAt, after_changes};
-ghost use Rattle.pgo_model.specs.LogView.{change_view, entry_view};
+ghost use Rattle.pgo_model.specs.Log.{StateAt};
+ghost use Rattle.pgo_model.specs.LogView.{entry_view};
+ghost use Rattle.pgo_check.specs.Placed.{ArePlaces};
 ghost use Rattle.pgo_check_par.specs.Parts.{AreParts};
 
-use pgo_base::log::{Change, Entry};
+use pgo_base::log::Entry;
+use pgo_base::name_map::NameMap;
 use pgo_base::scope::State;
-use pgo_check::states::{are_in, changed};
+use pgo_check::lookup::places_of;
+use pgo_check::states::after;
 use std::alloc::{AllocError, Global};
 
 /// The entries of a log at the places from `from` up to `to`, counted from 0, and the state before them.
@@ -34,46 +37,19 @@ pub fn between(entries: &[Entry], from: usize, to: usize) -> &[Entry]
     &entries[from..to]
 }
 
-/// The state with these changes put in one after another, where each finds its component.
-fn with_changes(
-    alloc: Global,
-    before: State,
-    changes: &[Change],
-) -> Result<Option<State>, AllocError>
-    ensures { IfOk result (λ o. o ≡ after_changes (map change_view changes.now) before) }
-{
-    let mut state = before;
-    for c in changes {
-        match changed(alloc, state, c)? {
-            None => return Ok(None),
-            Some(next) => state = next,
-        }
-    }
-    Ok(Some(state))
-}
-
-/// The state after an entry, made from the state before it.
-fn after(alloc: Global, before: State, e: &Entry) -> Result<Option<State>, AllocError>
-    ensures { IfOk result (λ o. o ≡ After before (entry_view e.now).change) }
-{
-    let changes = e.changes.as_slice();
-    if !are_in(changes, &before) {
-        return Ok(None);
-    }
-    with_changes(alloc, before, changes)
-}
-
 /// The state behind all these entries.
 fn state_behind(
     alloc: Global,
+    places: &NameMap<usize>,
     before: State,
     entries: &[Entry],
 ) -> Result<Option<State>, AllocError>
+    requires { ArePlaces before places.now }
     ensures { IfOk result (λ o. o ≡ StateAt before (map entry_view entries.now) (length entries.now)) }
 {
     let mut state = before;
     for e in entries {
-        match after(alloc, state, e)? {
+        match after(alloc, places, state, e)? {
             None => return Ok(None),
             Some(next) => state = next,
         }
@@ -93,6 +69,7 @@ pub fn parts_of(
     ensures { IfOk result (λ v. AreParts start.now (map entry_view entries.now) v.items) }
 {
     let mut parts = Vec::new(alloc);
+    let places = places_of(alloc, start)?;
     let mut before = start.copy(alloc)?;
     let mut from = 0;
     while from < entries.len() {
@@ -102,7 +79,7 @@ pub fn parts_of(
             from,
             to,
         })?;
-        let behind = state_behind(alloc, before, between(entries, from, to))?;
+        let behind = state_behind(alloc, &places, before, between(entries, from, to))?;
         from = to;
         match behind {
             None => return Ok(parts),

@@ -13,7 +13,7 @@ returns-in-Fun c =
     let x = component_view c.args.component.now in
     let i = data_of c.in-Some-index.index in
     let found : find x.variable c.args.s.now ≡ Some (function (pairs c.in-Fun.f)) =
-    sym c.find.ensures ∙ ap (option_map (λ r. data_of r.now)) c.in-Some.is ∙ ap (λ v. Some (data_of v)) c.in-Fun.is in
+    sym c.value_of.ensures ∙ ap (option_map (λ r. data_of r.now)) c.in-Some.is ∙ ap (λ v. Some (data_of v)) c.in-Fun.is in
     let there : option_map (λ r. data_of r.now) c.value_at.result ≡ lookup i c.in-Fun.f = c.value_at.ensures in
     c.is_some.ensures ∙ is_some_of c.value_at.result (λ r. data_of r.now) (lookup i c.in-Fun.f) there
     ∙ ap is_some (sym (content_at x c.args.s.now i c.in-Fun.f (ap (option_map data_of) c.in-Some-index.is) found))

@@ -1,14 +1,10 @@
-use Rattle.std.proofs.Common.{◌≡◌, ap, sym, ◌∙◌}
-use Rattle.std.specs.Prelude.{Some}
-use Rattle.pgo_base.specs.Data.{function, pairs}
-use Rattle.pgo_base.specs.Lookup.{find}
+use Rattle.std.proofs.Common.{sym, ◌∙◌}
 use Rattle.pgo_base.specs.View.{data_of}
-use Rattle.pgo_model.specs.Written.{pc}
-use Rattle.pgo_check.proofs.Places.{place_is}
+use Rattle.pgo_check.proofs.Places.{place_is, place_none}
 use Rattle.pgo_check.proofs.states.place_of.Goals as goal
 
-pub returns-in-Fun : goal.returns-in-Fun
-returns-in-Fun c =
-    let found : find pc c.args.s.now ≡ Some (function (pairs c.in-Fun.f)) =
-    ap (λ x. find x c.args.s.now) (sym c.in_ok-pc.ensures) ∙ sym c.in-Some.ensures ∙ ap (λ v. Some (data_of v)) c.in-Fun.is in
-    c.value_at.ensures ∙ sym (place_is (data_of c.args.id.now) c.in-Fun.f c.args.s.now found)
+pub returns-in-Some : goal.returns-in-Some
+returns-in-Some c = c.at.ensures ∙ sym (place_is (data_of c.args.id.now) (data_of c.in-Some.f.now) c.args.s.now (sym c.in-Some.ensures))
+
+pub returns-in-None : goal.returns-in-None
+returns-in-None c = sym (place_none (data_of c.args.id.now) c.args.s.now (sym c.in-None.ensures))

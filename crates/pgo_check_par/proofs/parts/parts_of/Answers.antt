@@ -3,9 +3,17 @@ use Rattle.std.proofs.Common.{◌≤◌, ◌∙◌, List, Some, inr, length, map
 use Rattle.pgo_base.specs.declared.log.Entry as memory
 use Rattle.pgo_model.specs.Log.{StateAt}
 use Rattle.pgo_model.specs.LogView.{entry_view}
+use Rattle.pgo_check.proofs.Kept.{reached_alike}
+use Rattle.pgo_check.proofs.Placing.{places_kept}
 use Rattle.pgo_check_par.specs.Parts.{Follow}
 use Rattle.pgo_check_par.proofs.Joins.{behind_part, follow_more}
 use Rattle.pgo_check_par.proofs.parts.parts_of.Goals as goal
+
+pub state_behind-requires : goal.state_behind-requires
+state_behind-requires c =
+    let s = c.args.start.now in
+    let before = c.loop-from.before in
+    places_kept c.in_ok-places.places s before (reached_alike c.loop-from.from (map entry_view c.args.entries.now) s before c.loop-from.invariant.before_is) c.in_ok-places.ensures
 
 pub returns-in-None : goal.returns-in-None
 returns-in-None c =
