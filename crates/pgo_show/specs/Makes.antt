@@ -1,5 +1,5 @@
 -- What is made of the input, and why nothing is.
-use Rattle.std.specs.Prelude.{◌≡◌, ◌≤◌, ◌<◌, ◌⊎◌, ℕ, List, [], ◌++◌, length, codes, decimal, Option, Some, None, option_map, IfSome, Result, Ok, Err}
+use Rattle.std.specs.Prelude.{◌≡◌, ◌≤◌, ◌<◌, ◌⊎◌, ℕ, List, [], ◌++◌, length, codes, decimal, Option, Some, None, IfSome, Result, Ok, Err}
 use Rattle.std.specs.Global.{Vec}
 use Rattle.pgo_io.specs.Faults.{Rose}
 use Rattle.pgo_io.specs.Sink.{Grows, GrowsByPrefix}

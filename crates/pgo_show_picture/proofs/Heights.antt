@@ -1,6 +1,6 @@
 -- A product of bounded numbers.
-use Rattle.std.proofs.Common.{◌≡◌, ◌≤◌, ℕ, ◌*◌, arith}
-use Rattle.std.proofs.Math.Nat.{mul-le-mul_left, mul-le-mul_right}
+use Rattle.std.proofs.Common.{◌≤◌, ℕ, ◌*◌, arith}
+use Rattle.std.proofs.Math.Nat.{mul-le-mul_right}
 
 pub bounded : (h b : ℕ) → h ≤ 44000030 → b ≤ 1000000 → h * b ≤ 44000030000000
 bounded h b p q =

@@ -1,11 +1,11 @@
 -- The picture of a bundle: a function of its log.
-use Rattle.std.specs.Prelude.{ℕ, zero, suc, if◌then◌else◌, min, max, ◌+◌, ◌-◌, List, [], ◌∷◌, ◌++◌, length, map, codes, decimal, Option, Some, None}
+use Rattle.std.specs.Prelude.{ℕ, zero, suc, if◌then◌else◌, max, ◌+◌, ◌-◌, List, [], ◌∷◌, ◌++◌, length, map, codes, decimal, Option, Some, None}
 use Rattle.pgo_model.specs.ModuleText.{Line, line, flatten}
 use Rattle.pgo_bundle.specs.Accounts.{AttemptLine, StepLine, NoteLine, HeldLine, HeldLogLine, DownLine, FullLine, Account}
 use Rattle.pgo_bundle.specs.BundleLog.{LoggedEntry, BundleLog}
 use Rattle.pgo_model.specs.Core.{End}
 use Rattle.pgo_show_picture.specs.declared.layout.Size.{Size}
-use Rattle.pgo_show_picture.specs.Layout.{within, has_labels, band_of, across, across_entry, right_end, lane_in, down}
+use Rattle.pgo_show_picture.specs.Layout.{has_labels, band_of, across, across_entry, right_end, lane_in, down}
 use Rattle.pgo_show_picture.specs.Marks.{note_shape, stands_behind, is_again, label_behind, ending_text, escaped}
 
 -- the pieces one behind the other, as a line

@@ -1,4 +1,7 @@
+mod Likeness
+mod Counted
 mod Lists
 mod Heads
 mod States
 mod Instances
+mod Walks

@@ -12,7 +12,6 @@ use Rattle.pgo_model.specs.Variables.{place_of}
 use Rattle.pgo_model.specs.Written.{pc}
 use Rattle.pgo_operands.specs.Mentions.{mentions}
 use Rattle.pgo_bundle.specs.Accounts.{AttemptLine, StepLine, NoteLine, HeldLine, HeldLogLine, DownLine, FullLine, Account}
-use Rattle.pgo_bundle.specs.View.{attempt_view}
 use Rattle.pgo_show_text.specs.declared.counts.Test.{Test}
 use Rattle.pgo_show_text.specs.declared.counts.Test.TheVariants as tests
 
@@ -143,7 +142,6 @@ abbrev pub passes : Test → (AttemptLine → Bool)
 passes tests.Step = is_step
 passes tests.Blocked = is_blocked
 passes tests.Refused = is_refused
-passes (tests.Alike b) = is_alike (attempt_view b.now)
 
 -- how many of them pass a test
 unfoldable pub count_by : (AttemptLine → Bool) → List AttemptLine → ℕ

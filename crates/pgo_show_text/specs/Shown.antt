@@ -3,12 +3,11 @@ use Rattle.std.specs.Prelude.{ℕ, suc, if◌then◌else◌, List, [], ◌∷◌
 use Rattle.pgo_base.specs.Data.{Data}
 use Rattle.pgo_base.specs.Lookup.{Name, Vars}
 use Rattle.pgo_base.specs.Tree.{Tree}
-use Rattle.pgo_model.specs.Log.{Log}
 use Rattle.pgo_model.specs.Module.{Module}
 use Rattle.pgo_model.specs.ModuleText.{Line, line, flatten, action_lines}
 use Rattle.pgo_model.specs.ValueText.{value_text}
 use Rattle.pgo_bundle.specs.Accounts.{AttemptLine, Account}
-use Rattle.pgo_bundle.specs.BundleLog.{BundleLog, checked_log}
+use Rattle.pgo_bundle.specs.BundleLog.{Version, BundleLog, checked_log}
 use Rattle.pgo_show_text.specs.Facts.{last_state, label_at, process_of, action_at, is_shown, blocked_in, count_by, is_step, is_blocked, is_refused, is_alike, causes, at_end, last_of, all_attempts}
 use Rattle.pgo_show_text.specs.Phrases.{status_text, label_text, ending_text, cause_text, report_text}
 
@@ -78,29 +77,30 @@ abbrev pub with_stuck : Module → Name → AttemptLine → Option Vars → List
 with_stuck m l a s ls = if is_step a then ls else with_cause l (action_at l m.processes) s ls
 
 -- what the last attempt came to, and how many at the end came to the same
-abbrev pub last_line : List AttemptLine → AttemptLine → Line
-last_line as' a = joined (codes "  last " ∷ decimal (at_end a as') ∷ codes ": " ∷ report_text a ∷ [])
+abbrev pub last_line : Version → List AttemptLine → AttemptLine → Line
+last_line v as' a = joined (codes "  last " ∷ decimal (at_end a as') ∷ codes ": " ∷ report_text v a ∷ [])
 
-abbrev pub with_last : Module → Name → List AttemptLine → Option AttemptLine → Option Vars → List Line → List Line
-with_last m l as' None s ls = ls
-with_last m l as' (Some a) s ls = with_stuck m l a s (ls ++ last_line as' a ∷ [])
+abbrev pub with_last : Module → Version → Name → List AttemptLine → Option AttemptLine → Option Vars → List Line → List Line
+with_last m v l as' None s ls = ls
+with_last m v l as' (Some a) s ls = with_stuck m l a s (ls ++ last_line v as' a ∷ [])
 
 -- behind these lines those of an account, of an instance that stands at this label, and whose last attempt was blocked in this state
-abbrev pub with_account : Module → Name → Option Vars → Account → List Line → List Line
-with_account m l s a ls =
-    with_last m l a.attempts (last_of a.attempts) s
+abbrev pub with_account : Module → Version → Name → Option Vars → Account → List Line → List Line
+with_account m v l s a ls =
+    with_last m v l a.attempts (last_of a.attempts) s
     (((ls ++ place_line l a ∷ []) ++ counts_line a.attempts ∷ []) ++ map (cause_line a.attempts) (causes [] a.attempts))
 
 -- behind these lines those of instance k
-abbrev pub with_instance : Module → Log → ℕ → Account → List Line → List Line
+abbrev pub with_instance : Module → BundleLog → ℕ → Account → List Line → List Line
 with_instance m l k a ls =
-    with_account m (label_at a.id (last_state l)) (blocked_in l (last_of a.attempts)) a (ls ++ name_line k (process_of m l.start a.id) a.id ∷ [])
+    with_account m l.version (label_at a.id (last_state (checked_log l))) (blocked_in (checked_log l) (last_of a.attempts)) a
+    (ls ++ name_line k (process_of m l.start a.id) a.id ∷ [])
 
 -- those of the instances from k on
-unfoldable pub with_instances : Module → Log → ℕ → List Account → List Line → List Line
+unfoldable pub with_instances : Module → BundleLog → ℕ → List Account → List Line → List Line
 with_instances m l k [] ls = ls
 with_instances m l k (a ∷ as') ls = with_instances m l (suc k) as' (with_instance m l k a ls)
 
 -- the whole text: a line on the whole, and the lines of each instance
 abbrev pub shown_lines : Module → BundleLog → List Line
-shown_lines m l = with_instances m (checked_log l) 0 l.accounts (whole_line l ∷ [])
+shown_lines m l = with_instances m l 0 l.accounts (whole_line l ∷ [])

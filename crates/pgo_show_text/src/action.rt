@@ -1,59 +1,15 @@
 // An action, line for line as the module has it.
-ghost use Rattle.std.specs.Prelude.{◌≡◌, ◌∷◌, ◌++◌, [], true, codes, map, option_map, IfOk};
-ghost use Rattle.pgo_base.specs.ExprView.{tree};
-ghost use Rattle.pgo_base.specs.Tree.{binary};
+ghost use Rattle.std.specs.Prelude.{◌≡◌, ◌∷◌, ◌++◌, [], true, codes, map, IfOk};
 ghost use Rattle.pgo_model.specs.ExprText.{expr_text};
 ghost use Rattle.pgo_model.specs.ModuleText as text;
-ghost use Rattle.pgo_module_write.specs.Conjuncts as conjunction;
 ghost use Rattle.pgo_show_text.specs.Shown as spec;
 
 use crate::texts::body_text;
-use pgo_base::expr::{Expr, Infix, Sub};
+use pgo_base::expr::Sub;
 use pgo_lines::line::Lines;
 use pgo_lines::line::Piece::Bytes;
+use pgo_module_write::conjuncts::conjuncts;
 use std::alloc::{AllocError, Global};
-
-/// The sides, where the operator is `/\`.
-fn sides_with<'a>(o: Infix, a: &'a Sub, b: &'a Sub) -> Option<(&'a Sub, &'a Sub)>
-    ensures { option_map (λ p. (p.0.now, p.1.now)) result ≡ conjunction.sides (binary o a.now b.now) }
-{
-    match o {
-        Infix::And => Some((a, b)),
-        _ => None,
-    }
-}
-
-/// The two sides of a conjunction.
-fn sides(e: &Expr) -> Option<(&Sub, &Sub)>
-    ensures { option_map (λ p. (p.0.now, p.1.now)) result ≡ conjunction.sides (tree e.now) }
-{
-    match e {
-        Expr::Infix(o, a, b) => sides_with(*o, a, b),
-        _ => None,
-    }
-}
-
-/// The items of a conjunction along its left side.
-fn conjuncts(alloc: Global, e: &Sub) -> Result<Vec<&Sub>, AllocError>
-    ensures { IfOk result (λ v. map (λ r. r.now) v.items ≡ text.conjuncts e.now []) }
-{
-    let mut left = e;
-    let mut items = Vec::new(alloc);
-    for _ in 0..u64::MAX {
-        match sides(left.get()) {
-            Some((a, b)) => {
-                items.push(b)?;
-                left = a;
-            }
-            None => {
-                items.push(left)?;
-                items.reverse();
-                return Ok(items);
-            }
-        }
-    }
-    Err(AllocError)
-}
 
 /// The line of an action of one item.
 #[tactic(auto, using(crate::proofs::Heads::only_line))]
@@ -126,6 +82,7 @@ pub fn push_action(
 ) -> Result<(), AllocError>
     ensures { IfOk result (λ _. lines.new ≡ spec.with_action label.now action.now lines.old) }
 {
-    let items = conjuncts(alloc, action)?;
+    let mut items = conjuncts(alloc, action)?;
+    items.reverse();
     push_body(lines, alloc, label, items.as_slice())
 }

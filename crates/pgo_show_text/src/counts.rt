@@ -8,33 +8,30 @@ use pgo_bundle::log::{Account, Attempt};
 
 /// Which attempts are counted.
 #[derive(Clone, Copy)]
-pub enum Test<'one> {
+pub enum Test {
     /// Those that are entries.
     Step,
     /// Those that were blocked.
     Blocked,
     /// Those that were refused.
     Refused,
-    /// Those that came to the same as this one.
-    Alike(&'one Attempt),
 }
 
 /// Whether an attempt is counted.
-fn passes(test: Test<'_>, attempt: &Attempt) -> bool
-    ensures { result ≡ spec.passes test.entry (attempt_view attempt.now) }
+fn passes(test: Test, attempt: &Attempt) -> bool
+    ensures { result ≡ spec.passes test (attempt_view attempt.now) }
 {
     match test {
         Test::Step => is_step(attempt),
         Test::Blocked => is_blocked(attempt),
         Test::Refused => is_refused(attempt),
-        Test::Alike(one) => is_alike(one, attempt),
     }
 }
 
 /// How many are counted.
 #[tactic(auto, unfolding(crate::specs::Facts::count_by))]
-pub fn count(test: Test<'_>, attempts: &[Attempt]) -> usize
-    ensures { result ≡ spec.count_by (spec.passes test.entry) (map attempt_view attempts.now) }
+pub fn count(test: Test, attempts: &[Attempt]) -> usize
+    ensures { result ≡ spec.count_by (spec.passes test) (map attempt_view attempts.now) }
 {
     let mut count = 0;
     for attempt in attempts {

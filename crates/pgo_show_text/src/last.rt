@@ -1,6 +1,6 @@
 // The last attempt of an instance.
 ghost use Rattle.std.specs.Prelude.{◌≡◌, ◌∷◌, ◌++◌, [], map, option_map, IfOk};
-ghost use Rattle.pgo_bundle.specs.View.{attempt_view};
+ghost use Rattle.pgo_bundle.specs.View.{attempt_view, version_view};
 ghost use Rattle.pgo_model.specs.ModuleView.{module_view};
 ghost use Rattle.pgo_show_text.specs.Facts as facts;
 ghost use Rattle.pgo_show_text.specs.Shown as spec;
@@ -14,7 +14,7 @@ use crate::values::push_values;
 use pgo_base::expr::Sub;
 use pgo_base::module::Module;
 use pgo_base::scope::State;
-use pgo_bundle::log::Attempt;
+use pgo_bundle::log::{Attempt, Version};
 use pgo_lines::line::Lines;
 use pgo_lines::line::Piece::{Bytes, Number};
 use std::alloc::{AllocError, Global};
@@ -23,12 +23,13 @@ use std::alloc::{AllocError, Global};
 fn push_report(
     lines: &mut Lines,
     alloc: Global,
+    version: Version,
     attempts: &[Attempt],
     last: &Attempt,
 ) -> Result<(), AllocError>
-    ensures { IfOk result (λ _. lines.new ≡ lines.old ++ spec.last_line (map attempt_view attempts.now) (attempt_view last.now) ∷ []) }
+    ensures { IfOk result (λ _. lines.new ≡ lines.old ++ spec.last_line (version_view version) (map attempt_view attempts.now) (attempt_view last.now) ∷ []) }
 {
-    let report = report_text(alloc, last)?;
+    let report = report_text(alloc, version, last)?;
     lines.push(
         alloc,
         &[
@@ -85,15 +86,16 @@ pub fn push_last(
     lines: &mut Lines,
     alloc: Global,
     m: &Module,
+    version: Version,
     label: &[u8],
     attempts: &[Attempt],
     state: &Option<State>,
 ) -> Result<(), AllocError>
-    ensures { IfOk result (λ _. lines.new ≡ spec.with_last (module_view m.now) label.now (map attempt_view attempts.now) (facts.last_of (map attempt_view attempts.now)) state.now lines.old) }
+    ensures { IfOk result (λ _. lines.new ≡ spec.with_last (module_view m.now) (version_view version) label.now (map attempt_view attempts.now) (facts.last_of (map attempt_view attempts.now)) state.now lines.old) }
 {
     match attempts.split_last() {
         Some((last, _)) => {
-            push_report(lines, alloc, attempts, last)?;
+            push_report(lines, alloc, version, attempts, last)?;
             push_stuck(lines, alloc, m, label, last, state)
         }
         None => Ok(()),

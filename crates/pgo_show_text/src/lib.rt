@@ -12,3 +12,4 @@ mod places;
 pub mod shown;
 mod texts;
 mod values;
+mod walk;

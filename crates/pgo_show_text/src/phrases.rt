@@ -3,14 +3,14 @@ ghost use Rattle.std.specs.Prelude.{◌≡◌, ◌∷◌, [], codes, decimal, op
 ghost use Rattle.pgo_base.specs.View.{data_of};
 ghost use Rattle.pgo_model.specs.Bundle.{indexed_text as indexed};
 ghost use Rattle.pgo_model.specs.ModuleText.{flatten};
-ghost use Rattle.pgo_bundle.specs.View.{attempt_view, end_view};
+ghost use Rattle.pgo_bundle.specs.View.{attempt_view, end_view, version_view};
 ghost use Rattle.pgo_syntax.specs.RecordView.{kind_view};
 ghost use Rattle.pgo_show_text.specs.Phrases as spec;
 
 use crate::texts::indexed_text;
 use pgo_base::text::Text;
 use pgo_base::value::Value;
-use pgo_bundle::log::Attempt;
+use pgo_bundle::log::{Attempt, Version};
 use pgo_lines::line::Line;
 use pgo_lines::line::Piece::{Bytes, Name, Number};
 use pgo_syntax::records::{End, NoteKind};
@@ -58,12 +58,22 @@ pub fn ending_text(end: Option<End>) -> &'static [u8]
     }
 }
 
+/// That an attempt was blocked: in version 1 it tried one of its choices, and since version 2 all of them.
+fn blocked_text(version: Version) -> &'static [u8]
+    ensures { result.now ≡ spec.blocked_text (version_view version) }
+{
+    match version {
+        Version::One => b"was blocked behind entry ",
+        Version::Two => b"no choice was enabled behind entry ",
+    }
+}
+
 /// The words of a note, before the number of the entry behind which it is.
-fn note_text(kind: NoteKind) -> &'static [u8]
-    ensures { result.now ≡ spec.note_text (kind_view kind) }
+fn note_text(version: Version, kind: NoteKind) -> &'static [u8]
+    ensures { result.now ≡ spec.note_text (version_view version) (kind_view kind) }
 {
     match kind {
-        NoteKind::Blocked => b"no choice was enabled behind entry ",
+        NoteKind::Blocked => blocked_text(version),
         NoteKind::NoValue => b"an expression had no value behind entry ",
         NoteKind::AssertFails => b"an assertion failed behind entry ",
         NoteKind::Many => {
@@ -166,9 +176,9 @@ pub fn cause_text(alloc: Global, attempt: &Attempt) -> Result<Line, AllocError>
     }
 }
 
-/// What an attempt came to.
-pub fn report_text(alloc: Global, attempt: &Attempt) -> Result<Line, AllocError>
-    ensures { IfOk result (λ l. l ≡ spec.report_text (attempt_view attempt.now)) }
+/// What an attempt came to, in a bundle of this version.
+pub fn report_text(alloc: Global, version: Version, attempt: &Attempt) -> Result<Line, AllocError>
+    ensures { IfOk result (λ l. l ≡ spec.report_text (version_view version) (attempt_view attempt.now)) }
 {
     match attempt {
         Attempt::Step { n } => Line::of(
@@ -177,7 +187,7 @@ pub fn report_text(alloc: Global, attempt: &Attempt) -> Result<Line, AllocError>
         ),
         Attempt::Noted { kind, position } => Line::of(
             alloc,
-            &[Bytes(note_text(*kind)), Number(*position as u64)],
+            &[Bytes(note_text(version, *kind)), Number(*position as u64)],
         ),
         Attempt::Held {
             holder,

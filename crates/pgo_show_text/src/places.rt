@@ -10,8 +10,10 @@ ghost use Rattle.pgo_model.specs.LogView.{change_view, entry_view};
 ghost use Rattle.pgo_model.specs.ModuleView.{process_view};
 ghost use Rattle.pgo_model.specs.Variables.{place_of as place_in_state};
 ghost use Rattle.pgo_show_text.specs.Facts as spec;
+ghost use Rattle.pgo_show_text.specs.Walks.{IsWalk};
 
 use crate::alike::is_blocked_kind;
+use crate::walk::States;
 use pgo_base::expr::Sub;
 use pgo_base::log::{Change, Entry};
 use pgo_base::module::{Action, WrittenProcess};
@@ -42,7 +44,7 @@ fn after_changes(
 }
 
 /// The state after an entry, made in place.
-fn after(alloc: Global, before: State, entry: &Entry) -> Result<Option<State>, AllocError>
+pub fn after(alloc: Global, before: State, entry: &Entry) -> Result<Option<State>, AllocError>
     ensures { IfOk result (λ o. o ≡ After before (entry_view entry.now).change) }
 {
     let changes = entry.changes.as_slice();
@@ -70,13 +72,6 @@ fn behind_all(
     Ok(Some(state))
 }
 
-/// The state behind all entries; none where an entry changes what isn't there.
-pub fn last_state(alloc: Global, log: &BundleLog) -> Result<Option<State>, AllocError>
-    ensures { IfOk result (λ o. o ≡ spec.last_state (checked_log (bundle_log_view log.now))) }
-{
-    behind_all(alloc, &log.start, log.entries.as_slice())
-}
-
 fn copy_state(alloc: Global, state: &Option<State>) -> Result<Option<State>, AllocError>
     ensures { IfOk result (λ o. o ≡ state.now) }
 {
@@ -94,26 +89,42 @@ fn front(entries: &[LoggedEntry], count: usize) -> &[LoggedEntry]
     &entries[..count]
 }
 
-/// The state behind the first so many entries, where that behind all is known; none where there are fewer, or one of them changes what
-/// isn't there.
+/// The state behind the first so many entries, made anew where it isn't kept.
+fn state_before(
+    alloc: Global,
+    log: &BundleLog,
+    states: &States,
+    count: usize,
+) -> Result<Option<State>, AllocError>
+    requires within { count ≤ length log.now.entries }
+    requires states { IsWalk log.now.start (checked_log (bundle_log_view log.now)).entries states.now }
+    ensures { IfOk result (λ o. o ≡ StateAt log.now.start (checked_log (bundle_log_view log.now)).entries count) }
+{
+    match states.kept.get(&(count as u64)) {
+        Some(state) => Ok(Some(state.copy(alloc)?)),
+        None => behind_all(alloc, &log.start, front(log.entries.as_slice(), count)),
+    }
+}
+
+/// The state behind the first so many entries; none where there are fewer, or one of them changes what isn't there.
 fn state_behind(
     alloc: Global,
     log: &BundleLog,
-    last: &Option<State>,
+    states: &States,
     count: u64,
 ) -> Result<Option<State>, AllocError>
-    requires { last.now ≡ spec.last_state (checked_log (bundle_log_view log.now)) }
+    requires { IsWalk log.now.start (checked_log (bundle_log_view log.now)).entries states.now }
     ensures { IfOk result (λ o. o ≡ StateAt log.now.start (checked_log (bundle_log_view log.now)).entries count) }
 {
     let entries = log.entries.as_slice();
     let all = entries.len() as u64;
     if count == all {
-        return copy_state(alloc, last);
+        return copy_state(alloc, &states.last);
     }
     if count > all {
         return Ok(None);
     }
-    behind_all(alloc, &log.start, front(entries, count as usize))
+    state_before(alloc, log, states, count as usize)
 }
 
 /// Behind how many entries an attempt was blocked; none where it wasn't.
@@ -134,7 +145,7 @@ fn blocked_behind(attempt: &Attempt) -> Option<u64>
 
 /// Behind how many entries the last of these attempts was blocked; none where it wasn't.
 #[tactic(auto, using(crate::proofs::Lists::last_view))]
-fn last_blocked(attempts: &[Attempt]) -> Option<u64>
+pub fn last_blocked(attempts: &[Attempt]) -> Option<u64>
     ensures { result ≡ option_and_then spec.blocked_behind (spec.last_of (map attempt_view attempts.now)) }
 {
     match attempts.split_last() {
@@ -147,14 +158,14 @@ fn last_blocked(attempts: &[Attempt]) -> Option<u64>
 pub fn blocked_in(
     alloc: Global,
     log: &BundleLog,
-    last: &Option<State>,
+    states: &States,
     attempts: &[Attempt],
 ) -> Result<Option<State>, AllocError>
-    requires { last.now ≡ spec.last_state (checked_log (bundle_log_view log.now)) }
+    requires { IsWalk log.now.start (checked_log (bundle_log_view log.now)).entries states.now }
     ensures { IfOk result (λ o. o ≡ spec.blocked_in (checked_log (bundle_log_view log.now)) (spec.last_of (map attempt_view attempts.now))) }
 {
     match last_blocked(attempts) {
-        Some(count) => state_behind(alloc, log, last, count),
+        Some(count) => state_behind(alloc, log, states, count),
         None => Ok(None),
     }
 }

@@ -3,15 +3,14 @@ ghost use Rattle.std.specs.Prelude.{◌≡◌, ◌∷◌, ◌++◌, [], map, IfO
 ghost use Rattle.pgo_bundle.specs.BundleLog.{checked_log};
 ghost use Rattle.pgo_bundle.specs.View.{account_view, bundle_log_view};
 ghost use Rattle.pgo_model.specs.ModuleView.{module_view};
-ghost use Rattle.pgo_show_text.specs.Facts as facts;
 ghost use Rattle.pgo_show_text.specs.Shown as spec;
+ghost use Rattle.pgo_show_text.specs.Walks.{IsWalk};
 
 use crate::counts::all_attempts;
 use crate::instance::push_instance;
 use crate::phrases::status_text;
-use crate::places::last_state;
+use crate::walk::{States, walk};
 use pgo_base::module::Module;
-use pgo_base::scope::State;
 use pgo_bundle::log::{Account, BundleLog};
 use pgo_lines::line::Lines;
 use pgo_lines::line::Piece::{Bytes, Number};
@@ -47,14 +46,14 @@ fn push_instances(
     alloc: Global,
     m: &Module,
     log: &BundleLog,
-    last: &Option<State>,
+    states: &States,
     accounts: &[Account],
 ) -> Result<(), AllocError>
-    requires { last.now ≡ facts.last_state (checked_log (bundle_log_view log.now)) }
-    ensures { IfOk result (λ _. lines.new ≡ spec.with_instances (module_view m.now) (checked_log (bundle_log_view log.now)) 0 (map account_view accounts.now) lines.old) }
+    requires { IsWalk log.now.start (checked_log (bundle_log_view log.now)).entries states.now }
+    ensures { IfOk result (λ _. lines.new ≡ spec.with_instances (module_view m.now) (bundle_log_view log.now) 0 (map account_view accounts.now) lines.old) }
 {
     for (number, account) in accounts.iter().enumerate() {
-        push_instance(lines, alloc, m, log, last, number, account)?;
+        push_instance(lines, alloc, m, log, states, number, account)?;
     }
     Ok(())
 }
@@ -71,9 +70,9 @@ fn push_instances(
 pub fn shown(alloc: Global, m: &Module, log: &BundleLog) -> Result<Lines, AllocError>
     ensures { IfOk result (λ ls. ls ≡ spec.shown_lines (module_view m.now) (bundle_log_view log.now)) }
 {
-    let last = last_state(alloc, log)?;
+    let states = walk(alloc, log)?;
     let mut lines = Lines::new(alloc);
     push_whole(&mut lines, alloc, log)?;
-    push_instances(&mut lines, alloc, m, log, &last, log.accounts.as_slice())?;
+    push_instances(&mut lines, alloc, m, log, &states, log.accounts.as_slice())?;
     Ok(lines)
 }

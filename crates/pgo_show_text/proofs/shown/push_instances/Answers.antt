@@ -1,4 +1,3 @@
-use Rattle.pgo_bundle.specs.BundleLog.{checked_log}
 use Rattle.pgo_bundle.specs.View.{account_view, bundle_log_view}
 use Rattle.pgo_model.specs.ModuleView.{module_view}
 use Rattle.pgo_show_text.proofs.Instances.{one_more}
@@ -6,6 +5,6 @@ use Rattle.pgo_show_text.proofs.shown.push_instances.Goals as goal
 
 pub loop-number-preserved : goal.loop-number-preserved
 loop-number-preserved c =
-    one_more account_view (module_view c.args.m.now) (checked_log (bundle_log_view c.args.log.now)) c.loop-number.number c.args.accounts.now
+    one_more account_view (module_view c.args.m.now) (bundle_log_view c.args.log.now) c.loop-number.number c.args.accounts.now
     c.index-accounts-number.result _ c.loop-number.lines c.push_instance.new.lines c.loop-number-test.true c.index-accounts-number.is
     c.in_ok-push_instance.ensures c.loop-number.invariant
