@@ -1,7 +1,7 @@
 // A sink whose calls are counted.
 ghost use Rattle.pgo_io.specs.SureSink.{told};
 
-use crate::calls::Calls;
+use crate::streams::calls::Calls;
 use pgo_io::errors::Failed;
 use pgo_io::sink::Sink;
 use pgo_io::sure_sink::SureSink;

@@ -1,7 +1,7 @@
 // A source whose calls are counted.
 ghost use Rattle.std.specs.Prelude.{Some};
 
-use crate::calls::Calls;
+use crate::streams::calls::Calls;
 use pgo_io::errors::Failed;
 use pgo_io::source::Source;
 use pgo_io::sure_source::SureSource;

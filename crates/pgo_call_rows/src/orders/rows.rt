@@ -1,6 +1,6 @@
 // Runs of two instances, whose order a gate says.
-use crate::answer::Answer;
-use crate::gates::{Delay, OrderedGate, WaitingGate};
+use crate::orders::answer::Answer;
+use crate::orders::gates::{Delay, OrderedGate, WaitingGate};
 use pgo_threads::gate::OpenGate;
 use std::alloc::{AllocError, Global};
 use std::sync::Wait;

@@ -1,8 +1,8 @@
 // What a command answers, and the calls that it makes of its streams.
-use crate::calls::Calls;
-use crate::counted_sink::{CountedSink, SinkWriter};
-use crate::counted_source::CountedSource;
-use crate::limits::Limits;
+use crate::streams::calls::Calls;
+use crate::streams::counted_sink::{CountedSink, SinkWriter};
+use crate::streams::counted_source::CountedSource;
+use crate::streams::limits::Limits;
 use pgo_base::word::Word;
 use pgo_front::{Status, pgo};
 use pgo_io::errors::NoMemory;

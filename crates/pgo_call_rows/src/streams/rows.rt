@@ -1,6 +1,6 @@
 // Rows: a command, how far its streams work, and what it answers.
-use crate::answer::Answer;
-use crate::limits::Limits;
+use crate::streams::answer::Answer;
+use crate::streams::limits::Limits;
 use pgo_base::word::Word;
 use pgo_sheet::escapes::escaped;
 use pgo_sheet::sheet::Subject;
