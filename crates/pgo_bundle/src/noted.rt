@@ -21,7 +21,7 @@ fn push_note(
     attempt: u32,
     record: &Attempt,
 ) -> Result<(), AllocError>
-    ensures { IfOk result (λ _. map note_view notes.new.items ≡ map note_view notes.old.items ++ note_told instance attempt (attempt_view record.now)) }
+    ensures { IfOk result (λ _. map note_view notes.new.items ≡ map note_view notes.old.items ++ note_told instance attempt (attempt_view «record».now)) }
 {
     match record {
         Attempt::Noted { kind, position } => {

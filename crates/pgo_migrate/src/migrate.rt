@@ -63,7 +63,7 @@ fn migrate_log(
     requires one { (bundle_log_view log).version ≡ One }
     requires few { AreFew (map account_view log.accounts) }
     requires entries { length log.entries < 2 ^ 32 }
-    ensures written { IfOk result (IsWritten (module_view module.now) consts.now (bundle_log_view log)) }
+    ensures written { IfOk result (IsWritten (module_view «module».now) consts.now (bundle_log_view log)) }
     ensures untied { IfErr result (IsUntiedFrom (bundle_log_view log) first) }
 {
     let log = match log.noted(alloc) {
@@ -86,8 +86,8 @@ fn written(
     consts: &Consts,
     log: &BundleLog,
 ) -> Result<Text, LogStop>
-    ensures text { IfOk result (λ t. t ≡ BundleText (module_view module.now) consts.now (as_two (bundle_log_view log.now))) }
-    ensures short { IfOk result (λ _. length (text.Text (module_view module.now)) ≤ 4294967295) }
+    ensures text { IfOk result (λ t. t ≡ BundleText (module_view «module».now) consts.now (as_two (bundle_log_view log.now))) }
+    ensures short { IfOk result (λ _. length (text.Text (module_view «module».now)) ≤ 4294967295) }
     ensures refused { IfErr result (λ stop. stop ≡ NoMemory) }
 {
     match write_log(alloc, module, consts, log) {
