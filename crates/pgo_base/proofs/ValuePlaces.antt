@@ -1,5 +1,5 @@
 -- What a graph is with another value at a place.
-use Rattle.std.proofs.Common.{◌≡◌, ℕ, zero, suc, max, min, ◌<◌, ◌≤◌, List, [], ◌∷◌, length, map, get_or, set, refl, ap, arith}
+use Rattle.std.proofs.Common.{◌≡◌, ℕ, zero, suc, max, min, ◌<◌, ◌≤◌, List, [], ◌∷◌, ◌++◌, length, map, get_or, set, refl, ap, arith}
 use Rattle.std.specs.Prelude.{Some}
 use Rattle.pgo_base.specs.declared.value.Value.{Value}
 use Rattle.pgo_base.specs.Data.{Data, keys}
@@ -34,3 +34,12 @@ value_set (p ∷ ps) (suc n) q v h e = ap (λ qs. pair_of p ∷ qs) (value_set p
 -- a bound of the graph, and of what the value makes of it
 pub bound_set : (b a n : ℕ) (v : Data) (ps : List (Data × Data)) → IsBound b (suc (graph_size ps)) → IsBound a (depth v) → IsBound (max b (min (suc a) 4294967295)) (suc (graph_size (set_value n v ps)))
 bound_set b a n v ps h k = omega (arith, h, k, size_set n v ps)
+
+-- a pair behind the others makes the graph no deeper than it is
+pub size_behind : (k v : Data) (ps : List (Data × Data)) → graph_size (ps ++ (k, v) ∷ []) ≤ max (graph_size ps) (max (depth k) (depth v))
+size_behind k v [] = omega arith
+size_behind k v (p ∷ ps) = omega (arith, size_behind k v ps)
+
+-- a bound of the graph, and of what a pair behind the others makes of it
+pub bound_behind : (b k v : ℕ) (key value : Data) (ps : List (Data × Data)) → IsBound b (suc (graph_size ps)) → IsBound k (depth key) → IsBound v (depth value) → IsBound (max b (min (suc (max k v)) 4294967295)) (suc (graph_size (ps ++ (key, value) ∷ [])))
+bound_behind b k v key value ps h i j = omega (arith, h, i, j, size_behind key value ps)

@@ -79,6 +79,15 @@ impl Extent {
             parts,
         })
     }
+
+    /// The extent of a function with one pair more.
+    ///
+    /// Err where it has more than 16,777,216 parts.
+    pub(crate) fn and_more(self, key: Extent, value: Extent) -> Result<Extent, AllocError>
+        ensures { IfOk result (λ e. e.bound ≡ max self.bound (min (suc (max key.bound value.bound)) 4294967295)) }
+    {
+        self.exchanged(NOTHING, key.and(value))
+    }
 }
 
 /// The extent of a value.

@@ -14,6 +14,7 @@ pub mod module;
 pub mod name_map;
 pub mod named_values;
 mod order;
+pub mod pairs;
 pub mod results;
 pub mod scope;
 pub mod slices;

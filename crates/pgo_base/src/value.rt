@@ -9,16 +9,24 @@ ghost use Rattle.pgo_base.specs.Size.{members_size, graph_size};
 ghost use Rattle.pgo_base.specs.Pairs.{pairs_in_order};
 ghost use Rattle.pgo_base.specs.Bound.{IsBound};
 ghost use Rattle.pgo_base.specs.ValuePlace.{set_value, value_in};
+ghost use Rattle.pgo_base.specs.SharedItems.{shared_items};
+ghost use Rattle.pgo_base.specs.PairsView.{all_pairs, in_parts};
+ghost use Rattle.std.specs.Arc.{arc_value};
 ghost use Rattle.std.specs.List.Sorted.{IsStrictlySortedBy};
 
 use crate::compare::compare;
 use crate::extent::{Extent, extent_of, extent_of_members, extent_of_pairs};
+use crate::pairs::Pairs;
 use crate::text::Text;
 use std::alloc::{AllocError, Global};
 use std::cmp::Ordering;
 use std::marker::Model;
 use std::mem::replace;
 use std::sync::Arc;
+
+/// Up to how many pairs behind the front are copied where a function grows that others have too; where there are more, a new
+/// front is made of all.
+const MOST_BEHIND: usize = 64;
 
 /// A value.
 #[cycle(value)]
@@ -46,10 +54,25 @@ impl Drop for Set {
     }
 }
 
+/// The pairs of a function in two parts, so that functions that grow may share what they have in common: those in front, of
+/// which other functions may be owners too, and those behind them.
+#[cycle(value)]
+struct Parts {
+    front: Option<Arc<Vec<(Value, Value)>>>,
+    back: Vec<(Value, Value)>,
+}
+
+impl Drop for Parts {
+    #[cycle(drop_value)]
+    fn drop(self) {
+        let Parts { front, back } = self;
+    }
+}
+
 /// A finite function: its pairs in the order of the keys, each key once.
 #[cycle(value)]
 pub struct Fun {
-    pairs: Arc<Vec<(Value, Value)>>,
+    pairs: Arc<Parts>,
     extent: Extent,
 }
 
@@ -100,21 +123,23 @@ impl Model for Fun {
     ghost use Rattle.pgo_base.specs.View.{pair_of};
     ghost use Rattle.pgo_base.specs.Size.{graph_size};
     ghost use Rattle.std.specs.Arc.{arc_value};
+    ghost use Rattle.pgo_base.specs.PairsView.{in_parts};
 
-    ghost view = { λ f. map pair_of (arc_value f.pairs).items };
+    ghost view = { λ f. map pair_of (in_parts (arc_value f.pairs)) };
 
     ghost use Rattle.std.specs.List.Sorted.{IsStrictlySortedBy};
     ghost use Rattle.pgo_base.specs.Order.{data_cmp};
     ghost use Rattle.pgo_base.specs.Data.{keys};
     ghost use Rattle.pgo_base.specs.Bound.{IsBound};
 
-    ghost invariant = { λ f. IsStrictlySortedBy data_cmp (keys (map pair_of (arc_value f.pairs).items)) × IsBound f.extent.bound (suc (graph_size (map pair_of (arc_value f.pairs).items))) };
+    ghost invariant = { λ f. IsStrictlySortedBy data_cmp (keys (map pair_of (in_parts (arc_value f.pairs)))) × IsBound f.extent.bound (suc (graph_size (map pair_of (in_parts (arc_value f.pairs))))) };
 
     ghost size = { graph_size };
 
-    ghost use Rattle.pgo_base.specs.Falls.{pairs_fall};
+    ghost use Rattle.pgo_base.specs.Falls.{parts_fall};
+    ghost use Rattle.std.proofs.Common.{arith};
 
-    ghost size_decreases = { λ f h. pairs_fall (arc_value f.pairs).items };
+    ghost size_decreases = { λ f h. omega (arith, parts_fall (arc_value f.pairs)) };
 }
 
 impl Set {
@@ -133,10 +158,10 @@ impl Set {
 }
 
 impl Fun {
-    pub fn pairs(&self) -> &[(Value, Value)]
-        ensures { map pair_of result.now ≡ self.now }
+    pub fn pairs(&self) -> Pairs<'_>
+        ensures { map pair_of (all_pairs result) ≡ self.now }
     {
-        self.pairs.as_slice()
+        self.pairs.lent()
     }
 
     /// Up to how deep it nests and of how many parts it is.
@@ -181,7 +206,11 @@ impl Fun {
         ensures { IfOk result (λ f. f ≡ map pair_of pairs.items) }
     {
         let alloc = *pairs.allocator();
-        let pairs = Arc::new(alloc, pairs)?;
+        let parts = Parts {
+            front: None,
+            back: pairs,
+        };
+        let pairs = Arc::new(alloc, parts)?;
         Ok(Fun { pairs, extent })
     }
 }
@@ -272,17 +301,17 @@ impl Fun {
     pub fn len(&self) -> usize
         ensures { result ≡ length self.now }
     {
-        self.pairs.len()
+        self.pairs().len()
     }
 }
 
 impl Fun {
     /// The pairs, which are in the order of the keys, each key once.
-    pub fn in_order(&self) -> &[(Value, Value)]
-        ensures pairs { map pair_of result.now ≡ self.now }
+    pub fn in_order(&self) -> Pairs<'_>
+        ensures pairs { map pair_of (all_pairs result) ≡ self.now }
         ensures sorted { IsStrictlySortedBy data_cmp (keys self.now) }
     {
-        self.pairs.as_slice()
+        self.pairs.lent()
     }
 
     /// The pairs, out of the function: in the order of the keys, each key once. Taken where the function is their sole owner, and else copied.
@@ -292,9 +321,113 @@ impl Fun {
     {
         let Fun { pairs, extent: _ } = self;
         match Arc::try_unwrap(pairs) {
-            Ok(pairs) => Ok(pairs),
-            Err(shared) => copied_pairs(*shared.allocator(), shared.as_slice()),
+            Ok(parts) => parts.joined(),
+            Err(shared) => copied_pairs(*shared.back.allocator(), shared.lent()),
         }
+    }
+}
+
+impl Fun {
+    /// The function with one pair more, whose key is behind the others. Where it is the sole owner of its pairs, none is gone
+    /// over; else those of the front get one owner more, and those behind them are copied.
+    ///
+    /// Err also where it has more than 16,777,216 parts (`MOST_PARTS`) then.
+    pub fn append(self, alloc: Global, key: Value, value: Value) -> Result<Fun, AllocError>
+        requires { IsStrictlySortedBy data_cmp (keys (self ++ (data_of key, data_of value) ∷ [])) }
+        ensures { IfOk result (λ f. f ≡ self ++ (data_of key, data_of value) ∷ []) }
+    {
+        let extent = self.extent_behind(&key, &value)?;
+        let Fun { pairs, extent: _ } = self;
+        let mut parts = own_parts(alloc, pairs)?;
+        parts.back.push((key, value))?;
+        let pairs = Arc::new(alloc, parts)?;
+        Ok(Fun { pairs, extent })
+    }
+
+    /// The extent that it has with this pair behind the others.
+    ///
+    /// Err where it has more than 16,777,216 parts then.
+    fn extent_behind(&self, key: &Value, value: &Value) -> Result<Extent, AllocError>
+        ensures { IfOk result (λ e. IsBound e.bound (suc (graph_size (self.now ++ (data_of key.now, data_of value.now) ∷ [])))) }
+    {
+        self.extent().and_more(extent_of(key), extent_of(value))
+    }
+}
+
+impl Parts {
+    /// The pairs of both parts, lent.
+    fn lent(&self) -> Pairs<'_>
+        ensures { all_pairs result ≡ in_parts self.now }
+    {
+        match &self.front {
+            None => Pairs::of(&[], self.back.as_slice()),
+            Some(front) => Pairs::of(front.as_slice(), self.back.as_slice()),
+        }
+    }
+
+    /// The pairs of both parts as one list: those behind the front are put to it where this is its sole owner, and to a copy of
+    /// it else.
+    fn joined(self) -> Result<Vec<(Value, Value)>, AllocError>
+        ensures { IfOk result (λ v. map pair_of v.items ≡ map pair_of (in_parts self)) }
+    {
+        let Parts { front, back } = self;
+        match front {
+            None => Ok(back),
+            Some(front) => {
+                let mut back = back;
+                let mut list = own_list(front)?;
+                list.append(&mut back)?;
+                Ok(list)
+            }
+        }
+    }
+
+    /// Parts of the same pairs: with the same front, where few pairs stand behind it, and else with all of them in front.
+    fn copied(&self, alloc: Global) -> Result<Parts, AllocError>
+        ensures { IfOk result (λ p. map pair_of (in_parts p) ≡ map pair_of (in_parts self.now)) }
+    {
+        if self.back.len() <= MOST_BEHIND {
+            let front = copied_front(&self.front)?;
+            let back = copied_pairs(alloc, Pairs::of(&[], self.back.as_slice()))?;
+            return Ok(Parts { front, back });
+        }
+        let all = copied_pairs(alloc, self.lent())?;
+        Ok(Parts {
+            front: Some(Arc::new(alloc, all)?),
+            back: Vec::new(alloc),
+        })
+    }
+}
+
+/// The list, where this is its sole owner, and else a copy of it.
+fn own_list(list: Arc<Vec<(Value, Value)>>) -> Result<Vec<(Value, Value)>, AllocError>
+    ensures { IfOk result (λ v. map pair_of v.items ≡ map pair_of (arc_value list).items) }
+{
+    match Arc::try_unwrap(list) {
+        Ok(list) => Ok(list),
+        Err(shared) => copied_pairs(*shared.allocator(), Pairs::of(&[], shared.as_slice())),
+    }
+}
+
+/// The parts, where this is their sole owner, and else parts of the same pairs, to which one can be added.
+fn own_parts(alloc: Global, parts: Arc<Parts>) -> Result<Parts, AllocError>
+    ensures { IfOk result (λ p. map pair_of (in_parts p) ≡ map pair_of (in_parts (arc_value parts))) }
+{
+    match Arc::try_unwrap(parts) {
+        Ok(parts) => Ok(parts),
+        Err(shared) => shared.copied(alloc),
+    }
+}
+
+/// One more owner of the front.
+fn copied_front(
+    front: &Option<Arc<Vec<(Value, Value)>>>,
+) -> Result<Option<Arc<Vec<(Value, Value)>>>, AllocError>
+    ensures { IfOk result (λ f. shared_items f ≡ shared_items front.now) }
+{
+    match front {
+        None => Ok(None),
+        Some(list) => Ok(Some(Arc::try_clone(list)?)),
     }
 }
 
@@ -322,7 +455,7 @@ impl Fun {
         requires { place < length self.now }
         ensures { IfOk result (λ e. IsBound e.bound (suc (graph_size (set_value place (data_of value.now) self.now)))) }
     {
-        let before = extent_of(&self.pairs()[place].1);
+        let before = extent_of(&self.pairs().at(place).1);
         self.extent().exchanged(before, extent_of(value))
     }
 }
@@ -336,12 +469,13 @@ fn put_value(list: &mut Vec<(Value, Value)>, place: usize, value: Value) -> Valu
     replace(&mut list[place].1, value)
 }
 
-/// The same pairs once more.
-fn copied_pairs(alloc: Global, pairs: &[(Value, Value)]) -> Result<Vec<(Value, Value)>, AllocError>
-    ensures { IfOk result (λ v. map pair_of v.items ≡ map pair_of pairs.now) }
+/// The same pairs once more, with room for another.
+fn copied_pairs(alloc: Global, pairs: Pairs<'_>) -> Result<Vec<(Value, Value)>, AllocError>
+    ensures { IfOk result (λ v. map pair_of v.items ≡ map pair_of (all_pairs pairs.entry)) }
 {
-    let mut list = Vec::with_capacity(alloc, pairs.len())?;
-    for p in pairs {
+    let mut list = Vec::with_capacity(alloc, pairs.len().saturating_add(1))?;
+    for i in 0..pairs.len() {
+        let p = pairs.at(i);
         list.push((p.0.copy(alloc)?, p.1.copy(alloc)?))?;
     }
     Ok(list)

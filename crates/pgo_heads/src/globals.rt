@@ -2,12 +2,14 @@
 ghost use Rattle.std.specs.Prelude.{◌≡◌, ◌≤◌, ◌++◌, length, map, IfOk};
 ghost use Rattle.std.specs.List.{flat_map};
 ghost use Rattle.pgo_base.specs.Data.{keys};
+ghost use Rattle.pgo_base.specs.PairsView.{all_pairs};
 ghost use Rattle.pgo_base.specs.View.{data_of, pair_of, named_data};
 ghost use Rattle.pgo_bound.specs.BoundOf as specs;
 ghost use Rattle.pgo_bound.specs.Values.{beginning};
 ghost use Rattle.pgo_heads.specs.Views.{start_view, global_view, part_view};
 
 use crate::start_values::{Start, beginning};
+use pgo_base::pairs::Pairs;
 use pgo_base::text::Text;
 use pgo_base::value::Value;
 use pgo_bound::kinds::Kind;
@@ -31,37 +33,37 @@ pub struct Part<'a> {
 }
 
 /// The pairs of a function.
-fn pairs_of(value: &Value) -> &[(Value, Value)]
-    ensures { keys (map pair_of result.now) ≡ specs.indices (data_of value.now) }
+fn pairs_of(value: &Value) -> Pairs<'_>
+    ensures { keys (map pair_of (all_pairs result)) ≡ specs.indices (data_of value.now) }
 {
     match value {
         Value::Fun(f) => f.pairs(),
-        _ => &[],
+        _ => Pairs::none(),
     }
 }
 
 /// The pairs of the function that a global starts with.
-fn pairs(start: &Start) -> &[(Value, Value)]
-    ensures { keys (map pair_of result.now) ≡ specs.indices (beginning (start_view start.now)) }
+fn pairs(start: &Start) -> Pairs<'_>
+    ensures { keys (map pair_of (all_pairs result)) ≡ specs.indices (beginning (start_view start.now)) }
 {
     match start {
         Start::Begins(v) => pairs_of(v),
-        _ => &[],
+        _ => Pairs::none(),
     }
 }
 
 /// The elements of a global, at the end.
 fn add_elements<'a>(
     global: &'a Text,
-    pairs: &'a [(Value, Value)],
+    pairs: Pairs<'a>,
     list: &mut Vec<Part<'a>>,
 ) -> Result<(), AllocError>
-    ensures { IfOk result (λ _. map part_view list.new.items ≡ map part_view list.old.items ++ specs.elements_of global.now (keys (map pair_of pairs.now))) }
+    ensures { IfOk result (λ _. map part_view list.new.items ≡ map part_view list.old.items ++ specs.elements_of global.now (keys (map pair_of (all_pairs pairs.entry)))) }
 {
-    for p in pairs {
+    for i in 0..pairs.len() {
         list.push(Part {
             global,
-            index: Some(&p.0),
+            index: Some(&pairs.at(i).0),
         })?;
     }
     Ok(())

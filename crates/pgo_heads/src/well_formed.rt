@@ -1,11 +1,13 @@
 // What holds of every value in memory: integers have 64 bits, and members and keys stand in order, each once.
 ghost use Rattle.std.specs.Prelude.{IsTrue, map};
 ghost use Rattle.pgo_base.specs.Data.{items, pairs};
+ghost use Rattle.pgo_base.specs.PairsView.{all_pairs};
 ghost use Rattle.pgo_base.specs.View.{data_of, named_data, pair_of};
 ghost use Rattle.pgo_model.specs.Operators.{fits_i64};
 ghost use Rattle.pgo_model.specs.State.{AllValues};
 ghost use Rattle.pgo_model.specs.Value.{IsValue, AreValues, ArePairs};
 
+use pgo_base::pairs::Pairs;
 use pgo_base::scope::State;
 use pgo_base::text::Text;
 use pgo_base::value::Value;
@@ -42,10 +44,11 @@ fn members_are_well_formed(members: &[Value])
 
 /// Keys and what stands at them are values.
 #[cycle(well_formed)]
-fn pairs_are_well_formed(list: &[(Value, Value)])
-    ensures { ArePairs (pairs (map pair_of list.now)) }
+fn pairs_are_well_formed(list: Pairs<'_>)
+    ensures { ArePairs (pairs (map pair_of (all_pairs list.entry))) }
 {
-    for p in list {
+    for i in 0..list.len() {
+        let p = list.at(i);
         value_is_well_formed(&p.0);
         value_is_well_formed(&p.1);
     }

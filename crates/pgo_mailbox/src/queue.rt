@@ -1,5 +1,6 @@
 // A queue of messages, with what an attempt reads and writes of it.
 ghost use Rattle.std.specs.Prelude.{int_lt, pos, ◌≡◌, ◌<◌, ◌≤◌, ◌-◌, ◌↔◌, IsTrue, true, false, Some, length, map, take, drop, IfOk};
+ghost use Rattle.pgo_base.specs.PairsView.{all_pairs};
 ghost use Rattle.pgo_base.specs.Size.{depth, members_size};
 ghost use Rattle.pgo_base.specs.View.{data_of, pair_of, value_of};
 ghost use Rattle.pgo_model.specs.Log.{differs};
@@ -9,6 +10,7 @@ ghost use Rattle.pgo_mailbox.specs.Holdable.{Holdable, IsShort, pairs_in};
 
 use pgo_base::compare::compare;
 use pgo_base::depth::is_deeper;
+use pgo_base::pairs::Pairs;
 use pgo_base::value::{Fun, Value};
 use pgo_sets::sequences::{len, number};
 use std::alloc::{AllocError, Global};
@@ -229,12 +231,12 @@ pub(crate) fn queue_of(alloc: Global, v: &Value) -> Result<Option<Queue>, AllocE
 }
 
 /// The pairs of a function, and none of another value.
-fn pairs_of(v: &Value) -> &[(Value, Value)]
-    ensures { map pair_of result.now ≡ pairs_in (data_of v.now) }
+fn pairs_of(v: &Value) -> Pairs<'_>
+    ensures { map pair_of (all_pairs result) ≡ pairs_in (data_of v.now) }
 {
     match v {
         Value::Fun(f) => f.pairs(),
-        _ => &[],
+        _ => Pairs::none(),
     }
 }
 
@@ -256,12 +258,12 @@ fn is_short(v: &Value) -> bool
 }
 
 /// The values of these pairs.
-fn values(alloc: Global, pairs: &[(Value, Value)]) -> Result<VecDeque<Value>, AllocError>
-    ensures { IfOk result (λ q. map data_of q.items ≡ map value_of pairs.now) }
+fn values(alloc: Global, pairs: Pairs<'_>) -> Result<VecDeque<Value>, AllocError>
+    ensures { IfOk result (λ q. map data_of q.items ≡ map value_of (all_pairs pairs.entry)) }
 {
     let mut list = VecDeque::with_capacity(alloc, pairs.len())?;
-    for pair in pairs {
-        list.push_back(pair.1.copy(alloc)?)?;
+    for i in 0..pairs.len() {
+        list.push_back(pairs.at(i).1.copy(alloc)?)?;
     }
     Ok(list)
 }

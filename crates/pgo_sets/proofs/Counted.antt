@@ -87,7 +87,7 @@ all_there n p (q ∷ qs) s r e =
     let k : p.0 ≡ integer (pos n) = between n p.0 r (ap (data_cmp p.0) (sym more.0) ∙ s.0.0) in
     (k, one_here n p (q ∷ qs) k more.1)
 
-rest_some : (b : Bool) (v : Data) (o : Option (List Data)) (vs : List Data) → (if b then option_map (λ ws. v ∷ ws) o else None) ≡ Some vs → (b ≡ true) × ((ws : List Data) × (o ≡ Some ws))
+pub rest_some : (b : Bool) (v : Data) (o : Option (List Data)) (vs : List Data) → (if b then option_map (λ ws. v ∷ ws) o else None) ≡ Some vs → (b ≡ true) × ((ws : List Data) × (o ≡ Some ws))
 rest_some true v (Some ws) vs h = (refl, (ws, refl))
 rest_some true v None vs h = absurd (cc)
 rest_some false v o vs h = absurd (cc)

@@ -13,3 +13,5 @@ pub mod Choosing
 pub mod Paired
 pub mod KeyPlaces
 pub mod PutLaws
+pub mod Parts
+pub mod Appending

@@ -1,5 +1,5 @@
 -- What a binary search of members or keys in order finds.
-use Rattle.std.proofs.Common.{◌≡◌, ◌⊎◌, inl, inr, ℕ, zero, suc, ◌<◌, ◌≤◌, ltb, Bool, true, false, if◌then◌else◌, List, [], ◌∷◌, length, map, get_or, Some, None, Result, Ok, Err, is_ok, refl, ap, sym, ◌∙◌, subst, arith}
+use Rattle.std.proofs.Common.{◌≡◌, ◌⊎◌, inl, inr, ℕ, zero, suc, ◌<◌, ◌≤◌, ◌+◌, ltb, Bool, true, false, if◌then◌else◌, List, [], ◌∷◌, length, map, get_or, Some, None, Result, Ok, Err, is_ok, refl, ap, sym, ◌∙◌, subst, arith}
 use Rattle.std.specs.Prelude.{option_map}
 use Rattle.std.specs.declared.cmp.Ordering.{Ordering}
 use Rattle.std.specs.declared.cmp.Ordering.TheVariants.{Less, Equal, Greater}
@@ -7,6 +7,7 @@ use Rattle.std.specs.Ordering.{is_eq, ordering_index, ordering_reverse}
 use Rattle.std.specs.List.{AllByRecursion}
 use Rattle.std.specs.List.Sorted.{IsStrictlySortedBy, IsNonDecreasingBy, IsPartitionPoint, IsSearchInRange, IsBinarySearchResult}
 use Rattle.std.proofs.lemmas.Bool.Decides.{nat_tests}
+use Rattle.std.proofs.lemmas.List.{get_or_default}
 use Rattle.pgo_base.specs.declared.value.Value.{Value}
 use Rattle.pgo_base.specs.Data.{Data, keys}
 use Rattle.pgo_base.specs.Order.{data_cmp}
@@ -107,6 +108,52 @@ place_at k (p ∷ ps) (suc i) d s b h =
 pub key_found : (k : Data) (ps : List (Value × Value)) (i : ℕ) (d : Value × Value) → IsSorted (keys (map pair_of ps)) → i < length ps → data_cmp (key_of (get_or ps i d)) k ≡ Equal → key_place k (map pair_of ps) ≡ Some i
 key_found k ps i d s b h = place_at k ps i d (subst IsSorted (keys_map ps) s) b h
 
--- or tells that it isn't there
-pub key_missing : (k : Data) (ps : List (Value × Value)) (i : ℕ) → IsSorted (keys (map pair_of ps)) → (IsNonDecreasingBy (λ p. ordering_index (data_cmp (key_of p) k)) ps → IsPartitionPoint (λ p. data_cmp (key_of p) k ≡ Less) (λ p. data_cmp (key_of p) k ≡ Greater) ps i) → key_place k (map pair_of ps) ≡ None
-key_missing k ps i s h = place_none k ps (all_apart key_of k ps i (h (non_decreasing key_of k ps (subst IsSorted (keys_map ps) s))))
+-- a search by halves: the keys before one place are below k, and those from another place on are above it
+abbrev pub Between : Data → List (Value × Value) → ℕ → ℕ → Type 0
+Between k ps low high =
+    ((j : ℕ) (d : Value × Value) → j < length ps → j < low → data_cmp (key_of (get_or ps j d)) k ≡ Less)
+    × ((j : ℕ) (d : Value × Value) → high ≤ j → j < length ps → data_cmp (key_of (get_or ps j d)) k ≡ Greater)
+
+pub all_between : (k : Data) (ps : List (Value × Value)) (n : ℕ) → n ≡ length ps → Between k ps 0 n
+all_between k ps n e = (λ j d b h. absurd (omega arith), λ j d h b. absurd (omega (arith, e)))
+
+least : (o : Ordering) (m : ℕ) → ordering_index o ≤ m → m ≡ 0 → o ≡ Less
+least Less m h e = refl
+least Equal m h e = absurd (omega arith)
+least Greater m h e = absurd (omega arith)
+
+greatest : (o : Ordering) (m : ℕ) → m ≤ ordering_index o → m ≡ 2 → o ≡ Greater
+greatest Less m h e = absurd (omega arith)
+greatest Equal m h e = absurd (omega arith)
+greatest Greater m h e = refl
+
+-- the key in the middle is below k: so are those before it
+pub upper_half : (k : Data) (ps : List (Value × Value)) (low middle high : ℕ) (p : Value × Value) → IsSorted (keys (map pair_of ps)) → middle < length ps → p ≡ get_or ps middle p → data_cmp (key_of p) k ≡ Less → Between k ps low high → Between k ps (middle + 1) high
+upper_half k ps low middle high p s b e h g = (below, g.1)
+  where
+    below : (j : ℕ) (d : Value × Value) → j < length ps → j < middle + 1 → data_cmp (key_of (get_or ps j d)) k ≡ Less
+    below j d i l =
+        let rises = non_decreasing key_of k ps (subst IsSorted (keys_map ps) s) j middle p (omega (arith, l)) b in
+        ap (λ (q : Value × Value). data_cmp (key_of q) k) (get_or_default ps j d p i)
+        ∙ least (data_cmp (key_of (get_or ps j p)) k) _ rises (ap (λ (q : Value × Value). ordering_index (data_cmp (key_of q) k)) (sym e) ∙ ap ordering_index h)
+
+-- the key in the middle is above k: so are those behind it
+pub lower_half : (k : Data) (ps : List (Value × Value)) (low middle high : ℕ) (p : Value × Value) → IsSorted (keys (map pair_of ps)) → middle < length ps → p ≡ get_or ps middle p → data_cmp (key_of p) k ≡ Greater → Between k ps low high → Between k ps low middle
+lower_half k ps low middle high p s b e h g = (g.0, above)
+  where
+    above : (j : ℕ) (d : Value × Value) → middle ≤ j → j < length ps → data_cmp (key_of (get_or ps j d)) k ≡ Greater
+    above j d l i =
+        let rises = non_decreasing key_of k ps (subst IsSorted (keys_map ps) s) middle j p l i in
+        ap (λ (q : Value × Value). data_cmp (key_of q) k) (get_or_default ps j d p i)
+        ∙ greatest (data_cmp (key_of (get_or ps j p)) k) _ rises (ap (λ (q : Value × Value). ordering_index (data_cmp (key_of q) k)) (sym e) ∙ ap ordering_index h)
+
+-- where nothing is left, the key isn't there
+pub nothing_between : (k : Data) (ps : List (Value × Value)) (low high : ℕ) → high ≤ low → Between k ps low high → key_place k (map pair_of ps) ≡ None
+nothing_between k ps low high l g = place_none k ps apart
+  where
+    apart : Apart key_of k ps
+    apart j d i = go (ltb j low) refl
+      where
+        go : (b : Bool) → ltb j low ≡ b → same_data k (key_of (get_or ps j d)) ≡ false
+        go true e = apart_from (key_of (get_or ps j d)) k _ refl (inl (g.0 j d i (grind (arith, nat_tests))))
+        go false e = apart_from (key_of (get_or ps j d)) k _ refl (inr (g.1 j d (let m : low ≤ j = grind (arith, nat_tests) in omega (arith, l, m)) i))

@@ -38,7 +38,7 @@ pub(crate) fn tested(count: usize, v: Value) -> Option<Value>
 }
 
 /// The same as an answer.
-fn built(count: usize, v: Value) -> Result<Value, EvalStop>
+pub(crate) fn built(count: usize, v: Value) -> Result<Value, EvalStop>
     ensures { Answers result (operators.built count (data_of v)) }
 {
     match tested(count, v) {

@@ -1,5 +1,6 @@
 // What the values of a function are chosen from.
 ghost use Rattle.std.specs.Prelude.{◌≡◌, ◌-◌, ◌^◌, min, option_map, map, IfOk};
+ghost use Rattle.pgo_base.specs.PairsView.{all_pairs};
 ghost use Rattle.pgo_base.specs.View.{data_of, pair_of};
 ghost use Rattle.pgo_model.specs.FunctionSets as sets;
 ghost use Rattle.pgo_sets.specs.Choices.{choice_of, members_in};
@@ -7,6 +8,7 @@ ghost use Rattle.pgo_sets.specs.Choices.{choice_of, members_in};
 use crate::lookup::{as_set, contains};
 use crate::sequences::number;
 use pgo_base::compare::compare;
+use pgo_base::pairs::Pairs;
 use pgo_base::value::{Set, Value};
 use std::alloc::{AllocError, Global};
 
@@ -54,12 +56,13 @@ pub fn function_choices<'a>(
 /// The choices of a set of records with these fields. None where one is no set.
 pub fn record_choices<'a>(
     alloc: Global,
-    fields: &'a [(Value, Value)],
+    fields: Pairs<'a>,
 ) -> Result<Option<Vec<Choice<'a>>>, AllocError>
-    ensures { IfOk result (λ o. option_map (λ cs. map choice_of cs.items) o ≡ sets.choices_of (map pair_of fields.now)) }
+    ensures { IfOk result (λ o. option_map (λ cs. map choice_of cs.items) o ≡ sets.choices_of (map pair_of (all_pairs fields.entry))) }
 {
     let mut choices = Vec::new(alloc);
-    for p in fields {
+    for i in 0..fields.len() {
+        let p = fields.at(i);
         let Some(members) = as_set(&p.1) else {
             return Ok(None);
         };
@@ -91,15 +94,15 @@ pub fn fits(choices: &[Choice<'_>], v: &Value) -> bool
 }
 
 /// Whether the keys are these, with a value from the set of each.
-fn pairs_fit(choices: &[Choice<'_>], pairs: &[(Value, Value)]) -> bool
-    ensures { result ≡ sets.graph_fits (map choice_of choices.now) (map pair_of pairs.now) }
+fn pairs_fit(choices: &[Choice<'_>], pairs: Pairs<'_>) -> bool
+    ensures { result ≡ sets.graph_fits (map choice_of choices.now) (map pair_of (all_pairs pairs.entry)) }
 {
     if choices.len() != pairs.len() {
         return false;
     }
     for i in 0..choices.len() {
         let c = &choices[i];
-        let p = &pairs[i];
+        let p = pairs.at(i);
         if compare(&p.0, &c.key).is_ne() || !contains(c.members, &p.1) {
             return false;
         }

@@ -3,6 +3,7 @@ ghost use Rattle.std.specs.Prelude.{◌≡◌, ◌<◌, [], ◌∷◌, ℕ, suc,
 ghost use Rattle.std.specs.List.Sorted.{IsStrictlySortedBy};
 ghost use Rattle.pgo_base.specs.Data.{keys, integer};
 ghost use Rattle.pgo_base.specs.Order.{data_cmp};
+ghost use Rattle.pgo_base.specs.PairsView.{all_pairs};
 ghost use Rattle.pgo_base.specs.View.{data_of, pair_of};
 ghost use Rattle.pgo_model.specs.FunctionSets as sets;
 ghost use Rattle.pgo_sets.specs.Answers.{Answers};
@@ -14,6 +15,7 @@ use crate::errors::EvalStop;
 use crate::lookup::contains;
 use crate::sequences::number;
 use pgo_base::compare::compare;
+use pgo_base::pairs::Pairs;
 use pgo_base::value::{Fun, Set, Value};
 use std::alloc::{AllocError, Global};
 
@@ -199,14 +201,14 @@ fn is_function_between(v: &Value, domain: &Set, members: &Set) -> bool
 }
 
 /// Whether the keys are these, and the values are members of the set.
-fn pairs_fit(pairs: &[(Value, Value)], domain: &[Value], members: &Set) -> bool
-    ensures { result ≡ sets.graph_fits (map (λ k. (data_of k, members.now)) domain.now) (map pair_of pairs.now) }
+fn pairs_fit(pairs: Pairs<'_>, domain: &[Value], members: &Set) -> bool
+    ensures { result ≡ sets.graph_fits (map (λ k. (data_of k, members.now)) domain.now) (map pair_of (all_pairs pairs.entry)) }
 {
     if pairs.len() != domain.len() {
         return false;
     }
     for i in 0..pairs.len() {
-        let p = &pairs[i];
+        let p = pairs.at(i);
         if compare(&p.0, &domain[i]).is_ne() || !contains(members, &p.1) {
             return false;
         }

@@ -3,6 +3,7 @@ ghost use Rattle.std.specs.Prelude.{◌≡◌, ◌++◌, map, IfOk};
 ghost use Rattle.std.specs.List.Sorted.{IsStrictlySortedBy};
 ghost use Rattle.pgo_base.specs.Data.{keys};
 ghost use Rattle.pgo_base.specs.Order.{data_cmp};
+ghost use Rattle.pgo_base.specs.PairsView.{all_pairs};
 ghost use Rattle.pgo_base.specs.View.{data_of, pair_of};
 ghost use Rattle.pgo_model.specs.Operators as operators;
 ghost use Rattle.pgo_sets.specs.Answers.{Answers};
@@ -11,6 +12,7 @@ ghost use Rattle.pgo_sets.specs.Replaced.{with_value};
 use crate::build::{function_of, sorted_function, sorted_set};
 use crate::errors::EvalStop;
 use crate::lookup::{at, key_place, value_at};
+use pgo_base::pairs::Pairs;
 use pgo_base::value::{Fun, Value};
 use std::alloc::{AllocError, Global};
 
@@ -45,8 +47,8 @@ fn keys_of(alloc: Global, function: &Fun) -> Result<Vec<Value>, AllocError>
 {
     let pairs = function.in_order();
     let mut domain = Vec::with_capacity(alloc, pairs.len())?;
-    for p in pairs {
-        domain.push(p.0.copy(alloc)?)?;
+    for i in 0..pairs.len() {
+        domain.push(pairs.at(i).0.copy(alloc)?)?;
     }
     Ok(domain)
 }
@@ -83,11 +85,12 @@ pub fn merge(alloc: Global, f: &Value, g: &Value) -> Result<Value, EvalStop>
 fn add_pairs(
     alloc: Global,
     all: &mut Vec<(Value, Value)>,
-    more: &[(Value, Value)],
+    more: Pairs<'_>,
 ) -> Result<(), AllocError>
-    ensures { IfOk result (λ _. map pair_of all.new.items ≡ map pair_of all.old.items ++ map pair_of more.now) }
+    ensures { IfOk result (λ _. map pair_of all.new.items ≡ map pair_of all.old.items ++ map pair_of (all_pairs more.entry)) }
 {
-    for p in more {
+    for i in 0..more.len() {
+        let p = more.at(i);
         all.push((p.0.copy(alloc)?, p.1.copy(alloc)?))?;
     }
     Ok(())

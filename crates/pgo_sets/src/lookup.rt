@@ -1,16 +1,21 @@
 // Finding a member of a set and the value of a function at a key, by binary search, and a variable of a list, all without
 // memory.
 ghost use Rattle.std.specs.Prelude.{◌≡◌, length, map, Some, option_map};
-ghost use Rattle.pgo_base.specs.Data.{boolean};
-ghost use Rattle.pgo_base.specs.View.{data_of, named_data};
+ghost use Rattle.std.specs.List.Sorted.{IsStrictlySortedBy};
+ghost use Rattle.pgo_base.specs.Data.{boolean, keys};
+ghost use Rattle.pgo_base.specs.Order.{data_cmp};
+ghost use Rattle.pgo_base.specs.PairsView.{all_pairs};
+ghost use Rattle.pgo_base.specs.View.{data_of, named_data, pair_of};
 ghost use Rattle.pgo_model.specs.Operators as operators;
 ghost use Rattle.pgo_model.specs.Steps.{IsPlaced, place_in};
 ghost use Rattle.pgo_model.specs.Val as meanings;
 ghost use Rattle.pgo_sets.specs.KeyPlace as places;
 
 use pgo_base::compare::compare;
+use pgo_base::pairs::Pairs;
 use pgo_base::text::Text;
 use pgo_base::value::{Fun, Set, Value};
+use std::cmp::Ordering;
 
 /// The set that a value is; none where it is no set.
 pub fn as_set(v: &Value) -> Option<&Set>
@@ -33,10 +38,25 @@ pub fn contains(set: &Set, v: &Value) -> bool
 pub fn key_place(function: &Fun, key: &Value) -> Option<usize>
     ensures { result ≡ places.key_place (data_of key.now) function.now }
 {
-    match function.in_order().binary_search_by(|p| compare(&p.0, key)) {
-        Ok(i) => Some(i),
-        Err(_) => None,
+    place_among(function.in_order(), key)
+}
+
+/// The place of a key among these pairs, which are in the order of their keys: what is left is halved again and again.
+fn place_among(pairs: Pairs<'_>, key: &Value) -> Option<usize>
+    requires { IsStrictlySortedBy data_cmp (keys (map pair_of (all_pairs pairs))) }
+    ensures { result ≡ places.key_place (data_of key.now) (map pair_of (all_pairs pairs.entry)) }
+{
+    let mut low = 0;
+    let mut high = pairs.len();
+    while low < high {
+        let middle = low + (high - low) / 2;
+        match compare(&pairs.at(middle).0, key) {
+            Ordering::Less => low = middle + 1,
+            Ordering::Equal => return Some(middle),
+            Ordering::Greater => high = middle,
+        }
     }
+    None
 }
 
 /// The value of this function at a key; none where the key isn't in its domain.
@@ -44,7 +64,7 @@ pub fn value_at<'a>(function: &'a Fun, key: &Value) -> Option<&'a Value>
     ensures { option_map (λ r. data_of r.now) result ≡ operators.lookup (data_of key.now) function.now }
 {
     match key_place(function, key) {
-        Some(i) => Some(&function.pairs()[i].1),
+        Some(i) => Some(&function.pairs().at(i).1),
         None => None,
     }
 }

@@ -1,5 +1,6 @@
 // Components by their texts.
 ghost use Rattle.std.specs.Prelude.{◌≡◌, ◌++◌, codes, Some, IfOk, map, option_map};
+ghost use Rattle.pgo_base.specs.PairsView.{all_pairs};
 ghost use Rattle.pgo_base.specs.View.{data_of, named_data, pair_of};
 ghost use Rattle.pgo_model.specs.Bundle.{component_text, indexed_text};
 ghost use Rattle.pgo_model.specs.LogView.{component_view};
@@ -8,6 +9,7 @@ ghost use Rattle.pgo_value_text.specs.Reading.{begins};
 ghost use Rattle.pgo_show_changes.specs.Components as spec;
 
 use pgo_base::log::Component;
+use pgo_base::pairs::Pairs;
 use pgo_base::text::Text;
 use pgo_base::value::Value;
 use pgo_lexer::bytes::is_same;
@@ -81,12 +83,12 @@ fn is_part(alloc: Global, word: &[u8], name: &Text, index: &Value) -> Result<boo
 
 /// The values of a function at its indices.
 #[tactic(auto, using(crate::proofs::Parts::graph_of))]
-fn parts(value: &Value) -> &[(Value, Value)]
-    ensures { map pair_of result.now ≡ spec.parts (data_of value.now) }
+fn parts(value: &Value) -> Pairs<'_>
+    ensures { map pair_of (all_pairs result) ≡ spec.parts (data_of value.now) }
 {
     match value {
         Value::Fun(f) => f.pairs(),
-        _ => &[],
+        _ => Pairs::none(),
     }
 }
 
@@ -95,11 +97,12 @@ fn part_value<'a>(
     alloc: Global,
     word: &[u8],
     name: &Text,
-    parts: &'a [(Value, Value)],
+    parts: Pairs<'a>,
 ) -> Result<Option<&'a Value>, AllocError>
-    ensures { IfOk result (λ o. option_map (λ r. data_of r.now) o ≡ spec.part_value word.now name.now (map pair_of parts.now)) }
+    ensures { IfOk result (λ o. option_map (λ r. data_of r.now) o ≡ spec.part_value word.now name.now (map pair_of (all_pairs parts.entry))) }
 {
-    for part in parts {
+    for i in 0..parts.len() {
+        let part = parts.at(i);
         if is_part(alloc, word, name, &part.0)? {
             return Ok(Some(&part.1));
         }

@@ -31,7 +31,7 @@ pub fn record_from(fields: Vec<(Value, Value)>) -> Result<Option<Value>, AllocEr
 {
     let count = fields.len();
     let record = Fun::from_pairs(fields)?;
-    if record.pairs().len() == count {
+    if record.len() == count {
         Ok(Some(Value::Fun(record)))
     } else {
         Ok(None)

@@ -1,9 +1,11 @@
 // Whether a value has a part with too many members.
 ghost use Rattle.std.specs.Prelude.{◌≡◌, map};
 ghost use Rattle.pgo_base.specs.Data.{items, pairs};
+ghost use Rattle.pgo_base.specs.PairsView.{all_pairs};
 ghost use Rattle.pgo_base.specs.View.{data_of, pair_of};
 ghost use Rattle.pgo_value_text.specs.IsValueText as spec;
 
+use pgo_base::pairs::Pairs;
 use pgo_base::value::Value;
 
 /// The most members of a set or a function.
@@ -40,10 +42,11 @@ fn are_small(members: &[Value]) -> bool
 }
 
 #[cycle(small)]
-fn all_small(list: &[(Value, Value)]) -> bool
-    ensures { result ≡ spec.all_small (pairs (map pair_of list.now)) }
+fn all_small(list: Pairs<'_>) -> bool
+    ensures { result ≡ spec.all_small (pairs (map pair_of (all_pairs list.entry))) }
 {
-    for p in list {
+    for i in 0..list.len() {
+        let p = list.at(i);
         if !is_small(&p.0) || !is_small(&p.1) {
             return false;
         }

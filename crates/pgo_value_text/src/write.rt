@@ -1,11 +1,13 @@
 // The canonical text of a value.
 ghost use Rattle.std.specs.Prelude.{◌≡◌, ◌++◌, ◌+◌, codes, map, IfOk};
 ghost use Rattle.pgo_base.specs.Data.{pairs};
+ghost use Rattle.pgo_base.specs.PairsView.{all_pairs};
 ghost use Rattle.pgo_base.specs.View.{data_of, pair_of};
 ghost use Rattle.pgo_model.specs.ValueText as spec;
 ghost use Rattle.pgo_value_text.specs.Writing as writing;
 
 use crate::errors::NoMemory;
+use pgo_base::pairs::Pairs;
 use pgo_base::text::Text;
 use pgo_base::value::Value;
 use pgo_text::names::is_name;
@@ -39,11 +41,11 @@ fn is_number(key: &Value, number: u64) -> bool
 }
 
 /// Whether the keys are 1, 2 and so on.
-fn is_sequence(list: &[(Value, Value)]) -> bool
-    ensures { result ≡ spec.is_sequence_from 1 (pairs (map pair_of list.now)) }
+fn is_sequence(list: Pairs<'_>) -> bool
+    ensures { result ≡ spec.is_sequence_from 1 (pairs (map pair_of (all_pairs list.entry))) }
 {
-    for (i, p) in list.iter().enumerate() {
-        if !is_number(&p.0, i as u64 + 1) {
+    for i in 0..list.len() {
+        if !is_number(&list.at(i).0, i as u64 + 1) {
             return false;
         }
     }
@@ -60,11 +62,11 @@ fn is_field(key: &Value) -> bool
     }
 }
 
-fn all_fields(list: &[(Value, Value)]) -> bool
-    ensures { result ≡ spec.all_fields (pairs (map pair_of list.now)) }
+fn all_fields(list: Pairs<'_>) -> bool
+    ensures { result ≡ spec.all_fields (pairs (map pair_of (all_pairs list.entry))) }
 {
-    for p in list {
-        if !is_field(&p.0) {
+    for i in 0..list.len() {
+        if !is_field(&list.at(i).0) {
             return false;
         }
     }
@@ -93,8 +95,8 @@ enum FunctionForm {
 }
 
 /// How the function with these pairs is written.
-fn form_of(list: &[(Value, Value)]) -> FunctionForm
-    ensures { result ≡ writing.form_of (pairs (map pair_of list.now)) }
+fn form_of(list: Pairs<'_>) -> FunctionForm
+    ensures { result ≡ writing.form_of (pairs (map pair_of (all_pairs list.entry))) }
 {
     if is_sequence(list) {
         FunctionForm::Tuple
@@ -180,8 +182,8 @@ fn push_set(bytes: &mut Vec<u8>, members: &[Value]) -> Result<(), AllocError>
 
 /// Adds a function.
 #[cycle(push)]
-fn push_function(bytes: &mut Vec<u8>, list: &[(Value, Value)]) -> Result<(), AllocError>
-    ensures { IfOk result (λ _. bytes.new.items ≡ bytes.old.items ++ writing.function_text (map pair_of list.now)) }
+fn push_function(bytes: &mut Vec<u8>, list: Pairs<'_>) -> Result<(), AllocError>
+    ensures { IfOk result (λ _. bytes.new.items ≡ bytes.old.items ++ writing.function_text (map pair_of (all_pairs list.entry))) }
 {
     let form = form_of(list);
     bytes.extend_from_slice(opening(form))?;
@@ -191,14 +193,11 @@ fn push_function(bytes: &mut Vec<u8>, list: &[(Value, Value)]) -> Result<(), All
 
 /// Adds pairs in this form.
 #[cycle(push)]
-fn push_pairs(
-    bytes: &mut Vec<u8>,
-    list: &[(Value, Value)],
-    form: FunctionForm,
-) -> Result<(), AllocError>
-    ensures { IfOk result (λ _. bytes.new.items ≡ bytes.old.items ++ writing.pairs_text form (map pair_of list.now)) }
+fn push_pairs(bytes: &mut Vec<u8>, list: Pairs<'_>, form: FunctionForm) -> Result<(), AllocError>
+    ensures { IfOk result (λ _. bytes.new.items ≡ bytes.old.items ++ writing.pairs_text form (map pair_of (all_pairs list.entry))) }
 {
-    for (i, p) in list.iter().enumerate() {
+    for i in 0..list.len() {
+        let p = list.at(i);
         push_between(bytes, between(form), i)?;
         push_key(bytes, &p.0, form)?;
         push_value(bytes, &p.1)?;

@@ -8,7 +8,9 @@ use std::alloc::{AllocError, Global};
 pub fn elements(alloc: Global, v: &Value) -> Result<Vec<Value>, AllocError> {
     let mut list = Vec::new(alloc);
     if let Value::Fun(f) = v {
-        for pair in f.pairs() {
+        let pairs = f.pairs();
+        for i in 0..pairs.len() {
+            let pair = pairs.at(i);
             list.push(pair.1.copy(alloc)?)?;
         }
     }
@@ -19,7 +21,9 @@ pub fn elements(alloc: Global, v: &Value) -> Result<Vec<Value>, AllocError> {
 pub fn fields(alloc: Global, v: &Value) -> Result<Vec<(Value, Value)>, AllocError> {
     let mut list = Vec::new(alloc);
     if let Value::Fun(f) = v {
-        for pair in f.pairs() {
+        let pairs = f.pairs();
+        for i in 0..pairs.len() {
+            let pair = pairs.at(i);
             list.push(both(pair.0.copy(alloc), pair.1.copy(alloc))?)?;
         }
     }
@@ -30,10 +34,12 @@ pub fn fields(alloc: Global, v: &Value) -> Result<Vec<(Value, Value)>, AllocErro
 pub fn pairs(alloc: Global, v: &Value) -> Result<Vec<(Value, Value)>, AllocError> {
     let mut list = Vec::new(alloc);
     if let Value::Fun(f) = v {
-        for pair in f.pairs() {
-            if let Value::Fun(two) = &pair.1 {
-                if let [first, second] = two.pairs() {
-                    list.push(both(first.1.copy(alloc), second.1.copy(alloc))?)?;
+        let pairs = f.pairs();
+        for i in 0..pairs.len() {
+            if let Value::Fun(two) = &pairs.at(i).1 {
+                let two = two.pairs();
+                if two.len() == 2 {
+                    list.push(both(two.at(0).1.copy(alloc), two.at(1).1.copy(alloc))?)?;
                 }
             }
         }

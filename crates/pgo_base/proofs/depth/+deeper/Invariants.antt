@@ -1,4 +1,5 @@
 use Rattle.std.proofs.Common.{◌≤◌, ◌*◌, ◌+◌, max, map, drop}
+use Rattle.pgo_base.specs.PairsView.{all_pairs}
 use Rattle.pgo_base.specs.View.{data_of, pair_of}
 use Rattle.pgo_base.specs.Size.{members_size, graph_size}
 use Rattle.pgo_base.proofs.depth.+deeper.Given as goal
@@ -18,8 +19,8 @@ invariant-is_some_deeper-loop-m l = record {
   above : members_size (map data_of (drop l.m-index l.members)) ≤ members_size (map data_of l.members);
 }
 
-abbrev pub invariant-is_some_part_deeper-loop-p : goal.invariant-is_some_part_deeper-loop-p
-invariant-is_some_part_deeper-loop-p l = record {
-  below : graph_size (map pair_of l.pairs) ≤ max l.limit (graph_size (map pair_of (drop l.p-index l.pairs)));
-  above : graph_size (map pair_of (drop l.p-index l.pairs)) ≤ graph_size (map pair_of l.pairs);
+abbrev pub invariant-is_some_part_deeper-loop-i : goal.invariant-is_some_part_deeper-loop-i
+invariant-is_some_part_deeper-loop-i l = record {
+  below : graph_size (map pair_of (all_pairs l.pairs)) ≤ max l.limit (graph_size (map pair_of (drop l.i (all_pairs l.pairs))));
+  above : graph_size (map pair_of (drop l.i (all_pairs l.pairs))) ≤ graph_size (map pair_of (all_pairs l.pairs));
 }

@@ -1,7 +1,8 @@
 use Rattle.std.proofs.Common.{◌≡◌, map, drop}
+use Rattle.pgo_base.specs.PairsView.{all_pairs}
 use Rattle.pgo_base.specs.View.{data_of, pair_of}
 use Rattle.pgo_model.specs.FunctionSets.{graph_fits}
 use Rattle.pgo_sets.proofs.function_sets.pairs_fit.Given as goal
 
 abbrev pub invariant-loop-i : goal.invariant-loop-i
-invariant-loop-i l = graph_fits (map (λ k. (data_of k, l.members)) l.domain) (map pair_of l.pairs) ≡ graph_fits (map (λ k. (data_of k, l.members)) (drop l.i l.domain)) (map pair_of (drop l.i l.pairs))
+invariant-loop-i l = graph_fits (map (λ k. (data_of k, l.members)) l.domain) (map pair_of (all_pairs l.pairs)) ≡ graph_fits (map (λ k. (data_of k, l.members)) (drop l.i l.domain)) (map pair_of (drop l.i (all_pairs l.pairs)))

@@ -1,10 +1,9 @@
-use Rattle.std.proofs.Common.{◌≡◌, ◌<◌, ◌^◌, ap, sym, ◌∙◌, subst, map, take, drop, ◌-◌, of_z, to_z, w64, pos, nat_abs, length, int_lt, false, rules}
+use Rattle.std.proofs.Common.{◌≡◌, ◌<◌, ◌^◌, ap, sym, ◌∙◌, subst, map, of_z, to_z, w64, pos, length, int_lt, false, rules}
 use Rattle.std.proofs.Math.Facts.{to_z-of_z}
 use Rattle.std.proofs.lemmas.Int.{to_z_pos}
-use Rattle.std.proofs.lemmas.List.{length-map, drop-map}
-use Rattle.std.specs.List.{take-map}
+use Rattle.std.proofs.lemmas.List.{length-map}
+use Rattle.pgo_base.specs.PairsView.{all_pairs}
 use Rattle.pgo_base.specs.View.{value_of}
-use Rattle.pgo_model.specs.Operators.{sequence}
 use Rattle.pgo_model.specs.Sequences.{slice}
 use Rattle.pgo_sets.specs.Answers.{Answers}
 use Rattle.pgo_sets.proofs.Numbered.{slice_is}
@@ -12,14 +11,12 @@ use Rattle.pgo_sets.proofs.sequences.slice.Goals as goal
 
 pub returns : goal.returns
 returns c =
-    let ps = c.args.pairs.now in
+    let ps = all_pairs c.args.pairs in
     let xs = map value_of ps in
     let m = to_z w64 (of_z w64 c.args.first) in
     let n = to_z w64 (of_z w64 c.args.last) in
-    let small : length ps < 2 ^ 63 = search rules in
-    let count : pos (length xs) ≡ to_z w64 (length ps) = ap pos (length-map ps value_of) ∙ sym (to_z_pos w64 (length ps) small) in
-    let last : int_lt (pos (length xs)) n ≡ false = ap (λ z. int_lt z n) count ∙ c.if-last-pairs.false in
-    let part : map value_of (take (nat_abs n - (nat_abs m - 1)) (drop (nat_abs m - 1) ps)) ≡ take (nat_abs n - (nat_abs m - 1)) (drop (nat_abs m - 1) xs) =
-    sym (take-map value_of (nat_abs n - (nat_abs m - 1)) (drop (nat_abs m - 1) ps)) ∙ ap (take (nat_abs n - (nat_abs m - 1))) (sym (drop-map value_of (nat_abs m - 1) ps)) in
+    let small : c.len.result < 2 ^ 63 = search rules in
+    let count : pos (length xs) ≡ to_z w64 c.len.result = ap pos (length-map ps value_of ∙ sym c.len.ensures) ∙ sym (to_z_pos w64 c.len.result small) in
+    let last : int_lt (pos (length xs)) n ≡ false = ap (λ z. int_lt z n) count ∙ c.if-last-len.false in
     let bounds : slice xs m n ≡ slice xs c.args.first c.args.last = λ i. slice xs (to_z-of_z c.ranges.first i) (to_z-of_z c.ranges.last i) in
-    subst (Answers c.sequence_from-2.result) (ap sequence part ∙ sym (slice_is xs m n c.if-last-first.false c.if-first-lt1.false last) ∙ bounds) c.sequence_from-2.ensures
+    subst (Answers c.part_of.result) (sym (slice_is xs m n c.if-last-first.false c.if-first-lt1.false last) ∙ bounds) c.part_of.ensures

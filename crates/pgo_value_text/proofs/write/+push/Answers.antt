@@ -1,6 +1,7 @@
 -- A part is less deep than the whole, and the text of a value is made of those of its parts.
 use Rattle.std.proofs.Common.{◌≡◌, ◌≤◌, ◌++◌, max, map, arith, List, ℕ, subst, suc}
 use Rattle.std.specs.Prelude.{IfOk}
+use Rattle.pgo_base.specs.PairsView.{all_pairs}
 use Rattle.pgo_base.specs.Size.{depth, members_size, graph_size}
 use Rattle.pgo_base.specs.View.{data_of, pair_of}
 use Rattle.pgo_value_text.proofs.Sizes.{at_size, at_graph, set_size, function_size}
@@ -14,7 +15,7 @@ push_value-push_set-requires t c =
 
 pub push_value-push_function-requires : goal.push_value-push_function-requires
 push_value-push_function-requires t c =
-    let s : depth (data_of c.args.value.now) ≡ suc (graph_size (map pair_of c.pairs.result.now)) = function_size _ _ c.pairs.result.now c.in-Fun.is c.pairs.ensures in
+    let s : depth (data_of c.args.value.now) ≡ suc (graph_size (map pair_of (all_pairs c.pairs.result))) = function_size _ _ (all_pairs c.pairs.result) c.in-Fun.is c.pairs.ensures in
     (omega arith, tt)
 
 pub push_set-push_value-requires : goal.push_set-push_value-requires
@@ -24,12 +25,12 @@ push_set-push_value-requires t c =
 
 pub push_pairs-push_key-requires : goal.push_pairs-push_key-requires
 push_pairs-push_key-requires t c =
-    let s : max (depth (data_of c.index-list-i.result.0)) (depth (data_of c.index-list-i.result.1)) ≤ graph_size (map pair_of c.args.list.now) = at_graph _ _ _ (omega arith) c.index-list-i.is in
+    let s : max (depth (data_of c.at-p.result.now.0)) (depth (data_of c.at-p.result.now.1)) ≤ graph_size (map pair_of (all_pairs c.args.list)) = at_graph _ _ _ (omega (arith, c.len-i-end.ensures)) c.at-p.ensures in
     (omega arith, tt)
 
 pub push_pairs-push_value-requires : goal.push_pairs-push_value-requires
 push_pairs-push_value-requires t c =
-    let s : max (depth (data_of c.index-list-i.result.0)) (depth (data_of c.index-list-i.result.1)) ≤ graph_size (map pair_of c.args.list.now) = at_graph _ _ _ (omega arith) c.index-list-i.is in
+    let s : max (depth (data_of c.at-p.result.now.0)) (depth (data_of c.at-p.result.now.1)) ≤ graph_size (map pair_of (all_pairs c.args.list)) = at_graph _ _ _ (omega (arith, c.len-i-end.ensures)) c.at-p.ensures in
     (omega arith, tt)
 
 pub push_value-returns-in-Set : goal.push_value-returns-in-Set
@@ -39,5 +40,5 @@ push_value-returns-in-Set t c =
 
 pub push_value-returns-in-Fun : goal.push_value-returns-in-Fun
 push_value-returns-in-Fun t c =
-    let written = function_written _ _ c.pairs.result.now c.in-Fun.is c.pairs.ensures in
+    let written = function_written _ _ (all_pairs c.pairs.result) c.in-Fun.is c.pairs.ensures in
     subst (λ (l : List ℕ). IfOk c.push_function.result (λ _. c.push_function.new.bytes.items ≡ c.args.bytes.now.items ++ l)) written c.push_function.ensures
