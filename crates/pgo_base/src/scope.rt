@@ -1,11 +1,11 @@
 // The value of each variable, and what an expression sees.
-ghost use Rattle.std.specs.Prelude.{◌≡◌, ◌<◌, Bool, true, false, IsTrue, List, ℕ, Option, Some, length, option_map, map, set, slice_get, IfOk};
+ghost use Rattle.std.specs.Prelude.{◌≡◌, ◌<◌, ◌↔◌, Bool, true, false, IsTrue, List, ℕ, Option, Some, None, length, option_map, map, set, slice_get, IfOk, IfSome};
 ghost use Rattle.pgo_base.specs.Data.{Data};
 ghost use Rattle.pgo_base.specs.View.{data_of, named_data};
 ghost use Rattle.pgo_base.specs.Lists.{StandOnce};
 ghost use Rattle.pgo_base.specs.Lookup.{find};
 ghost use Rattle.pgo_base.specs.NameMaps.{has_name};
-ghost use Rattle.pgo_base.specs.States.{name_in, IsKnown};
+ghost use Rattle.pgo_base.specs.States.{name_in, IsKnown, first_place, AreAlike, are_alike_prop};
 
 use crate::bindings::{Bindings, row_at};
 use crate::name_map::NameMap;
@@ -71,9 +71,11 @@ impl State {
     }
 
     /// The value of a variable, and its place, with another guess for the next variable: it is looked for at this place first.
-    /// No clause is about places. Where it is there, and the names are known to be different (`names_once`), that takes a step.
+    /// Where it is there, and the names are known to be different (`names_once`), that takes a step.
     pub fn find_near(&self, name: &Text, place: usize) -> Option<(usize, &Value)>
-        ensures { option_map (λ r. data_of r.1.now) result ≡ find name.now self.now }
+        ensures value { option_map (λ r. data_of r.1.now) result ≡ find name.now self.now }
+        ensures place { IfSome result (λ r. slice_get self.now r.0 ≡ Some (name.now, data_of r.1.now)) }
+        ensures first { IfSome result (λ r. first_place name.now self.now ≡ Some r.0) }
     {
         match self.find_at(name, place) {
             Some(v) => Some((place, v)),
@@ -83,7 +85,9 @@ impl State {
 
     /// The value of a variable where it stands at this place and the names are known to be different.
     fn find_at(&self, name: &Text, place: usize) -> Option<&Value>
-        ensures { (v : Data) → option_map (λ r. data_of r.now) result ≡ Some v → find name.now self.now ≡ Some v }
+        ensures value { (v : Data) → option_map (λ r. data_of r.now) result ≡ Some v → find name.now self.now ≡ Some v }
+        ensures place { IfSome result (λ r. slice_get self.now place ≡ Some (name.now, data_of r.now)) }
+        ensures first { IfSome result (λ r. first_place name.now self.now ≡ Some place) }
     {
         if !self.once {
             return None;
@@ -96,7 +100,9 @@ impl State {
 
     /// The value of a variable, and its place.
     fn find_with_place(&self, name: &Text) -> Option<(usize, &Value)>
-        ensures { option_map (λ r. data_of r.1.now) result ≡ find name.now self.now }
+        ensures value { option_map (λ r. data_of r.1.now) result ≡ find name.now self.now }
+        ensures place { IfSome result (λ r. slice_get self.now r.0 ≡ Some (name.now, data_of r.1.now)) }
+        ensures first { IfSome result (λ r. first_place name.now self.now ≡ Some r.0) }
     {
         for (i, p) in self.list.iter().enumerate() {
             if name.is(&p.0) {
@@ -107,12 +113,54 @@ impl State {
     }
 }
 
-/// What an expression sees beside the definitions: the names in scope, the state, and the next state where there is one.
+/// The states around an expression: the state, the next state where there is one, and at which places of the state it is known
+/// that a variable has the same value in both.
+#[derive(Clone, Copy)]
+pub struct Around<'a> {
+    pub state: &'a State,
+    pub next: Option<&'a State>,
+    pub kept: &'a [bool],
+    ghost alike: { AreAlike state.now (option_map (λ r. r.now) next) kept.now } by { are_alike_prop state.now (option_map (λ r. r.now) next) kept.now },
+}
+
+impl<'a> Around<'a> {
+    /// A state alone.
+    pub fn one(state: &'a State) -> Around<'a>
+        ensures state { result.state.now ≡ state.now }
+        ensures next { result.next ≡ None }
+    {
+        Around {
+            state,
+            next: None,
+            kept: &[],
+        }
+    }
+
+    /// A state and the next, where there is one, which has what stands at the kept places too.
+    pub fn new(state: &'a State, next: Option<&'a State>, kept: &'a [bool]) -> Around<'a>
+        requires { AreAlike state.now (option_map (λ r. r.now) next) kept.now }
+        ensures state { result.state.now ≡ state.now }
+        ensures next { result.next ≡ next.entry }
+    {
+        Around { state, next, kept }
+    }
+
+    /// Whether it is known of this place that the variable there has the same value in both states.
+    pub fn is_kept(&self, place: usize) -> bool
+        ensures { IsTrue result ↔ slice_get self.now.kept.now place ≡ Some true }
+    {
+        match self.kept.get(place) {
+            Some(kept) => *kept,
+            None => false,
+        }
+    }
+}
+
+/// What an expression sees beside the definitions: the names in scope, and the states around it.
 #[derive(Clone, Copy)]
 pub struct Env<'names, 'around> {
     pub names: &'names Bindings<'names>,
-    pub state: &'around State,
-    pub next: Option<&'around State>,
+    pub around: Around<'around>,
 }
 
 impl State {

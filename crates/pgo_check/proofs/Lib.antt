@@ -8,3 +8,4 @@ pub mod WorkNodes
 pub mod Variables
 pub mod Kept
 pub mod Placing
+pub mod Elsewhere

@@ -3,3 +3,4 @@ pub mod Assigned
 pub mod Constants
 pub mod Placed
 pub mod Looked
+pub mod Elsewhere

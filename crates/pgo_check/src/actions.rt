@@ -2,6 +2,7 @@
 ghost use Rattle.std.specs.Prelude.{◌≡◌, ◌↔◌, ◌∷◌, [], IsTrue, true, map, Option, Some, IfOk};
 ghost use Rattle.pgo_base.specs.Data.{Data, boolean};
 ghost use Rattle.pgo_base.specs.ExprView.{tree};
+ghost use Rattle.pgo_base.specs.States.{AreAlike};
 ghost use Rattle.pgo_base.specs.View.{data_of};
 ghost use Rattle.pgo_model.specs.Acts.{Begins, Acts};
 ghost use Rattle.pgo_model.specs.ModuleView.{defined_view, module_view};
@@ -13,7 +14,7 @@ use crate::definitions::Assigned;
 use pgo_base::bindings::Bindings;
 use pgo_base::expr::Expr;
 use pgo_base::module::Defs;
-use pgo_base::scope::{Env, State};
+use pgo_base::scope::{Around, Env, State};
 use pgo_base::text::Text;
 use pgo_base::value::Value;
 use pgo_eval::eval::eval;
@@ -39,8 +40,7 @@ pub fn begins(alloc: Global, m: &Assigned<'_>, s: &State) -> Result<bool, AllocE
     let names = Bindings::new();
     let env = Env {
         names: &names,
-        state: s,
-        next: None,
+        around: Around::one(s),
     };
     is_true(eval(alloc, m.defs_in(s), m.module.init.get(), &env))
 }
@@ -54,14 +54,16 @@ pub(crate) fn acts<'a>(
     id: &Value,
     s: &'a State,
     t: &'a State,
+    kept: &'a [bool],
 ) -> Result<bool, AllocError>
     requires sees { SeesItsDefinitions m.now }
     requires seen { AreSeenIn m.now s.now (map defined_view defs.now) }
+    requires alike { AreAlike s.now (Some t.now) kept.now }
     ensures { IfOk result (λ b. IsTrue b ↔ Acts (module_view m.now.module.now) m.now.consts.now label.now (data_of id.now) s.now t.now) }
 {
     match m.bodies.get(label) {
         None => Ok(false),
-        Some(body) => is_step(alloc, defs, &m.self_name, body.get(), id, s, t),
+        Some(body) => is_step(alloc, defs, &m.self_name, body.get(), id, s, t, kept),
     }
 }
 
@@ -74,15 +76,16 @@ fn is_step<'a>(
     id: &Value,
     s: &'a State,
     t: &'a State,
+    kept: &'a [bool],
 ) -> Result<bool, AllocError>
+    requires { AreAlike s.now (Some t.now) kept.now }
     ensures { IfOk result (λ b. IsTrue b ↔ Val (map defined_view defs.now) (tree body.now) ((self_name.now, Some (data_of id.now)) ∷ []) s.now (Some t.now) ≡ Some (boolean true)) }
 {
     let outer = Bindings::new();
     let names = Bindings::with(self_name, Some(id), &outer);
     let env = Env {
         names: &names,
-        state: s,
-        next: Some(t),
+        around: Around::new(s, Some(t), kept),
     };
     is_true(eval(alloc, defs, body, &env))
 }

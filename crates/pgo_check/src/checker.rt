@@ -49,8 +49,9 @@ pub fn first_bad(
     };
     let mut before = first_state(alloc, start)?;
     let mut behind = before.copy(alloc)?;
+    let mut kept = vec![in alloc; true; start.as_slice().len()]?;
     for (i, e) in entries.iter().enumerate() {
-        match step(alloc, &look, &before, behind, e)? {
+        match step(alloc, &look, &before, behind, e, kept.as_mut_slice())? {
             None => return Ok(Some(i)),
             Some(next) => {
                 before = follow(alloc, &places, before, e)?;

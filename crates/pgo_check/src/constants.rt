@@ -17,7 +17,7 @@ use pgo_base::expr::{Expr, Names, Sub};
 use pgo_base::last_place::Named;
 use pgo_base::module::{Defined, Defs};
 use pgo_base::name_map::NameMap;
-use pgo_base::scope::{Env, State};
+use pgo_base::scope::{Around, Env, State};
 use pgo_base::text::Text;
 use pgo_base::value::Value;
 use pgo_eval::eval::eval;
@@ -207,8 +207,7 @@ fn value_of(alloc: Global, made: &Defs, e: &Expr) -> Result<Option<Value>, Alloc
     let state = State::from_vec(Vec::new(alloc));
     let env = Env {
         names: &names,
-        state: &state,
-        next: None,
+        around: Around::one(&state),
     };
     value_or_none(eval(alloc, made, e, &env))
 }

@@ -7,6 +7,7 @@ mod constants;
 pub mod definitions;
 pub mod errors;
 pub mod lookup;
+mod noted;
 pub mod states;
 mod used;
 pub mod verdict;

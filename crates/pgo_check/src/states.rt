@@ -2,6 +2,7 @@
 ghost use Rattle.std.specs.Prelude.{◌≡◌, ◌↔◌, IsTrue, map, Some, None, option_map, IfOk};
 ghost use Rattle.pgo_base.specs.View.{data_of};
 ghost use Rattle.pgo_base.specs.Data.{function, pairs, string};
+ghost use Rattle.pgo_base.specs.States.{AreAlike};
 ghost use Rattle.pgo_model.specs.Acts.{Acts};
 ghost use Rattle.pgo_model.specs.Variables.{place_of};
 ghost use Rattle.pgo_base.specs.Lookup.{Vars};
@@ -16,6 +17,7 @@ ghost use Rattle.pgo_model.specs.Steps.{LeadsTo};
 use crate::actions::acts;
 use crate::definitions::Assigned;
 use crate::lookup::{place, value_of};
+use crate::noted::note_all;
 use pgo_base::log::{Change, Component, Entry};
 use pgo_base::module::Defs;
 use pgo_base::name_map::NameMap;
@@ -221,11 +223,13 @@ fn is_step<'a>(
     s: &'a State,
     e: &Entry,
     t: &'a State,
+    kept: &'a [bool],
 ) -> Result<bool, AllocError>
-    requires { Fits look.now s.now }
+    requires fits { Fits look.now s.now }
+    requires alike { AreAlike s.now (Some t.now) kept.now }
     ensures { IfOk result (λ b. IsTrue b ↔ (Acts (module_view look.now.m.now.module.now) look.now.m.now.consts.now e.now.label (data_of id.now) s.now t.now × place_of (data_of id.now) t.now ≡ Some (string e.now.next))) }
 {
-    if !acts(alloc, look.m, look.defs, &e.label, id, s, t)? {
+    if !acts(alloc, look.m, look.defs, &e.label, id, s, t, kept)? {
         return Ok(false);
     }
     let place = place_of(id, t);
@@ -233,13 +237,15 @@ fn is_step<'a>(
 }
 
 /// The state that an entry leads to, where the entry is a step from this state. It is made in place of `again`, which is this
-/// state too.
+/// state too. In `kept` is noted which variables the entry leaves, while its action is evaluated; what `kept` has before that changes
+/// no answer.
 pub(crate) fn step(
     alloc: Global,
     look: &Look<'_, '_>,
     s: &State,
     again: State,
     e: &Entry,
+    kept: &mut [bool],
 ) -> Result<Option<State>, AllocError>
     requires fits { Fits look.now s.now }
     requires same { again ≡ s.now }
@@ -251,9 +257,9 @@ pub(crate) fn step(
     let Some(t) = after(alloc, look.places, again, e)? else {
         return Ok(None);
     };
-    if is_step(alloc, look, id, &*s, e, &t)? {
-        Ok(Some(t))
-    } else {
-        Ok(None)
-    }
+    let changes = e.changes.as_slice();
+    note_all(look.places, changes, false, kept);
+    let is_one = is_step(alloc, look, id, &*s, e, &t, &*kept)?;
+    note_all(look.places, changes, true, kept);
+    if is_one { Ok(Some(t)) } else { Ok(None) }
 }

@@ -12,7 +12,7 @@ use crate::definitions::EvaluatedDefinitions;
 use pgo_base::bindings::Bindings;
 use pgo_base::expr::{Expr, Names, Sub};
 use pgo_base::module::{Defined, Defs};
-use pgo_base::scope::{Env, State};
+use pgo_base::scope::{Around, Env, State};
 use pgo_base::text::Text;
 use pgo_base::value::Value;
 use pgo_eval::eval::eval;
@@ -74,8 +74,7 @@ fn value_with(
     let state = State::from_vec(Vec::new(alloc));
     let env = Env {
         names,
-        state: &state,
-        next: None,
+        around: Around::one(&state),
     };
     value_or_none(eval(alloc, defs, e, &env))
 }

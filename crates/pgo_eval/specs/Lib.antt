@@ -7,3 +7,4 @@ pub mod Newest
 pub mod Decided
 pub mod Paths
 pub mod PlacesView
+pub mod Forms

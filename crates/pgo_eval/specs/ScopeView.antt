@@ -8,15 +8,15 @@ use Rattle.pgo_model.specs.ModuleView.{defined_view}
 use Rattle.pgo_model.specs.Val.{Scope, Defined, meanings, name_values}
 
 abbrev pub next_view : lent.Scope → Option Vars
-next_view s = option_map (λ r. r.now) s.next
+next_view s = option_map (λ r. r.now) s.around.next
 
 abbrev pub scope_view : lent.Scope → Scope
 scope_view s = record {
   names = s.names.now;
   part = option_map (λ r. data_of r.now) s.part;
-  now = s.state.now;
+  now = s.around.state.now;
   next = next_view s;
-  defs = meanings (map defined_view (take s.seen s.defs.now)) s.state.now (next_view s);
+  defs = meanings (map defined_view (take s.seen s.defs.now)) s.around.state.now (next_view s);
 }
 
 -- what a definition's body sees: its arguments, and the definitions before it

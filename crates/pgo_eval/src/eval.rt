@@ -24,7 +24,7 @@ use std::alloc::{AllocError, Global};
 /// Source: Specifying Systems; the strong Kleene operators, the limits and the least member of CHOOSE are this project's
 /// choice.
 pub fn eval(alloc: Global, defs: &Defs, e: &Expr, env: &Env<'_, '_>) -> Result<Value, EvalStop>
-    ensures { Answers result (Val (map defined_view defs.now) (tree e.now) env.now.names.now env.now.state.now (option_map (λ r. r.now) env.now.next)) }
+    ensures { Answers result (Val (map defined_view defs.now) (tree e.now) env.now.names.now env.now.around.state.now (option_map (λ r. r.now) env.now.around.next)) }
 {
     match value(alloc, defs, e, env)? {
         Some(v) => Ok(v),
@@ -39,13 +39,12 @@ fn value<'x>(
     e: &Expr,
     env: &Env<'x, 'x>,
 ) -> Result<Option<Value>, AllocError>
-    ensures { IfOk result (λ o. option_map data_of o ≡ Val (map defined_view defs.now) (tree e.now) env.now.names.now env.now.state.now (option_map (λ r. r.now) env.now.next)) }
+    ensures { IfOk result (λ o. option_map data_of o ≡ Val (map defined_view defs.now) (tree e.now) env.now.names.now env.now.around.state.now (option_map (λ r. r.now) env.now.around.next)) }
 {
     let s = Scope {
         names: env.names,
         part: None,
-        state: env.state,
-        next: env.next,
+        around: env.around,
         defs,
         seen: defs.as_slice().len(),
         left: MOST_LEVELS,

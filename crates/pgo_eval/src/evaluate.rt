@@ -1,10 +1,11 @@
 // The value of an expression, form by form.
-ghost use Rattle.std.specs.Prelude.{◌≡◌, map, Some, option_map, option_and_then, IfOk};
+ghost use Rattle.std.specs.Prelude.{◌≡◌, IsTrue, map, Some, option_map, option_and_then, IfOk};
 ghost use Rattle.pgo_base.specs.Data.{string};
 ghost use Rattle.pgo_base.specs.ExprView.{tree, named_tree};
 ghost use Rattle.pgo_base.specs.Tree.{trees, named, binary, index, field};
 ghost use Rattle.pgo_base.specs.View.{data_of, pair_of};
-ghost use Rattle.pgo_model.specs.Val.{sem, val, values_of, fields, index_of};
+ghost use Rattle.pgo_model.specs.Val.{sem, plain, val, values_of, fields, index_of};
+ghost use Rattle.pgo_eval.specs.Forms.{is_unbuilt, is_made, is_of_parts};
 ghost use Rattle.pgo_eval.specs.HeldView.{held_data, sem_of};
 ghost use Rattle.pgo_eval.specs.ScopeView.{scope_view};
 
@@ -68,28 +69,82 @@ pub fn evaluated<'a>(
         Expr::Word(w) => Ok(Some(Evaluated::OfWord(*w))),
         Expr::Prefix(op, a) => prefixed(alloc, *op, held(alloc, a.get(), s)?),
         Expr::Infix(op, a, b) => infix(alloc, *op, a.get(), b.get(), s),
-        Expr::Product(list) => product(values(alloc, list.as_slice(), s)),
-        Expr::If(p, a, b) => plainly(conditional(alloc, p.get(), a.get(), b.get(), s)),
-        Expr::Case(arms) => plainly(case_value(alloc, arms.as_slice(), None, s)),
-        Expr::CaseOther(arms, e) => plainly(case_value(alloc, arms.as_slice(), Some(e.get()), s)),
-        Expr::Let(named, e) => owning(let_value(alloc, named.as_slice(), e.get(), s)),
-        Expr::Quantified(q, binders, p) => {
-            owning(quantified(alloc, *q, binders.as_slice(), p.get(), s))
-        }
-        Expr::Choose(x, r, p) => owning(chosen(alloc, x, r.get(), p.get(), s)),
-        Expr::Tuple(list) => plainly(tuple(alloc, values(alloc, list.as_slice(), s))),
-        Expr::SetOf(list) => plainly(set(values(alloc, list.as_slice(), s))),
-        Expr::Filter(x, r, p) => owning(filtered(alloc, x, r.get(), p.get(), s)),
-        Expr::Image(e, x, r) => owning(image(alloc, e.get(), x, r.get(), s)),
-        Expr::FunOf(binders, e) => owning(function_value(alloc, binders.as_slice(), e.get(), s)),
-        Expr::FunSet(a, b) => functions(held(alloc, a.get(), s), held(alloc, b.get(), s)),
-        Expr::Record(named) => plainly(record(fields(alloc, named.as_slice(), s))),
-        Expr::RecordSet(named) => records(fields(alloc, named.as_slice(), s)),
-        Expr::Except(f, updates) => owning(except_value(alloc, f.get(), updates.as_slice(), s)),
-        Expr::Index(f, list) => plainly(index_value(alloc, f.get(), list.as_slice(), s)),
-        Expr::Field(r, x) => plainly(field_value(alloc, r.get(), x, s)),
-        Expr::Call(x, list) => plainly(call_value(alloc, x, list.as_slice(), s)),
         Expr::Unchanged(names) => owning(Ok(unchanged_value(names.as_slice(), s))),
+        Expr::Product(_) | Expr::FunSet(_, _) | Expr::RecordSet(_) => unbuilt(alloc, e, s),
+        Expr::Let(_, _)
+        | Expr::Quantified(_, _, _)
+        | Expr::Choose(_, _, _)
+        | Expr::Filter(_, _, _)
+        | Expr::Image(_, _, _)
+        | Expr::FunOf(_, _)
+        | Expr::Except(_, _) => owning(made_value(alloc, e, s)),
+        _ => plainly(parts_value(alloc, e, s)),
+    }
+}
+
+/// A set of tuples, functions or records.
+#[cycle(evaluate)]
+fn unbuilt<'a>(
+    alloc: Global,
+    e: &Expr,
+    s: &Scope<'a, 'a, 'a>,
+) -> Result<Option<Evaluated<'a>>, AllocError>
+    requires { IsTrue (is_unbuilt (tree e.now)) }
+    ensures { IfOk result (λ o. sem_of o ≡ sem (tree e.now) (scope_view s.now)) }
+{
+    match e {
+        Expr::Product(list) => product(values(alloc, list.as_slice(), s)),
+        Expr::FunSet(a, b) => functions(held(alloc, a.get(), s), held(alloc, b.get(), s)),
+        Expr::RecordSet(named) => records(fields(alloc, named.as_slice(), s)),
+        _ => unreachable!(),
+    }
+}
+
+/// The value of an expression that binds names, or EXCEPT.
+#[cycle(evaluate)]
+fn made_value<'a>(
+    alloc: Global,
+    e: &Expr,
+    s: &Scope<'a, 'a, 'a>,
+) -> Result<Option<Value>, AllocError>
+    requires { IsTrue (is_made (tree e.now)) }
+    ensures value { IfOk result (λ o. option_map data_of o ≡ val (tree e.now) (scope_view s.now)) }
+    ensures plain { sem (tree e.now) (scope_view s.now) ≡ plain (val (tree e.now) (scope_view s.now)) }
+{
+    match e {
+        Expr::Let(named, e) => let_value(alloc, named.as_slice(), e.get(), s),
+        Expr::Quantified(q, binders, p) => { quantified(alloc, *q, binders.as_slice(), p.get(), s) }
+        Expr::Choose(x, r, p) => chosen(alloc, x, r.get(), p.get(), s),
+        Expr::Filter(x, r, p) => filtered(alloc, x, r.get(), p.get(), s),
+        Expr::Image(e, x, r) => image(alloc, e.get(), x, r.get(), s),
+        Expr::FunOf(binders, e) => function_value(alloc, binders.as_slice(), e.get(), s),
+        Expr::Except(f, updates) => except_value(alloc, f.get(), updates.as_slice(), s),
+        _ => unreachable!(),
+    }
+}
+
+/// The value of an expression that is one of its parts, or is built from their values.
+#[cycle(evaluate)]
+fn parts_value<'a>(
+    alloc: Global,
+    e: &Expr,
+    s: &Scope<'a, 'a, 'a>,
+) -> Result<Option<Held<'a>>, AllocError>
+    requires { IsTrue (is_of_parts (tree e.now)) }
+    ensures value { IfOk result (λ o. option_map held_data o ≡ val (tree e.now) (scope_view s.now)) }
+    ensures plain { sem (tree e.now) (scope_view s.now) ≡ plain (val (tree e.now) (scope_view s.now)) }
+{
+    match e {
+        Expr::If(p, a, b) => conditional(alloc, p.get(), a.get(), b.get(), s),
+        Expr::Case(arms) => case_value(alloc, arms.as_slice(), None, s),
+        Expr::CaseOther(arms, e) => case_value(alloc, arms.as_slice(), Some(e.get()), s),
+        Expr::Tuple(list) => tuple(alloc, values(alloc, list.as_slice(), s)),
+        Expr::SetOf(list) => set(values(alloc, list.as_slice(), s)),
+        Expr::Record(named) => record(fields(alloc, named.as_slice(), s)),
+        Expr::Index(f, list) => index_value(alloc, f.get(), list.as_slice(), s),
+        Expr::Field(r, x) => field_value(alloc, r.get(), x, s),
+        Expr::Call(x, list) => call_value(alloc, x, list.as_slice(), s),
+        _ => unreachable!(),
     }
 }
 

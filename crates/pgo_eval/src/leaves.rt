@@ -43,7 +43,7 @@ fn named_leaf<'a, 'e>(x: &'e Text, s: &Scope<'a, 'a, 'a>) -> Leaf<'a, 'e>
     if let Some(v) = s.names.find(x) {
         return Leaf::Value(v.map(Held::Lent));
     }
-    if let Some(v) = s.state.find(x) {
+    if let Some(v) = s.around.state.find(x) {
         return Leaf::Value(Some(Held::Lent(v)));
     }
     Leaf::Definition(x)

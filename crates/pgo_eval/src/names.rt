@@ -35,7 +35,7 @@ pub fn named_value<'a>(
     if let Some(v) = s.names.find(x) {
         return Ok(v.map(Held::Lent));
     }
-    if let Some(v) = s.state.find(x) {
+    if let Some(v) = s.around.state.find(x) {
         return Ok(Some(Held::Lent(v)));
     }
     applied(alloc, x, Vec::new(alloc), s)
@@ -89,7 +89,7 @@ fn called_value<'a>(
     if let Some(v) = called(alloc, x, &args)? {
         return Ok(own(v));
     }
-    if s.names.find(x).is_some() || s.state.find(x).is_some() {
+    if s.names.find(x).is_some() || s.around.state.find(x).is_some() {
         return Ok(None);
     }
     applied(alloc, x, args, s)
@@ -131,15 +131,14 @@ fn body_value<'a>(
     s: &Scope<'a, 'a, 'a>,
 ) -> Result<Option<Value>, AllocError>
     requires { length args.items ≡ length params.now }
-    ensures { IfOk result (λ o. option_map data_of o ≡ val (tree body.now) (body_scope params.now (map data_of args.items) (map defined_view (take before s.now.defs.now)) s.now.state.now (next_view s.now))) }
+    ensures { IfOk result (λ o. option_map data_of o ≡ val (tree body.now) (body_scope params.now (map data_of args.items) (map defined_view (take before s.now.defs.now)) s.now.around.state.now (next_view s.now))) }
 {
     let named = arguments(alloc, params, args)?;
     let none = Bindings::new();
     let inner = Scope {
         names: &none,
         part: None,
-        state: s.state,
-        next: s.next,
+        around: s.around,
         defs: s.defs,
         seen: before,
         left: s.left,

@@ -8,7 +8,7 @@ ghost use Rattle.pgo_macro_run.specs.Answers.{GivesSo};
 
 use pgo_base::bindings::{Bindings, NamedValue};
 use pgo_base::expr::Expr;
-use pgo_base::scope::{Env, State};
+use pgo_base::scope::{self, Env, State};
 use pgo_base::text::Text;
 use pgo_base::value::Value;
 use pgo_eval::eval::eval;
@@ -82,8 +82,7 @@ impl<'a> Around<'a> {
         let names = Bindings::with_values(names, &variable);
         let env = Env {
             names: &names,
-            state: &self.state,
-            next: None,
+            around: scope::Around::one(&self.state),
         };
         answered(eval(alloc, self.env.defs, e, &env))
     }

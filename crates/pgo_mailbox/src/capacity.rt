@@ -8,7 +8,7 @@ ghost use Rattle.pgo_mailbox.specs.Capacities.{Capacity};
 
 use pgo_base::bindings::Bindings;
 use pgo_base::expr::Sub;
-use pgo_base::scope::{Env, State};
+use pgo_base::scope::{Around, Env, State};
 use pgo_base::text::Text;
 use pgo_base::value::Value;
 use pgo_eval::eval::eval;
@@ -29,8 +29,7 @@ pub fn capacity(alloc: Global, env: MacroEnv<'_>, limit: &Sub) -> Result<Option<
     let names = Bindings::with(&itself, Some(env.id), &outer);
     let scope = Env {
         names: &names,
-        state: &state,
-        next: None,
+        around: Around::one(&state),
     };
     match eval(alloc, env.defs, limit.get(), &scope) {
         Ok(Value::Int(n)) => Ok(Some(n)),

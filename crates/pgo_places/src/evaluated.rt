@@ -15,7 +15,7 @@ use pgo_base::bindings::Bindings;
 use pgo_base::depth::is_deeper;
 use pgo_base::expr::Sub;
 use pgo_base::module::Defs;
-use pgo_base::scope::{Env, State};
+use pgo_base::scope::{Around, Env, State};
 use pgo_base::value::Value;
 use pgo_code::elements::Elements;
 use pgo_eval::eval::eval;
@@ -50,8 +50,7 @@ fn value_here(
     let state = State::from_vec(Vec::new(alloc));
     let env = Env {
         names: &names,
-        state: &state,
-        next: None,
+        around: Around::one(&state),
     };
     value_or_none(eval(alloc, frame.definitions, expression.get(), &env))
 }

@@ -4,7 +4,7 @@ use pgo_base::bindings::{Bindings, NamedValue};
 use pgo_base::expr::{Expr, Names, Sub};
 use pgo_base::module::{Defined, Defs};
 use pgo_base::results::both;
-use pgo_base::scope::{Env, State};
+use pgo_base::scope::{Around, Env, State};
 use pgo_base::value::Value;
 use pgo_eval::eval::eval;
 use pgo_expr_read::reader::read_expr;
@@ -113,8 +113,7 @@ impl Scene {
         let names = Bindings::with_values(self.names.as_slice(), &outer);
         let env = Env {
             names: &names,
-            state: &self.state,
-            next: self.next.as_ref(),
+            around: Around::new(&self.state, self.next.as_ref(), &[]),
         };
         eval(self.alloc, &self.definitions, e, &env)
     }

@@ -326,41 +326,31 @@ updates::new_part-returns t c =
     let new = λ (part : Option Data). val (tree c.args.e.now) (with_part part (scope_view c.args.s.now)) in
     subst (λ (x : Option Data). IfOk c.owned.result (λ o. option_map data_of o ≡ x)) (c.in_ok-held.ensures ∙ ap (option_and_then new) c.in-Some.ensures) c.owned.ensures
 
-pub evaluate::evaluated-returns-in-If : goal.evaluate::evaluated-returns-in-If
-evaluate::evaluated-returns-in-If t c = rw c.in-If.is (c.plainly-in-If.ensures _ (rw c.get-in-If.ensures at rw c.get-in-If-2.ensures at rw c.get-in-If-3.ensures at c.conditional.ensures))
+pub evaluate::parts_value-returns-in-Tuple-clause-value : goal.evaluate::parts_value-returns-in-Tuple-clause-value
+evaluate::parts_value-returns-in-Tuple-clause-value t c = rw c.in-Tuple.is (c.tuple.ensures _ (rw c.as_slice-in-Tuple.ensures at c.values.ensures))
 
-pub evaluate::evaluated-returns-in-Let : goal.evaluate::evaluated-returns-in-Let
-evaluate::evaluated-returns-in-Let t c = rw c.in-Let.is (c.owning-in-Let.ensures _ (rw c.as_slice-in-Let.ensures at rw c.get-in-Let.ensures at c.let_value.ensures))
+pub evaluate::parts_value-returns-in-SetOf-clause-value : goal.evaluate::parts_value-returns-in-SetOf-clause-value
+evaluate::parts_value-returns-in-SetOf-clause-value t c = rw c.in-SetOf.is (c.set.ensures _ (rw c.as_slice-in-SetOf.ensures at c.values-in-SetOf.ensures))
 
-pub evaluate::evaluated-returns-in-Choose : goal.evaluate::evaluated-returns-in-Choose
-evaluate::evaluated-returns-in-Choose t c = rw c.in-Choose.is (c.owning-in-Choose.ensures _ (rw c.get-in-Choose.ensures at rw c.get-in-Choose-2.ensures at c.chosen.ensures))
-
-pub evaluate::evaluated-returns-in-Tuple : goal.evaluate::evaluated-returns-in-Tuple
-evaluate::evaluated-returns-in-Tuple t c = rw c.in-Tuple.is (c.plainly-in-Tuple.ensures _ (c.tuple.ensures _ (rw c.as_slice-in-Tuple.ensures at c.values-in-Tuple.ensures)))
-
-pub evaluate::evaluated-returns-in-SetOf : goal.evaluate::evaluated-returns-in-SetOf
-evaluate::evaluated-returns-in-SetOf t c = rw c.in-SetOf.is (c.plainly-in-SetOf.ensures _ (c.set.ensures _ (rw c.as_slice-in-SetOf.ensures at c.values-in-SetOf.ensures)))
-
-pub evaluate::evaluated-returns-in-Filter : goal.evaluate::evaluated-returns-in-Filter
-evaluate::evaluated-returns-in-Filter t c = rw c.in-Filter.is (c.owning-in-Filter.ensures _ (rw c.get-in-Filter.ensures at rw c.get-in-Filter-2.ensures at c.filtered.ensures))
-
-pub evaluate::evaluated-returns-in-Image : goal.evaluate::evaluated-returns-in-Image
-evaluate::evaluated-returns-in-Image t c = rw c.in-Image.is (c.owning-in-Image.ensures _ (rw c.get-in-Image.ensures at rw c.get-in-Image-2.ensures at c.image.ensures))
-
-pub evaluate::evaluated-returns-in-FunOf : goal.evaluate::evaluated-returns-in-FunOf
-evaluate::evaluated-returns-in-FunOf t c = rw c.in-FunOf.is (c.owning-in-FunOf.ensures _ (rw c.as_slice-in-FunOf.ensures at rw c.get-in-FunOf.ensures at c.function_value.ensures))
-
-pub evaluate::evaluated-returns-in-Record : goal.evaluate::evaluated-returns-in-Record
-evaluate::evaluated-returns-in-Record t c = rw c.in-Record.is (c.plainly-in-Record.ensures _ (c.«record».ensures _ (rw c.as_slice-in-Record.ensures at c.fields.ensures)))
+pub evaluate::parts_value-returns-in-Record-clause-value : goal.evaluate::parts_value-returns-in-Record-clause-value
+evaluate::parts_value-returns-in-Record-clause-value t c = rw c.in-Record.is (c.«record».ensures _ (rw c.as_slice-in-Record.ensures at c.fields.ensures))
 
 pub evaluate::evaluated-returns-in-Unchanged : goal.evaluate::evaluated-returns-in-Unchanged
-evaluate::evaluated-returns-in-Unchanged t c = rw c.in-Unchanged.is (c.owning-in-Unchanged.ensures _ (rw c.as_slice-in-Unchanged.ensures at c.unchanged_value.ensures))
+evaluate::evaluated-returns-in-Unchanged t c = rw c.in-Unchanged.is (c.owning-in-Unchanged.ensures _ (rw c.as_slice.ensures at c.unchanged_value.ensures))
+
+pub evaluate::evaluated-returns-in-Let : goal.evaluate::evaluated-returns-in-Let
+evaluate::evaluated-returns-in-Let t c =
+    subst (λ m. IfOk c.owning-in-Let.result (λ o. sem_of o ≡ m)) (sym c.made_value.ensures.plain) (c.owning-in-Let.ensures _ c.made_value.ensures.value)
+
+pub evaluate::evaluated-returns-in_default : goal.evaluate::evaluated-returns-in_default
+evaluate::evaluated-returns-in_default t c =
+    subst (λ m. IfOk c.plainly-in_default.result (λ o. sem_of o ≡ m)) (sym c.parts_value.ensures.plain) (c.plainly-in_default.ensures _ c.parts_value.ensures.value)
 
 pub names::applied-returns-in_default : goal.names::applied-returns-in_default
 names::applied-returns-in_default t c =
     let s = c.args.s.now in
     let args = map data_of c.args.args.items in
-    subst (λ v. IfOk c.default_value.result (λ o. option_map held_data o ≡ v)) (sym (c.in_default.ensures args s.state.now (next_view s)))
+    subst (λ v. IfOk c.default_value.result (λ o. option_map held_data o ≡ v)) (sym (c.in_default.ensures args s.around.state.now (next_view s)))
     (c.default_value.ensures args (omega (arith, c.len.ensures, length-map c.args.args.items data_of)))
 
 pub evaluate::held-returns-in-Other : goal.evaluate::held-returns-in-Other

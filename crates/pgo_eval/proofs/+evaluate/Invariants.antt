@@ -18,7 +18,16 @@ abbrev pub decreases-evaluate::held : goal.decreases-evaluate::held
 decreases-evaluate::held l = 10 * l.s.now.left + 1
 
 abbrev pub decreases-evaluate::evaluated : goal.decreases-evaluate::evaluated
-decreases-evaluate::evaluated l = 10 * l.s.now.left + 9
+decreases-evaluate::evaluated l = 10 * l.s.now.left + 10
+
+abbrev pub decreases-evaluate::unbuilt : goal.decreases-evaluate::unbuilt
+decreases-evaluate::unbuilt l = 10 * l.s.now.left + 9
+
+abbrev pub decreases-evaluate::made_value : goal.decreases-evaluate::made_value
+decreases-evaluate::made_value l = 10 * l.s.now.left + 9
+
+abbrev pub decreases-evaluate::parts_value : goal.decreases-evaluate::parts_value
+decreases-evaluate::parts_value l = 10 * l.s.now.left + 9
 
 abbrev pub decreases-evaluate::infix : goal.decreases-evaluate::infix
 decreases-evaluate::infix l = 10 * l.s.now.left + 3

@@ -14,5 +14,5 @@ returns c =
     let count = length c.as_slice.result.now in
     let all : take count defs ≡ defs = take_all count defs (omega (arith, ap (λ (ds : List Defined). length ds) c.as_slice.ensures)) in
     subst (λ x. IfOk c.owned.result (λ o. option_map data_of o ≡ x))
-    (c.in_ok-held.ensures ∙ ap (λ ds. Val (map defined_view ds) (tree c.args.e.now) env.names.now env.state.now (option_map (λ r. r.now) env.next)) all)
+    (c.in_ok-held.ensures ∙ ap (λ ds. Val (map defined_view ds) (tree c.args.e.now) env.names.now env.around.state.now (option_map (λ r. r.now) env.around.next)) all)
     c.owned.ensures
