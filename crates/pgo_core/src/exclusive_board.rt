@@ -68,19 +68,16 @@ pub struct ExclusiveBoard<R: Resource> {
 }
 
 /// The room for the notes of so many instances, or of one where there is none.
-fn note_room(attempts: u32, instances: usize) -> Result<u32, AllocError>
+fn note_room(attempts: u32, instances: usize) -> u64
     requires { instances ≤ 64 }
-    ensures { IfOk result (λ n. n ≡ attempts * suc (instances - 1)) }
+    ensures { result ≡ attempts * suc (instances - 1) }
 {
     let many = instances.saturating_sub(1) as u64 + 1;
-    match u32::try_from(attempts as u64 * many) {
-        Ok(n) => Ok(n),
-        Err(_) => Err(AllocError),
-    }
+    attempts as u64 * many
 }
 
 /// A journal without entries and notes, with the room for all: the notes of so many attempts of each instance, or of one where there is
-/// none. Where those are more than 2^32 - 1, it answers want of memory.
+/// none.
 pub fn empty_journal(
     alloc: Global,
     bound: &Bound,
@@ -90,7 +87,7 @@ pub fn empty_journal(
     requires { length bound.now.instances ≤ 64 }
     ensures { IfOk result (λ j. j ≡ opened bound.now.start steps (attempts * suc (length bound.now.instances - 1))) }
 {
-    let room = note_room(attempts, bound.instances.as_slice().len())?;
+    let room = note_room(attempts, bound.instances.as_slice().len());
     let start = bound.start.copy(alloc)?;
     Journal::open(alloc, start, steps, room)
 }
@@ -99,8 +96,7 @@ impl<R: Resource> ExclusiveBoard<R> {
     ghost use Rattle.pgo_core.specs.ExclusiveBoards.{board_layout, view_at, views_of, inside_of, fresh_view};
 
     /// A board with nothing held, no entry and no note, which is instance 0's. Its journal is full at `steps` entries, and each
-    /// instance may add `attempts` notes. It takes its room here, for all resources, entries and notes; where the notes of
-    /// all instances are more than 2^32 - 1, it answers want of memory.
+    /// instance may add `attempts` notes. It takes its room here, for all resources, entries and notes.
     pub fn open(
         alloc: Global,
         bound: &Bound,

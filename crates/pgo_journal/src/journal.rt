@@ -28,7 +28,7 @@ pub struct Journal {
     entries: Vec<Entry>,
     notes: Vec<Note>,
     steps: u32,
-    room: u32,
+    room: u64,
 }
 
 impl Model for Journal {
@@ -48,7 +48,7 @@ impl Model for Journal {
 
 impl Journal {
     /// A journal without entries and notes. The room for all of them is taken here.
-    pub fn open(alloc: Global, start: State, steps: u32, notes: u32) -> Result<Journal, AllocError>
+    pub fn open(alloc: Global, start: State, steps: u32, notes: u64) -> Result<Journal, AllocError>
         ensures { IfOk result (λ j. j ≡ opened start steps notes) }
     {
         let entries = Vec::with_capacity(alloc, steps as usize)?;
@@ -112,7 +112,7 @@ impl Journal {
     }
 
     /// For how many notes it has room.
-    pub fn room(&self) -> u32
+    pub fn room(&self) -> u64
         ensures { result ≡ self.now.room }
     {
         self.room

@@ -80,8 +80,7 @@ fn run_workers<
 /// may be called from several threads at the same time. Of an instance for which memory was wanting no further call comes; the others run on
 /// until they have ended.
 ///
-/// Err comes where memory was wanting in a turn or besides; where the notes of all instances may be more than 2^32 - 1; or where an instance
-/// has made 2^64 - 1 turns. Nothing is left then.
+/// Err comes where memory was wanting in a turn or besides, or where an instance has made 2^64 - 1 turns. Nothing is left then.
 ///
 /// - `closed`: the worker of each instance has ended over its board, and the boards are closed.
 /// - `run`: each entry is what its instance's section allows on the state before it, from the start on. The records of each instance say what

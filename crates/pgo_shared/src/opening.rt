@@ -109,7 +109,7 @@ pub(crate) fn open<R: Resource>(
 {
     let places = contents.len();
     let words = zeros(alloc, places + 1)?;
-    let terms = Terms::new(layout, journal.steps(), journal.room() / count);
+    let terms = Terms::new(layout, journal.steps(), journal.room() / count as u64);
     let slots = filled(alloc, contents, journal)?;
     let Ok((table, seat)) = Table::new(alloc, words.as_slice(), slots, &terms) else {
         return Err(AllocError);

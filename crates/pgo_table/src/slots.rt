@@ -35,7 +35,7 @@ impl Model for TableView {
 pub struct Terms {
     layout: BoardLayout,
     steps: u32,
-    share: u32,
+    share: u64,
 }
 
 impl Model for Terms {
@@ -54,7 +54,7 @@ impl Model for Terms {
 impl Terms {
     /// The terms of a table of this layout, whose journal is full at `steps` entries, and to which each instance may add `share`
     /// notes.
-    pub fn new(layout: BoardLayout, steps: u32, share: u32) -> Terms
+    pub fn new(layout: BoardLayout, steps: u32, share: u64) -> Terms
         ensures { result ≡ record { layout = layout_view layout; steps = steps; share = share } }
     {
         Terms {

@@ -42,7 +42,7 @@ fn opened(
     ensures seats { IfOk result (λ t. (k : ℕ) (d : _) → k < length bound.now.instances → IsFreshSeat t.0 k (slice_index_or t.1.items k d)) }
 {
     let (contents, start) = both(contents(alloc, bound), bound.start.copy(alloc))?;
-    let journal = Journal::open(alloc, start, limits.steps, limits.notes)?;
+    let journal = Journal::open(alloc, start, limits.steps, limits.notes as u64)?;
     Shared::open(alloc, bound, contents, journal)
 }
 

@@ -66,7 +66,7 @@ impl<S: Sections + Drop, R: Resource> Core<S, R> {
 
     /// The core of what a specification is bound to, before its first turn: `owns` has the own components of each instance at the
     /// start, in order, and `contents` the content of each resource. It takes the room for the journal, the records and the
-    /// accounts. Where the notes of all instances may be more than 2^32 - 1, it answers want of memory.
+    /// accounts.
     pub fn open(
         alloc: Global,
         sections: S,
