@@ -23,14 +23,30 @@ use std::io;
 use std::io::{BufWriter, ErrorKind};
 use std::process::ExitCode;
 use std::sync::Wait;
-use std::thread::Threads;
+use std::thread::{Builder, Threads};
 
+/// How many bytes of stack a command has. An expression of the text is at most 128 high and macros nest at most 127 deep, so with arguments
+/// in place it is at most 127 * 127 + 128 = 16,257 high: this is eight kilobytes for each level.
+const STACK: usize = 128 << 20;
+
+/// Runs the command on a thread of its own, with so much stack.
 fn main(rt: HostRuntime) -> ExitCode {
+    match Builder::new()
+        .stack_size(STACK)
+        .spawn(&rt, move || on_streams(&rt, rt))
+    {
+        Ok(thread) => thread.join(&rt),
+        Err(_) => exit_code(no_memory(&mut StdSink::new(rt.stderr()))),
+    }
+}
+
+/// Runs the command over the standard streams of the runtime, which starts its threads too: that it may, `main` alone can say.
+fn on_streams<T: Threads + Wait + Sync>(threads: &T, rt: HostRuntime) -> ExitCode {
     let alloc = rt.alloc();
     let mut err = StdSink::new(rt.stderr());
     match BufWriter::new(alloc, rt.stdout()) {
         Ok(out) => run(
-            &rt,
+            threads,
             alloc,
             env::args(&rt),
             &mut StdSource::new(rt.stdin()),
@@ -94,7 +110,7 @@ fn words_from(alloc: Global, mut arguments: Args) -> Result<Vec<Word>, AllocErro
     Ok(words)
 }
 
-/// Says on the error output that there is no memory, for the words or for the buffer before the output.
+/// Says on the error output that there is no memory, for the thread, for the words or for the buffer before the output.
 fn no_memory<E: Sink>(err: &mut E) -> Status
     ensures status { result ≡ Status.NoMemory }
     ensures says { ¬ Rose (E.faults err.old) (E.faults err.new) →

@@ -277,8 +277,7 @@ fn advance<'a, 'i>(
 /// What is left of the limit behind the nodes of a section's expansion, and the height of its action, up to the most that is told
 /// apart; nothing where the nodes pass the limit.
 ///
-/// Err where there is no memory, where more than 2^64 - 1 names are bound, and as `is_wide` of `pgo_put_sizes`: where more than 1,024
-/// expressions stand within one another.
+/// Err where there is no memory, and where more than 2^64 - 1 names are bound.
 pub fn measure(
     alloc: Global,
     variables: &[Text],

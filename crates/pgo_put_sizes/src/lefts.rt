@@ -193,7 +193,7 @@ fn take_steps(
 
 /// Takes the nodes of the indices of a left side with these arguments in place from what is left of a limit.
 ///
-/// None where less is left than they are. Err where there is no memory, or where more than 1,024 expressions stand within one another.
+/// None where less is left than they are. Err only where there is no memory.
 pub fn take_left(
     alloc: Global,
     layers: &[Arguments],

@@ -14,8 +14,7 @@ use std::alloc::{AllocError, Global};
 /// place. None of them is made.
 ///
 /// False where they have not, of code that evaluates no expression, and where some mapping macro's read has no path to a `yield`: what
-/// stands behind such a read isn't in the expansion. Err where there is no memory, or where more than 1,024 expressions stand within one
-/// another.
+/// stands behind such a read isn't in the expansion. Err only where there is no memory.
 pub fn is_wide<'a>(
     alloc: Global,
     setting: Setting<'a, '_>,
