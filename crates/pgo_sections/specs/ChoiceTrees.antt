@@ -8,7 +8,7 @@ use Rattle.pgo_model.specs.Options.{on}
 use Rattle.pgo_model.specs.Outcome.{Blocked, NoValue, AssertFails}
 use Rattle.pgo_model.specs.System.{Words}
 use Rattle.pgo_model.specs.Val.{Meaning}
-use Rattle.pgo_tries.specs.Chosen.{Chosen, Ended, Chooses, follow, Leaf, leaves}
+use Rattle.pgo_tries.specs.Chosen.{Chosen, Ended, Chooses, follow, Leaf}
 use Rattle.pgo_sections.specs.BoundValues.{bindable, value_under}
 use Rattle.pgo_sections.specs.Code.{Code, Empty, Skip, Let, Pick, Become, Set, Await, Assert, Print, If, Either, Seq, Goto, Yield, Read, Write, Codes, no_codes, more_codes, value_name}
 use Rattle.pgo_sections.specs.Context.{Context, block_context, content, content_state, index_value, put_content, put_new, value_of}

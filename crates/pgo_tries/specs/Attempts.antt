@@ -6,7 +6,7 @@ use Rattle.pgo_base.specs.Data.{Data}
 pub use Rattle.pgo_model.specs.Outcome.{is_blocked}
 use Rattle.pgo_model.specs.Outcome.{Kind, Blocked, NoValue, AssertFails, Many, most_leaves, Outcome, Next, Stuck, Nowhere, Section}
 use Rattle.pgo_model.specs.System.{Words}
-use Rattle.pgo_tries.specs.Chosen.{ChoiceMade, leaves, turned}
+use Rattle.pgo_tries.specs.Chosen.{ChoiceMade, turned}
 use Rattle.pgo_tries.specs.Outcomes as outcomes
 use Rattle.pgo_tries.specs.Outcomes.{Result, tried_on}
 use Rattle.pgo_tries.specs.Sections.{along, Run, tries}

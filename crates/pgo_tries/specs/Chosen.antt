@@ -1,5 +1,5 @@
 -- What is done by choices, as a tree of choice points, and its leaves. Source: this project's choice.
-use Rattle.std.proofs.Common.{◌≡◌, ℕ, zero, suc, ◌+◌, List, [], ◌∷◌, ◌++◌, map, Option, Some, None, refl, ap}
+use Rattle.std.proofs.Common.{◌≡◌, ℕ, zero, suc, List, [], ◌∷◌, ◌++◌, map, Option, Some, None, refl, ap}
 use Rattle.std.specs.Prelude.{if◌then◌else◌, nat_eq}
 use Rattle.pgo_model.specs.Choice.{pick}
 use Rattle.pgo_model.specs.System.{Words}

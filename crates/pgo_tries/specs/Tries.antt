@@ -3,7 +3,7 @@ use Rattle.std.proofs.Common.{◌≡◌, ◌≤◌, ◌<◌, ℕ, zero, suc, ◌
 use Rattle.std.specs.Prelude.{if◌then◌else◌, nat_eq}
 use Rattle.pgo_model.specs.Choice.{pick}
 use Rattle.pgo_model.specs.System.{Words}
-use Rattle.pgo_tries.specs.Chosen.{Chosen, Ended, Chooses, Leaf, ahead, follow, round, around, turned_at, leaves_from, leaves, turned}
+use Rattle.pgo_tries.specs.Chosen.{Chosen, Ended, Chooses, Leaf, ahead, follow, round, around, turned_at, leaves_from, turned}
 
 -- so many arms are left behind arm i, before that of word d comes round again
 abbrev pub Left : ℕ → ℕ → ℕ → ℕ → Type 0
